@@ -1,0 +1,14 @@
+pub mod Sinks
+pub mod Away
+pub mod Turning
+pub mod Pigeons
+pub mod Following
+pub mod Settling
+pub mod Unique
+pub mod Paths
+pub mod Runs
+pub mod Searching
+pub mod Finishing
+pub mod SameLinks
+pub mod Rounds
+pub mod Joining

@@ -1,0 +1,136 @@
+-- The laws of full reversal with counts. Each is the contract of a function of src/laws.rt.
+use Rattle.std.specs.Prelude.{◌≡◌, ℕ, ◌<◌, ◌≤◌, ◌+◌, ◌*◌, ◌⊎◌, ◌↔◌, List, ◌++◌, length, replicate, slice_index, slice_set, sum}
+use Rattle.std.specs.List.Sorted.{IsPermutation}
+use Rattle.fr_net.specs.Links.{Points, Joins, IsAcyclic, IsNet, IsAlone, HasPath, HaveSameLinks}
+use Rattle.fr_net.specs.Turn.{IsSink, turn}
+use Rattle.fr_net.specs.Counts.{links_at, AreLawful}
+use Rattle.fr_core.specs.Bounds.{MeetsBounds}
+use Rattle.fr_core.specs.History.{moment_of, after_all, links_after, count_after, turn_count, turn_count_of}
+use Rattle.fr_core.specs.Legal.{CanTurn, NoneCanTurn, IsRun}
+use Rattle.fr_core.specs.Walks.{HasWalk, IsJoined}
+use Rattle.fr_core.specs.Settled.{AreSettled}
+use Rattle.fr_core.specs.declared.entry.Entry.{Entry}
+
+-- Links and counts
+
+-- no closed walk stands among the links that counts give
+abbrev pub NoLoopStands : Type 0
+NoLoopStands = (first : List (ℕ × ℕ)) (counts : List ℕ) → IsAcyclic first → IsAcyclic (links_at first counts)
+
+-- a link that counts give is a first link whose ends have the same count, or the reverse of one whose head has one more
+abbrev pub LinksComeFromFirst : Type 0
+LinksComeFromFirst = (first : List (ℕ × ℕ)) (counts : List ℕ) (u v : ℕ) → Points (links_at first counts) u v
+    ↔ ((Points first u v × (slice_index counts v ≡ slice_index counts u)) ⊎ (Points first v u × (slice_index counts u ≡ slice_index counts v + 1)))
+
+-- the links that lawful counts give are a network
+abbrev pub LawfulGivesANet : Type 0
+LawfulGivesANet = (n d : ℕ) (first : List (ℕ × ℕ)) (counts : List ℕ) → IsNet n first → AreLawful n d first counts → IsNet n (links_at first counts)
+
+-- counts of 0 are lawful, and give the first links
+abbrev pub ZerosGiveFirst : Type 0
+ZerosGiveFirst = (n d : ℕ) (first : List (ℕ × ℕ)) → (links_at first (replicate n 0) ≡ first) × AreLawful n d first (replicate n 0)
+
+-- another order of the links is the same network, with the same lawful and settled counts, joined nodes and sinks
+abbrev pub OrderDoesNotMatter : Type 0
+OrderDoesNotMatter = (n d : ℕ) (first other : List (ℕ × ℕ)) (counts : List ℕ) → IsPermutation first other
+    → (IsNet n first → IsNet n other) × (AreLawful n d first counts → AreLawful n d other counts) × (AreSettled n d first counts → AreSettled n d other counts)
+    × HaveSameLinks (links_at first counts) (links_at other counts)
+    × ((x : ℕ) → IsJoined first d x → IsJoined other d x) × ((x : ℕ) → IsSink first x → IsSink other x)
+
+-- Turns and runs
+
+-- a turn changes the links as its count does, and the counts stay lawful
+abbrev pub TurnIsACount : Type 0
+TurnIsACount = (n d : ℕ) (first : List (ℕ × ℕ)) (counts : List ℕ) (x : ℕ) → IsNet n first → AreLawful n d first counts → CanTurn n d (moment_of first counts) x
+    → (turn x (links_at first counts) ≡ links_at first (slice_set counts x (slice_index counts x + 1))) × AreLawful n d first (slice_set counts x (slice_index counts x + 1))
+
+-- after a run from lawful counts the links are those that the counts give, and the counts are lawful
+abbrev pub RunKeepsLawful : Type 0
+RunKeepsLawful = (n d : ℕ) (first : List (ℕ × ℕ)) (counts : List ℕ) (h : List Entry) → IsNet n first → AreLawful n d first counts → IsRun n d (moment_of first counts) h
+    → ((after_all (moment_of first counts) h).links ≡ links_at first (after_all (moment_of first counts) h).counts) × AreLawful n d first (after_all (moment_of first counts) h).counts
+
+-- the moment after a run has the links after it, and the count of each node after it
+abbrev pub MomentIsAfter : Type 0
+MomentIsAfter = (n d : ℕ) (first : List (ℕ × ℕ)) (counts : List ℕ) (h : List Entry) → length counts ≡ n → IsRun n d (moment_of first counts) h
+    → ((after_all (moment_of first counts) h).links ≡ links_after (links_at first counts) h)
+    × ((x : ℕ) → slice_index (after_all (moment_of first counts) h).counts x ≡ count_after counts h x)
+
+-- no loop ever stands: at the end of each run from a network the links are those that the counts give, and no closed walk stands among them
+abbrev pub NoLoopEverStands : Type 0
+NoLoopEverStands = (n d : ℕ) (first : List (ℕ × ℕ)) (h : List Entry) → IsNet n first → IsRun n d (moment_of first (replicate n 0)) h
+    → (links_after first h ≡ links_at first (after_all (moment_of first (replicate n 0)) h).counts) × IsAcyclic (links_after first h)
+
+-- each turn of a run adds one to the sum of the counts, which is at most n * n
+abbrev pub RunAddsUp : Type 0
+RunAddsUp = (n d : ℕ) (first : List (ℕ × ℕ)) (counts : List ℕ) (h : List Entry) → IsNet n first → AreLawful n d first counts → IsRun n d (moment_of first counts) h
+    → (sum (after_all (moment_of first counts) h).counts ≡ sum counts + turn_count h) × (sum counts + turn_count h ≤ n * n)
+
+-- Sinks
+
+-- a sink is a node that has a link, and the count of each neighbour meets its bound
+abbrev pub SinkByCounts : Type 0
+SinkByCounts = (n d : ℕ) (first : List (ℕ × ℕ)) (counts : List ℕ) (x : ℕ) → AreLawful n d first counts → IsSink (links_at first counts) x ↔ MeetsBounds first counts x
+
+-- Settled counts
+
+-- no lawful count is above an away number
+abbrev pub LawfulIsAtMostAway : Type 0
+LawfulIsAtMostAway = (n d : ℕ) (first : List (ℕ × ℕ)) (counts : List ℕ) (x away : ℕ) → AreLawful n d first counts → HasWalk first d x away → slice_index counts x ≤ away
+
+-- lawful counts at which no node can turn are the settled ones
+abbrev pub NoTurnLeftIsSettled : Type 0
+NoTurnLeftIsSettled = (n d : ℕ) (first : List (ℕ × ℕ)) (counts : List ℕ) → IsNet n first → d < n → AreLawful n d first counts → NoneCanTurn n d (moment_of first counts) → AreSettled n d first counts
+
+-- and the settled counts are lawful, and no node can turn at them
+abbrev pub SettledLeavesNoTurn : Type 0
+SettledLeavesNoTurn = (n d : ℕ) (first : List (ℕ × ℕ)) (counts : List ℕ) → IsNet n first → d < n → AreSettled n d first counts → AreLawful n d first counts × NoneCanTurn n d (moment_of first counts)
+
+-- there are no two lists of settled counts
+abbrev pub SettledIsUnique : Type 0
+SettledIsUnique = (n d : ℕ) (first : List (ℕ × ℕ)) (some other : List ℕ) → AreSettled n d first some → AreSettled n d first other → some ≡ other
+
+-- no lawful count is above the settled one
+abbrev pub LawfulIsAtMostSettled : Type 0
+LawfulIsAtMostSettled = (n d : ℕ) (first : List (ℕ × ℕ)) (counts settled : List ℕ) (x : ℕ) → AreLawful n d first counts → AreSettled n d first settled → x < n → slice_index counts x ≤ slice_index settled x
+
+-- a linked node has the settled count 0 exactly if a path along the links leads from it to the destination
+abbrev pub ZeroIsAPath : Type 0
+ZeroIsAPath = (n d : ℕ) (first : List (ℕ × ℕ)) (counts : List ℕ) (x : ℕ) → AreSettled n d first counts → x < n → ¬ IsAlone first x → (slice_index counts x ≡ 0) ↔ HasPath first x d
+
+-- a linked node has the settled count n exactly if it is not joined with the destination
+abbrev pub CapIsNotJoined : Type 0
+CapIsNotJoined = (n d : ℕ) (first : List (ℕ × ℕ)) (counts : List ℕ) (x : ℕ) → IsNet n first → d < n → AreSettled n d first counts → x < n → ¬ IsAlone first x → (slice_index counts x ≡ n) ↔ (¬ IsJoined first d x)
+
+-- the settled count of a node that is joined with the destination is below n
+abbrev pub JoinedIsBelowCap : Type 0
+JoinedIsBelowCap = (n d : ℕ) (first : List (ℕ × ℕ)) (counts : List ℕ) (x : ℕ) → IsNet n first → d < n → AreSettled n d first counts → IsJoined first d x → slice_index counts x < n
+
+-- whether a node is joined with the destination shows in its settled count
+abbrev pub JoinedByCounts : Type 0
+JoinedByCounts = (n d : ℕ) (first : List (ℕ × ℕ)) (counts : List ℕ) (x : ℕ) → IsNet n first → d < n → AreSettled n d first counts
+    → IsJoined first d x ↔ ((x ≡ d) ⊎ (((w : ℕ) × Joins first x w) × (slice_index counts x < n)))
+
+-- Every schedule ends alike
+
+-- each network has settled counts
+abbrev pub EachNetSettles : Type 0
+EachNetSettles = (n d : ℕ) (first : List (ℕ × ℕ)) → IsNet n first → d < n → (counts : List ℕ) × AreSettled n d first counts
+
+-- each run can be carried on by turns alone until no node can turn, and the counts are then the settled ones
+abbrev pub EachRunSettles : Type 0
+EachRunSettles = (n d : ℕ) (first : List (ℕ × ℕ)) (counts : List ℕ) (h : List Entry) → IsNet n first → d < n → AreLawful n d first counts → IsRun n d (moment_of first counts) h
+    → (more : List Entry) × IsRun n d (moment_of first counts) (h ++ more) × (turn_count more ≡ length more)
+    × NoneCanTurn n d (after_all (moment_of first counts) (h ++ more)) × AreSettled n d first (after_all (moment_of first counts) (h ++ more)).counts
+
+-- all runs from lawful counts at whose ends no node can turn end at one moment
+abbrev pub RunsEndAlike : Type 0
+RunsEndAlike = (n d : ℕ) (first : List (ℕ × ℕ)) (b c : List ℕ) (some other : List Entry) → IsNet n first → d < n → AreLawful n d first b → AreLawful n d first c
+    → IsRun n d (moment_of first b) some → IsRun n d (moment_of first c) other
+    → NoneCanTurn n d (after_all (moment_of first b) some) → NoneCanTurn n d (after_all (moment_of first c) other)
+    → after_all (moment_of first b) some ≡ after_all (moment_of first c) other
+
+-- a run makes at most as many turns of a node as its settled count, and none of a node with a path to the destination
+abbrev pub TurnsAreBounded : Type 0
+TurnsAreBounded = (n d : ℕ) (first : List (ℕ × ℕ)) (counts settled : List ℕ) (h : List Entry) (x : ℕ) → IsNet n first → d < n → AreLawful n d first counts → AreSettled n d first settled
+    → IsRun n d (moment_of first counts) h → x < n
+    → (slice_index counts x + turn_count_of x h ≤ slice_index settled x) × (HasPath first x d → turn_count_of x h ≡ 0)

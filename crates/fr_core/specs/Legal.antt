@@ -1,0 +1,35 @@
+-- Which replies full reversal by one thread gives (Gafni and Bertsekas, 1981), with the cap: a node turns only while its
+-- count is below the number of nodes.
+use Rattle.std.specs.Prelude.{◌≡◌, ℕ, ◌+◌, ◌<◌, List, [], ◌∷◌}
+use Rattle.fr_net.specs.Links.{Points}
+use Rattle.fr_net.specs.Turn.{IsSink}
+use Rattle.fr_core.specs.History.{Moment, count_at, after}
+use Rattle.fr_core.specs.declared.entry.Entry.{Entry}
+use Rattle.fr_core.specs.declared.entry.Reply.{Reply}
+use Rattle.fr_core.specs.declared.entry.Reply.TheVariants.{Turned, Held, Moved, Cut}
+
+-- a node that can turn: a sink that is not the destination, with a count below the cap
+pub record CanTurn (n d : ℕ) (m : Moment) (x : ℕ) : Type 0 where
+  pub not_destination : ¬ (x ≡ d)
+  pub below_cap : count_at m x < n
+  pub sink : IsSink m.links x
+
+abbrev pub NoneCanTurn : ℕ → ℕ → Moment → Type 0
+NoneCanTurn n d m = (x : ℕ) → ¬ CanTurn n d m x
+
+-- Turned: the node can turn, and k is its count with this turn. Held: a link points from it to the other node.
+-- Moved: k is its count, and above the count that was had. Cut: its count is the cap
+abbrev pub IsLegalReply : ℕ → ℕ → Moment → ℕ → Reply → Type 0
+IsLegalReply n d m x (Turned k) = CanTurn n d m x × (k ≡ count_at m x + 1)
+IsLegalReply n d m x (Held by) = Points m.links x by
+IsLegalReply n d m x (Moved had k) = (k ≡ count_at m x) × (had < k)
+IsLegalReply n d m x Cut = count_at m x ≡ n
+
+-- the reply is one that full reversal by one thread gives at this point
+abbrev pub IsLegal : ℕ → ℕ → Moment → Entry → Type 0
+IsLegal n d m e = (e.node < n) × IsLegalReply n d m e.node e.reply
+
+-- a run: each entry is legal after those before it
+abbrev pub IsRun : ℕ → ℕ → Moment → List Entry → Type 0
+IsRun n d m [] = Unit {0}
+IsRun n d m (e ∷ es) = IsLegal n d m e × IsRun n d (after m e) es

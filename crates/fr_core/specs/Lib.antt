@@ -1,0 +1,6 @@
+pub mod History
+pub mod Legal
+pub mod Walks
+pub mod Settled
+pub mod Bounds
+pub mod Laws

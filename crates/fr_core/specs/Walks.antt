@@ -1,0 +1,24 @@
+-- Walks over links in either direction, and their away numbers.
+use Rattle.std.specs.Prelude.{◌≡◌, ℕ, ◌+◌, ◌≤◌, ◌⊎◌, List, [], ◌∷◌}
+use Rattle.fr_net.specs.Links.{Points}
+
+-- a walk from u by these nodes ends at x, and its away number is the number of its steps along a link, from tail to head.
+-- (Among the links of a network no step goes both along a link and against one, so a walk has one away number.)
+abbrev pub IsWalk : List (ℕ × ℕ) → ℕ → List ℕ → ℕ → ℕ → Type 0
+IsWalk links u [] away x = (x ≡ u) × (away ≡ 0)
+IsWalk links u (v ∷ vs) away x =
+    (Points links u v × ((rest : ℕ) × (away ≡ rest + 1) × IsWalk links v vs rest x))
+    ⊎ (Points links v u × IsWalk links v vs away x)
+
+-- some walk from d to x has this away number
+abbrev pub HasWalk : List (ℕ × ℕ) → ℕ → ℕ → ℕ → Type 0
+HasWalk links d x away = (vs : List ℕ) × IsWalk links d vs away x
+
+-- a walk leads from d to x, as the walk of no step leads from d to d: the field calls them connected
+abbrev pub IsJoined : List (ℕ × ℕ) → ℕ → ℕ → Type 0
+IsJoined links d x = (away : ℕ) × HasWalk links d x away
+
+-- the least away number of the walks from d to x
+pub record IsLeastAway (links : List (ℕ × ℕ)) (d x k : ℕ) : Type 0 where
+  pub reached : HasWalk links d x k
+  pub least : (away : ℕ) → HasWalk links d x away → k ≤ away

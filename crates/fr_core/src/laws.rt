@@ -1,0 +1,56 @@
+//! The laws of full reversal with counts: each clause here is a law of `specs/Laws.antt`, proved. The functions do
+//! nothing; they are the table of contents of the mathematics that the other contracts stand on.
+
+ghost use Rattle.fr_core.specs.Laws.{NoLoopStands, LinksComeFromFirst, LawfulGivesANet, ZerosGiveFirst, OrderDoesNotMatter};
+ghost use Rattle.fr_core.specs.Laws.{TurnIsACount, RunKeepsLawful, MomentIsAfter, NoLoopEverStands, RunAddsUp, SinkByCounts};
+ghost use Rattle.fr_core.specs.Laws.{LawfulIsAtMostAway, NoTurnLeftIsSettled, SettledLeavesNoTurn, SettledIsUnique, LawfulIsAtMostSettled};
+ghost use Rattle.fr_core.specs.Laws.{ZeroIsAPath, CapIsNotJoined, JoinedIsBelowCap, JoinedByCounts};
+ghost use Rattle.fr_core.specs.Laws.{EachNetSettles, EachRunSettles, RunsEndAlike, TurnsAreBounded};
+
+/// The links that counts give: no closed walk stands among them, and those of lawful counts are a network.
+pub fn links_law()
+    ensures acyclic { NoLoopStands }
+    ensures comes { LinksComeFromFirst }
+    ensures net { LawfulGivesANet }
+    ensures start { ZerosGiveFirst }
+    ensures order { OrderDoesNotMatter }
+{}
+
+/// A turn changes the links as its count does, so a run keeps counts lawful, and no loop ever stands.
+pub fn run_law()
+    ensures one { TurnIsACount }
+    ensures all { RunKeepsLawful }
+    ensures after { MomentIsAfter }
+    ensures acyclic { NoLoopEverStands }
+    ensures adds { RunAddsUp }
+{}
+
+/// A sink shows in the counts.
+pub fn sink_law()
+    ensures { SinkByCounts }
+{}
+
+/// Lawful counts at which no node can turn are the settled ones, and no lawful count is above its settled one.
+pub fn settled_law()
+    ensures bound { LawfulIsAtMostAway }
+    ensures settled { NoTurnLeftIsSettled }
+    ensures last { SettledLeavesNoTurn }
+    ensures unique { SettledIsUnique }
+    ensures most { LawfulIsAtMostSettled }
+{}
+
+/// Which settled counts are 0, which are the cap, and which nodes are joined with the destination.
+pub fn count_law()
+    ensures zero { ZeroIsAPath }
+    ensures cap { CapIsNotJoined }
+    ensures below { JoinedIsBelowCap }
+    ensures joined { JoinedByCounts }
+{}
+
+/// Each run can settle, and all that do end alike.
+pub fn schedule_law()
+    ensures exists { EachNetSettles }
+    ensures each { EachRunSettles }
+    ensures alike { RunsEndAlike }
+    ensures bounded { TurnsAreBounded }
+{}

@@ -1,0 +1,151 @@
+-- From the sorted halves of links to the network that they make, or to the fault that stands.
+use Rattle.std.proofs.Common.{Bool, IsPermutation, List, [], ap, arith, count_by, eqb, eqb-true, false, get_or, inl, inr, map, refl, suc, sym, true, ℕ, ◌&&◌, ◌+◌, ◌<◌, ◌||◌, ◌∙◌, ◌∷◌, ◌≡◌, ◌≤◌}
+use Rattle.std.proofs.lemmas.List.Sorted.{All-permutation, Contains-permutation, IsPermutation-sym, length_permutation, sum_by-IsPermutation}
+use Rattle.std.proofs.lemmas.List.Sums.{sum_by-cons}
+use Rattle.fr_net.proofs.Booleans.{and_cases}
+use Rattle.fr_net.proofs.Counting.{at_most_one, one_passes, weigh}
+use Rattle.fr_net.proofs.HalfLinks.{rising_pair, shows_row}
+use Rattle.fr_net.proofs.Linking.{is_between_itself, one_way, walk_carries}
+use Rattle.fr_net.specs.Faults.{IsFaultless, IsInRange}
+use Rattle.fr_net.specs.Halves.{AreHalvesRising, AreStarts, IsBefore, ShowsRow, entry_of, halves_of, is_at}
+use Rattle.fr_net.specs.Limits.{IsWithinLimits}
+use Rattle.fr_net.specs.Links.{AreBelow, AreSingle, HasNoSelfLink, IsAcyclic, IsCycle, IsNet, is_between}
+use Rattle.fr_net.specs.declared.rows.First.TheVariants.{Inward, Outward}
+use Rattle.fr_net.specs.declared.rows.HalfLink.{HalfLink}
+
+one_half : (a b c d : Bool) → ¬ ((a ≡ true) × (b ≡ true) × (c ≡ true) × (d ≡ true)) → weigh (a && b) + weigh (d && c) ≡ weigh ((a && b) || (c && d))
+one_half false b false true bar = refl
+one_half false b false false bar = refl
+one_half false b true true bar = refl
+one_half false b true false bar = refl
+one_half true false false true bar = refl
+one_half true false false false bar = refl
+one_half true false true true bar = refl
+one_half true false true false bar = refl
+one_half true true false true bar = refl
+one_half true true false false bar = refl
+one_half true true true false bar = refl
+one_half true true true true bar = absurd (bar (refl, refl, refl, refl))
+
+pub count_halves : (links : List (ℕ × ℕ)) (u v : ℕ) → HasNoSelfLink links → count_by (is_at u v) (halves_of links) ≡ count_by (is_between u v) links
+count_halves [] u v bar = refl
+count_halves (l ∷ ls) u v bar =
+    let a : HalfLink = record { node = l.0; neighbour = l.1; first = Outward } in
+    let b : HalfLink = record { node = l.1; neighbour = l.0; first = Inward } in
+    let weight : HalfLink → ℕ = λ h. weigh (is_at u v h) in
+    let link_weight : ℕ × ℕ → ℕ = λ y. weigh (is_between u v y) in
+    let first = sum_by-cons weight a (b ∷ halves_of ls) in
+    let second = sum_by-cons weight b (halves_of ls) in
+    let whole = sum_by-cons link_weight l ls in
+    let rest = count_halves ls u v (λ k d i. bar (suc k) d (omega arith)) in
+    let here : weight a + weight b ≡ link_weight l =
+    one_half (eqb l.0 u) (eqb l.1 v) (eqb l.0 v) (eqb l.1 u) (λ t. bar 0 l (omega arith) (eqb-true _ _ t.0 ∙ sym (eqb-true _ _ t.3))) in
+    omega (arith, first, second, whole, rest, here)
+
+at_place : (u v : ℕ) (h : HalfLink) → is_at u v h ≡ true → (h.node ≡ u) × (h.neighbour ≡ v)
+at_place u v h e = let t = and_cases _ _ e in (eqb-true _ _ t.0, eqb-true _ _ t.1)
+
+not_below_itself : {p q : ℕ × ℕ} → IsBefore p q → p.0 ≡ q.0 → p.1 ≡ q.1 → ⊥
+not_below_itself (inl a) e f = omega arith
+not_below_itself (inr a) e f = omega arith
+
+rising_once : (halves : List HalfLink) (u v : ℕ) → AreHalvesRising halves → count_by (is_at u v) halves ≤ 1
+rising_once halves u v rising = at_most_one (is_at u v) halves (λ i j d lt l e f.
+    let p = at_place u v (get_or halves i d) e in
+    let q = at_place u v (get_or halves j d) f in
+    not_below_itself (rising_pair halves rising i j d lt l) (p.0 ∙ sym q.0) (p.1 ∙ sym q.1))
+
+count_same : (given sorted : List (ℕ × ℕ)) (halves : List HalfLink) (u v : ℕ) → IsPermutation given sorted → IsPermutation (halves_of sorted) halves → HasNoSelfLink sorted → count_by (is_at u v) halves ≡ count_by (is_between u v) given
+count_same given sorted halves u v same both bar =
+    let f : HalfLink → ℕ = λ h. weigh (is_at u v h) in
+    let g : ℕ × ℕ → ℕ = λ l. weigh (is_between u v l) in
+    let a : count_by (is_at u v) halves ≡ count_by (is_at u v) (halves_of sorted) = sum_by-IsPermutation f (halves_of sorted) halves both in
+    let b : count_by (is_between u v) sorted ≡ count_by (is_between u v) given = sum_by-IsPermutation g given sorted same in
+    a ∙ count_halves sorted u v bar ∙ b
+
+-- what the halves say of the given links
+pub record IsSortedOut (given sorted : List (ℕ × ℕ)) (halves : List HalfLink) : Type 0 where
+  pub same : IsPermutation given sorted
+  pub both : IsPermutation (halves_of sorted) halves
+  pub no_self : HasNoSelfLink given
+
+no_self_sorted : (given sorted : List (ℕ × ℕ)) → IsPermutation given sorted → HasNoSelfLink given → HasNoSelfLink sorted
+no_self_sorted given sorted same bar = All-permutation (λ (l : ℕ × ℕ). ¬ (l.0 ≡ l.1)) given sorted same bar
+
+pub twice_stands : (given sorted : List (ℕ × ℕ)) (halves : List HalfLink) (u v : ℕ) → IsSortedOut given sorted halves → 2 ≤ count_by (is_at u v) halves → 2 ≤ count_by (is_between u v) given
+twice_stands given sorted halves u v s h = omega (arith, count_same given sorted halves u v s.same s.both (no_self_sorted given sorted s.same s.no_self))
+
+pub single_from_rising : (given sorted : List (ℕ × ℕ)) (halves : List HalfLink) → IsSortedOut given sorted halves → AreHalvesRising halves → AreSingle given
+single_from_rising given sorted halves s rising k d l =
+    let link = get_or given k d in
+    omega (
+      arith,
+      count_same given sorted halves link.0 link.1 s.same s.both (no_self_sorted given sorted s.same s.no_self),
+      rising_once halves link.0 link.1 rising,
+      one_passes (is_between link.0 link.1) given k d l (is_between_itself link),
+    )
+
+pub single_sorted : (given sorted : List (ℕ × ℕ)) → IsPermutation given sorted → AreSingle given → AreSingle sorted
+single_sorted given sorted same single =
+    let all = All-permutation (λ (l : ℕ × ℕ). count_by (is_between l.0 l.1) given ≡ 1) given sorted same single in
+    λ k d l.
+    let link = get_or sorted k d in
+    let g : ℕ × ℕ → ℕ = λ y. weigh (is_between link.0 link.1 y) in
+    sum_by-IsPermutation g given sorted same ∙ all k d l
+
+pub cycle_stands : (given sorted : List (ℕ × ℕ)) (walk : List ℕ) → IsPermutation given sorted → IsCycle sorted walk → IsCycle given walk
+cycle_stands given sorted [] same p = p
+cycle_stands given sorted (u ∷ vs) same p =
+    walk_carries sorted given (λ x y h. Contains-permutation sorted given (x, y) (IsPermutation-sym given sorted same) h) u vs p
+
+pub acyclic_given : (given sorted : List (ℕ × ℕ)) → IsPermutation given sorted → IsAcyclic sorted → IsAcyclic given
+acyclic_given given sorted same a u vs p =
+    a u vs (walk_carries given sorted (λ x y h. Contains-permutation given sorted (x, y) same h) u vs p)
+
+pub below_sorted : (n : ℕ) (given sorted : List (ℕ × ℕ)) → IsPermutation given sorted → AreBelow n given → AreBelow n sorted
+below_sorted n given sorted same below = All-permutation (λ (l : ℕ × ℕ). (l.0 < n) × (l.1 < n)) given sorted same below
+
+-- the network of links without a fault
+pub net_given : (n : ℕ) (given sorted : List (ℕ × ℕ)) (halves : List HalfLink) → IsSortedOut given sorted halves → IsInRange n given → AreHalvesRising halves → IsAcyclic sorted → IsNet n given
+net_given n given sorted halves s range rising a = record {
+  in_range = range.below;
+  no_self = s.no_self;
+  single = single_from_rising given sorted halves s rising;
+  acyclic = acyclic_given given sorted s.same a;
+}
+
+pub net_sorted : (n : ℕ) (given sorted : List (ℕ × ℕ)) → IsPermutation given sorted → IsAcyclic sorted → IsNet n given → IsNet n sorted
+net_sorted n given sorted same a net = record {
+  in_range = below_sorted n given sorted same net.in_range;
+  no_self = no_self_sorted given sorted same net.no_self;
+  single = single_sorted given sorted same net.single;
+  acyclic = a;
+}
+
+pub faultless_listed : (n : ℕ) (listed sorted : List (ℕ × ℕ)) (halves : List HalfLink) → IsSortedOut listed sorted halves → IsWithinLimits n listed → IsInRange n listed → AreHalvesRising halves → IsAcyclic sorted → IsFaultless n listed
+faultless_listed n listed sorted halves s limits range rising a = record {
+  limits = limits;
+  some = range.some;
+  is_net = net_given n listed sorted halves s range rising a;
+}
+
+pub faultless_sorted : (n : ℕ) (listed sorted : List (ℕ × ℕ)) → IsPermutation listed sorted → IsAcyclic sorted → IsFaultless n listed → IsFaultless n sorted
+faultless_sorted n listed sorted same a f = record {
+  limits = record { nodes_few = f.limits.nodes_few; links_few = omega (arith, length_permutation listed sorted same, f.limits.links_few) };
+  some = f.some;
+  is_net = net_sorted n listed sorted same a f.is_net;
+}
+
+pub rows_shown : (n : ℕ) (sorted : List (ℕ × ℕ)) (halves : List HalfLink) (starts : List ℕ) → IsNet n sorted → IsPermutation (halves_of sorted) halves → AreHalvesRising halves → AreStarts n halves starts → (x : ℕ) → x < n → ShowsRow n sorted starts (map entry_of halves) x
+rows_shown n sorted halves starts net both rising at x lt =
+    shows_row n sorted halves starts x lt (one_way sorted net.no_self net.single)
+    (λ u v p.
+    let b = net.in_range p.0 (u, v) p.1 in
+    let f = ap (λ (l : ℕ × ℕ). l.0) p.2 in
+    let g = ap (λ (l : ℕ × ℕ). l.1) p.2 in
+    (omega (arith, b.0, f), omega (arith, b.1, g)))
+    both rising at
+
+-- another order of the links of a network is a network
+pub permuted_net : (n : ℕ) (a b : List (ℕ × ℕ)) → IsPermutation a b → IsNet n a → IsNet n b
+permuted_net n a b same net = net_sorted n a b same (acyclic_given b a (IsPermutation-sym a b same) net.acyclic) net

@@ -1,0 +1,60 @@
+-- How many elements of a list pass a test.
+use Rattle.std.proofs.Common.{Bool, List, [], ap, arith, cond, count_by, false, get_or, inl, inr, length, refl, suc, true, zero, ℕ, ◌<◌, ◌∷◌, ◌≡◌, ◌≤◌, ◌⊎◌}
+use Rattle.std.proofs.lemmas.Bool.{cases_Bool, cases_lt}
+use Rattle.std.proofs.lemmas.List.Sums.{get_or-le-sum_by, sum_by-cons}
+
+-- a link counts once, whichever of its halves_of_link is at (u, v)
+abbrev pub weigh : Bool → ℕ
+weigh b = cond b 1 0
+
+-- an element that passes counts, and two that pass count twice
+pub one_passes : {X : Type 0} (p : X → Bool) (xs : List X) (i : ℕ) (d : X) → i < length xs → p (get_or xs i d) ≡ true → 1 ≤ count_by p xs
+one_passes {X} p xs i d l e =
+    let weight : X → ℕ = λ x. cond (p x) 1 0 in
+    let z : weight (get_or xs i d) ≡ 1 = rw e refl in
+    omega (arith, get_or-le-sum_by weight xs i d l, z)
+
+pub two_pass : {X : Type 0} (p : X → Bool) (xs : List X) (i j : ℕ) (d : X) → i < j → j < length xs → p (get_or xs i d) ≡ true → p (get_or xs j d) ≡ true → 2 ≤ count_by p xs
+two_pass p [] i j d lt l e f = absurd (omega arith)
+two_pass p (x ∷ xs) zero zero d lt l e f = absurd (omega arith)
+two_pass {X} p (x ∷ xs) zero (suc j) d lt l e f =
+    let weight : X → ℕ = λ y. cond (p y) 1 0 in
+    let z : weight x ≡ 1 = rw e refl in
+    omega (arith, sum_by-cons weight x xs, z, one_passes p xs j d (omega arith) f)
+two_pass p (x ∷ xs) (suc i) zero d lt l e f = absurd (omega arith)
+two_pass {X} p (x ∷ xs) (suc i) (suc j) d lt l e f =
+    let weight : X → ℕ = λ y. cond (p y) 1 0 in
+    omega (arith, sum_by-cons weight x xs, two_pass p xs i j d (omega arith) (omega arith) e f)
+
+-- if none passes, or no two do
+none_pass : {X : Type 0} (p : X → Bool) (xs : List X) → ((j : ℕ) (d : X) → j < length xs → ¬ (p (get_or xs j d) ≡ true)) → count_by p xs ≡ 0
+none_pass p [] bar = refl
+none_pass {X} p (x ∷ xs) bar =
+    let weight : X → ℕ = λ y. cond (p y) 1 0 in
+    let fails : p x ≡ false = elim (cases_Bool (p x)) [ inl e ↦ absurd (bar 0 x (omega arith) e) | inr e ↦ e ] in
+    let z : weight x ≡ 0 = rw fails refl in
+    omega (arith, sum_by-cons weight x xs, z, none_pass p xs (λ j d l. bar (suc j) d (omega arith)))
+
+pub at_most_one : {X : Type 0} (p : X → Bool) (xs : List X) → ((i j : ℕ) (d : X) → i < j → j < length xs → p (get_or xs i d) ≡ true → ¬ (p (get_or xs j d) ≡ true)) → count_by p xs ≤ 1
+at_most_one p [] bar = omega arith
+at_most_one {X} p (x ∷ xs) bar =
+    let weight : X → ℕ = λ y. cond (p y) 1 0 in
+    let rest = at_most_one p xs (λ i j d lt l. bar (suc i) (suc j) d (omega arith) (omega arith)) in
+    let whole = sum_by-cons weight x xs in
+    elim (cases_Bool (p x)) [
+      | inl e ↦
+          let z : weight x ≡ 1 = rw e refl in
+          omega (arith, whole, z, none_pass p xs (λ j d l. bar 0 (suc j) d (omega arith) (omega arith) e))
+      | inr e ↦ let z : weight x ≡ 0 = rw e refl in omega (arith, whole, z, rest)
+    ]
+
+pub count_agrees : (p q : ℕ × ℕ → Bool) (links : List (ℕ × ℕ)) → ((x : ℕ × ℕ) → p x ≡ q x) → count_by p links ≡ count_by q links
+count_agrees p q [] same = refl
+count_agrees p q (x ∷ xs) same =
+    let f : ℕ × ℕ → ℕ = λ y. weigh (p y) in
+    let g : ℕ × ℕ → ℕ = λ y. weigh (q y) in
+    let here : f x ≡ g x = ap weigh (same x) in
+    omega (arith, sum_by-cons f x xs, sum_by-cons g x xs, here, count_agrees p q xs same)
+
+pub cases_le_one : (n : ℕ) → (n ≤ 1) ⊎ (2 ≤ n)
+cases_le_one n = elim (cases_lt 1 n) [ inl l ↦ inr (omega arith) | inr g ↦ inl g ]

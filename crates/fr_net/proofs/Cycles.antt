@@ -1,0 +1,261 @@
+-- The steps of the search for a closed walk keep its state.
+use Rattle.std.proofs.Common.{List, [], add-one, add-zero, add_assoc, ap, arith, cond, drop, false, get_or, inl, inr, length, length-drop, ltb, refl, set, subst, sym, take, true, ℕ, ◌++◌, ◌+◌, ◌<◌, ◌∙◌, ◌∷◌, ◌≡◌, ◌≢◌, ◌≤◌, ◌⊎◌}
+use Rattle.std.proofs.lemmas.Bool.{cases_eq, cases_lt, ltb-false, ltb-true}
+use Rattle.std.proofs.lemmas.List.{get_or-drop, get_or-set_other, get_or-set_same, get_or-take, get_or_append_left, get_or_default, get_or_push, length-set, length-take-le, length_push}
+use Rattle.std.proofs.lemmas.List.Elements.{Contains-append_left, Contains-push}
+use Rattle.std.proofs.lemmas.List.Sums.{sum_by-set}
+use Rattle.std.specs.List.Sorted.{IsPartitionPoint}
+use Rattle.fr_net.specs.CycleSearch.{HasRisingTails, IsCycleSearch, IsPassed, IsStart, LeadsTo, LeadsToDone, fresh_count, is_fresh, mark_of}
+use Rattle.fr_net.specs.Links.{IsClosedWalk, IsCycle, IsPath, Points, end_of}
+use Rattle.fr_net.specs.Rows.{has_link}
+use Rattle.fr_net.specs.declared.cycle.Mark.{Mark}
+use Rattle.fr_net.specs.declared.cycle.Mark.TheVariants.{Done, Fresh, Open}
+
+mark_cases : (m : Mark) → (m ≡ Fresh) ⊎ ((m ≡ Open) ⊎ (m ≡ Done))
+mark_cases Fresh = inl refl
+mark_cases Open = inr (inl refl)
+mark_cases Done = inr (inr refl)
+
+-- a mark after one mark was set
+mark_set : (marks : List Mark) (x y : ℕ) (m : Mark) → x < length marks → ((y ≡ x) × (mark_of (set marks x m) y ≡ m)) ⊎ ((y ≢ x) × (mark_of (set marks x m) y ≡ mark_of marks y))
+mark_set marks x y m l =
+    elim (cases_eq y x) as (λ _. ((y ≡ x) × (mark_of (set marks x m) y ≡ m)) ⊎ ((y ≢ x) × (mark_of (set marks x m) y ≡ mark_of marks y)))
+    [ inl e ↦ inl (e, rw e (get_or-set_same marks x m Fresh l)) | inr ne ↦ inr (ne, get_or-set_other marks x y m Fresh ne) ]
+
+place_set : (places : List ℕ) (x y p : ℕ) → x < length places → ((y ≡ x) × (get_or (set places x p) y 0 ≡ p)) ⊎ ((y ≢ x) × (get_or (set places x p) y 0 ≡ get_or places y 0))
+place_set places x y p l =
+    elim (cases_eq y x) as (λ _. ((y ≡ x) × (get_or (set places x p) y 0 ≡ p)) ⊎ ((y ≢ x) × (get_or (set places x p) y 0 ≡ get_or places y 0)))
+    [ inl e ↦ inl (e, rw e (get_or-set_same places x p 0 l)) | inr ne ↦ inr (ne, get_or-set_other places x y p 0 ne) ]
+
+-- a node of the longer path: one of the path, or the new one
+node_cases : (path : List ℕ) (x k : ℕ) → k < length (path ++ x ∷ []) → ((k < length path) × (get_or (path ++ x ∷ []) k 0 ≡ get_or path k 0)) ⊎ ((k ≡ length path) × (get_or (path ++ x ∷ []) k 0 ≡ x))
+node_cases path x k h =
+    let e = length_push path x in
+    elim (cases_lt k (length path)) [
+      | inl l ↦ inl (l, get_or_append_left path (x ∷ []) 0 k l)
+      | inr g ↦ let q : length path ≡ k = omega (arith, e) in inr (sym q, get_or_push path x 0 k q)
+    ]
+
+pub opened : (n : ℕ) (links : List (ℕ × ℕ)) (marks : List Mark) (places path : List ℕ) (x p : ℕ) → IsCycleSearch n links marks places path → x < n → mark_of marks x ≡ Fresh → LeadsTo links path x → p ≤ length links → IsStart links x p → IsCycleSearch n links (set marks x Open) (set places x p) (path ++ x ∷ [])
+opened n links marks places path x p s below fresh leads inside_p start =
+    let lm : x < length marks = omega (arith, s.marks_length) in
+    let lp : x < length places = omega (arith, s.places_length) in
+    let len = length_push path x in
+    record {
+      marks_length = length-set marks x Open ∙ s.marks_length;
+      places_length = length-set places x p ∙ s.places_length;
+      places_inside = λ y. elim (place_set places x y p lp) [ inl w ↦ rw w.1 inside_p | inr w ↦ rw w.1 (s.places_inside y) ];
+      path_below = λ k h. elim (node_cases path x k h) [ inl w ↦ rw w.1 (s.path_below k w.0) | inr w ↦ rw w.1 below ];
+      path_follows = λ k h.
+          let l : k < length path = omega (arith, len) in
+          rw (get_or_append_left path (x ∷ []) 0 k l)
+          (elim (node_cases path x (k + 1) h) [ inl w ↦ rw w.1 (s.path_follows k w.0) | inr w ↦ rw w.1 (leads k w.0) ]);
+      path_seen = λ k h f. elim (mark_set marks x (get_or (path ++ x ∷ []) k 0) Open lm) [
+        | inl w ↦ cc (w.1, f)
+        | inr w ↦ elim (node_cases path x k h) [ inl v ↦ s.path_seen k v.0 (cc (w.1, v.1, f)) | inr v ↦ w.0 v.1 ]
+      ];
+      open_on_path = λ y o. elim (mark_set marks x y Open lm) [
+        | inl w ↦ rw w.0 (Contains-push path x)
+        | inr w ↦ Contains-append_left path (x ∷ []) y (s.open_on_path y (sym w.1 ∙ o))
+      ];
+      passed = λ y i d seen before inside tail.
+          let kept = mark_set marks x (get_or links i d).1 Open lm in
+          elim (place_set places x y p lp) [
+            | inl w ↦ absurd (omega (arith, (start i d inside).0 (omega (arith, before, w.1)), w.0, tail))
+            | inr w ↦ elim (mark_set marks x y Open lm) [
+              | inl v ↦ absurd (w.0 v.0)
+              | inr v ↦ let was = s.passed y i d (λ f. seen (v.1 ∙ f)) (omega (arith, w.1)) inside tail in
+                  elim kept [ inl u ↦ cc (u.0, was, fresh) | inr u ↦ u.1 ∙ was ]
+            ]
+          ];
+      ahead = λ y i d seen from inside.
+          elim (place_set places x y p lp) [
+            | inl w ↦ omega (arith, (start i d inside).1 (omega (arith, from, w.1)), w.0)
+            | inr w ↦ elim (mark_set marks x y Open lm) [
+              | inl v ↦ absurd (w.0 v.0)
+              | inr v ↦ s.ahead y i d (λ f. seen (v.1 ∙ f)) (omega (arith, w.1)) inside
+            ]
+          ];
+      done_closed = λ u v done has_link. elim (mark_set marks x u Open lm) [
+        | inl w ↦ cc (w.1, done)
+        | inr w ↦ let was = s.done_closed u v (sym w.1 ∙ done) has_link in
+            elim (mark_set marks x v Open lm) [ inl t ↦ cc (t.0, was, fresh) | inr t ↦ t.1 ∙ was ]
+      ];
+      done_safe = λ u vs done. elim (mark_set marks x u Open lm) [
+        | inl w ↦ cc (w.1, done)
+        | inr w ↦ s.done_safe u vs (sym w.1 ∙ done)
+      ];
+    }
+
+pub advanced : (n : ℕ) (links : List (ℕ × ℕ)) (marks : List Mark) (places path : List ℕ) (x p : ℕ) → IsCycleSearch n links marks places path → x < n → get_or places x 0 ≤ p → p ≤ length links → ((i : ℕ) → get_or places x 0 ≤ i → i < p → IsPassed links marks x i) → IsCycleSearch n links marks (set places x p) path
+advanced n links marks places path x p s below up inside_p passes =
+    let lp : x < length places = omega (arith, s.places_length) in
+    record {
+      marks_length = s.marks_length;
+      places_length = length-set places x p ∙ s.places_length;
+      places_inside = λ y. elim (place_set places x y p lp) [ inl w ↦ rw w.1 inside_p | inr w ↦ rw w.1 (s.places_inside y) ];
+      path_below = s.path_below;
+      path_follows = s.path_follows;
+      path_seen = s.path_seen;
+      open_on_path = s.open_on_path;
+      passed = λ y i d seen before inside tail.
+          elim (place_set places x y p lp) [
+            | inl w ↦ elim (cases_lt i (get_or places x 0)) [
+              | inl l ↦ s.passed y i d seen (rw w.0 l) inside tail
+              | inr g ↦ (passes i g (omega (arith, before, w.1)) d).1
+            ]
+            | inr w ↦ s.passed y i d seen (omega (arith, w.1)) inside tail
+          ];
+      ahead = λ y i d seen from inside.
+          elim (place_set places x y p lp) [
+            | inl w ↦ s.ahead y i d seen (rw w.0 (omega (arith, from, w.1, up))) inside
+            | inr w ↦ s.ahead y i d seen (omega (arith, w.1)) inside
+          ];
+      done_closed = s.done_closed;
+      done_safe = s.done_safe;
+    }
+
+-- a path from a done node ends at a done node
+stays_done : (links : List (ℕ × ℕ)) (marks : List Mark) → ((u v : ℕ) → mark_of marks u ≡ Done → Points links u v → mark_of marks v ≡ Done) → (u : ℕ) (vs : List ℕ) → mark_of marks u ≡ Done → IsPath links u vs → mark_of marks (end_of u vs) ≡ Done
+stays_done links marks closed u [] done path = done
+stays_done links marks closed u (v ∷ vs) done path = stays_done links marks closed v vs (closed u v done path.0) path.1
+
+points_to_done : (links : List (ℕ × ℕ)) (marks : List Mark) (x v : ℕ) → LeadsToDone links marks x → Points links x v → mark_of marks v ≡ Done
+points_to_done links marks x v leads at =
+    let e = at.2 in
+    let t : (get_or links at.0 (x, v)).0 ≡ x = ap (λ (l : ℕ × ℕ). l.0) e in
+    let h : (get_or links at.0 (x, v)).1 ≡ v = ap (λ (l : ℕ × ℕ). l.1) e in
+    subst (λ (y : ℕ). mark_of marks y ≡ Done) h (leads at.0 (x, v) at.1 t)
+
+-- no closed walk leaves a node that is not done and leads to done nodes only
+no_closed_walk : (links : List (ℕ × ℕ)) (marks : List Mark) → ((u v : ℕ) → mark_of marks u ≡ Done → Points links u v → mark_of marks v ≡ Done) → (x : ℕ) (vs : List ℕ) → ¬ (mark_of marks x ≡ Done) → LeadsToDone links marks x → ¬ IsClosedWalk links x vs
+no_closed_walk links marks closed x [] not_done leads walk = walk
+no_closed_walk links marks closed x (v ∷ vs) not_done leads walk =
+    let first : mark_of marks v ≡ Done = points_to_done links marks x v leads walk.0.0 in
+    not_done (subst (λ (y : ℕ). mark_of marks y ≡ Done) walk.1 (stays_done links marks closed v vs first walk.0.1))
+
+pub left : (n : ℕ) (links : List (ℕ × ℕ)) (marks : List Mark) (places path : List ℕ) (x last : ℕ) → IsCycleSearch n links marks places path → last + 1 ≡ length path → x ≡ get_or path last 0 → LeadsToDone links marks x → IsCycleSearch n links (set marks x Done) places (take last path)
+left n links marks places path x last s full top leads =
+    let below : x < n = rw top (s.path_below last (omega arith)) in
+    let lm : x < length marks = omega (arith, s.marks_length) in
+    let len = length-take-le last path (omega arith) in
+    let seen_top : mark_of marks x ≢ Fresh = rw top (s.path_seen last (omega arith)) in
+    let stays_seen : (y : ℕ) → mark_of (set marks x Done) y ≢ Fresh → mark_of marks y ≢ Fresh =
+    λ y h. elim (mark_set marks x y Done lm) [ inl w ↦ rw w.0 seen_top | inr w ↦ λ f. h (w.1 ∙ f) ] in
+    let done_stays : (y : ℕ) → mark_of marks y ≡ Done → mark_of (set marks x Done) y ≡ Done =
+    λ y h. elim (mark_set marks x y Done lm) [ inl w ↦ w.1 | inr w ↦ w.1 ∙ h ] in
+    record {
+      marks_length = length-set marks x Done ∙ s.marks_length;
+      places_length = s.places_length;
+      places_inside = s.places_inside;
+      path_below = λ k h. rw (get_or-take last path k 0 (omega (arith, len))) (s.path_below k (omega (arith, len)));
+      path_follows = λ k h. rw (get_or-take last path k 0 (omega (arith, len)), get_or-take last path (k + 1) 0 (omega (arith, len))) (s.path_follows k (omega (arith, len)));
+      path_seen = λ k h. rw (get_or-take last path k 0 (omega (arith, len)))
+          (λ f. elim (mark_set marks x (get_or path k 0) Done lm) [ inl w ↦ cc (w.1, f) | inr w ↦ s.path_seen k (omega (arith, len)) (sym w.1 ∙ f) ]);
+      open_on_path = λ y o. elim (mark_set marks x y Done lm) [
+        | inl w ↦ cc (w.1, o)
+        | inr w ↦ let was = s.open_on_path y (sym w.1 ∙ o) in
+            elim (cases_lt was.0 last) [
+              | inl l ↦ (was.0, omega (arith, len), get_or-take last path was.0 y l ∙ was.2)
+              | inr g ↦ let i : was.0 ≡ last = omega (arith, was.1, g) in
+                  absurd (w.0 (sym was.2 ∙ get_or_default path was.0 y 0 was.1 ∙ ap (λ (k : ℕ). get_or path k 0) i ∙ sym top))
+            ]
+      ];
+      passed = λ y i d seen before inside tail. done_stays _ (s.passed y i d (stays_seen y seen) before inside tail);
+      ahead = λ y i d seen from inside. s.ahead y i d (stays_seen y seen) from inside;
+      done_closed = λ u v done has_link. elim (mark_set marks x u Done lm) [
+        | inl w ↦ done_stays v (points_to_done links marks u v (rw w.0 leads) has_link)
+        | inr w ↦ done_stays v (s.done_closed u v (sym w.1 ∙ done) has_link)
+      ];
+      done_safe = λ u vs done. elim (mark_cases (mark_of marks u)) [
+        | inl f ↦ elim (mark_set marks x u Done lm) [
+          | inl w ↦ rw w.0 (no_closed_walk links marks s.done_closed x vs (λ e. cc (e, f, w.0)) leads)
+          | inr w ↦ cc (w.1, f, done)
+        ]
+        | inr more ↦ elim more [
+          | inl o ↦ elim (mark_set marks x u Done lm) [
+            | inl w ↦ rw w.0 (no_closed_walk links marks s.done_closed x vs (λ e. cc (e, o, w.0)) leads)
+            | inr w ↦ cc (w.1, o, done)
+          ]
+          | inr e ↦ s.done_safe u vs e
+        ]
+      ];
+    }
+
+-- how many nodes are fresh once x has another mark
+pub fresh_count-set : (marks : List Mark) (x : ℕ) (m : Mark) → x < length marks → is_fresh m ≡ false → fresh_count (set marks x m) + fresh_count (mark_of marks x ∷ []) ≡ fresh_count marks
+fresh_count-set marks x m l e =
+    let weight : Mark → ℕ = λ k. cond (is_fresh k) 1 0 in
+    let h = sum_by-set weight marks x m Fresh l in
+    let z : weight m ≡ 0 = rw e refl in
+    omega (arith, h, z)
+
+pub fewer_fresh : (marks : List Mark) (x : ℕ) → x < length marks → mark_of marks x ≡ Fresh → fresh_count (set marks x Open) + 1 ≡ fresh_count marks
+fewer_fresh marks x l f =
+    let h = fresh_count-set marks x Open l refl in
+    let one : fresh_count (mark_of marks x ∷ []) ≡ 1 = rw f refl in
+    omega (arith, h, one)
+
+pub no_more_fresh : (marks : List Mark) (x : ℕ) → x < length marks → fresh_count (set marks x Done) ≤ fresh_count marks
+no_more_fresh marks x l = omega (arith, fresh_count-set marks x Done l refl)
+
+-- where the links of x start, by the clause of `partition_point`
+pub start_from_point : (links : List (ℕ × ℕ)) (x p : ℕ) → IsPartitionPoint (λ (y : ℕ × ℕ). ltb y.0 x ≡ true) (λ (y : ℕ × ℕ). ltb y.0 x ≡ false) links p → IsStart links x p
+start_from_point links x p h i d l = (λ b. ltb-true _ _ (h.0 i d (omega arith) b), λ b. ltb-false _ _ (h.1 i d b l))
+
+-- once the place of x is past its links, each of them leads to a done node
+pub all_done : (n : ℕ) (links : List (ℕ × ℕ)) (marks : List Mark) (places path : List ℕ) (x place : ℕ) → IsCycleSearch n links marks places path → HasRisingTails links → mark_of marks x ≢ Fresh → place ≡ get_or places x 0 → ((d : ℕ × ℕ) → place < length links → (get_or links place d).0 ≢ x) → LeadsToDone links marks x
+all_done n links marks places path x place s rising seen at past i d inside tail =
+    elim (cases_lt i place) [
+      | inl l ↦ s.passed x i d seen (omega (arith, at)) inside tail
+      | inr g ↦
+          let within : place < length links = omega arith in
+          let ahead = s.ahead x place d seen (omega (arith, at)) within in
+          let up = rising place i d g inside in
+          absurd (past d within (omega (arith, ahead, up, tail)))
+    ]
+
+shifted : (u : ℕ) (xs : List ℕ) (k : ℕ) → get_or (u ∷ xs) (k + 1) 0 ≡ get_or xs k 0
+shifted u xs k = rw add-one refl
+
+-- a list whose steps follow the links is a path from its first node
+path_from_steps : (links : List (ℕ × ℕ)) (u : ℕ) (vs : List ℕ) → ((k : ℕ) → k + 1 < length (u ∷ vs) → Points links (get_or (u ∷ vs) k 0) (get_or (u ∷ vs) (k + 1) 0)) → IsPath links u vs
+path_from_steps links u [] steps = tt
+path_from_steps links u (v ∷ vs) steps =
+    (steps 0 (omega arith), path_from_steps links v vs (λ k h. rw (← shifted u (v ∷ vs) k, ← shifted u (v ∷ vs) (k + 1)) (steps (k + 1) (omega arith))))
+
+end_from_last : (u : ℕ) (vs : List ℕ) → end_of u vs ≡ get_or (u ∷ vs) (length vs) 0
+end_from_last u [] = refl
+end_from_last u (v ∷ vs) = end_from_last v vs
+
+-- a list that begins and ends at one node, and whose steps follow the links
+cycle_from_steps : (links : List (ℕ × ℕ)) (walk : List ℕ) (last : ℕ) → last + 1 ≡ length walk → 0 < last → get_or walk last 0 ≡ get_or walk 0 0 → ((k : ℕ) → k + 1 < length walk → Points links (get_or walk k 0) (get_or walk (k + 1) 0)) → IsCycle links walk
+cycle_from_steps links [] last len some same steps = omega arith
+cycle_from_steps links (u ∷ []) last len some same steps = omega arith
+cycle_from_steps links (u ∷ (v ∷ vs)) last len some same steps =
+    let l : last ≡ length (v ∷ vs) = omega arith in
+    (path_from_steps links u (v ∷ vs) steps, end_from_last u (v ∷ vs) ∙ ap (λ (k : ℕ). get_or (u ∷ (v ∷ vs)) k 0) (sym l) ∙ same)
+
+-- the path from a node of it that its last node leads to, and that node again
+pub closes : (links : List (ℕ × ℕ)) (path walk : List ℕ) (last k x : ℕ) → ((k : ℕ) → k + 1 < length path → Points links (get_or path k 0) (get_or path (k + 1) 0)) → last + 1 ≡ length path → Points links (get_or path last 0) x → k < length path → get_or path k 0 ≡ x → walk ≡ drop k path ++ x ∷ [] → IsCycle links walk
+closes links path walk last k x follows len has_link inside at is =
+    let dropped = length-drop k path in
+    let whole = length_push (drop k path) x in
+    rw is (cycle_from_steps links (drop k path ++ x ∷ []) (length (drop k path)) (sym whole) (omega (arith, dropped))
+    (get_or_push (drop k path) x 0 _ refl ∙ sym (get_or_append_left (drop k path) (x ∷ []) 0 0 (omega (arith, dropped)) ∙ get_or-drop k path 0 0 ∙ rw add-zero at))
+    (λ j h.
+    let l : j < length (drop k path) = omega (arith, whole) in
+    rw (get_or_append_left (drop k path) (x ∷ []) 0 j l, get_or-drop k path j 0)
+    (elim (node_cases (drop k path) x (j + 1) h) [
+      | inl w ↦ rw (w.1, get_or-drop k path (j + 1) 0) (rw (add_assoc k j 1) at (follows (k + j) (omega (arith, dropped, w.0))))
+      | inr w ↦ rw w.1 (let e : k + j ≡ last = omega (arith, dropped, w.0) in rw e has_link)
+    ])))
+
+pair_is : (l : ℕ × ℕ) (u v : ℕ) → l.0 ≡ u → l.1 ≡ v → l ≡ (u, v)
+pair_is (a, b) u v e f = cc
+
+-- a link at its place
+pub points_at : (links : List (ℕ × ℕ)) (i u v : ℕ) (d : ℕ × ℕ) → i < length links → (get_or links i d).0 ≡ u → (get_or links i d).1 ≡ v → Points links u v
+points_at links i u v d l tail head =
+    let whole : get_or links i d ≡ (u, v) = pair_is _ u v tail head in
+    (i, l, get_or_default links i (u, v) d l ∙ whole)

@@ -1,0 +1,13 @@
+pub mod Members
+pub mod Counting
+pub mod Booleans
+pub mod Linking
+pub mod Ordering
+pub mod Neighbours
+pub mod HalfLinks
+pub mod Building
+pub mod Giving
+pub mod Acyclic
+pub mod TurnedLinks
+pub mod Refusing
+pub mod Cycles

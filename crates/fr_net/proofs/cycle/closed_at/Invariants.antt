@@ -1,0 +1,8 @@
+use Rattle.std.proofs.Common.{get_or, length, ℕ, ◌-◌, ◌<◌, ◌≡◌, ◌≤◌}
+use Rattle.fr_net.proofs.cycle.closed_at.Given as goal
+
+abbrev pub invariant-loop-at : goal.invariant-loop-at
+invariant-loop-at l = (k : ℕ) × (l.at ≤ k) × (k < length l.path) × (get_or l.path k l.node ≡ l.node)
+
+abbrev pub decreases-loop-at : goal.decreases-loop-at
+decreases-loop-at l = length l.path - l.at

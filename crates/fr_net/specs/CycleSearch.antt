@@ -1,0 +1,62 @@
+-- The state of the depth-first search for a closed walk. For `find_cycle` alone.
+use Rattle.std.specs.Prelude.{◌≡◌, ◌≢◌, ℕ, ◌<◌, ◌≤◌, ◌+◌, List, length, slice_index, slice_index_or, Bool, true, false, count_by}
+use Rattle.std.specs.List.{Contains}
+use Rattle.fr_net.specs.Links.{Points, IsClosedWalk}
+use Rattle.fr_net.specs.declared.cycle.Mark.{Mark}
+use Rattle.fr_net.specs.declared.cycle.Mark.TheVariants.{Fresh, Open, Done}
+
+abbrev pub mark_of : List Mark → ℕ → Mark
+mark_of marks x = slice_index_or marks x Fresh
+
+-- the link at place i leaves x for a node that is done
+abbrev pub IsPassed : List (ℕ × ℕ) → List Mark → ℕ → ℕ → Type 0
+IsPassed links marks x i =
+    (d : ℕ × ℕ) → ((slice_index_or links i d).0 ≡ x) × (mark_of marks (slice_index_or links i d).1 ≡ Done)
+
+-- the state of the search at any moment: the path follows links, the open nodes are on it, the links of
+-- a node before its place lead to done nodes and none of its links stands after where its place began,
+-- done nodes lead to done nodes only, and no closed walk leaves a done node
+pub record IsCycleSearch (n : ℕ) (links : List (ℕ × ℕ)) (marks : List Mark) (places : List ℕ) (path : List ℕ) : Type 0 where
+  pub marks_length : length marks ≡ n
+  pub places_length : length places ≡ n
+  pub places_inside : (x : ℕ) → slice_index places x ≤ length links
+  pub path_below : (k : ℕ) → k < length path → slice_index path k < n
+  pub path_follows : (k : ℕ) → k + 1 < length path → Points links (slice_index path k) (slice_index path (k + 1))
+  pub path_seen : (k : ℕ) → k < length path → mark_of marks (slice_index path k) ≢ Fresh
+  pub open_on_path : (x : ℕ) → mark_of marks x ≡ Open → Contains path x
+  pub passed : (x i : ℕ) (d : ℕ × ℕ) → mark_of marks x ≢ Fresh → i < slice_index places x → i < length links → (slice_index_or links i d).0 ≡ x → mark_of marks (slice_index_or links i d).1 ≡ Done
+  pub ahead : (x i : ℕ) (d : ℕ × ℕ) → mark_of marks x ≢ Fresh → slice_index places x ≤ i → i < length links → x ≤ (slice_index_or links i d).0
+  pub done_closed : (u v : ℕ) → mark_of marks u ≡ Done → Points links u v → mark_of marks v ≡ Done
+  pub done_safe : (u : ℕ) (vs : List ℕ) → mark_of marks u ≡ Done → ¬ IsClosedWalk links u vs
+
+-- seen nodes stay seen
+abbrev pub KeepsSeen : List Mark → List Mark → Type 0
+KeepsSeen old new = (x : ℕ) → mark_of old x ≢ Fresh → mark_of new x ≢ Fresh
+
+-- the links of tails below x stand before place p, and those of x and above from p on
+abbrev pub IsStart : List (ℕ × ℕ) → ℕ → ℕ → Type 0
+IsStart links x p =
+    (i : ℕ) (d : ℕ × ℕ) → i < length links → (i < p → (slice_index_or links i d).0 < x) × (p ≤ i → x ≤ (slice_index_or links i d).0)
+
+-- the last node of the path, if there is one, points to x
+abbrev pub LeadsTo : List (ℕ × ℕ) → List ℕ → ℕ → Type 0
+LeadsTo links path x = (k : ℕ) → k + 1 ≡ length path → Points links (slice_index path k) x
+
+abbrev pub is_fresh : Mark → Bool
+is_fresh Fresh = true
+is_fresh Open = false
+is_fresh Done = false
+
+-- how many nodes the search has not met
+abbrev pub fresh_count : List Mark → ℕ
+fresh_count marks = count_by is_fresh marks
+
+-- each link of x leads to a done node
+abbrev pub LeadsToDone : List (ℕ × ℕ) → List Mark → ℕ → Type 0
+LeadsToDone links marks x =
+    (i : ℕ) (d : ℕ × ℕ) → i < length links → (slice_index_or links i d).0 ≡ x → mark_of marks (slice_index_or links i d).1 ≡ Done
+
+-- the tails never fall
+abbrev pub HasRisingTails : List (ℕ × ℕ) → Type 0
+HasRisingTails links =
+    (i j : ℕ) (d : ℕ × ℕ) → i ≤ j → j < length links → (slice_index_or links i d).0 ≤ (slice_index_or links j d).0

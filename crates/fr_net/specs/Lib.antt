@@ -1,0 +1,11 @@
+pub mod Limits
+pub mod Links
+pub mod Order
+pub mod Turn
+pub mod Counts
+pub mod Network
+pub mod Rows
+pub mod Faults
+pub mod Halves
+pub mod CycleSearch
+pub mod Inside

@@ -1,0 +1,13 @@
+-- How large a network may be.
+use Rattle.std.specs.Prelude.{ℕ, ◌≤◌, List, length}
+
+abbrev pub most_nodes : ℕ
+most_nodes = 1024
+
+abbrev pub most_links : ℕ
+most_links = 8192
+
+-- there are no more nodes and links than the limits admit
+pub record IsWithinLimits (n : ℕ) (links : List (ℕ × ℕ)) : Type 0 where
+  pub nodes_few : n ≤ most_nodes
+  pub links_few : length links ≤ most_links

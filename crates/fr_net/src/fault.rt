@@ -1,0 +1,47 @@
+//! Why links make no network.
+
+ghost use Rattle.std.specs.Prelude.{◌≡◌};
+ghost use Rattle.fr_net.specs.declared.fault.NetFault.TheVariants.{Memory};
+
+use std::alloc::{AllocError, AllocFailed};
+use thiserror::Error;
+
+/// Why links make no network, with the evidence. The variants stand in the order in which the faults are tested.
+#[derive(Debug, Drop, Error, PartialEq, Eq)]
+pub enum NetFault {
+    /// There are more nodes or links than the limits admit.
+    #[error("too many nodes or links")]
+    TooMany,
+    /// A link's end that is no node; 0 where there is no node at all.
+    #[error("node {0} is out of range")]
+    Range(u32),
+    /// A node with a link to itself.
+    #[error("a link joins node {0} with itself")]
+    SelfLink(u32),
+    /// Two nodes that more than one link joins, in either direction.
+    #[error("more than one link joins nodes {0} and {1}")]
+    Twice(u32, u32),
+    /// The nodes of a closed walk along the links, the first again at the end.
+    #[error("the links close a walk of {} steps", .0.len().saturating_sub(1))]
+    Cycle(Vec<u32>),
+    /// An allocation was refused.
+    #[error("no memory")]
+    Memory,
+}
+
+// By hand, since clauses say which fault a `?` gives.
+impl From<AllocError> for NetFault {
+    ghost from_gives = { λ _ fault. fault ≡ Memory };
+
+    fn from(_refused: AllocError) -> NetFault {
+        NetFault::Memory
+    }
+}
+
+impl<T: Drop> From<AllocFailed<T>> for NetFault {
+    ghost from_gives = { λ _ fault. fault ≡ Memory };
+
+    fn from(_refused: AllocFailed<T>) -> NetFault {
+        NetFault::Memory
+    }
+}

@@ -1,0 +1,20 @@
+//! Networks for link reversal: nodes and directed links among which no closed walk stands, and the lines of JSON that
+//! ask for them.
+//!
+//! A [`Net`] is made by [`Net::new`] alone, which names the first fault of links that make no network. Layers above
+//! read it by `nodes`, `links`, `degree`, `neighbour` and `row`, and make the network of turned links by `turned_by`.
+//! [`read_line`] reads a request.
+#![tactic(auto)]
+
+mod checks;
+mod cycle;
+mod fault;
+mod limits;
+mod network;
+mod rows;
+mod turned;
+
+pub use fault::NetFault;
+pub use limits::{MAX_LINKS, MAX_NODES};
+pub use network::Net;
+pub use rows::First;

@@ -1,0 +1,7 @@
+//! How large a network may be. `specs/Limits.antt` has the same numbers, for contracts.
+
+/// The most nodes of a network.
+pub const MAX_NODES: u32 = 1024;
+
+/// The most links of a network.
+pub const MAX_LINKS: usize = 8192;

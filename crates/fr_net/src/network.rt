@@ -1,0 +1,133 @@
+//! Networks.
+
+ghost use Rattle.std.specs.Prelude.{◌≡◌, ◌≢◌, ℕ, ◌<◌, ◌+◌, length, slice_get, slice_index, Some, IfOk, IfErr, All};
+ghost use Rattle.std.specs.List.{HoldsAt};
+ghost use Rattle.fr_net.specs.Order.{AreInOrder};
+ghost use Rattle.fr_net.specs.Counts.{IsKept, links_at};
+ghost use Rattle.fr_net.specs.Rows.{row};
+ghost use Rattle.fr_net.specs.declared.fault.NetFault.TheVariants.{Memory};
+ghost use Rattle.fr_net.specs.Faults.{IsFaultless, IsFirstFault, IsNetworkOf};
+
+use crate::checks::{first_outside, first_self_link};
+use crate::cycle::find_cycle;
+use crate::fault::NetFault;
+use crate::limits::{MAX_LINKS, MAX_NODES};
+use crate::rows::{First, entries_of, first_twice, row_starts, sorted_halves, sorted_links};
+use crate::turned::turned_links;
+use std::alloc::Global;
+use std::marker::Model;
+
+/// A network: nodes, and links among which no closed walk stands. Contracts see the number of nodes and the links in
+/// rising order of tail, then head.
+#[derive(Debug, Drop)]
+pub struct Net {
+    nodes: u32,
+    links: Vec<(u32, u32)>,
+    // Compressed rows: the neighbours of node x stand in `entries` from `starts[x]` up to `starts[x + 1]`.
+    starts: Vec<usize>,
+    entries: Vec<(u32, First)>,
+}
+
+impl Model for Net {
+    ghost use Rattle.fr_net.specs.Network.{Network};
+
+    ghost Value = { Network };
+
+    ghost use Rattle.fr_net.specs.Inside.{network_of, IsNetwork};
+
+    ghost view = { network_of };
+
+    ghost invariant = { IsNetwork };
+}
+
+impl Net {
+    /// The network with nodes 0 to `nodes - 1` and these links, each from its tail to its head, in whatever order they
+    /// are listed; or the first fault that stands, tested over the whole list in the order of [`NetFault`]. It sorts
+    /// the links, and all else is linear.
+    pub fn new(alloc: Global, nodes: u32, links: &[(u32, u32)]) -> Result<Net, NetFault>
+        ensures ok { IfOk result (IsNetworkOf nodes links.now) }
+        ensures refused { IfErr result (λ fault. fault ≢ Memory → IsFirstFault nodes links.now fault) }
+    {
+        if nodes > MAX_NODES || links.len() > MAX_LINKS {
+            return Err(NetFault::TooMany);
+        }
+        if let Some(x) = first_outside(nodes, links) {
+            return Err(NetFault::Range(x));
+        }
+        if let Some(node) = first_self_link(links) {
+            return Err(NetFault::SelfLink(node));
+        }
+        let sorted = sorted_links(alloc, links)?;
+        let halves = sorted_halves(alloc, &sorted)?;
+        if let Some((u, v)) = first_twice(&halves) {
+            return Err(NetFault::Twice(u, v));
+        }
+        if let Some(walk) = find_cycle(alloc, nodes, &sorted)? {
+            return Err(NetFault::Cycle(walk));
+        }
+        let starts = row_starts(alloc, nodes, &halves)?;
+        let entries = entries_of(alloc, &halves)?;
+        Ok(Net {
+            nodes,
+            links: sorted,
+            starts,
+            entries,
+        })
+    }
+
+    /// How many nodes there are, 1 or more.
+    pub fn nodes(&self) -> u32
+        ensures value { result ≡ self.now.nodes }
+        ensures faultless { IsFaultless self.now.nodes self.now.links }
+    {
+        self.nodes
+    }
+
+    /// The links in rising order of tail, then head.
+    pub fn links(&self) -> &[(u32, u32)]
+        ensures value { result.now ≡ self.now.links }
+        ensures order { AreInOrder self.now.links }
+    {
+        &self.links
+    }
+
+    /// How many neighbours node `x` has.
+    pub fn degree(&self, x: u32) -> u32
+        requires { x < self.now.nodes }
+        ensures { result ≡ length (row self.now.nodes self.now.links x) }
+    {
+        (self.starts[x as usize + 1] - self.starts[x as usize]) as u32
+    }
+
+    /// The neighbour at place `j` of the row of node `x`, counted from 0 in rising order of the neighbours, and the
+    /// direction of its link as seen from `x`.
+    pub fn neighbour(&self, x: u32, j: u32) -> (u32, First)
+        requires node { x < self.now.nodes }
+        requires place { j < length (row self.now.nodes self.now.links x) }
+        ensures value { slice_get (row self.now.nodes self.now.links x) j ≡ Some result }
+        ensures at { HoldsAt (λ e. e ≡ result) (row self.now.nodes self.now.links x) j }
+    {
+        self.entries[self.starts[x as usize] + j as usize]
+    }
+
+    /// All neighbours of node `x` in rising order, each with the direction of its link as seen from `x`: what
+    /// `neighbour` answers for each place, for a loop over a whole row.
+    pub fn row(&self, x: u32) -> &[(u32, First)]
+        requires { x < self.now.nodes }
+        ensures { result.now ≡ row self.now.nodes self.now.links x }
+    {
+        &self.entries[self.starts[x as usize]..self.starts[x as usize + 1]]
+    }
+
+    /// The network of the links that the counts give, one count for each node: a link stays where its head has turned
+    /// as often as its tail, and is reversed where its head has turned once more. The only fault is want of memory.
+    pub fn turned_by(&self, alloc: Global, counts: &[u64]) -> Result<Net, NetFault>
+        requires one_each { length counts.now ≡ self.now.nodes }
+        requires kept { All (IsKept counts.now) self.now.links }
+        ensures ok { IfOk result (IsNetworkOf self.now.nodes (links_at self.now.links counts.now)) }
+        ensures memory { IfErr result (λ fault. fault ≡ Memory) }
+    {
+        let links = turned_links(alloc, &self.links, counts)?;
+        Net::new(alloc, self.nodes, &links)
+    }
+}
