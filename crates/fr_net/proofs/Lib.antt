@@ -11,3 +11,6 @@ pub mod Acyclic
 pub mod TurnedLinks
 pub mod Refusing
 pub mod Cycles
+pub mod Items
+pub mod LineValues
+pub mod Reordering

@@ -7,7 +7,7 @@ use Rattle.std.proofs.lemmas.List.Folds.{Any-from_list_any, list_any_at}
 use Rattle.fr_net.proofs.Booleans.{and_cases}
 use Rattle.fr_net.proofs.Linking.{IsOneWay, link_below, one_way}
 use Rattle.fr_net.proofs.Members.{Contains-cases, Contains-head, Contains-tail}
-use Rattle.fr_net.specs.Links.{IsNet, Points}
+use Rattle.fr_net.specs.Links.{IsAlone, IsNet, Joins, Points}
 use Rattle.fr_net.specs.Rows.{has_link, row, row_entry}
 use Rattle.fr_net.specs.declared.rows.First.{First}
 use Rattle.fr_net.specs.declared.rows.First.TheVariants.{Inward, Outward}
@@ -161,3 +161,17 @@ in_of_row n links x w h =
       | inl a ↦ absurd (differ (sym (ap (λ (e : ℕ × First). e.1) a.1)))
       | inr b ↦ Points-has_link links w x b.1
     ]
+
+-- a node with a neighbour has a link, and a node with none has no link
+pub row_linked : (n : ℕ) (links : List (ℕ × ℕ)) (x : ℕ) → 0 < length (row n links x) → (w : ℕ) × Joins links x w
+row_linked n links x some =
+    let e = get_or (row n links x) 0 (0, Outward) in
+    let t = row_holds n links x e (Contains-get_or (row n links x) 0 (0, Outward) some) in
+    elim (row_entry_known (has_link links x e.0) (has_link links e.0 x) e.0 e t.1) [
+      | inl a ↦ (e.0, inl (Points-has_link links x e.0 a.0))
+      | inr b ↦ (e.0, inr (Points-has_link links e.0 x b.1))
+    ]
+
+pub row_alone : (n : ℕ) (links : List (ℕ × ℕ)) (x : ℕ) → IsNet n links → length (row n links x) ≡ 0 → IsAlone links x
+row_alone n links x net none w (inl h) = omega (arith, none, (row_of_out n links x w net h).1)
+row_alone n links x net none w (inr h) = omega (arith, none, (row_of_in n links x w net h).1)

@@ -68,7 +68,7 @@ least_first q (r ∷ rs) x order h =
 abbrev pub is_pair : ℕ → ℕ → ℕ × ℕ → Bool
 is_pair u v l = (eqb l.0 u) && (eqb l.1 v)
 
-abbrev times : List (ℕ × ℕ) → ℕ × ℕ → ℕ
+abbrev pub times : List (ℕ × ℕ) → ℕ × ℕ → ℕ
 times xs x = count_by (is_pair x.0 x.1) xs
 
 itself : (x : ℕ × ℕ) → is_pair x.0 x.1 x ≡ true

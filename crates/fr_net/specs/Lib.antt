@@ -9,3 +9,4 @@ pub mod Faults
 pub mod Halves
 pub mod CycleSearch
 pub mod Inside
+pub mod Requests

@@ -11,10 +11,14 @@ mod cycle;
 mod fault;
 mod limits;
 mod network;
+mod read;
+mod requests;
 mod rows;
 mod turned;
 
 pub use fault::NetFault;
 pub use limits::{MAX_LINKS, MAX_NODES};
 pub use network::Net;
+pub use read::read_line;
+pub use requests::{LineFault, Question, Request};
 pub use rows::First;

@@ -1,0 +1,108 @@
+-- Which line is which request. `serde_json` reads a line as one value; a request is an array of exactly these items, where
+-- n, d, u and v are numbers, and every other value is no request:
+--     ["net", n, d, [[u, v], ..]]    take the network of n nodes, with destination d and the links from u to v
+--     ["links"]                      ask which links there are
+--     ["counts"]                     ask how often each node has turned
+use Rattle.std.specs.Prelude.{ℕ, ◌^◌, List, [], ◌∷◌, Option, Some, None, ok_or, option_map, option_and_then, Result, Err, nat_lt, if◌then◌else◌, codes}
+use Rattle.std.specs.Str.{bytes_eq, is_utf8}
+use Rattle.serde_json.specs.Data.{Data, Items, no_items, item}
+use Rattle.serde_json.specs.Find.{as_number, as_str, as_array, as_u64}
+use Rattle.serde_json.specs.Read.{read}
+use Rattle.fr_net.specs.declared.requests.LineFault.{LineFault}
+use Rattle.fr_net.specs.declared.requests.LineFault.TheVariants.{NotJson, NotRequest}
+use Rattle.fr_net.specs.declared.requests.Question.{Question}
+use Rattle.fr_net.specs.declared.requests.Question.TheVariants.{Links, Counts}
+use Rattle.fr_net.specs.declared.requests.Request.{Request}
+use Rattle.fr_net.specs.declared.requests.Request.TheVariants.{Network, Ask}
+
+-- a request, with its links as a list
+pub data PlainRequest : Type 0 where
+  network : ℕ → ℕ → List (ℕ × ℕ) → PlainRequest
+  ask : Question → PlainRequest
+
+-- a request of the code, without the room that its `Vec` has
+abbrev pub plain : Request → PlainRequest
+plain (Network nodes dest links) = network nodes dest links.items
+plain (Ask question) = ask question
+
+-- the items, one after the other
+abbrev pub item_list : Items → List Data
+item_list no_items = []
+item_list (item d ds) = d ∷ item_list ds
+
+-- the items of an array
+abbrev pub items_in : Data → Option (List Data)
+items_in d = option_map item_list (as_array d)
+
+-- n, where it is at most 4,294,967,295
+abbrev pub small_number : ℕ → Option ℕ
+small_number n = if nat_lt n (2 ^ 32) then Some n else None
+
+-- a number: what `as_u64` gives, where that is at most 4,294,967,295; -1 and 1.0 are none
+abbrev pub number_in : Data → Option ℕ
+number_in d = option_and_then small_number (option_and_then as_u64 (as_number d))
+
+-- just two items, both numbers
+abbrev pub number_pair : List Data → Option (ℕ × ℕ)
+number_pair [] = None
+number_pair (d ∷ []) = None
+number_pair (d ∷ e ∷ []) = option_and_then (λ u. option_map (λ v. (u, v)) (number_in e)) (number_in d)
+number_pair (d ∷ e ∷ f ∷ rest) = None
+
+-- a link: an array of just its tail and its head
+abbrev pub link_in : Data → Option (ℕ × ℕ)
+link_in d = option_and_then number_pair (items_in d)
+
+-- links, of which each item is one
+abbrev pub links_of : List Data → Option (List (ℕ × ℕ))
+links_of [] = Some []
+links_of (d ∷ ds) = option_and_then (λ link. option_map (λ links. link ∷ links) (links_of ds)) (link_in d)
+
+-- links: an array of them
+abbrev pub links_in : Data → Option (List (ℕ × ℕ))
+links_in d = option_and_then links_of (items_in d)
+
+-- the network of just three items: how many nodes, the destination, the links
+abbrev pub network_request : List Data → Option PlainRequest
+network_request [] = None
+network_request (n ∷ []) = None
+network_request (n ∷ d ∷ []) = None
+network_request (n ∷ d ∷ ls ∷ []) =
+    option_and_then (λ nodes. option_and_then (λ dest. option_map (network nodes dest)
+    (links_in ls)) (number_in d)) (number_in n)
+network_request (n ∷ d ∷ ls ∷ x ∷ rest) = None
+
+-- the question, where no item is left
+abbrev pub ask_request : Question → List Data → Option PlainRequest
+ask_request question [] = Some (ask question)
+ask_request question (d ∷ rest) = None
+
+-- the request of a word and the items after it
+unfoldable pub request_of_word : List ℕ → List Data → Option PlainRequest
+request_of_word word rest =
+    if bytes_eq word (codes "net") then network_request rest
+    else (if bytes_eq word (codes "links") then ask_request Links rest
+    else (if bytes_eq word (codes "counts") then ask_request Counts rest
+    else None))
+
+-- the request of an array's items, the first of which is its word
+abbrev pub request_of_items : List Data → Option PlainRequest
+request_of_items [] = None
+request_of_items (d ∷ rest) = option_and_then (λ word. request_of_word word rest) (as_str d)
+
+-- the request that a value is
+abbrev pub request_of : Data → Option PlainRequest
+request_of d = option_and_then request_of_items (items_in d)
+
+-- the value that a line is: UTF-8, JSON, and nesting at most 127
+abbrev pub value_of_line : List ℕ → Option Data
+value_of_line line = if is_utf8 line then read line else None
+
+-- the request of a line's value, or why there is none
+abbrev pub reading_of_value : Option Data → Result PlainRequest LineFault
+reading_of_value None = Err NotJson
+reading_of_value (Some d) = ok_or (request_of d) NotRequest
+
+-- the request that a line is, or why it is none
+abbrev pub reading : List ℕ → Result PlainRequest LineFault
+reading line = reading_of_value (value_of_line line)

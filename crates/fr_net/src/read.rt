@@ -1,0 +1,128 @@
+//! Reading a line as a request. `specs/Requests.antt` says which line is which.
+
+ghost use Rattle.std.specs.Prelude.{◌≡◌, ◌≢◌, Ok, Err, Some, IfOk, IfErr, map, ok_or};
+ghost use Rattle.serde_json.specs.View.{view};
+ghost use Rattle.fr_net.specs.declared.requests.LineFault.TheVariants.{NotRequest, Memory};
+ghost use Rattle.fr_net.specs.Requests.{plain, reading, request_of, request_of_word, network_request, ask_request, links_in, link_in, number_pair, number_in};
+
+use crate::requests::{LineFault, Question, Request};
+use serde_json::Value;
+use std::alloc::Global;
+
+/// The request that a line is, in JSON with white space wherever JSON has it. [`LineFault`] says when a line is none;
+/// a fault other than want of memory is settled by the line alone.
+pub fn read_line(alloc: Global, line: &[u8]) -> Result<Request, LineFault>
+    ensures ok { IfOk result (λ request. reading line.now ≡ Ok (plain request)) }
+    ensures refused { IfErr result (λ fault. fault ≢ Memory → reading line.now ≡ Err fault) }
+{
+    match Value::from_slice(alloc, line) {
+        Ok(value) => request_in(alloc, &value),
+        Err(fault) if fault.is_memory() => Err(LineFault::Memory),
+        Err(_) => Err(LineFault::NotJson),
+    }
+}
+
+/// The request that a value of JSON is.
+fn request_in(alloc: Global, value: &Value) -> Result<Request, LineFault>
+    ensures ok { IfOk result (λ request. request_of (view value.now) ≡ Some (plain request)) }
+    ensures refused { IfErr result (λ fault. fault ≢ Memory
+        → ok_or (request_of (view value.now)) NotRequest ≡ Err fault) }
+{
+    let Some(items) = value.as_array() else {
+        return Err(LineFault::NotRequest);
+    };
+    let [first, rest @ ..] = items.as_slice() else {
+        return Err(LineFault::NotRequest);
+    };
+    let Some(word) = first.as_str() else {
+        return Err(LineFault::NotRequest);
+    };
+    request_by_word(alloc, word, rest)
+}
+
+/// The request of a word and the items after it: an arm for each word.
+#[tactic(auto, unfolding(crate::specs::Requests::request_of_word))]
+fn request_by_word(alloc: Global, word: &str, rest: &[Value]) -> Result<Request, LineFault>
+    ensures ok { IfOk result (λ request. request_of_word word.now (map view rest.now) ≡ Some (plain request)) }
+    ensures refused { IfErr result (λ fault. fault ≢ Memory
+        → ok_or (request_of_word word.now (map view rest.now)) NotRequest ≡ Err fault) }
+{
+    match word {
+        "net" => network(alloc, rest),
+        "links" => ask(Question::Links, rest),
+        "counts" => ask(Question::Counts, rest),
+        _ => Err(LineFault::NotRequest),
+    }
+}
+
+/// A question, where no item stands after its word.
+fn ask(question: Question, rest: &[Value]) -> Result<Request, LineFault>
+    ensures ok { IfOk result (λ request. ask_request question (map view rest.now) ≡ Some (plain request)) }
+    ensures refused { IfErr result (λ fault. ok_or (ask_request question (map view rest.now)) NotRequest ≡ Err fault) }
+{
+    match rest {
+        [] => Ok(Request::Ask(question)),
+        _ => Err(LineFault::NotRequest),
+    }
+}
+
+/// A network of just three items: how many nodes, the destination, the links.
+fn network(alloc: Global, rest: &[Value]) -> Result<Request, LineFault>
+    ensures ok { IfOk result (λ request. network_request (map view rest.now) ≡ Some (plain request)) }
+    ensures refused { IfErr result (λ fault. fault ≢ Memory
+        → ok_or (network_request (map view rest.now)) NotRequest ≡ Err fault) }
+{
+    let [nodes, dest, links] = rest else {
+        return Err(LineFault::NotRequest);
+    };
+    let nodes = number(nodes).ok_or(LineFault::NotRequest)?;
+    let dest = number(dest).ok_or(LineFault::NotRequest)?;
+    let links = link_list(alloc, links)?;
+    Ok(Request::Network { nodes, dest, links })
+}
+
+/// The links that an array lists.
+fn link_list(alloc: Global, value: &Value) -> Result<Vec<(u32, u32)>, LineFault>
+    ensures ok { IfOk result (λ links. links_in (view value.now) ≡ Some links.items) }
+    ensures refused { IfErr result (λ fault. fault ≢ Memory
+        → ok_or (links_in (view value.now)) NotRequest ≡ Err fault) }
+{
+    let Some(items) = value.as_array() else {
+        return Err(LineFault::NotRequest);
+    };
+    let mut links = Vec::new(alloc);
+    for item in items {
+        let Some(link) = link(item) else {
+            return Err(LineFault::NotRequest);
+        };
+        links.push(link)?;
+    }
+    Ok(links)
+}
+
+/// A link: an array of its tail and its head.
+fn link(value: &Value) -> Option<(u32, u32)>
+    ensures { result ≡ link_in (view value.now) }
+{
+    two_numbers(value.as_array()?)
+}
+
+/// Just two items, both numbers.
+fn two_numbers(items: &[Value]) -> Option<(u32, u32)>
+    ensures { result ≡ number_pair (map view items.now) }
+{
+    let [u, v] = items else {
+        return None;
+    };
+    Some((number(u)?, number(v)?))
+}
+
+/// A number, at most 4,294,967,295.
+fn number(value: &Value) -> Option<u32>
+    ensures { result ≡ number_in (view value.now) }
+{
+    u32::try_from(value.as_u64()?).ok()
+}
+
+#[cfg(test)]
+mod tests;

@@ -1,0 +1,46 @@
+-- What a run reads and writes. Where a reader or a writer does not tell its bytes, as standard input and output do not, the
+-- words of std about them say nothing.
+use Rattle.std.specs.Prelude.{◌≡◌, ℕ, List, ◌++◌, take, Option, None, Some, false, slice_get}
+use Rattle.std.specs.Io.KnownBytes.{Consumes, IsAtEnd, Appends}
+use Rattle.revroute.specs.Lines.{lines_of, is_blank, asking_count}
+use Rattle.revroute.specs.States.{State}
+use Rattle.revroute.specs.Answers.{AreAnswers, IsOutput}
+
+-- the most bytes of an input
+abbrev pub most_bytes : ℕ
+most_bytes = 16777216
+
+-- these bytes were all that the reader had
+abbrev pub ReadsAll : Option (List ℕ) → Option (List ℕ) → List ℕ → Type 0
+ReadsAll before after bytes = Consumes before after bytes × IsAtEnd after
+
+abbrev pub IsBeginning : List ℕ → List ℕ → Type 0
+IsBeginning front whole = (rest : List ℕ) × (whole ≡ front ++ rest)
+
+-- what was written is the output text of these bytes and nothing else, and the count is that of their lines that are not blank
+pub record WritesOutput (bytes : List ℕ) (old new : Option (List ℕ)) (count : ℕ) : Type 0 where
+  pub out : List ℕ
+  pub output : IsOutput bytes out
+  pub writes : Appends old new out
+  pub counted : count ≡ asking_count (lines_of bytes)
+
+-- what was written is a beginning of the answers to the first lines
+pub record WritesBeginning (bytes : List ℕ) (old new : Option (List ℕ)) : Type 0 where
+  pub lines : ℕ
+  pub answers : List ℕ
+  pub last : Option State
+  pub out : List ℕ
+  pub are_answers : AreAnswers None (take lines (lines_of bytes)) answers last
+  pub begins : IsBeginning out answers
+  pub writes : Appends old new out
+
+-- what was written is the answers to the lines before the one at this place, which is not blank
+pub record StopsAtLine (bytes : List ℕ) (old new : Option (List ℕ)) : Type 0 where
+  pub place : ℕ
+  pub line : List ℕ
+  pub out : List ℕ
+  pub last : Option State
+  pub is_line : slice_get (lines_of bytes) place ≡ Some line
+  pub asks : is_blank line ≡ false
+  pub are_answers : AreAnswers None (take place (lines_of bytes)) out last
+  pub writes : Appends old new out

@@ -1,0 +1,70 @@
+//! Answering the lines of an input.
+
+ghost use Rattle.std.specs.Prelude.{◌≡◌, ◌≢◌, [], ◌∷◌, List, ℕ, length, IfOk, not, false, Option};
+ghost use Rattle.std.specs.Io.KnownBytes.{Appends, Keeps};
+ghost use Rattle.revroute.specs.Lines.{is_blank};
+ghost use Rattle.revroute.specs.States.{State};
+ghost use Rattle.revroute.specs.Answers.{AreAnswers};
+ghost use Rattle.revroute.specs.Outputs.{IsBeginning, WritesOutput, WritesBeginning, StopsAtLine};
+
+use crate::lines::first_line;
+use crate::output::write_whole;
+use crate::run::RunFault;
+use crate::session::Session;
+use std::alloc::Global;
+use std::io::Write;
+
+/// Writes the answer to each line of the input that is not blank, and tells how many were answered.
+pub(crate) fn answer_all<W: Write>(
+    alloc: Global,
+    input: &[u8],
+    writer: &mut W,
+) -> Result<u64, RunFault>
+    ensures ok { IfOk result (WritesOutput input.now (W.contents writer.old) (W.contents writer.new)) }
+    ensures write { result ≡ Err RunFault.Write → WritesBeginning input.now (W.contents writer.old) (W.contents writer.new) }
+    ensures memory { result ≡ Err RunFault.Memory → StopsAtLine input.now (W.contents writer.old) (W.contents writer.new) }
+    ensures no_read { result ≢ Err RunFault.Read }
+    ensures no_length { result ≢ Err RunFault.TooLong }
+{
+    let mut session = Session::new();
+    let mut rest = Some(input);
+    let mut count = 0;
+    'lines: while let Some(text) = rest {
+        let (line, after) = first_line(text);
+        if answer_one(alloc, &mut session, line, writer)? {
+            count += 1;
+        }
+        rest = after;
+    }
+    Ok(count)
+}
+
+/// Writes the answer to a line, with byte 10 behind it, and tells whether there is one: a blank line has none.
+fn answer_one<W: Write>(
+    alloc: Global,
+    session: &mut Session,
+    line: &[u8],
+    writer: &mut W,
+) -> Result<bool, RunFault>
+    ensures asks { IfOk result (λ asks. asks ≡ not (is_blank line.now)) }
+    ensures ok { IfOk result (λ asks. (out : List ℕ) × AreAnswers session.old (line.now ∷ []) out session.new
+        × Appends (W.contents writer.old) (W.contents writer.new) out) }
+    ensures write { result ≡ Err RunFault.Write → (answer : List ℕ) × (last : Option State) × (out : List ℕ)
+        × AreAnswers session.old (line.now ∷ []) answer last × IsBeginning out answer
+        × Appends (W.contents writer.old) (W.contents writer.new) out }
+    ensures memory { result ≡ Err RunFault.Memory → (is_blank line.now ≡ false) × Keeps (W.contents writer.old) (W.contents writer.new) }
+    ensures no_read { result ≢ Err RunFault.Read }
+    ensures no_length { result ≢ Err RunFault.TooLong }
+{
+    let Ok(answer) = session.answer_line(alloc, line) else {
+        return Err(RunFault::Memory);
+    };
+    let Some(mut text) = answer else {
+        return Ok(false);
+    };
+    if text.push('\n').is_err() {
+        return Err(RunFault::Memory);
+    }
+    write_whole(writer, text.as_bytes())?;
+    Ok(true)
+}

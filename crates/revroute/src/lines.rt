@@ -1,0 +1,30 @@
+//! The lines of an input.
+
+ghost use Rattle.std.specs.Prelude.{◌≡◌, ◌+◌, ◌==◌, ◌<◌, ◌∷◌, [], ℕ, List, length, position, IfSome};
+ghost use Rattle.std.specs.Option.{option_map_or};
+ghost use Rattle.revroute.specs.Lines.{lines_of, is_blank as is_blank_line};
+
+/// The first line of a text, and what stands behind its byte 10, if it has one.
+pub(crate) fn first_line(text: &[u8]) -> (&[u8], Option<&[u8]>)
+    ensures first { lines_of text.now ≡ result.0.now ∷ option_map_or (λ rest. lines_of rest.now) result.1 [] }
+    ensures shorter { IfSome result.1 (λ rest. length rest.now < length text.now) }
+{
+    match line_end(text) {
+        Some(end) => (&text[..end], Some(&text[end + 1..])),
+        None => (text, None),
+    }
+}
+
+fn line_end(text: &[u8]) -> Option<usize>
+    ensures { result ≡ position (λ x. x == 10) text.now }
+{
+    text.iter().position(|byte| *byte == b'\n')
+}
+
+/// Whether a line has nothing but tabs, carriage returns and spaces.
+pub(crate) fn is_blank(line: &[u8]) -> bool
+    ensures { result ≡ is_blank_line line.now }
+{
+    line.iter()
+        .all(|byte| *byte == b'\t' || *byte == b'\r' || *byte == b' ')
+}

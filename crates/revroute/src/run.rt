@@ -1,0 +1,72 @@
+//! A run: reads the whole input, and answers its lines one after another.
+
+ghost use Rattle.std.specs.Prelude.{◌≡◌, ◌⊎◌, ◌<◌, ◌≤◌, List, ℕ, length, IfOk};
+ghost use Rattle.std.specs.Io.KnownBytes.{Keeps, Consumes};
+ghost use Rattle.revroute.specs.Outputs.{most_bytes, ReadsAll, WritesOutput, WritesBeginning, StopsAtLine};
+
+use crate::answers::answer_all;
+use crate::input::read_input;
+use std::alloc::Global;
+use std::io::{Read, Write};
+use thiserror::Error;
+
+/// Why a run stopped.
+#[derive(Debug, Drop, Error, PartialEq, Eq)]
+pub enum RunFault {
+    /// A read failed. Nothing was written.
+    #[error("read fault")]
+    Read,
+    /// A write or the flush failed, or a write took no byte. What went out is a beginning of the output.
+    #[error("write fault")]
+    Write,
+    /// The input has more than 16,777,216 bytes. Nothing was written.
+    #[error("input too long")]
+    TooLong,
+    /// An allocation was refused. What went out is the answers to the lines before the one that failed.
+    #[error("no memory")]
+    Memory,
+}
+
+/// Reads the whole input, answers each of its lines that is not blank, flushes once at the end, and tells how many lines
+/// were answered. At most one byte past the limit of 16,777,216 bytes is read. The input is cut into lines at each
+/// byte 10, and `specs/Answers.antt` says what the answer to a line is.
+pub fn run<R: Read, W: Write>(
+    alloc: Global,
+    reader: &mut R,
+    writer: &mut W,
+) -> Result<u64, RunFault>
+    ensures ok { IfOk result (λ count. (bytes : List ℕ)
+        × ReadsAll (R.remaining reader.old) (R.remaining reader.new) bytes × (length bytes ≤ most_bytes)
+        × WritesOutput bytes (W.contents writer.old) (W.contents writer.new) count) }
+    ensures read { result ≡ Err RunFault.Read → Keeps (W.contents writer.old) (W.contents writer.new) }
+    ensures too_long { result ≡ Err RunFault.TooLong → Keeps (W.contents writer.old) (W.contents writer.new)
+        × ((bytes : List ℕ) × Consumes (R.remaining reader.old) (R.remaining reader.new) bytes × (most_bytes < length bytes)) }
+    ensures write { result ≡ Err RunFault.Write → (bytes : List ℕ)
+        × ReadsAll (R.remaining reader.old) (R.remaining reader.new) bytes
+        × WritesBeginning bytes (W.contents writer.old) (W.contents writer.new) }
+
+    // Memory ran out while reading, or at a line.
+    ensures memory { result ≡ Err RunFault.Memory → Keeps (W.contents writer.old) (W.contents writer.new)
+        ⊎ ((bytes : List ℕ) × ReadsAll (R.remaining reader.old) (R.remaining reader.new) bytes
+        × StopsAtLine bytes (W.contents writer.old) (W.contents writer.new)) }
+{
+    let input = read_input(alloc, reader)?;
+    let count = answer_all(alloc, &input, writer)?;
+    match writer.flush() {
+        Ok(()) => Ok(count),
+        Err(_) => Err(RunFault::Write),
+    }
+}
+
+/// The exit status of a fault, and its line on standard error.
+pub fn run_end(fault: &RunFault) -> (u8, &'static str) {
+    match fault {
+        RunFault::Read => (1, "revroute: read fault"),
+        RunFault::Write => (1, "revroute: write fault"),
+        RunFault::TooLong => (1, "revroute: input too long"),
+        RunFault::Memory => (1, "revroute: no memory"),
+    }
+}
+
+#[cfg(test)]
+mod tests;
