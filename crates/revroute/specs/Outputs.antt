@@ -17,10 +17,12 @@ ReadsAll before after bytes = Consumes before after bytes × IsAtEnd after
 abbrev pub IsBeginning : List ℕ → List ℕ → Type 0
 IsBeginning front whole = (rest : List ℕ) × (whole ≡ front ++ rest)
 
--- what was written is the output text of these bytes and nothing else, and the count is that of their lines that are not blank
+-- what was written is the output text of these bytes, of which there is but one, and nothing else; the count is that of their
+-- lines that are not blank
 pub record WritesOutput (bytes : List ℕ) (old new : Option (List ℕ)) (count : ℕ) : Type 0 where
   pub out : List ℕ
   pub output : IsOutput bytes out
+  pub only : (other : List ℕ) → IsOutput bytes other → other ≡ out
   pub writes : Appends old new out
   pub counted : count ≡ asking_count (lines_of bytes)
 

@@ -1,12 +1,12 @@
 //! The lines of an input.
 
 ghost use Rattle.std.specs.Prelude.{◌≡◌, ◌+◌, ◌==◌, ◌<◌, ◌∷◌, [], ℕ, List, length, position, IfSome};
-ghost use Rattle.std.specs.Option.{option_map_or};
+ghost use Rattle.std.specs.Option.{option_copied, option_map_or};
 ghost use Rattle.revroute.specs.Lines.{lines_of, is_blank as is_blank_line};
 
 /// The first line of a text, and what stands behind its byte 10, if it has one.
 pub(crate) fn first_line(text: &[u8]) -> (&[u8], Option<&[u8]>)
-    ensures first { lines_of text.now ≡ result.0.now ∷ option_map_or (λ rest. lines_of rest.now) result.1 [] }
+    ensures first { lines_of text.now ≡ result.0.now ∷ option_map_or lines_of (option_copied result.1) [] }
     ensures shorter { IfSome result.1 (λ rest. length rest.now < length text.now) }
 {
     match line_end(text) {

@@ -1,8 +1,8 @@
 //! A round: the network is turned until no node can turn.
 
-ghost use Rattle.std.specs.Prelude.{◌≡◌, ℕ, ◌<◌, length, IfOk, string_bytes};
+ghost use Rattle.std.specs.Prelude.{◌≡◌, ℕ, ◌<◌, IfOk, string_bytes, IsTrue, ◌↔◌};
 ghost use Rattle.fr_core.specs.Settled.{AreSettled};
-ghost use Rattle.revroute.specs.States.{IsRound, IsCutCount};
+ghost use Rattle.revroute.specs.States.{IsRound, IsCutOff, IsCutCount};
 ghost use Rattle.revroute.specs.Answers.{IsReportLine};
 
 use crate::texts::report_line;
@@ -38,18 +38,28 @@ impl Round {
     }
 }
 
-/// How many nodes other than the destination are not joined with it, by their settled counts.
+/// How many nodes are cut off: other than the destination, and not joined with it.
 fn cut_count(net: &Net, dest: u32, counts: &[u64]) -> u64
     requires dest { dest < net.now.nodes }
     requires settled { AreSettled net.now.nodes dest net.now.links counts.now }
     ensures { IsCutCount net.now.nodes dest net.now.links result }
 {
-    let nodes = net.nodes();
     let mut cut = 0;
-    for x in 0..nodes {
-        if x != dest && (net.degree(x) == 0 || counts[x as usize] == u64::from(nodes)) {
+    for x in 0..net.nodes() {
+        if is_cut_off(net, dest, counts, x) {
             cut += 1;
         }
     }
     cut
+}
+
+/// Whether a node is cut off, by its settled count.
+fn is_cut_off(net: &Net, dest: u32, counts: &[u64], x: u32) -> bool
+    requires dest { dest < net.now.nodes }
+    requires settled { AreSettled net.now.nodes dest net.now.links counts.now }
+    requires node { x < net.now.nodes }
+    ensures { IsTrue result ↔ IsCutOff dest net.now.links x }
+{
+    let cap = u64::from(net.nodes());
+    x != dest && (net.degree(x) == 0 || counts[x as usize] == cap)
 }
