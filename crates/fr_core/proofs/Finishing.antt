@@ -114,7 +114,7 @@ settled_exists n d first net below =
     let end = run_keeps n d first net (moment_of first (replicate n 0)) start f.entries f.run in
     ((after_all (moment_of first (replicate n 0)) f.entries).counts, settled_at_end n d first net below (after_all (moment_of first (replicate n 0)) f.entries) end f.none_left)
 
-moment_path : (m k : Moment) → m.links ≡ k.links → m.counts ≡ k.counts → m ≡ k
+pub moment_path : (m k : Moment) → m.links ≡ k.links → m.counts ≡ k.counts → m ≡ k
 moment_path m k e f = λ i. record { links = e i; counts = f i }
 
 -- every run that ends none_left ends at one moment

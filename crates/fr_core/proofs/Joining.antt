@@ -52,4 +52,3 @@ joined_at first c kept d x = (
   λ j. joined_carries first (links_at first c) (joins_kept first c kept) d j.1.0 j.0 x j.1.1,
   λ j. joined_carries (links_at first c) first (joins_at first c) d j.1.0 j.0 x j.1.1,
 )
-

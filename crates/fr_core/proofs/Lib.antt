@@ -12,3 +12,9 @@ pub mod Finishing
 pub mod SameLinks
 pub mod Rounds
 pub mod Joining
+pub mod RowLinks
+pub mod SensesByRow
+pub mod Reaching
+pub mod LevelSearches
+pub mod LevelStarts
+pub mod SettledRuns

@@ -29,4 +29,3 @@ links-after_all m (e ∷ h) = links-after_all (after m e) h ∙ ap (λ (links : 
     one m x (Held by) = refl
     one m x (Moved had k) = refl
     one m x Cut = refl
-

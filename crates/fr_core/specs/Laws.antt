@@ -1,13 +1,17 @@
 -- The laws of full reversal with counts. Each is the contract of a function of src/laws.rt.
-use Rattle.std.specs.Prelude.{◌≡◌, ℕ, ◌<◌, ◌≤◌, ◌+◌, ◌*◌, ◌⊎◌, ◌↔◌, List, ◌++◌, length, replicate, slice_index, slice_set, sum}
+use Rattle.std.specs.Prelude.{◌≡◌, ℕ, ◌<◌, ◌≤◌, ◌+◌, ◌-◌, ◌*◌, ◌⊎◌, ◌↔◌, List, ◌++◌, length, replicate, slice_index, slice_set, sum}
 use Rattle.std.specs.List.Sorted.{IsPermutation}
+use Rattle.std.specs.Option.{option_map}
 use Rattle.fr_net.specs.Links.{Points, Joins, IsAcyclic, IsNet, IsAlone, HasPath, HaveSameLinks}
 use Rattle.fr_net.specs.Turn.{IsSink, turn}
-use Rattle.fr_net.specs.Counts.{links_at, AreLawful}
+use Rattle.fr_net.specs.Counts.{link_at, links_at, AreLawful}
+use Rattle.fr_net.specs.declared.rows.First.{First}
 use Rattle.fr_core.specs.Bounds.{MeetsBounds}
+use Rattle.fr_core.specs.Finish.{IsFinish}
 use Rattle.fr_core.specs.History.{moment_of, after_all, links_after, count_after, turn_count, turn_count_of}
 use Rattle.fr_core.specs.Legal.{CanTurn, NoneCanTurn, IsRun}
 use Rattle.fr_core.specs.Walks.{HasWalk, IsJoined}
+use Rattle.fr_core.specs.Senses.{first_link, link_by, sense_of}
 use Rattle.fr_core.specs.Settled.{AreSettled}
 use Rattle.fr_core.specs.declared.entry.Entry.{Entry}
 
@@ -21,6 +25,10 @@ NoLoopStands = (first : List (ℕ × ℕ)) (counts : List ℕ) → IsAcyclic fir
 abbrev pub LinksComeFromFirst : Type 0
 LinksComeFromFirst = (first : List (ℕ × ℕ)) (counts : List ℕ) (u v : ℕ) → Points (links_at first counts) u v
     ↔ ((Points first u v × (slice_index counts v ≡ slice_index counts u)) ⊎ (Points first v u × (slice_index counts u ≡ slice_index counts v + 1)))
+
+-- the sense of a link by the counts of its ends is where the counts give it its direction
+abbrev pub SenseShowsTheLink : Type 0
+SenseShowsTheLink = (counts : List ℕ) (x w : ℕ) (way : First) → link_at counts (first_link x w way) ≡ option_map (link_by x w) (sense_of way (slice_index counts x) (slice_index counts w))
 
 -- the links that lawful counts give are a network
 abbrev pub LawfulGivesANet : Type 0
@@ -128,6 +136,11 @@ RunsEndAlike = (n d : ℕ) (first : List (ℕ × ℕ)) (b c : List ℕ) (some ot
     → IsRun n d (moment_of first b) some → IsRun n d (moment_of first c) other
     → NoneCanTurn n d (after_all (moment_of first b) some) → NoneCanTurn n d (after_all (moment_of first c) other)
     → after_all (moment_of first b) some ≡ after_all (moment_of first c) other
+
+-- from lawful counts a run of turns alone leads to the settled ones, and its turns are the difference of the sums
+abbrev pub RunLeadsToSettled : Type 0
+RunLeadsToSettled = (n d : ℕ) (first : List (ℕ × ℕ)) (counts settled : List ℕ) → IsNet n first → d < n → AreLawful n d first counts → AreSettled n d first settled
+    → (sum counts ≤ sum settled) × IsFinish n d first counts settled (sum settled - sum counts)
 
 -- a run makes at most as many turns of a node as its settled count, and none of a node with a path to the destination
 abbrev pub TurnsAreBounded : Type 0

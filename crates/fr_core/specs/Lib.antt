@@ -3,4 +3,9 @@ pub mod Legal
 pub mod Walks
 pub mod Settled
 pub mod Bounds
+pub mod Senses
+pub mod Finish
 pub mod Laws
+pub mod NodeCounts
+pub mod Reaching
+pub mod LevelSearch

@@ -1,16 +1,17 @@
 //! The laws of full reversal with counts: each clause here is a law of `specs/Laws.antt`, proved. The functions do
 //! nothing; they are the table of contents of the mathematics that the other contracts stand on.
 
-ghost use Rattle.fr_core.specs.Laws.{NoLoopStands, LinksComeFromFirst, LawfulGivesANet, ZerosGiveFirst, OrderDoesNotMatter};
+ghost use Rattle.fr_core.specs.Laws.{NoLoopStands, LinksComeFromFirst, SenseShowsTheLink, LawfulGivesANet, ZerosGiveFirst, OrderDoesNotMatter};
 ghost use Rattle.fr_core.specs.Laws.{TurnIsACount, RunKeepsLawful, MomentIsAfter, NoLoopEverStands, RunAddsUp, SinkByCounts};
 ghost use Rattle.fr_core.specs.Laws.{LawfulIsAtMostAway, NoTurnLeftIsSettled, SettledLeavesNoTurn, SettledIsUnique, LawfulIsAtMostSettled};
 ghost use Rattle.fr_core.specs.Laws.{ZeroIsAPath, CapIsNotJoined, JoinedIsBelowCap, JoinedByCounts};
-ghost use Rattle.fr_core.specs.Laws.{EachNetSettles, EachRunSettles, RunsEndAlike, TurnsAreBounded};
+ghost use Rattle.fr_core.specs.Laws.{EachNetSettles, EachRunSettles, RunsEndAlike, RunLeadsToSettled, TurnsAreBounded};
 
 /// The links that counts give: no closed walk stands among them, and those of lawful counts are a network.
 pub fn links_law()
     ensures acyclic { NoLoopStands }
     ensures comes { LinksComeFromFirst }
+    ensures sense { SenseShowsTheLink }
     ensures net { LawfulGivesANet }
     ensures start { ZerosGiveFirst }
     ensures order { OrderDoesNotMatter }
@@ -52,5 +53,6 @@ pub fn schedule_law()
     ensures exists { EachNetSettles }
     ensures each { EachRunSettles }
     ensures alike { RunsEndAlike }
+    ensures leads { RunLeadsToSettled }
     ensures bounded { TurnsAreBounded }
 {}

@@ -1,5 +1,6 @@
 use Rattle.fr_core.proofs.Finishing.{links_at-zeros, zeros_lawful}
 use Rattle.fr_core.proofs.SameLinks.{same_from_permutation, same_joined, same_lawful, same_links_at, same_settled, same_sink}
+use Rattle.fr_core.proofs.SensesByRow.{link_at-first_link}
 use Rattle.fr_net.proofs.Acyclic.{links_at_acyclic}
 use Rattle.fr_net.proofs.Building.{permuted_net}
 use Rattle.fr_net.proofs.Giving.{Points-links_at_back, Points-links_at_from}
@@ -11,6 +12,9 @@ returns-clause-acyclic c = links_at_acyclic
 
 pub returns-clause-comes : goal.returns-clause-comes
 returns-clause-comes c = λ first counts u v. (Points-links_at_from first counts u v, Points-links_at_back first counts u v)
+
+pub returns-clause-sense : goal.returns-clause-sense
+returns-clause-sense c = link_at-first_link
 
 pub returns-clause-net : goal.returns-clause-net
 returns-clause-net c = λ n d first counts net lawful. net_turned n first counts lawful.kept net

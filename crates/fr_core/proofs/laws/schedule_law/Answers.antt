@@ -3,6 +3,7 @@ use Rattle.fr_core.proofs.Finishing.{ends_alike, finish, settled_exists, settled
 use Rattle.fr_core.proofs.Paths.{path_gives_zero}
 use Rattle.fr_core.proofs.Rounds.{after_all-append, run_append}
 use Rattle.fr_core.proofs.Runs.{run_count}
+use Rattle.fr_core.proofs.SettledRuns.{run_to_settled}
 use Rattle.fr_core.proofs.Turning.{run_keeps}
 use Rattle.fr_core.proofs.Unique.{lawful_le_settled}
 use Rattle.fr_core.specs.History.{Moment, after_all, moment_of}
@@ -28,6 +29,9 @@ returns-clause-alike c = λ n d first b e some other net below lb le rb re sb se
     ends_alike n d first net below _ _
     (run_keeps n d first net (moment_of first b) (record { links = refl; lawful = lb }) some rb)
     (run_keeps n d first net (moment_of first e) (record { links = refl; lawful = le }) other re) sb se
+
+pub returns-clause-leads : goal.returns-clause-leads
+returns-clause-leads c = run_to_settled
 
 pub returns-clause-bounded : goal.returns-clause-bounded
 returns-clause-bounded c = λ n d first counts settled entries x net below lawful ends run l.

@@ -33,7 +33,7 @@ returns-clause-report c =
     let items : (with_items c.in_ok-counts.counts c.finish-turned.new.counts).items ≡ c.finish-turned.new.counts = with_items_is c.in_ok-counts.counts c.finish-turned.new.counts (omega (arith, settled.one_each, c.in_ok-counts.ensures.len, c.nodes.ensures.value)) in
     let made : IsNetworkOf n (links_at c.args.net.links c.finish-turned.new.counts) c.in-Ok.net = rw (c.deref-2.ensures.value, items) at c.in-Ok.ensures.ok in
     let start : sum c.deref_mut.result.now ≡ 0 = ap sum (c.deref_mut.ensures.value ∙ c.in_ok-counts.ensures.items_if_clones_equal (λ y e. e)) ∙ sum-zeros c.nodes.result in
-    let turned : c.finish-turned.result ≡ sum c.finish-turned.new.counts = omega (arith, c.finish-turned.ensures.adds, start) in
+    let turned : c.finish-turned.result ≡ sum c.finish-turned.new.counts = omega (arith, c.finish-turned.ensures.run.adds, start) in
     let report : IsReport (state_with c.in-Ok.net c.args.dest c.finish-turned.new.counts) c.finish-turned.result c.cut_count-cut.result =
     report_end n c.args.dest c.args.net.links c.nodes.ensures.faultless.is_net c.requires c.finish-turned.new.counts c.in-Ok.net c.finish-turned.result c.cut_count-cut.result settled made turned c.cut_count-cut.ensures in
     (c.finish-turned.result, c.cut_count-cut.result, subst (λ (counts : List ℕ). IsReport (state_with c.in-Ok.net c.args.dest counts) c.finish-turned.result c.cut_count-cut.result) (sym items) report, c.in_ok-report.ensures)

@@ -1,0 +1,23 @@
+use Rattle.std.proofs.Common.{List, [], ap, arith, length, slice_index, subst, sym, ℕ, ◌++◌, ◌+◌, ◌∙◌, ◌∷◌, ◌≡◌}
+use Rattle.fr_core.proofs.LevelSearches.{next_level, search_ends}
+use Rattle.fr_core.proofs.LevelStarts.{search_starts}
+use Rattle.fr_core.specs.LevelSearch.{IsLevelSearch}
+use Rattle.fr_core.proofs.levels.settle.Goals as goal
+
+pub loop-start-init : goal.loop-start-init
+loop-start-init c =
+    let net = c.args.net.now in
+    let only : c.push.new.self ≡ c.args.dest ∷ [] = c.push.ensures ∙ ap (λ (q : List ℕ). q ++ c.args.dest ∷ []) c.new-queue.ensures in
+    rw only (search_starts net.nodes c.args.dest net.links c.clear.new.counts (omega arith) c.requires.node c.clear.ensures)
+
+pub open_level-requires-clause-search : goal.open_level-requires-clause-search
+open_level-requires-clause-search c =
+    let net = c.args.net.now in
+    let q : List ℕ = c.close_level.new.queue in
+    let s = next_level net.nodes (slice_index c.loop-start.queue 0) net.links c.close_level.new.counts q c.loop-start.start c.loop-start.level c.close_level.ensures.search (omega (arith, c.close_level.ensures.longer)) in
+    subst (λ (d : ℕ). IsLevelSearch net.nodes d net.links c.close_level.new.counts q (length q) c.loop-start.start (length q) (c.loop-start.level + 1)) (sym s.head) s
+
+pub returns : goal.returns
+returns c =
+    let net = c.args.net.now in
+    search_ends net.nodes c.args.dest net.links c.loop-start.counts c.loop-start.queue c.loop-start.start c.loop-start.level c.loop-start.invariant (omega arith)

@@ -1,0 +1,20 @@
+-- What it is to have finished.
+use Rattle.std.specs.Prelude.{◌≡◌, ℕ, ◌+◌, List, length, sum}
+use Rattle.fr_core.specs.History.{moment_of, after_all, turn_count}
+use Rattle.fr_core.specs.Legal.{IsRun, NoneCanTurn}
+use Rattle.fr_core.specs.declared.entry.Entry.{Entry}
+
+-- there is a run from the counts before,
+pub record IsFinish (n d : ℕ) (first : List (ℕ × ℕ)) (before after : List ℕ) (made : ℕ) : Type 0 where
+  pub entries : List Entry
+  pub run : IsRun n d (moment_of first before) entries
+  -- each of its entries is a turn,
+  pub turns_alone : turn_count entries ≡ length entries
+  -- it has so many of them,
+  pub long : length entries ≡ made
+  -- it leads to the counts after,
+  pub ends : after_all (moment_of first before) entries ≡ moment_of first after
+  -- at which no node can turn,
+  pub none_left : NoneCanTurn n d (moment_of first after)
+  -- and each turn has added one to a count
+  pub adds : sum after ≡ sum before + made

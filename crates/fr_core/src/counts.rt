@@ -1,0 +1,104 @@
+//! What the counts of a network say: where a link points now, which counts are lawful, and which nodes are sinks.
+
+ghost use Rattle.std.specs.Prelude.{◌≡◌, ℕ, ◌<◌, ◌↔◌, IsTrue, length, All};
+ghost use Rattle.fr_net.specs.Counts.{AreLawful, IsKept, links_at};
+ghost use Rattle.fr_net.specs.Turn.{IsSink};
+ghost use Rattle.fr_core.specs.NodeCounts.{IsLawfulCount, IsMostCount};
+ghost use Rattle.fr_core.specs.Senses.{sense_of};
+
+use crate::directions::Sense;
+use fr_net::{First, Net};
+
+/// Where the link between nodes `x` and `w` points now, as seen from `x`: `first` is its first direction as seen from
+/// `x`, and `cx` and `cw` are how often `x` and `w` have turned. None where the counts give it no direction.
+pub fn sense(first: First, cx: u64, cw: u64) -> Option<Sense>
+    ensures { result ≡ sense_of first cx cw }
+{
+    match first {
+        First::Outward => match cw.checked_sub(cx) {
+            Some(0) => Some(Sense::Outward),
+            Some(1) => Some(Sense::Inward),
+            _ => None,
+        },
+        First::Inward => match cx.checked_sub(cw) {
+            Some(0) => Some(Sense::Inward),
+            Some(1) => Some(Sense::Outward),
+            _ => None,
+        },
+    }
+}
+
+/// The most that the count of node `x` can be: 0 where it has no link, and else the number of nodes.
+pub(crate) fn most_count(net: &Net, x: u32) -> u64
+    requires { x < net.now.nodes }
+    ensures { IsMostCount net.now.nodes net.now.links x result }
+{
+    let nodes = net.nodes();
+    if net.degree(x) == 0 { 0 } else { nodes as u64 }
+}
+
+/// Whether no node's count is above the most that it can be.
+fn fits_nodes(net: &Net, counts: &[u64]) -> bool
+    requires { length counts.now ≡ net.now.nodes }
+    ensures { IsTrue result ↔ ((x : ℕ) → x < net.now.nodes → IsLawfulCount net.now.nodes net.now.links counts.now x) }
+{
+    for x in 0..net.nodes() {
+        if counts[x as usize] > most_count(net, x) {
+            return false;
+        }
+    }
+    true
+}
+
+/// Whether the counts give each link of the network a direction.
+fn fits_links(net: &Net, counts: &[u64]) -> bool
+    requires { length counts.now ≡ net.now.nodes }
+    ensures { IsTrue result ↔ All (IsKept counts.now) net.now.links }
+{
+    // For what the call says: the links join nodes of the network.
+    let _nodes = net.nodes();
+    let links = net.links();
+    for (tail, head) in links {
+        let now = sense(
+            First::Outward,
+            counts[*tail as usize],
+            counts[*head as usize],
+        );
+        if now.is_none() {
+            return false;
+        }
+    }
+    true
+}
+
+/// Whether the counts are lawful: one for each node, 0 at `dest` and at nodes with no link, none above the number of
+/// nodes, and each link with a direction. All counts are that turns of nodes other than `dest` lead to from the counts 0.
+/// Linear in nodes and links.
+pub fn lawful(net: &Net, dest: u32, counts: &[u64]) -> bool
+    requires { dest < net.now.nodes }
+    ensures { IsTrue result ↔ AreLawful net.now.nodes dest net.now.links counts.now }
+{
+    if counts.len() != net.nodes() as usize || counts[dest as usize] != 0 {
+        return false;
+    }
+    fits_nodes(net, counts) && fits_links(net, counts)
+}
+
+/// Whether node `x` is a sink of the links that the counts give: it has a link, and each of its links points to it.
+pub fn is_sink(net: &Net, counts: &[u64], x: u32) -> bool
+    requires one_each { length counts.now ≡ net.now.nodes }
+    requires kept { All (IsKept counts.now) net.now.links }
+    requires node { x < net.now.nodes }
+    ensures { IsTrue result ↔ IsSink (links_at net.now.links counts.now) x }
+{
+    // For what the call says: the row has each link of `x`.
+    let _nodes = net.nodes();
+    let row = net.row(x);
+    for (w, first) in row {
+        match sense(*first, counts[x as usize], counts[*w as usize]) {
+            Some(Sense::Inward) => {}
+            Some(Sense::Outward) | None => return false,
+        }
+    }
+    !row.is_empty()
+}

@@ -1,0 +1,39 @@
+//! Where every schedule ends, found on one thread.
+
+ghost use Rattle.std.specs.Prelude.{◌≡◌, ℕ, ◌<◌, ◌^◌, sum};
+ghost use Rattle.fr_net.specs.Counts.{AreLawful};
+ghost use Rattle.fr_core.specs.Finish.{IsFinish};
+ghost use Rattle.fr_core.specs.Settled.{AreSettled};
+
+use crate::levels::settle;
+use fr_net::Net;
+
+/// The sum of the counts.
+fn total(counts: &[u64]) -> u64
+    requires { sum counts.now < 2 ^ 64 }
+    ensures { result ≡ sum counts.now }
+{
+    let mut total = 0;
+    for count in counts {
+        total += *count;
+    }
+    total
+}
+
+/// Goes from lawful counts straight to those at which turning node by node ends, and answers how many turns lie between.
+/// No node is turned: a search writes the settled counts, linear in nodes and links, and takes no memory. That turning
+/// ends there is a law, the clause `leads` of [`schedule_law`](crate::laws::schedule_law): a run of turns alone leads from
+/// the old counts to the new ones, has as many turns as this answers, and leaves no node that can turn. By its clause
+/// `alike` each run that leaves no such node ends there too.
+pub fn finish(net: &Net, dest: u32, counts: &mut [u64]) -> u64
+    requires node { dest < net.now.nodes }
+    requires lawful { AreLawful net.now.nodes dest net.now.links counts.old }
+    ensures settled { AreSettled net.now.nodes dest net.now.links counts.new }
+    ensures run { IsFinish net.now.nodes dest net.now.links counts.old counts.new result }
+{
+    // For what the call says: how many nodes there are at most, and that the links are a network's.
+    let _nodes = net.nodes();
+    let before = total(counts);
+    settle(net, dest, counts);
+    total(counts) - before
+}

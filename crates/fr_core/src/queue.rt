@@ -1,0 +1,56 @@
+//! The queue of a search.
+
+ghost use Rattle.std.specs.Prelude.{◌≡◌, ℕ, ◌<◌, ◌≤◌, List, [], ◌∷◌, ◌++◌, length, take, slice_index};
+ghost use Rattle.fr_net.specs.Limits.{most_nodes};
+
+use fr_net::MAX_NODES;
+use std::marker::Model;
+
+/// The nodes that a search has reached, in the order in which it reached them. There is room for each node of a
+/// network.
+#[derive(Drop)]
+pub(crate) struct Queue {
+    places: [u32; MAX_NODES as usize],
+    len: usize,
+}
+
+impl Model for Queue {
+    ghost Value = { List ℕ };
+
+    ghost view = { λ q. take q.len q.places };
+
+    ghost invariant = { λ q. q.len ≤ most_nodes };
+}
+
+impl Queue {
+    pub fn new() -> Self
+        ensures { result ≡ [] }
+    {
+        Queue {
+            places: [0; MAX_NODES as usize],
+            len: 0,
+        }
+    }
+
+    pub fn len(&self) -> usize
+        ensures { result ≡ length self.now }
+    {
+        self.len
+    }
+
+    /// The node at a place.
+    pub fn node(&self, at: usize) -> u32
+        requires { at < length self.now }
+        ensures { result ≡ slice_index self.now at }
+    {
+        self.places[..self.len][at]
+    }
+
+    pub fn push(&mut self, node: u32)
+        requires { length self.old < most_nodes }
+        ensures { self.new ≡ self.old ++ node ∷ [] }
+    {
+        self.places[self.len] = node;
+        self.len += 1;
+    }
+}
