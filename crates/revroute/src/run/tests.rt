@@ -101,7 +101,7 @@ fn refuses_lines(rt: HostRuntime) -> Result<(), Fail> {
         assert!(rt; out.as_slice() == answer.as_bytes() && count == 1, "{line}");
     }
     let (out, count) = written(rt.alloc(), &[255])?;
-    assert!(rt; out.as_slice() == b"refused 1\n" && count == 1);
+    assert!(rt; out.as_slice() == b"refused 1\n".as_slice() && count == 1);
     Ok(())
 }
 
@@ -117,12 +117,12 @@ fn brackets(alloc: Global, deep: usize) -> Result<Vec<u8>, AllocError> {
 #[test]
 fn bounds_the_nesting(rt: HostRuntime) -> Result<(), Fail> {
     for (deep, answer) in [
-        (127, b"refused 2\n"),
-        (128, b"refused 1\n"),
-        (200, b"refused 1\n"),
+        (127, b"refused 2\n".as_slice()),
+        (128, b"refused 1\n".as_slice()),
+        (200, b"refused 1\n".as_slice()),
     ] {
         let (out, _) = written(rt.alloc(), &brackets(rt.alloc(), deep)?)?;
-        assert!(rt; out.as_slice() == answer.as_slice(), "{deep}");
+        assert!(rt; out.as_slice() == answer, "{deep}");
     }
     Ok(())
 }
