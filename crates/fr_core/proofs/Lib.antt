@@ -18,3 +18,4 @@ pub mod Reaching
 pub mod LevelSearches
 pub mod LevelStarts
 pub mod SettledRuns
+pub mod SmallNetworks

@@ -5,7 +5,7 @@
 //! [`finish`] goes to the counts at which every schedule ends. The laws behind them are in [`laws`].
 #![tactic(auto)]
 
-pub mod counts;
+mod counts;
 mod directions;
 mod entry;
 mod finisher;
