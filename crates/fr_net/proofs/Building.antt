@@ -55,70 +55,70 @@ rising_once halves u v rising = at_most_one (is_at u v) halves (λ i j d lt l e 
     let q = at_place u v (get_or halves j d) f in
     not_below_itself (rising_pair halves rising i j d lt l) (p.0 ∙ sym q.0) (p.1 ∙ sym q.1))
 
-count_same : (given sorted : List (ℕ × ℕ)) (halves : List HalfLink) (u v : ℕ) → IsPermutation given sorted → IsPermutation (halves_of sorted) halves → HasNoSelfLink sorted → count_by (is_at u v) halves ≡ count_by (is_between u v) given
-count_same given sorted halves u v same both bar =
+count_same : (listed sorted : List (ℕ × ℕ)) (halves : List HalfLink) (u v : ℕ) → IsPermutation listed sorted → IsPermutation (halves_of sorted) halves → HasNoSelfLink sorted → count_by (is_at u v) halves ≡ count_by (is_between u v) listed
+count_same listed sorted halves u v same both bar =
     let f : HalfLink → ℕ = λ h. weigh (is_at u v h) in
     let g : ℕ × ℕ → ℕ = λ l. weigh (is_between u v l) in
     let a : count_by (is_at u v) halves ≡ count_by (is_at u v) (halves_of sorted) = sum_by-IsPermutation f (halves_of sorted) halves both in
-    let b : count_by (is_between u v) sorted ≡ count_by (is_between u v) given = sum_by-IsPermutation g given sorted same in
+    let b : count_by (is_between u v) sorted ≡ count_by (is_between u v) listed = sum_by-IsPermutation g listed sorted same in
     a ∙ count_halves sorted u v bar ∙ b
 
--- what the halves say of the given links
-pub record IsSortedOut (given sorted : List (ℕ × ℕ)) (halves : List HalfLink) : Type 0 where
-  pub same : IsPermutation given sorted
+-- what the halves say of the listed links
+pub record IsSortedOut (listed sorted : List (ℕ × ℕ)) (halves : List HalfLink) : Type 0 where
+  pub same : IsPermutation listed sorted
   pub both : IsPermutation (halves_of sorted) halves
-  pub no_self : HasNoSelfLink given
+  pub no_self : HasNoSelfLink listed
 
-no_self_sorted : (given sorted : List (ℕ × ℕ)) → IsPermutation given sorted → HasNoSelfLink given → HasNoSelfLink sorted
-no_self_sorted given sorted same bar = All-permutation (λ (l : ℕ × ℕ). ¬ (l.0 ≡ l.1)) given sorted same bar
+no_self_sorted : (listed sorted : List (ℕ × ℕ)) → IsPermutation listed sorted → HasNoSelfLink listed → HasNoSelfLink sorted
+no_self_sorted listed sorted same bar = All-permutation (λ (l : ℕ × ℕ). ¬ (l.0 ≡ l.1)) listed sorted same bar
 
-pub twice_stands : (given sorted : List (ℕ × ℕ)) (halves : List HalfLink) (u v : ℕ) → IsSortedOut given sorted halves → 2 ≤ count_by (is_at u v) halves → 2 ≤ count_by (is_between u v) given
-twice_stands given sorted halves u v s h = omega (arith, count_same given sorted halves u v s.same s.both (no_self_sorted given sorted s.same s.no_self))
+pub twice_stands : (listed sorted : List (ℕ × ℕ)) (halves : List HalfLink) (u v : ℕ) → IsSortedOut listed sorted halves → 2 ≤ count_by (is_at u v) halves → 2 ≤ count_by (is_between u v) listed
+twice_stands listed sorted halves u v s h = omega (arith, count_same listed sorted halves u v s.same s.both (no_self_sorted listed sorted s.same s.no_self))
 
-pub single_from_rising : (given sorted : List (ℕ × ℕ)) (halves : List HalfLink) → IsSortedOut given sorted halves → AreHalvesRising halves → AreSingle given
-single_from_rising given sorted halves s rising k d l =
-    let link = get_or given k d in
+pub single_from_rising : (listed sorted : List (ℕ × ℕ)) (halves : List HalfLink) → IsSortedOut listed sorted halves → AreHalvesRising halves → AreSingle listed
+single_from_rising listed sorted halves s rising k d l =
+    let link = get_or listed k d in
     omega (
       arith,
-      count_same given sorted halves link.0 link.1 s.same s.both (no_self_sorted given sorted s.same s.no_self),
+      count_same listed sorted halves link.0 link.1 s.same s.both (no_self_sorted listed sorted s.same s.no_self),
       rising_once halves link.0 link.1 rising,
-      one_passes (is_between link.0 link.1) given k d l (is_between_itself link),
+      one_passes (is_between link.0 link.1) listed k d l (is_between_itself link),
     )
 
-pub single_sorted : (given sorted : List (ℕ × ℕ)) → IsPermutation given sorted → AreSingle given → AreSingle sorted
-single_sorted given sorted same single =
-    let all = All-permutation (λ (l : ℕ × ℕ). count_by (is_between l.0 l.1) given ≡ 1) given sorted same single in
+pub single_sorted : (listed sorted : List (ℕ × ℕ)) → IsPermutation listed sorted → AreSingle listed → AreSingle sorted
+single_sorted listed sorted same single =
+    let all = All-permutation (λ (l : ℕ × ℕ). count_by (is_between l.0 l.1) listed ≡ 1) listed sorted same single in
     λ k d l.
     let link = get_or sorted k d in
     let g : ℕ × ℕ → ℕ = λ y. weigh (is_between link.0 link.1 y) in
-    sum_by-IsPermutation g given sorted same ∙ all k d l
+    sum_by-IsPermutation g listed sorted same ∙ all k d l
 
-pub cycle_stands : (given sorted : List (ℕ × ℕ)) (walk : List ℕ) → IsPermutation given sorted → IsCycle sorted walk → IsCycle given walk
-cycle_stands given sorted [] same p = p
-cycle_stands given sorted (u ∷ vs) same p =
-    walk_carries sorted given (λ x y h. Contains-permutation sorted given (x, y) (IsPermutation-sym given sorted same) h) u vs p
+pub cycle_stands : (listed sorted : List (ℕ × ℕ)) (walk : List ℕ) → IsPermutation listed sorted → IsCycle sorted walk → IsCycle listed walk
+cycle_stands listed sorted [] same p = p
+cycle_stands listed sorted (u ∷ vs) same p =
+    walk_carries sorted listed (λ x y h. Contains-permutation sorted listed (x, y) (IsPermutation-sym listed sorted same) h) u vs p
 
-pub acyclic_given : (given sorted : List (ℕ × ℕ)) → IsPermutation given sorted → IsAcyclic sorted → IsAcyclic given
-acyclic_given given sorted same a u vs p =
-    a u vs (walk_carries given sorted (λ x y h. Contains-permutation given sorted (x, y) same h) u vs p)
+pub acyclic_listed : (listed sorted : List (ℕ × ℕ)) → IsPermutation listed sorted → IsAcyclic sorted → IsAcyclic listed
+acyclic_listed listed sorted same a u vs p =
+    a u vs (walk_carries listed sorted (λ x y h. Contains-permutation listed sorted (x, y) same h) u vs p)
 
-pub below_sorted : (n : ℕ) (given sorted : List (ℕ × ℕ)) → IsPermutation given sorted → AreBelow n given → AreBelow n sorted
-below_sorted n given sorted same below = All-permutation (λ (l : ℕ × ℕ). (l.0 < n) × (l.1 < n)) given sorted same below
+pub below_sorted : (n : ℕ) (listed sorted : List (ℕ × ℕ)) → IsPermutation listed sorted → AreBelow n listed → AreBelow n sorted
+below_sorted n listed sorted same below = All-permutation (λ (l : ℕ × ℕ). (l.0 < n) × (l.1 < n)) listed sorted same below
 
 -- the network of links without a fault
-pub net_given : (n : ℕ) (given sorted : List (ℕ × ℕ)) (halves : List HalfLink) → IsSortedOut given sorted halves → IsInRange n given → AreHalvesRising halves → IsAcyclic sorted → IsNet n given
-net_given n given sorted halves s range rising a = record {
+pub net_listed : (n : ℕ) (listed sorted : List (ℕ × ℕ)) (halves : List HalfLink) → IsSortedOut listed sorted halves → IsInRange n listed → AreHalvesRising halves → IsAcyclic sorted → IsNet n listed
+net_listed n listed sorted halves s range rising a = record {
   in_range = range.below;
   no_self = s.no_self;
-  single = single_from_rising given sorted halves s rising;
-  acyclic = acyclic_given given sorted s.same a;
+  single = single_from_rising listed sorted halves s rising;
+  acyclic = acyclic_listed listed sorted s.same a;
 }
 
-pub net_sorted : (n : ℕ) (given sorted : List (ℕ × ℕ)) → IsPermutation given sorted → IsAcyclic sorted → IsNet n given → IsNet n sorted
-net_sorted n given sorted same a net = record {
-  in_range = below_sorted n given sorted same net.in_range;
-  no_self = no_self_sorted given sorted same net.no_self;
-  single = single_sorted given sorted same net.single;
+pub net_sorted : (n : ℕ) (listed sorted : List (ℕ × ℕ)) → IsPermutation listed sorted → IsAcyclic sorted → IsNet n listed → IsNet n sorted
+net_sorted n listed sorted same a net = record {
+  in_range = below_sorted n listed sorted same net.in_range;
+  no_self = no_self_sorted listed sorted same net.no_self;
+  single = single_sorted listed sorted same net.single;
   acyclic = a;
 }
 
@@ -126,7 +126,7 @@ pub faultless_listed : (n : ℕ) (listed sorted : List (ℕ × ℕ)) (halves : L
 faultless_listed n listed sorted halves s limits range rising a = record {
   limits = limits;
   some = range.some;
-  is_net = net_given n listed sorted halves s range rising a;
+  is_net = net_listed n listed sorted halves s range rising a;
 }
 
 pub faultless_sorted : (n : ℕ) (listed sorted : List (ℕ × ℕ)) → IsPermutation listed sorted → IsAcyclic sorted → IsFaultless n listed → IsFaultless n sorted
@@ -148,4 +148,4 @@ rows_shown n sorted halves starts net both rising at x lt =
 
 -- another order of the links of a network is a network
 pub permuted_net : (n : ℕ) (a b : List (ℕ × ℕ)) → IsPermutation a b → IsNet n a → IsNet n b
-permuted_net n a b same net = net_sorted n a b same (acyclic_given b a (IsPermutation-sym a b same) net.acyclic) net
+permuted_net n a b same net = net_sorted n a b same (acyclic_listed b a (IsPermutation-sym a b same) net.acyclic) net

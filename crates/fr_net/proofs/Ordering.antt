@@ -165,11 +165,11 @@ pub times-in_order : (links : List (ℕ × ℕ)) (x : ℕ × ℕ) → times (in_
 times-in_order [] x = refl
 times-in_order (l ∷ ls) x = times-insert l (in_order ls) x ∙ ap (λ (n : ℕ). weigh (is_pair x.0 x.1 l) + n) (times-in_order ls x) ∙ sym (times-cons l ls x)
 
--- a list in order with the given links is theirs in order
-pub order_of_given : (given sorted : List (ℕ × ℕ)) → IsPermutation given sorted → AreInOrder sorted → sorted ≡ in_order given
-order_of_given given sorted same order =
-    same_order sorted (in_order given) order (in_order_order given)
-    (λ x. let weight : ℕ × ℕ → ℕ = λ l. weigh (is_pair x.0 x.1 l) in sum_by-IsPermutation weight given sorted same ∙ sym (times-in_order given x))
+-- a list in order with the listed links is theirs in order
+pub order_of_listed : (listed sorted : List (ℕ × ℕ)) → IsPermutation listed sorted → AreInOrder sorted → sorted ≡ in_order listed
+order_of_listed listed sorted same order =
+    same_order sorted (in_order listed) order (in_order_order listed)
+    (λ x. let weight : ℕ × ℕ → ℕ = λ l. weigh (is_pair x.0 x.1 l) in sum_by-IsPermutation weight listed sorted same ∙ sym (times-in_order listed x))
 
 -- a link of the list stands in the list in order, and the other way
 pub one_counted : (xs : List (ℕ × ℕ)) (x : ℕ × ℕ) → Contains xs x → 1 ≤ times xs x

@@ -1,6 +1,6 @@
 use Rattle.std.proofs.Common.{IsPermutation, List, ap, arith, count_by, map, ℕ, ◌≡◌, ◌≤◌}
 use Rattle.fr_net.proofs.Building.{IsSortedOut, below_sorted, cycle_stands, faultless_listed, faultless_sorted, rows_shown, single_from_rising, twice_stands}
-use Rattle.fr_net.proofs.Ordering.{order_of_given, tails_rise}
+use Rattle.fr_net.proofs.Ordering.{order_of_listed, tails_rise}
 use Rattle.fr_net.specs.Faults.{IsFaultless, IsInRange}
 use Rattle.fr_net.specs.Halves.{AreHalvesRising, AreStarts, entry_of, halves_of, is_at}
 use Rattle.fr_net.specs.Limits.{IsWithinLimits}
@@ -83,7 +83,7 @@ returns-clause-ok c =
     let acyclic : IsAcyclic sorted = rw (c.deref-3.ensures.value, c.in_default-2.is) at c.in_ok-walk.ensures in
     let faultless : IsFaultless c.args.nodes listed = faultless_listed c.args.nodes listed sorted halves out limits range rising acyclic in
     record {
-      is = ap (λ (links : List (ℕ × ℕ)). with_links c.args.nodes links) (order_of_given listed sorted c.in_ok-sorted.ensures.same c.in_ok-sorted.ensures.order);
+      is = ap (λ (links : List (ℕ × ℕ)). with_links c.args.nodes links) (order_of_listed listed sorted c.in_ok-sorted.ensures.same c.in_ok-sorted.ensures.order);
       same_links = c.in_ok-sorted.ensures.same;
       faultless = faultless;
     }
