@@ -1,6 +1,5 @@
 -- The answer to a line is determined by the state and the line, and so is the output text of an input.
-use Rattle.std.proofs.Common.{◌≡◌, ◌∙◌, ℕ, zero, suc, ◌+◌, ◌<◌, ◌≤◌, ◌⊎◌, ◌↔◌, ◌++◌, Bool, true, false, IsTrue, List, [], ◌∷◌, refl, sym, ap, subst, ⊎_elim, inl, inr, arith, Option, Some, None, Result, Ok, Err, MatchBool}
-use Rattle.std.specs.List.{count_by, range_with_len}
+use Rattle.std.proofs.Common.{◌≡◌, ◌∙◌, ℕ, zero, suc, ◌+◌, ◌<◌, ◌↔◌, ◌++◌, Bool, true, false, IsTrue, List, [], ◌∷◌, refl, sym, ap, subst, inl, inr, arith, Option, Some, None, Result, Ok, Err, MatchBool}
 use Rattle.fr_net.specs.Order.{in_order}
 use Rattle.fr_net.specs.Counts.{links_at}
 use Rattle.fr_net.specs.Requests.{PlainRequest, network, ask, reading}

@@ -1,12 +1,12 @@
 -- What the end of a round is, and what it reports.
-use Rattle.std.proofs.Common.{◌≡◌, ◌∙◌, ℕ, ◌<◌, ◌↔◌, Bool, IsTrue, List, sum, ap, subst, sym, refl, replicate, IsPermutation}
+use Rattle.std.proofs.Common.{◌≡◌, ◌∙◌, ℕ, ◌<◌, ◌↔◌, List, sum, ap, subst, sym, refl, replicate, IsPermutation}
 use Rattle.std.proofs.lemmas.List.Folds.{sum_by-replicate}
 use Rattle.std.proofs.Common.{mul-zero}
 use Rattle.std.proofs.lemmas.List.Sorted.{IsPermutation-sym}
 use Rattle.fr_net.specs.Links.{IsNet, HaveSameLinks}
 use Rattle.fr_net.specs.Order.{in_order}
-use Rattle.fr_net.specs.Counts.{IsKept, links_at}
-use Rattle.fr_net.specs.Network.{Network, net_of}
+use Rattle.fr_net.specs.Counts.{links_at}
+use Rattle.fr_net.specs.Network.{Network}
 use Rattle.fr_net.specs.Faults.{IsNetworkOf}
 use Rattle.fr_net.proofs.Ordering.{into_order, out_of_order}
 use Rattle.fr_net.proofs.Reordering.{in_order-links_at}
@@ -67,9 +67,10 @@ report_end n d first is_net below counts net turned cut settled made adds cut_of
       let nodes : n ≡ net.nodes = sym (ap (λ (m : Network). m.nodes) made.is) in
       let links : in_order now ≡ net.links = sym (ap (λ (m : Network). m.links) made.is) in
       let kept = (settled_lawful n d first is_net below counts settled).kept in
-      let ends : IsCutCount n d (in_order now) cut = cut_count_alike n d first (in_order now) cut (λ x.
-      ((λ j. same_joined now (in_order now) (same_in_order now) d x ((joined_at first counts kept d x).0 j)),
-      (λ j. (joined_at first counts kept d x).1 (same_joined (in_order now) now (same_back now) d x j)))) cut_off in
+      let ends : IsCutCount n d (in_order now) cut = cut_count_alike n d first (in_order now) cut (λ x. (
+        (λ j. same_joined now (in_order now) (same_in_order now) d x ((joined_at first counts kept d x).0 j)),
+        (λ j. (joined_at first counts kept d x).1 (same_joined (in_order now) now (same_back now) d x j)),
+      )) cut_off in
       subst (λ (m : ℕ). IsCutCount m d net.links cut) nodes (subst (λ (ls : List (ℕ × ℕ)). IsCutCount n d ls cut) links ends);
 }
 

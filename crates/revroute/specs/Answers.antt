@@ -63,8 +63,8 @@ abbrev pub AreAnswers : Option State → List (List ℕ) → List ℕ → Option
 AreAnswers s [] out next = (out ≡ []) × (next ≡ s)
 AreAnswers s (line ∷ rest) out next =
     MatchBool (is_blank line) (AreAnswers s rest out next)
-        ((text : List ℕ) × (between : Option State) × (more : List ℕ)
-        × IsLineAnswer s (reading line) text between × AreAnswers between rest more next × (out ≡ (text ++ 10 ∷ []) ++ more))
+    ((text : List ℕ) × (between : Option State) × (more : List ℕ)
+    × IsLineAnswer s (reading line) text between × AreAnswers between rest more next × (out ≡ (text ++ 10 ∷ []) ++ more))
 
 -- the output text of an input
 abbrev pub IsOutput : List ℕ → List ℕ → Type 0

@@ -39,11 +39,7 @@ impl Session {
 
     /// The answer to a line, or None for a blank one. The session is then in the state after the line; where memory ran
     /// out, it is as it was.
-    pub fn answer_line(
-        &mut self,
-        alloc: Global,
-        line: &[u8],
-    ) -> Result<Option<String>, AllocError>
+    pub fn answer_line(&mut self, alloc: Global, line: &[u8]) -> Result<Option<String>, AllocError>
         ensures blank { IfOk result (λ answer. IfNone answer ((is_blank_line line.now ≡ true) × (self.new ≡ self.old))) }
         ensures text { IfOk result (λ answer. IfSome answer (λ text. (is_blank_line line.now ≡ false)
             × IsLineAnswer self.old (reading line.now) (string_bytes text) self.new)) }

@@ -129,7 +129,8 @@ fn bounds_the_nesting(rt: HostRuntime) -> Result<(), Fail> {
 
 /// A session with faults of each kind between its answers, blank lines, and no byte 10 at its end, as in
 /// examples/refused.jsonl.
-const SESSION: &[u8] = b"[\"links\"]\n[\"net\",2,0,[[1,0]\n\n \t\r\n[\"net\",2,0,[[1,0]]]\n[\"fly\",1]\n[]\n[\"net\",3,0,[[0,1],[1,2],[2,0]]]\n[\"links\"]";
+const SESSION: &[u8] =
+    b"[\"links\"]\n[\"net\",2,0,[[1,0]\n\n \t\r\n[\"net\",2,0,[[1,0]]]\n[\"fly\",1]\n[]\n[\"net\",3,0,[[0,1],[1,2],[2,0]]]\n[\"links\"]";
 
 const ANSWERS: &[u8] =
     b"refused 3\nrefused 1\nturned 0 cut 0\nrefused 2\nrefused 2\nrefused 7\nlinks 1>0\n";

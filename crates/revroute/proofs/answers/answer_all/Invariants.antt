@@ -1,4 +1,3 @@
-use Rattle.std.proofs.Common.{length}
 use Rattle.std.specs.Option.{option_copied}
 use Rattle.revroute.proofs.Progress.{HasAnswered, left}
 use Rattle.revroute.proofs.answers.answer_all.Given as goal

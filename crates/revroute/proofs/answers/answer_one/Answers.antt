@@ -1,7 +1,6 @@
-use Rattle.std.proofs.Common.{◌≡◌, ◌∙◌, ◌++◌, ◌∷◌, [], ℕ, List, false, Some, take, drop, refl, sym, string_bytes, arith, append-nil}
+use Rattle.std.proofs.Common.{◌≡◌, ◌∙◌, ◌++◌, ◌∷◌, [], ℕ, List, take, drop, refl, sym, string_bytes, arith, append-nil}
 use Rattle.std.proofs.lemmas.List.{take-append-drop}
 use Rattle.std.proofs.lemmas.Grind.{common_steps}
-use Rattle.revroute.specs.Lines.{is_blank}
 use Rattle.revroute.proofs.answers.answer_one.Goals as goal
 
 pub returns-in_err-write_whole-clause-write : goal.returns-in_err-write_whole-clause-write

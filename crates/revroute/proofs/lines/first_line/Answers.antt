@@ -1,7 +1,6 @@
-use Rattle.std.proofs.Common.{◌≡◌, ◌∙◌, ◌+◌, ◌-◌, ◌==◌, ℕ, Some, None, length, take, drop, sym, arith, ap, ◌∷◌, List}
+use Rattle.std.proofs.Common.{◌+◌, ◌-◌, length, drop, sym, arith}
 use Rattle.std.proofs.Common.{length-drop}
 use Rattle.std.proofs.lemmas.List.{take_all}
-use Rattle.revroute.specs.Lines.{lines_of}
 use Rattle.revroute.proofs.Cutting.{lines_of-Some, lines_of-None}
 use Rattle.revroute.proofs.lines.first_line.Goals as goal
 

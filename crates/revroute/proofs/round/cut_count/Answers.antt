@@ -1,4 +1,4 @@
-use Rattle.std.proofs.Common.{arith, ◌+◌, cond, Bool, ap, true, false, ℕ, ◌≡◌, ◌∙◌, sym, subst}
+use Rattle.std.proofs.Common.{arith, ◌+◌, cond, Bool, ap, ℕ, ◌≡◌, subst}
 use Rattle.revroute.specs.States.{IsCutCount}
 use Rattle.revroute.proofs.CutNodes.{no_node_yet, one_node_more, cut_count-le}
 use Rattle.revroute.proofs.round.cut_count.Goals as goal

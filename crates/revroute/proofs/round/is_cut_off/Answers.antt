@@ -1,4 +1,4 @@
-use Rattle.std.proofs.Common.{◌≡◌, ◌<◌, ◌∙◌, ℕ, List, length, slice_index, arith, sym, eqb-true, eq-eqb}
+use Rattle.std.proofs.Common.{◌≡◌, ◌<◌, ◌∙◌, length, arith, sym, eqb-true, eq-eqb}
 use Rattle.fr_net.specs.Links.{IsNet}
 use Rattle.fr_net.specs.Rows.{row}
 use Rattle.revroute.proofs.CutOff.{alone_cut_off, capped_cut_off, cut_off_capped}

@@ -1,4 +1,3 @@
-use Rattle.std.proofs.Common.{arith}
 use Rattle.revroute.specs.Outputs.{WritesOutput}
 use Rattle.revroute.proofs.Progress.{output_begins, flushed}
 use Rattle.revroute.proofs.run.run.Goals as goal

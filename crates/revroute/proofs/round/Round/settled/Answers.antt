@@ -1,8 +1,7 @@
-use Rattle.std.proofs.Common.{◌≡◌, ◌∙◌, ◌+◌, ℕ, List, All, replicate, sum, ap, subst, sym, arith}
+use Rattle.std.proofs.Common.{◌≡◌, ◌∙◌, ℕ, List, sum, ap, subst, sym, arith}
 use Rattle.std.proofs.lemmas.List.{with_items_is}
 use Rattle.std.specs.Vec.{with_items}
-use Rattle.fr_net.specs.Links.{IsNet}
-use Rattle.fr_net.specs.Counts.{IsKept, links_at}
+use Rattle.fr_net.specs.Counts.{links_at}
 use Rattle.fr_net.specs.Faults.{IsNetworkOf}
 use Rattle.fr_core.specs.Settled.{AreSettled}
 use Rattle.fr_core.proofs.Unique.{settled_lawful}

@@ -1,5 +1,4 @@
-use Rattle.std.proofs.Common.{inr, refl, ◌<◌, ap, arith}
-use Rattle.fr_net.specs.Network.{Network}
+use Rattle.std.proofs.Common.{inr, refl, ◌<◌, arith}
 use Rattle.fr_net.specs.Faults.{IsNetworkOf}
 use Rattle.revroute.specs.Rounds.{state_of}
 use Rattle.revroute.proofs.RoundEnds.{round_listed}
