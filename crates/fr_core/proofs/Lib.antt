@@ -19,3 +19,11 @@ pub mod LevelSearches
 pub mod LevelStarts
 pub mod SettledRuns
 pub mod SmallNetworks
+pub mod Loads
+pub mod MachineSteps
+pub mod MachineRuns
+pub mod MachineParts
+pub mod SmallPlays
+pub mod PointsByRow
+pub mod Checking
+pub mod FirstBad

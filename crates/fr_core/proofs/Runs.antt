@@ -1,15 +1,18 @@
 -- What the turns of a run add up to.
-use Rattle.std.proofs.Common.{List, [], ap, arith, cond, eq-eqb, length, ne_eqb, refl, slice_index, slice_set, subst, sum, sym, ℕ, ⊎_elim, ◌&&◌, ◌*◌, ◌+◌, ◌<◌, ◌==◌, ◌∙◌, ◌∷◌, ◌≡◌, ◌≤◌}
+use Rattle.std.proofs.Common.{List, [], ap, arith, cond, eq-eqb, length, ne_eqb, refl, replicate, slice_index, slice_set, subst, sum, sym, ℕ, ⊎_elim, ◌&&◌, ◌*◌, ◌+◌, ◌<◌, ◌==◌, ◌∙◌, ◌∷◌, ◌≡◌, ◌≤◌}
 use Rattle.std.proofs.lemmas.Bool.{cases_eq, cond-false, cond-true}
-use Rattle.std.proofs.lemmas.List.{get_or-set_other, get_or-set_same, length-set}
+use Rattle.std.proofs.lemmas.List.{get_or-set_other, get_or-set_same, length-replicate, length-set}
 use Rattle.std.proofs.lemmas.List.Elements.{All-from_get_or}
 use Rattle.std.proofs.lemmas.List.Sums.{sum_by-cons, sum_by-le, sum_by-set}
-use Rattle.fr_core.specs.History.{Moment, after, after_all, after_reply, count_at, is_turned, turn_count, turn_count_of}
+use Rattle.fr_core.specs.History.{Moment, after, after_all, after_reply, count_at, is_turned, moment_of, turn_count, turn_count_of}
 use Rattle.fr_core.specs.Legal.{IsRun}
+use Rattle.fr_core.specs.Runs.{IsRunTo}
 use Rattle.fr_core.specs.declared.entry.Entry.{Entry}
 use Rattle.fr_core.specs.declared.entry.Reply.{Reply}
 use Rattle.fr_core.specs.declared.entry.Reply.TheVariants.{Cut, Held, Moved, Turned}
+use Rattle.fr_net.proofs.Acyclic.{links_at_acyclic}
 use Rattle.fr_net.specs.Counts.{AreLawful}
+use Rattle.fr_net.specs.Links.{IsNet}
 
 length_after_reply : (m : Moment) (x : ℕ) (r : Reply) → length (after_reply m x r).counts ≡ length m.counts
 length_after_reply m x (Turned k) = length-set m.counts x (count_at m x + 1)
@@ -52,3 +55,14 @@ run_count n d m (e ∷ es) long run y = omega (
 
 pub lawful_sum : (n d : ℕ) (first : List (ℕ × ℕ)) (c : List ℕ) → AreLawful n d first c → sum c ≤ n * n
 lawful_sum n d first c lawful = subst (λ (k : ℕ). sum c ≤ k * n) lawful.one_each (sum_by-le (λ (y : ℕ). y) n c (All-from_get_or (λ (y : ℕ). y ≤ n) c 0 (λ i l. lawful.capped i)))
+
+-- a run from the counts 0 of a network leads to the counts at its end
+pub run_to : (n d : ℕ) (first : List (ℕ × ℕ)) → IsNet n first → (entries : List Entry) (counts : List ℕ) → IsRun n d (moment_of first (replicate n 0)) entries
+    → after_all (moment_of first (replicate n 0)) entries ≡ moment_of first counts → AreLawful n d first counts → IsRunTo n d first entries counts
+run_to n d first net entries counts run ends lawful = record {
+  run = run;
+  ends = ends;
+  turns = λ x. ap (λ (m : Moment). slice_index m.counts x) (sym ends) ∙ run_count n d (moment_of first (replicate n 0)) entries (length-replicate n 0) run x;
+  lawful = lawful;
+  acyclic = links_at_acyclic first counts net.acyclic;
+}

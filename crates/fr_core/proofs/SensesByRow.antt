@@ -65,11 +65,11 @@ kept_from_sense c x w some = go (sense_of first.Outward (slice_index c x) (slice
 
 module _ (n : ℕ) (links : List (ℕ × ℕ)) (c : List ℕ) (x : ℕ) where
   -- a link that the counts give is an entry of the row with this sense
-  points_from_row : (w : ℕ) (f : First) (s : Sense) → Contains (row n links x) (w, f) → PointsBy c x s (w, f) → Contains (links_at links c) (link_by x w s)
+  pub points_from_row : (w : ℕ) (f : First) (s : Sense) → Contains (row n links x) (w, f) → PointsBy c x s (w, f) → Contains (links_at links c) (link_by x w s)
   points_from_row w f s h e = filter_map-Contains (link_at c) links (first_link x w f) (link_by x w s) (link_of_row n links x w f h)
       (link_at-first_link c x w f ∙ ap (option_map (link_by x w)) e)
 
-  row_from_points : IsNet n links → (w : ℕ) (s : Sense) → Contains (links_at links c) (link_by x w s) → (f : First) × Contains (row n links x) (w, f) × PointsBy c x s (w, f)
+  pub row_from_points : IsNet n links → (w : ℕ) (s : Sense) → Contains (links_at links c) (link_by x w s) → (f : First) × Contains (row n links x) (w, f) × PointsBy c x s (w, f)
   row_from_points net w sense.Outward h = ⊎_elim
       (λ p. (first.Outward, row_of_out n links x w net p.0, sense_of-out_same (slice_index c x) (slice_index c w) p.1))
       (λ p. (first.Inward, row_of_in n links x w net p.0, sense_of-in_more (slice_index c x) (slice_index c w) p.1))

@@ -30,13 +30,13 @@ map_filter_map f g t (x ∷ xs) each =
     let rest = map_filter_map f g t xs (λ y h. each y (Contains-tail y x xs h)) in
     rw (p.1, p.2) (ap (λ (r : List _). t p.0 ∷ r) rest)
 
-abbrev raised : List ℕ → ℕ → List ℕ
+abbrev pub raised : List ℕ → ℕ → List ℕ
 raised c x = slice_set c x (slice_index c x + 1)
 
-raised-here : (c : List ℕ) (x y : ℕ) → x < length c → y ≡ x → slice_index (raised c x) y ≡ slice_index c y + 1
+pub raised-here : (c : List ℕ) (x y : ℕ) → x < length c → y ≡ x → slice_index (raised c x) y ≡ slice_index c y + 1
 raised-here c x y l e = ap (slice_index (raised c x)) e ∙ get_or-set_same c x (slice_index c x + 1) 0 l ∙ ap (λ (z : ℕ). slice_index c z + 1) (sym e)
 
-raised-other : (c : List ℕ) (x y : ℕ) → ¬ (y ≡ x) → slice_index (raised c x) y ≡ slice_index c y
+pub raised-other : (c : List ℕ) (x y : ℕ) → ¬ (y ≡ x) → slice_index (raised c x) y ≡ slice_index c y
 raised-other c x y ne = get_or-set_other c x y (slice_index c x + 1) 0 ne
 
 -- what a link gives before and after the turn of x

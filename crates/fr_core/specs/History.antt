@@ -1,6 +1,6 @@
 -- Histories of replies, and what they make of the links and of the counts.
 use Rattle.std.specs.Prelude.{ℕ, ◌+◌, ◌==◌, ◌&&◌, if◌then◌else◌, Bool, true, false, List, [], ◌∷◌, slice_index, slice_set}
-use Rattle.std.specs.List.{count_by}
+use Rattle.std.specs.List.{count_by, filter}
 use Rattle.fr_net.specs.Counts.{links_at}
 use Rattle.fr_net.specs.Turn.{turn}
 use Rattle.fr_core.specs.declared.entry.Entry.{Entry}
@@ -54,3 +54,7 @@ after_all m (e ∷ es) = after_all (after m e) es
 -- the moment at which these first links have these counts
 abbrev pub moment_of : List (ℕ × ℕ) → List ℕ → Moment
 moment_of first counts = record { links = links_at first counts; counts = counts }
+
+-- the entries of worker k, in order
+abbrev pub part : ℕ → List Entry → List Entry
+part k h = filter (λ (e : Entry). e.worker == k) h

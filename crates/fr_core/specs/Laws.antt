@@ -8,12 +8,19 @@ use Rattle.fr_net.specs.Counts.{link_at, links_at, AreLawful}
 use Rattle.fr_net.specs.declared.rows.First.{First}
 use Rattle.fr_core.specs.Bounds.{MeetsBounds}
 use Rattle.fr_core.specs.Finish.{IsFinish}
-use Rattle.fr_core.specs.History.{moment_of, after_all, links_after, count_after, turn_count, turn_count_of}
+use Rattle.fr_core.specs.History.{Moment, moment_of, after_all, links_after, count_after, turn_count, turn_count_of}
 use Rattle.fr_core.specs.Legal.{CanTurn, NoneCanTurn, IsRun}
 use Rattle.fr_core.specs.Walks.{HasWalk, IsJoined}
 use Rattle.fr_core.specs.Senses.{first_link, link_by, sense_of}
 use Rattle.fr_core.specs.Settled.{AreSettled}
+use Rattle.fr_core.specs.Machine.{start, entries_of, state_after}
+use Rattle.fr_core.specs.Played.{HasPart}
+use Rattle.fr_core.specs.Runs.{IsRunTo}
+use Rattle.fr_core.specs.Checks.{IsBadAt}
+use Rattle.fr_core.specs.Targets.{AreAllAccepted}
 use Rattle.fr_core.specs.declared.entry.Entry.{Entry}
+use Rattle.fr_core.specs.declared.check.fault.Why.{Why}
+use Rattle.fr_core.specs.declared.targets.Target.{Target}
 
 -- Links and counts
 
@@ -147,3 +154,41 @@ abbrev pub TurnsAreBounded : Type 0
 TurnsAreBounded = (n d : ℕ) (first : List (ℕ × ℕ)) (counts settled : List ℕ) (h : List Entry) (x : ℕ) → IsNet n first → d < n → AreLawful n d first counts → AreSettled n d first settled
     → IsRun n d (moment_of first counts) h → x < n
     → (slice_index counts x + turn_count_of x h ≤ slice_index settled x) × (HasPath first x d → turn_count_of x h ≡ 0)
+
+-- What one worker's loads of counts show
+
+-- a neighbour whose count misses its bound, for a count that x has or had, holds x
+abbrev pub MissedBoundHolds : Type 0
+MissedBoundHolds = (n d : ℕ) (first : List (ℕ × ℕ)) (counts : List ℕ) (x w had : ℕ) → AreLawful n d first counts → had ≤ slice_index counts x
+    → (Points first x w × (slice_index counts w < had + 1)) ⊎ (Points first w x × (slice_index counts w < had)) → Points (links_at first counts) x w
+
+-- bounds that counts loaded earlier met make a sink of x, if x has kept its count
+abbrev pub SeenBoundsSink : Type 0
+SeenBoundsSink = (n d : ℕ) (first : List (ℕ × ℕ)) (counts : List ℕ) (x : ℕ) (seen : ℕ → ℕ) → AreLawful n d first counts → ((w : ℕ) → seen w ≤ slice_index counts w)
+    → (w : ℕ) × Joins first x w → ((w : ℕ) → Points first x w → slice_index counts x + 1 ≤ seen w) → ((w : ℕ) → Points first w x → slice_index counts x ≤ seen w) → IsSink (links_at first counts) x
+
+-- The machine
+
+-- under every schedule the entries that the machine decides are a run from the first links to its counts
+abbrev pub MachineRuns : Type 0
+MachineRuns = (n d : ℕ) (first : List (ℕ × ℕ)) (targets : List (List Target)) (schedule : List ℕ) → IsNet n first → AreAllAccepted n d first targets
+    → IsRunTo n d first (entries_of n first (start n targets) schedule) (state_after n first (start n targets) schedule).counts
+
+-- and each worker's part of them is its replies in order, one for each target that it has used up
+abbrev pub PartsAreReplies : Type 0
+PartsAreReplies = (n : ℕ) (first : List (ℕ × ℕ)) (targets : List (List Target)) (schedule : List ℕ) (k : ℕ)
+    → HasPart n first targets schedule (entries_of n first (start n targets) schedule) k
+
+-- Checking
+
+-- a bad entry and a run exclude each other
+abbrev pub BadIsNoRun : Type 0
+BadIsNoRun = (n d : ℕ) (m : Moment) (entries : List Entry) (index : ℕ) (why : Why) → IsBadAt n d m entries index why → ¬ IsRun n d m entries
+
+-- each history is a run, or has a first bad entry
+abbrev pub RunOrBad : Type 0
+RunOrBad = (n d : ℕ) (m : Moment) (entries : List Entry) → IsRun n d m entries ⊎ ((index : ℕ) × (why : Why) × IsBadAt n d m entries index why)
+
+-- no history has two first bad entries, and none is bad for two reasons
+abbrev pub OneIsBad : Type 0
+OneIsBad = (n d : ℕ) (m : Moment) (entries : List Entry) (i j : ℕ) (why other : Why) → IsBadAt n d m entries i why → IsBadAt n d m entries j other → (i ≡ j) × (why ≡ other)

@@ -9,3 +9,9 @@ pub mod Laws
 pub mod NodeCounts
 pub mod Reaching
 pub mod LevelSearch
+pub mod Runs
+pub mod Machine
+pub mod Targets
+pub mod Played
+pub mod Checks
+pub mod Sound

@@ -6,6 +6,8 @@ ghost use Rattle.fr_core.specs.Laws.{TurnIsACount, RunKeepsLawful, MomentIsAfter
 ghost use Rattle.fr_core.specs.Laws.{LawfulIsAtMostAway, NoTurnLeftIsSettled, SettledLeavesNoTurn, SettledIsUnique, LawfulIsAtMostSettled};
 ghost use Rattle.fr_core.specs.Laws.{ZeroIsAPath, CapIsNotJoined, JoinedIsBelowCap, JoinedByCounts};
 ghost use Rattle.fr_core.specs.Laws.{EachNetSettles, EachRunSettles, RunsEndAlike, RunLeadsToSettled, TurnsAreBounded};
+ghost use Rattle.fr_core.specs.Laws.{MissedBoundHolds, SeenBoundsSink, MachineRuns, PartsAreReplies};
+ghost use Rattle.fr_core.specs.Laws.{BadIsNoRun, RunOrBad, OneIsBad};
 
 /// The links that counts give: no closed walk stands among them, and those of lawful counts are a network.
 pub fn links_law()
@@ -26,9 +28,12 @@ pub fn run_law()
     ensures adds { RunAddsUp }
 {}
 
-/// A sink shows in the counts.
+/// A sink shows in the counts, also in counts that were loaded one after the other while others turned: what a neighbour
+/// missed holds the node, and what all had met makes it a sink if it has kept its own count.
 pub fn sink_law()
-    ensures { SinkByCounts }
+    ensures sink { SinkByCounts }
+    ensures missed { MissedBoundHolds }
+    ensures seen { SeenBoundsSink }
 {}
 
 /// Lawful counts at which no node can turn are the settled ones, and no lawful count is above its settled one.
@@ -55,4 +60,17 @@ pub fn schedule_law()
     ensures alike { RunsEndAlike }
     ensures leads { RunLeadsToSettled }
     ensures bounded { TurnsAreBounded }
+{}
+
+/// The machine under every schedule: what it decides is a run, and each worker's part of it is the worker's replies.
+pub fn machine_law()
+    ensures run { MachineRuns }
+    ensures parts { PartsAreReplies }
+{}
+
+/// Each history is a run or has one first bad entry, and never both.
+pub fn check_law()
+    ensures excludes { BadIsNoRun }
+    ensures either { RunOrBad }
+    ensures one { OneIsBad }
 {}

@@ -2,22 +2,35 @@
 //! finisher that goes there on one thread.
 //!
 //! [`lawful`] tests the counts of a network, [`sense`] and [`is_sink`] say what lawful counts make of its links, and
-//! [`finish`] goes to the counts at which every schedule ends. The laws behind them are in [`laws`].
+//! [`finish`] goes to the counts at which every schedule ends. A [`Machine`] turns nodes by single atomic steps of its
+//! workers, in whatever order these come, [`play`] follows a schedule, and [`check_run`] checks a history, entry by entry.
+//! The laws behind them are in [`laws`].
 #![tactic(auto)]
 
+mod check;
 mod counts;
 mod directions;
 mod entry;
 mod finisher;
 pub mod laws;
 mod levels;
+mod machine;
 #[cfg(test)]
 mod plain;
+mod play_fault;
 mod queue;
+mod schedules;
+mod targets;
 #[cfg(test)]
 mod tests;
+mod worker;
 
+pub use check::{CheckFault, Why, check_run};
 pub use counts::{is_sink, lawful, sense};
 pub use directions::Sense;
 pub use entry::{Entry, Reply};
 pub use finisher::finish;
+pub use machine::Machine;
+pub use play_fault::PlayFault;
+pub use schedules::play;
+pub use targets::Target;

@@ -1,0 +1,152 @@
+-- One step of a machine from lawful counts.
+use Rattle.std.proofs.Common.{All, Contains, List, Option, Some, None, [], ap, arith, false, inl, inr, length, nat_lt, refl, slice_index, slice_index_or, slice_set, subst, sym, true, ℕ, ⊎_elim, ◌+◌, ◌<◌, ◌==◌, ◌∙◌, ◌∷◌, ◌≡◌, ◌≤◌}
+use Rattle.std.proofs.lemmas.Bool.{cases_eq, cond_both, eqb-false, eqb-true, ltb-false, ltb-true}
+use Rattle.std.proofs.lemmas.List.{get_or_default}
+use Rattle.std.proofs.lemmas.List.Elements.{All-head, All-nil, All-tail, Contains-get_or}
+use Rattle.fr_net.proofs.Neighbours.{in_of_row, out_of_row, row_of_in, row_of_out}
+use Rattle.fr_net.specs.Counts.{AreLawful, links_at}
+use Rattle.fr_net.specs.Links.{IsNet, Joins, Points}
+use Rattle.fr_net.specs.Rows.{row}
+use Rattle.fr_net.specs.declared.rows.First.{First}
+use Rattle.fr_net.specs.declared.rows.First.TheVariants.{Inward, Outward}
+use Rattle.fr_core.proofs.Loads.{held_against, held_along, sink_from_seen}
+use Rattle.fr_core.proofs.Turning.{raised-here, raised-other, turn-links_at, turn_lawful}
+use Rattle.fr_core.specs.History.{Moment, after_all, moment_of}
+use Rattle.fr_core.specs.Legal.{CanTurn, IsRun}
+use Rattle.fr_core.specs.Machine.{Outcome, all_but_first, begin_call, decides, entry_of, exchange, goes_on, least_count, load_neighbour, load_own, neighbour_at, outcome, step_idle}
+use Rattle.fr_core.specs.Sound.{IsFit, IsSoundPhase, IsTurnable, IsUnderWay}
+use Rattle.fr_core.specs.declared.entry.Entry.{Entry}
+use Rattle.fr_core.specs.declared.entry.Reply.{Reply}
+use Rattle.fr_core.specs.declared.entry.Reply.TheVariants.{Cut, Held, Moved, Turned}
+use Rattle.fr_core.specs.declared.targets.Target.{Target}
+use Rattle.fr_core.specs.declared.targets.Target.TheVariants.{Turn}
+use Rattle.fr_core.specs.declared.worker.Phase.{Phase}
+use Rattle.fr_core.specs.declared.worker.Phase.TheVariants.{Idle, Looking, Swapping}
+
+-- counts that rise keep a call under way
+call_rises : (n d : ℕ) (first : List (ℕ × ℕ)) (b c : List ℕ) → ((y : ℕ) → slice_index b y ≤ slice_index c y) → (x k j : ℕ) → IsUnderWay n d first b x k j → IsUnderWay n d first c x k j
+call_rises n d first b c rises x k j h = record {
+  turnable = h.turnable;
+  low = omega (arith, h.low, rises x);
+  below_cap = h.below_cap;
+  enough = λ i l. omega (arith, h.enough i l, rises (neighbour_at (row n first x) i).0);
+}
+
+pub phase_rises : (n d : ℕ) (first : List (ℕ × ℕ)) (b c : List ℕ) → ((y : ℕ) → slice_index b y ≤ slice_index c y) → (phase : Phase) → IsSoundPhase n d first b phase → IsSoundPhase n d first c phase
+phase_rises n d first b c rises Idle h = tt
+phase_rises n d first b c rises (Looking x k j) h = (call_rises n d first b c rises x k j h.0, h.1)
+phase_rises n d first b c rises (Swapping x k) h = call_rises n d first b c rises x k (length (row n first x)) h
+
+-- a step of worker k from these counts: what it decides is legal, the moment after it has the new counts, and all stays sound
+pub record IsFine (n d : ℕ) (first : List (ℕ × ℕ)) (k : ℕ) (counts : List ℕ) (made : Outcome) : Type 0 where
+  pub run : IsRun n d (moment_of first counts) (entry_of k made.decided)
+  pub moment : after_all (moment_of first counts) (entry_of k made.decided) ≡ moment_of first made.counts
+  pub lawful : AreLawful n d first made.counts
+  pub rises : (y : ℕ) → slice_index counts y ≤ slice_index made.counts y
+  pub fit : All (IsFit n d first) made.worker.left
+  pub phase : IsSoundPhase n d first made.counts made.worker.phase
+
+fit_rest : (n d : ℕ) (first : List (ℕ × ℕ)) (left : List Target) → All (IsFit n d first) left → All (IsFit n d first) (all_but_first left)
+fit_rest n d first [] all = All-nil (IsFit n d first)
+fit_rest n d first (t ∷ ts) all = All-tail (IsFit n d first) t ts all
+
+module _ (n d : ℕ) (first : List (ℕ × ℕ)) (net : IsNet n first) (k : ℕ) (counts : List ℕ) (lawful : AreLawful n d first counts) (left : List Target) (all : All (IsFit n d first) left) where
+  fine_on : (phase : Phase) → IsSoundPhase n d first counts phase → IsFine n d first k counts (goes_on counts left phase)
+  fine_on phase h = record { run = tt; moment = refl; lawful = lawful; rises = λ y. omega arith; fit = all; phase = h }
+
+  fine_cut : (x : ℕ) → x < n → slice_index counts x ≡ n → IsFine n d first k counts (decides counts left x Cut)
+  fine_cut x l e = record { run = ((l, e), tt); moment = refl; lawful = lawful; rises = λ y. omega arith; fit = fit_rest n d first left all; phase = tt }
+
+  fine_held : (x w : ℕ) → x < n → Points (links_at first counts) x w → IsFine n d first k counts (decides counts left x (Held w))
+  fine_held x w l h = record { run = ((l, h), tt); moment = refl; lawful = lawful; rises = λ y. omega arith; fit = fit_rest n d first left all; phase = tt }
+
+  fine_moved : (x c : ℕ) → x < n → c < slice_index counts x → IsFine n d first k counts (decides counts left x (Moved c (slice_index counts x)))
+  fine_moved x c l h = record { run = ((l, (refl, h)), tt); moment = refl; lawful = lawful; rises = λ y. omega arith; fit = fit_rest n d first left all; phase = tt }
+
+  fine_turned : (x : ℕ) → x < n → CanTurn n d (moment_of first counts) x → IsFine n d first k counts (decides (slice_set counts x (slice_index counts x + 1)) left x (Turned (slice_index counts x + 1)))
+  fine_turned x l can = record {
+    run = ((l, (can, refl)), tt);
+    moment = λ i. record { links = turn-links_at n d first net counts lawful x can i; counts = slice_set counts x (slice_index counts x + 1) };
+    lawful = turn_lawful n d first net counts lawful x can;
+    rises = λ y. ⊎_elim (λ e. omega (arith, raised-here counts x y inside e)) (λ ne. omega (arith, raised-other counts x y ne)) (cases_eq y x);
+    fit = fit_rest n d first left all;
+    phase = tt;
+  }
+    where
+      inside : x < length counts
+      inside = omega (arith, l, lawful.one_each)
+
+  -- a neighbour of too low a count holds x
+  too_low_holds : (x c : ℕ) → c ≤ slice_index counts x → (w : ℕ) (way : First) → Contains (row n first x) (w, way) → slice_index counts w < least_count way c → Points (links_at first counts) x w
+  too_low_holds x c low w Outward h miss = held_along first counts lawful.kept x w c low (out_of_row n first x w h) miss
+  too_low_holds x c low w Inward h miss = held_against first counts lawful.kept x w c low (in_of_row n first x w h) miss
+
+  enough_all : (x c : ℕ) → IsUnderWay n d first counts x c (length (row n first x)) → (e : ℕ × First) → Contains (row n first x) e → least_count e.1 c ≤ slice_index counts e.0
+  enough_all x c call e (i, l, at) = subst (λ (p : ℕ × First). least_count p.1 c ≤ slice_index counts p.0) (get_or_default (row n first x) i (0, Outward) e l ∙ at) (call.enough i l)
+
+  can_turn : (x c : ℕ) → IsUnderWay n d first counts x c (length (row n first x)) → slice_index counts x ≡ c → CanTurn n d (moment_of first counts) x
+  can_turn x c call e = record {
+    not_destination = call.turnable.not_destination;
+    below_cap = omega (arith, e, call.below_cap);
+    sink = sink_from_seen first counts lawful.kept x (slice_index counts) (λ w. omega arith) call.turnable.linked
+        (λ w h. let m = enough_all x c call (w, Outward) (row_of_out n first x w net h) in omega (arith, e, m))
+        (λ w h. let m = enough_all x c call (w, Inward) (row_of_in n first x w net h) in omega (arith, e, m));
+  }
+
+  row_some : (x : ℕ) → IsTurnable n d first x → 0 < length (row n first x)
+  row_some x turnable = ⊎_elim
+      (λ h. let c = row_of_out n first x turnable.linked.0 net h in omega (arith, c.1))
+      (λ h. let c = row_of_in n first x turnable.linked.0 net h in omega (arith, c.1))
+      turnable.linked.1
+
+  load_neighbour_fine : (x c j : ℕ) → IsUnderWay n d first counts x c j → j < length (row n first x) → IsFine n d first k counts (load_neighbour (row n first x) counts left x c j)
+  load_neighbour_fine x c j call place =
+      cond_both (nat_lt (slice_index counts w.0) (least_count w.1 c)) _ _ (IsFine n d first k counts)
+      (λ t. fine_held x w.0 call.turnable.inside (too_low_holds x c call.low w.0 w.1 (Contains-get_or (row n first x) j (0, Outward) place) (ltb-true _ _ t)))
+      (λ f. cond_both (j + 1 == length (row n first x)) _ _ (IsFine n d first k counts)
+      (λ t. fine_on (Swapping x c) (subst (λ (z : ℕ). IsUnderWay n d first counts x c z) (eqb-true _ _ t) (more f)))
+      (λ g. fine_on (Looking x c (j + 1)) (more f, (let ne = eqb-false _ _ g in omega (arith, ne, place)))))
+    where
+      w : ℕ × First
+      w = neighbour_at (row n first x) j
+
+      more : nat_lt (slice_index counts (neighbour_at (row n first x) j).0) (least_count (neighbour_at (row n first x) j).1 c) ≡ false → IsUnderWay n d first counts x c (j + 1)
+      more f = record {
+        turnable = call.turnable;
+        low = call.low;
+        below_cap = call.below_cap;
+        enough = λ i l. ⊎_elim
+            (λ e. subst (λ (z : ℕ). least_count (neighbour_at (row n first x) z).1 c ≤ slice_index counts (neighbour_at (row n first x) z).0) (sym e) (ltb-false _ _ f))
+            (λ ne. call.enough i (omega (arith, ne, l)))
+            (cases_eq i j);
+      }
+
+  exchange_fine : (x c : ℕ) → IsUnderWay n d first counts x c (length (row n first x)) → IsFine n d first k counts (exchange counts left x c)
+  exchange_fine x c call =
+      cond_both (slice_index counts x == c) _ _ (IsFine n d first k counts)
+      (λ t. let e = eqb-true (slice_index counts x) c t in
+      subst (λ (z : ℕ). IsFine n d first k counts (decides (slice_set counts x (z + 1)) left x (Turned (z + 1)))) e (fine_turned x call.turnable.inside (can_turn x c call e)))
+      (λ f. let ne = eqb-false (slice_index counts x) c f in fine_moved x c call.turnable.inside (omega (arith, ne, call.low)))
+
+  load_own_fine : (x : ℕ) → IsTurnable n d first x → IsFine n d first k counts (load_own n counts left x)
+  load_own_fine x turnable =
+      cond_both (slice_index counts x == n) _ _ (IsFine n d first k counts)
+      (λ t. fine_cut x turnable.inside (eqb-true _ _ t))
+      (λ f. fine_on (Looking x (slice_index counts x) 0) (
+        record { turnable = turnable; low = omega arith; below_cap = (let ne = eqb-false _ _ f in omega (arith, ne, lawful.capped x)); enough = λ i l. absurd (omega (arith, l)) },
+        row_some x turnable,
+      ))
+
+  begin_fine : (t : Target) → IsFit n d first t → IsFine n d first k counts (begin_call n counts left t)
+  begin_fine (Turn x) fit = load_own_fine x fit
+
+idle_fine : (n d : ℕ) (first : List (ℕ × ℕ)) → IsNet n first → (k : ℕ) (counts : List ℕ) → AreLawful n d first counts → (left : List Target) → All (IsFit n d first) left → IsFine n d first k counts (step_idle n counts left)
+idle_fine n d first net k counts lawful [] all = fine_on n d first net k counts lawful [] all Idle tt
+idle_fine n d first net k counts lawful (t ∷ ts) all = begin_fine n d first net k counts lawful (t ∷ ts) all t (All-head (IsFit n d first) t ts all)
+
+-- each step is fine
+pub outcome_fine : (n d : ℕ) (first : List (ℕ × ℕ)) → IsNet n first → (k : ℕ) (counts : List ℕ) → AreLawful n d first counts → (left : List Target) → All (IsFit n d first) left → (phase : Phase) → IsSoundPhase n d first counts phase
+    → IsFine n d first k counts (outcome n first counts left phase)
+outcome_fine n d first net k counts lawful left all Idle h = idle_fine n d first net k counts lawful left all
+outcome_fine n d first net k counts lawful left all (Looking x c j) h = load_neighbour_fine n d first net k counts lawful left all x c j h.0 h.1
+outcome_fine n d first net k counts lawful left all (Swapping x c) h = exchange_fine n d first net k counts lawful left all x c h

@@ -1,0 +1,10 @@
+use Rattle.std.proofs.Common.{arith, ℕ, ◌<◌}
+use Rattle.fr_core.proofs.RowLinks.{row_below}
+use Rattle.fr_core.proofs.worker.Worker.load_neighbour.Goals as goal
+use Rattle.fr_net.proofs.Neighbours.{length-row-le}
+
+pub bounds-counts-neighbour : goal.bounds-counts-neighbour
+bounds-counts-neighbour c =
+    let net = c.args.net.now in
+    let below : c.neighbour-neighbour.result.0 < net.nodes = rw c.neighbour-neighbour.ensures.at at (row_below net.nodes net.links c.args.node c.args.place c.neighbour-neighbour.result c.requires.place) in
+    omega (arith, c.requires.one_each)

@@ -1,0 +1,52 @@
+-- What a checker of histories finds: the first entry that is not legal, with the first test that it fails.
+use Rattle.std.specs.Prelude.{◌≡◌, ℕ, ◌+◌, ◌<◌, ◌≤◌, ◌⊎◌, List, ◌∷◌, ◌++◌, length, replicate}
+use Rattle.fr_net.specs.Links.{Points}
+use Rattle.fr_net.specs.Turn.{IsSink}
+use Rattle.fr_core.specs.History.{Moment, count_at, after_all, moment_of}
+use Rattle.fr_core.specs.Legal.{CanTurn, IsRun}
+use Rattle.fr_core.specs.declared.check.fault.CheckFault.{CheckFault}
+use Rattle.fr_core.specs.declared.check.fault.CheckFault.TheVariants.{Range, BadAt, Memory}
+use Rattle.fr_core.specs.declared.check.fault.Why.{Why}
+use Rattle.fr_core.specs.declared.check.fault.Why.TheVariants.{NoNode, Destination, Capped, NotSink, WrongCount, NotHeld, NotMoved, NotCut}
+use Rattle.fr_core.specs.declared.entry.Entry.{Entry}
+use Rattle.fr_core.specs.declared.entry.Reply.{Reply}
+use Rattle.fr_core.specs.declared.entry.Reply.TheVariants.{Turned, Held, Moved, Cut}
+
+-- a turn of x to the count k fails this test, and none before it; the other tests are none of a turn
+abbrev pub FailsTurn : ℕ → ℕ → Moment → ℕ → ℕ → Why → Type 0
+FailsTurn n d m x k Destination = x ≡ d
+FailsTurn n d m x k Capped = ¬ (x ≡ d) × (n ≤ count_at m x)
+FailsTurn n d m x k NotSink = ¬ (x ≡ d) × (count_at m x < n) × ¬ IsSink m.links x
+FailsTurn n d m x k WrongCount = CanTurn n d m x × ¬ (k ≡ count_at m x + 1)
+FailsTurn n d m x k NoNode = ⊥
+FailsTurn n d m x k NotHeld = ⊥
+FailsTurn n d m x k NotMoved = ⊥
+FailsTurn n d m x k NotCut = ⊥
+
+-- the reply on the node x fails this test, and none before it. Each other kind of reply has one test
+abbrev pub FailsReply : ℕ → ℕ → Moment → ℕ → Reply → Why → Type 0
+FailsReply n d m x (Turned k) why = FailsTurn n d m x k why
+FailsReply n d m x (Held by) why = (why ≡ NotHeld) × ¬ Points m.links x by
+FailsReply n d m x (Moved had k) why = (why ≡ NotMoved) × ¬ ((k ≡ count_at m x) × (had < k))
+FailsReply n d m x Cut why = (why ≡ NotCut) × ¬ (count_at m x ≡ n)
+
+-- the entry fails this test, and none before it: its node is out of range, or its reply fails
+abbrev pub Fails : ℕ → ℕ → Moment → Entry → Why → Type 0
+Fails n d m e why = ((why ≡ NoNode) × (n ≤ e.node)) ⊎ ((e.node < n) × FailsReply n d m e.node e.reply why)
+
+-- the entry at this place is the first that is not legal after those before it
+pub record IsBadAt (n d : ℕ) (m : Moment) (entries : List Entry) (index : ℕ) (why : Why) : Type 0 where
+  pub front : List Entry
+  pub bad : Entry
+  pub back : List Entry
+  pub parted : entries ≡ front ++ bad ∷ back
+  pub place : length front ≡ index
+  pub run : IsRun n d m front
+  pub fails : Fails n d (after_all m front) bad why
+
+-- the fault stands: d is no node, or it is one and the entry is the first that is not legal in a history from the counts 0;
+-- want of memory is no fault of entries
+abbrev pub IsCheckFault : ℕ → ℕ → List (ℕ × ℕ) → List Entry → CheckFault → Type 0
+IsCheckFault n d first entries Range = n ≤ d
+IsCheckFault n d first entries (BadAt index why) = (d < n) × IsBadAt n d (moment_of first (replicate n 0)) entries index why
+IsCheckFault n d first entries Memory = ⊥

@@ -1,0 +1,134 @@
+-- The machine: workers turn nodes by single loads and exchanges on the counts of a network. A step is the load of one count or
+-- the exchange of one count, and the steps of the workers come in whatever order a schedule has.
+--
+--   phase              the step                                 what it comes to
+--   Idle, none left    nothing
+--   Idle, turn of x    loads the count c of x                   c is n: decides Cut
+--                                                               else Looking x c 0
+--   Looking x c j      loads the count of neighbour j of x      below its least count: decides Held by it
+--                                                               else, the last neighbour: Swapping x c
+--                                                               else Looking x c (j + 1)
+--   Swapping x c       exchanges the count of x, if it is c,    it was c: decides Turned, with c + 1
+--                      for c + 1                                else decides Moved, with c and what it found
+use Rattle.std.specs.Prelude.{ℕ, ◌+◌, ◌==◌, nat_lt, if◌then◌else◌, List, [], ◌∷◌, ◌++◌, length, map, replicate, Option, Some, None, slice_index, slice_index_or, slice_set, option_to_list}
+use Rattle.fr_net.specs.Rows.{row}
+use Rattle.fr_net.specs.declared.rows.First.{First}
+use Rattle.fr_net.specs.declared.rows.First.TheVariants.{Outward, Inward}
+use Rattle.fr_core.specs.declared.entry.Entry.{Entry}
+use Rattle.fr_core.specs.declared.entry.Reply.{Reply}
+use Rattle.fr_core.specs.declared.entry.Reply.TheVariants.{Turned, Held, Moved, Cut}
+use Rattle.fr_core.specs.declared.targets.Target.{Target}
+use Rattle.fr_core.specs.declared.targets.Target.TheVariants.{Turn}
+use Rattle.fr_core.specs.declared.worker.Phase.{Phase}
+use Rattle.fr_core.specs.declared.worker.Phase.TheVariants.{Idle, Looking, Swapping}
+
+-- a worker: the targets that it has not used up, and its phase in the call on the first of them
+pub record WorkerState : Type 0 where
+  pub left : List Target
+  pub phase : Phase
+
+-- the machine: how often each node has turned, and the workers
+pub record State : Type 0 where
+  pub counts : List ℕ
+  pub workers : List WorkerState
+
+-- a worker before its first step
+abbrev pub fresh : List Target → WorkerState
+fresh targets = record { left = targets; phase = Idle }
+
+-- the machine before its first step
+abbrev pub start : ℕ → List (List Target) → State
+start n targets = record { counts = replicate n 0; workers = map fresh targets }
+
+-- what a step comes to: the counts, the worker, and the node and the reply of the call that it decides, if it decides one
+pub record Outcome : Type 0 where
+  pub counts : List ℕ
+  pub worker : WorkerState
+  pub decided : Option (ℕ × Reply)
+
+-- the step decides nothing
+abbrev pub goes_on : List ℕ → List Target → Phase → Outcome
+goes_on counts left phase = record { counts = counts; worker = record { left = left; phase = phase }; decided = None }
+
+abbrev pub all_but_first : List Target → List Target
+all_but_first [] = []
+all_but_first (t ∷ ts) = ts
+
+-- the step decides the call on x, which uses up its target and leaves the worker idle
+abbrev pub decides : List ℕ → List Target → ℕ → Reply → Outcome
+decides counts left x reply = record { counts = counts; worker = record { left = all_but_first left; phase = Idle }; decided = Some (x, reply) }
+
+-- the least count of a neighbour at which its link points to a node of count c
+abbrev pub least_count : First → ℕ → ℕ
+least_count Outward c = c + 1
+least_count Inward c = c
+
+-- the load of the own count
+abbrev pub load_own : ℕ → List ℕ → List Target → ℕ → Outcome
+load_own n counts left x =
+    if slice_index counts x == n then decides counts left x Cut
+    else goes_on counts left (Looking x (slice_index counts x) 0)
+
+-- the neighbour at place j of a row, with the first direction of its link
+abbrev pub neighbour_at : List (ℕ × First) → ℕ → ℕ × First
+neighbour_at neighbours j = slice_index_or neighbours j (0, Outward)
+
+-- the load of a neighbour's count
+abbrev pub load_neighbour : List (ℕ × First) → List ℕ → List Target → ℕ → ℕ → ℕ → Outcome
+load_neighbour neighbours counts left x c j =
+    let w = neighbour_at neighbours j in
+    if nat_lt (slice_index counts w.0) (least_count w.1 c) then decides counts left x (Held w.0)
+    else if j + 1 == length neighbours then goes_on counts left (Swapping x c)
+    else goes_on counts left (Looking x c (j + 1))
+
+-- the exchange of the own count
+abbrev pub exchange : List ℕ → List Target → ℕ → ℕ → Outcome
+exchange counts left x c =
+    if slice_index counts x == c then decides (slice_set counts x (c + 1)) left x (Turned (c + 1))
+    else decides counts left x (Moved c (slice_index counts x))
+
+-- the first step of a call
+abbrev pub begin_call : ℕ → List ℕ → List Target → Target → Outcome
+begin_call n counts left (Turn x) = load_own n counts left x
+
+abbrev pub step_idle : ℕ → List ℕ → List Target → Outcome
+step_idle n counts [] = goes_on counts [] Idle
+step_idle n counts (t ∷ ts) = begin_call n counts (t ∷ ts) t
+
+-- a step of a worker with these targets left, by its phase
+abbrev pub outcome : ℕ → List (ℕ × ℕ) → List ℕ → List Target → Phase → Outcome
+outcome n first counts left Idle = step_idle n counts left
+outcome n first counts left (Looking x c j) = load_neighbour (row n first x) counts left x c j
+outcome n first counts left (Swapping x c) = exchange counts left x c
+
+abbrev pub worker_of : State → ℕ → WorkerState
+worker_of m k = slice_index_or m.workers k (fresh [])
+
+-- what a step of worker k comes to
+abbrev pub outcome_of : ℕ → List (ℕ × ℕ) → State → ℕ → Outcome
+outcome_of n first m k = outcome n first m.counts (worker_of m k).left (worker_of m k).phase
+
+-- the machine after a step of worker k
+abbrev pub step : ℕ → List (ℕ × ℕ) → State → ℕ → State
+step n first m k = record { counts = (outcome_of n first m k).counts; workers = slice_set m.workers k (outcome_of n first m k).worker }
+
+-- the entry of a call that worker k decided, if it decided one
+abbrev pub entry_of : ℕ → Option (ℕ × Reply) → List Entry
+entry_of k None = []
+entry_of k (Some d) = record { worker = k; node = d.0; reply = d.1 } ∷ []
+
+-- the entries that the steps of a schedule decide, in order
+abbrev pub entries_of : ℕ → List (ℕ × ℕ) → State → List ℕ → List Entry
+entries_of n first m [] = []
+entries_of n first m (k ∷ ks) = entry_of k (outcome_of n first m k).decided ++ entries_of n first (step n first m k) ks
+
+-- the machine after a schedule
+abbrev pub state_after : ℕ → List (ℕ × ℕ) → State → List ℕ → State
+state_after n first m [] = m
+state_after n first m (k ∷ ks) = state_after n first (step n first m k) ks
+
+-- what the steps of worker k alone decide under a schedule, in order
+abbrev pub decided_by : ℕ → List (ℕ × ℕ) → State → ℕ → List ℕ → List (ℕ × Reply)
+decided_by n first m k [] = []
+decided_by n first m k (j ∷ ks) =
+    (if j == k then option_to_list (outcome_of n first m j).decided else []) ++ decided_by n first (step n first m j) k ks

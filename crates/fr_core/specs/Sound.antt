@@ -1,0 +1,86 @@
+-- What holds of a machine between any two steps, and what a worker needs for its step. For the machine's own functions alone.
+use Rattle.std.specs.Prelude.{◌≡◌, ℕ, ◌+◌, ◌<◌, ◌≤◌, List, ◌++◌, length, slice_get, slice_index, Option, Some}
+use Rattle.std.specs.List.{All}
+use Rattle.fr_net.specs.Counts.{AreLawful}
+use Rattle.fr_net.specs.Links.{IsNet, Joins}
+use Rattle.fr_net.specs.Rows.{row}
+use Rattle.fr_core.specs.Machine.{WorkerState, State, Outcome, neighbour_at, least_count, entries_of, state_after}
+use Rattle.fr_core.specs.Played.{MachineView}
+use Rattle.fr_core.specs.Targets.{IsRefused}
+use Rattle.fr_core.specs.declared.entry.Entry.{Entry}
+use Rattle.fr_core.specs.declared.entry.Reply.{Reply}
+use Rattle.fr_core.specs.declared.targets.Target.{Target}
+use Rattle.fr_core.specs.declared.targets.Target.TheVariants.{Turn}
+use Rattle.fr_core.specs.declared.worker.Phase.{Phase}
+use Rattle.fr_core.specs.declared.worker.Phase.TheVariants.{Idle, Looking, Swapping}
+
+-- a turn of the node is not refused
+pub record IsTurnable (n d : ℕ) (first : List (ℕ × ℕ)) (x : ℕ) : Type 0 where
+  pub inside : x < n
+  pub not_destination : ¬ (x ≡ d)
+  pub linked : (w : ℕ) × Joins first x w
+
+abbrev pub IsFit : ℕ → ℕ → List (ℕ × ℕ) → Target → Type 0
+IsFit n d first (Turn x) = IsTurnable n d first x
+
+-- the first target of a list that would be refused
+pub record IsFirstRefused (n d : ℕ) (links : List (ℕ × ℕ)) (list : List Target) (at : ℕ) : Type 0 where
+  pub target : Target
+  pub here : slice_get list at ≡ Some target
+  pub refused : IsRefused n d links target
+  pub first : (i : ℕ) (t : Target) → slice_get list i ≡ Some t → i < at → ¬ IsRefused n d links t
+
+-- what a call on x stands on after the load of its own count c: the first j neighbours have at least their least counts
+pub record IsUnderWay (n d : ℕ) (first : List (ℕ × ℕ)) (counts : List ℕ) (x c j : ℕ) : Type 0 where
+  pub turnable : IsTurnable n d first x
+  pub low : c ≤ slice_index counts x
+  pub below_cap : c < n
+  pub enough : (i : ℕ) → i < j → least_count (neighbour_at (row n first x) i).1 c ≤ slice_index counts (neighbour_at (row n first x) i).0
+
+abbrev pub IsSoundPhase : ℕ → ℕ → List (ℕ × ℕ) → List ℕ → Phase → Type 0
+IsSoundPhase n d first counts Idle = Unit {0}
+IsSoundPhase n d first counts (Looking x c j) = IsUnderWay n d first counts x c j × (j < length (row n first x))
+IsSoundPhase n d first counts (Swapping x c) = IsUnderWay n d first counts x c (length (row n first x))
+
+pub record IsSoundWorker (n d : ℕ) (first : List (ℕ × ℕ)) (counts : List ℕ) (worker : WorkerState) : Type 0 where
+  pub fit : All (IsFit n d first) worker.left
+  pub phase : IsSoundPhase n d first counts worker.phase
+
+pub record IsSound (n d : ℕ) (first : List (ℕ × ℕ)) (m : State) : Type 0 where
+  pub lawful : AreLawful n d first m.counts
+  pub workers : All (IsSoundWorker n d first m.counts) m.workers
+
+-- what a machine keeps
+pub record IsSoundMachine (m : MachineView) : Type 0 where
+  pub net : IsNet m.nodes m.links
+  pub sound : IsSound m.nodes m.dest m.links m.state
+
+-- a target is on a node below n
+abbrev pub IsOnNode : ℕ → Target → Type 0
+IsOnNode n (Turn x) = x < n
+
+-- the phase is at nodes and places that are there
+abbrev pub IsPhaseInside : ℕ → List (ℕ × ℕ) → Phase → Type 0
+IsPhaseInside n first Idle = Unit {0}
+IsPhaseInside n first (Looking x c j) = (x < n) × (c < n) × (j < length (row n first x))
+IsPhaseInside n first (Swapping x c) = (x < n) × (c < n)
+
+pub record CanStep (n : ℕ) (first : List (ℕ × ℕ)) (worker : WorkerState) : Type 0 where
+  pub left : All (IsOnNode n) worker.left
+  pub phase : IsPhaseInside n first worker.phase
+
+-- a machine and its parts, as the fields have them
+abbrev pub view_of : ℕ → ℕ → List (ℕ × ℕ) → List ℕ → List WorkerState → MachineView
+view_of n d links counts workers = record { nodes = n; dest = d; links = links; state = record { counts = counts; workers = workers } }
+
+abbrev pub outcome_with : List ℕ → WorkerState → Option (ℕ × Reply) → Outcome
+outcome_with counts worker decided = record { counts = counts; worker = worker; decided = decided }
+
+-- part of the way through a schedule: from the machine `begun` these entries have come, the machine is `now`, and the rest is to come
+pub record IsOnTheWay (begun now : MachineView) (entries : List Entry) (rest whole : List ℕ) : Type 0 where
+  pub nodes : now.nodes ≡ begun.nodes
+  pub dest : now.dest ≡ begun.dest
+  pub links : now.links ≡ begun.links
+  pub workers : length now.state.workers ≡ length begun.state.workers
+  pub entries_come : entries ++ entries_of now.nodes now.links now.state rest ≡ entries_of begun.nodes begun.links begun.state whole
+  pub after : state_after now.nodes now.links now.state rest ≡ state_after begun.nodes begun.links begun.state whole

@@ -1,0 +1,142 @@
+//! Workers that turn the nodes of a network by single loads and exchanges, one step at a time.
+
+ghost use Rattle.std.specs.Prelude.{◌≡◌, ◌≢◌, ◌<◌, All, length, option_to_list, IfOk, IfErr};
+ghost use Rattle.fr_net.specs.Counts.{AreLawful, links_at};
+ghost use Rattle.fr_net.specs.Links.{IsAcyclic};
+ghost use Rattle.fr_core.specs.Machine.{step, outcome_of, entry_of, entries_of};
+ghost use Rattle.fr_core.specs.Played.{started};
+ghost use Rattle.fr_core.specs.Targets.{IsMachineFault, AreAllAccepted, lists_of};
+ghost use Rattle.fr_core.specs.declared.play_fault.PlayFault.TheVariants.{Memory};
+
+#[cfg(test)]
+mod tests;
+
+use crate::entry::Entry;
+use crate::play_fault::PlayFault;
+use crate::targets::{Target, first_bad};
+use crate::worker::Worker;
+use fr_net::Net;
+use std::alloc::{AllocError, Global};
+use std::marker::Model;
+
+/// Workers at the counts of a network, each with its targets. A step is one atomic load or one compare and exchange of one
+/// count; who steps next is the caller's choice, so a caller can go through any interleaving. Whatever it is, what the
+/// machine decides is a run of full reversal on one thread: the clause `run` of [`machine_law`](crate::laws::machine_law).
+#[derive(Debug, Drop)]
+pub struct Machine<'a> {
+    net: &'a Net,
+    // For contracts alone, which say that the counts are lawful.
+    dest: u32,
+    counts: Vec<u64>,
+    workers: Vec<Worker>,
+}
+
+impl<'a> Model for Machine<'a> {
+    ghost use Rattle.fr_core.specs.Played.{MachineView};
+
+    ghost Value = { MachineView };
+
+    ghost use Rattle.fr_core.specs.Sound.{IsSoundMachine, view_of};
+
+    ghost view = { λ s. view_of s.net.now.nodes s.dest s.net.now.links s.counts.items s.workers.items };
+
+    ghost invariant = { λ s. IsSoundMachine (view_of s.net.now.nodes s.dest s.net.now.links s.counts.items s.workers.items) };
+}
+
+impl<'a> Machine<'a> {
+    /// A machine before its first step, with a worker for each list of targets, or the first fault that stands: Range where
+    /// `dest` is no node, and then the first target that no turn could be of.
+    pub fn new(
+        alloc: Global,
+        net: &'a Net,
+        dest: u32,
+        targets: Vec<Vec<Target>>,
+    ) -> Result<Machine<'a>, PlayFault>
+        ensures ok { IfOk result (λ m. m ≡ started net.now.nodes dest net.now.links (lists_of targets.items)) }
+        ensures destination { IfOk result (λ _. dest < net.now.nodes) }
+        ensures accepted { IfOk result (λ _. AreAllAccepted net.now.nodes dest net.now.links (lists_of targets.items)) }
+        ensures refused { IfErr result
+            (λ fault. fault ≢ Memory → IsMachineFault net.now.nodes dest net.now.links (lists_of targets.items) fault) }
+    {
+        if dest >= net.nodes() {
+            return Err(PlayFault::Range);
+        }
+        if let Some((worker, at)) = first_bad(net, dest, &targets) {
+            return Err(PlayFault::BadTarget { worker, at });
+        }
+        Ok(Machine::start(alloc, net, dest, targets)?)
+    }
+
+    /// The machine, once no fault stands.
+    fn start(
+        alloc: Global,
+        net: &'a Net,
+        dest: u32,
+        targets: Vec<Vec<Target>>,
+    ) -> Result<Machine<'a>, AllocError>
+        requires { AreAllAccepted net.now.nodes dest net.now.links (lists_of targets.items) }
+        ensures { IfOk result (λ m. m ≡ started net.now.nodes dest net.now.links (lists_of targets.items)) }
+    {
+        let counts = vec![in alloc; 0u64; net.nodes() as usize]?;
+        let mut workers = Vec::with_capacity(alloc, targets.len())?;
+        for list in targets {
+            workers.push(Worker::new(list))?;
+        }
+        Ok(Machine {
+            net,
+            dest,
+            counts,
+            workers,
+        })
+    }
+
+    /// How many workers there are.
+    pub fn workers(&self) -> usize
+        ensures { result ≡ length self.now.state.workers }
+    {
+        self.workers.len()
+    }
+
+    /// How often each node has turned.
+    pub fn counts(&self) -> &[u64]
+        ensures value { result.now ≡ self.now.state.counts }
+        ensures lawful { AreLawful self.now.nodes self.now.dest self.now.links self.now.state.counts }
+        ensures acyclic { IsAcyclic (links_at self.now.links self.now.state.counts) }
+    {
+        &self.counts
+    }
+
+    /// One atomic step of the worker, and the entry if the step decides a call. A worker with no target left does nothing.
+    pub fn step(&mut self, worker: u32) -> Option<Entry>
+        requires { worker < length self.old.state.workers }
+        ensures next { self.new ≡ record self.old { state = step self.old.nodes self.old.links self.old.state worker } }
+        ensures entry { option_to_list result
+            ≡ entry_of worker (outcome_of self.old.nodes self.old.links self.old.state worker).decided }
+    {
+        let (node, reply) = self.workers[worker as usize].step(self.net, &mut self.counts)?;
+        Some(Entry {
+            worker,
+            node,
+            reply,
+        })
+    }
+
+    /// A step for each number of the schedule, and the entries that these decide.
+    pub(crate) fn follow(
+        &mut self,
+        alloc: Global,
+        schedule: &[u32],
+    ) -> Result<Vec<Entry>, AllocError>
+        requires { All (λ k. k < length self.old.state.workers) schedule.now }
+        ensures { IfOk result (λ entries. entries.items
+            ≡ entries_of self.old.nodes self.old.links self.old.state schedule.now) }
+    {
+        let mut entries = Vec::new(alloc);
+        for worker in schedule {
+            if let Some(entry) = self.step(*worker) {
+                entries.push(entry)?;
+            }
+        }
+        Ok(entries)
+    }
+}

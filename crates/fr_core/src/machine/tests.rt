@@ -1,0 +1,185 @@
+//! What no clause says: values from outside, for the machine step by step and under schedules.
+
+use crate::{Entry, Machine, PlayFault, Reply, Target, play};
+use fr_net::Net;
+use std::alloc::{AllocError, Global};
+use std::test::Fail;
+
+/// For each worker the turns of these nodes.
+fn turns(alloc: Global, lists: &[&[u32]]) -> Result<Vec<Vec<Target>>, AllocError> {
+    let mut targets = Vec::new(alloc);
+    for list in lists {
+        let mut nodes = Vec::new(alloc);
+        for node in *list {
+            nodes.push(Target::Turn(*node))?;
+        }
+        targets.push(nodes)?;
+    }
+    Ok(targets)
+}
+
+fn entry(worker: u32, node: u32, reply: Reply) -> Entry {
+    Entry {
+        worker,
+        node,
+        reply,
+    }
+}
+
+#[test]
+fn two_workers_at_one_node_step_by_step(rt: HostRuntime) -> Result<(), Fail> {
+    let net = Net::new(rt.alloc(), 2, &[(0, 1)])?;
+    let mut machine = Machine::new(rt.alloc(), &net, 0, turns(rt.alloc(), &[&[1], &[1]])?)?;
+    let turned = entry(0, 1, Reply::Turned { count: 1 });
+    let moved = entry(1, 1, Reply::Moved { had: 0, count: 1 });
+    let steps = [
+        (0, None, [0, 0]),
+        (1, None, [0, 0]),
+        (0, None, [0, 0]),
+        (1, None, [0, 0]),
+        (0, Some(turned), [0, 1]),
+        (1, Some(moved), [0, 1]),
+        (0, None, [0, 1]),
+    ];
+    for (i, (worker, decided, counts)) in steps.iter().enumerate() {
+        assert!(rt;
+            (*worker as usize) < machine.workers(),
+            "worker of step {i}"
+        );
+        assert_eq!(rt; machine.step(*worker), *decided, "step {i}");
+        assert_eq!(rt;
+            machine.counts(),
+            counts.as_slice(),
+            "counts after step {i}"
+        );
+    }
+    assert_eq!(rt; machine.workers(), 2);
+    Ok(())
+}
+
+#[test]
+fn known_schedules(rt: HostRuntime) -> Result<(), Fail> {
+    let chain: &[(u32, u32)] = &[(0, 1), (1, 2)];
+    let one = Reply::Turned { count: 1 };
+    let two = Reply::Turned { count: 2 };
+    let three = Reply::Turned { count: 3 };
+    let moved = Reply::Moved { had: 0, count: 1 };
+    let held = Reply::Held { by: 0 };
+    // Nodes, links, the nodes that each worker is to turn, the schedule, and the entries. The destination is node 0.
+    type Case<'a> = (
+        u32,
+        &'a [(u32, u32)],
+        &'a [&'a [u32]],
+        &'a [u32],
+        &'a [(u32, u32, Reply)],
+    );
+    let cases: [Case; 8] = [
+        (
+            2,
+            &[(0, 1)],
+            &[&[1], &[1]],
+            &[0, 1, 0, 1, 0, 1],
+            &[(0, 1, one), (1, 1, moved)],
+        ),
+        (2, &[(1, 0)], &[&[1]], &[0, 0], &[(0, 1, held)]),
+        (
+            2,
+            &[(0, 1)],
+            &[&[1, 1, 1, 1, 1, 1]],
+            &[0; 6],
+            &[(0, 1, one), (0, 1, held)],
+        ),
+        (
+            3,
+            chain,
+            &[&[1, 2, 1, 2, 1, 2]],
+            &[0; 6],
+            &[(0, 1, Reply::Held { by: 2 }), (0, 2, one)],
+        ),
+        (
+            3,
+            chain,
+            &[&[2], &[1]],
+            &[0, 0, 0, 1, 1, 1, 1],
+            &[(0, 2, one), (1, 1, one)],
+        ),
+        (
+            3,
+            &[(1, 2)],
+            &[&[2, 1, 2, 1, 2, 1, 2, 1]],
+            &[0; 24],
+            &[
+                (0, 2, one),
+                (0, 1, one),
+                (0, 2, two),
+                (0, 1, two),
+                (0, 2, three),
+                (0, 1, three),
+                (0, 2, Reply::Cut),
+                (0, 1, Reply::Cut),
+            ],
+        ),
+        (2, &[(0, 1)], &[&[], &[1]], &[0, 0, 1, 1, 0], &[]),
+        (1, &[], &[], &[], &[]),
+    ];
+    for (case, (nodes, links, lists, schedule, expected)) in cases.iter().enumerate() {
+        let net = Net::new(rt.alloc(), *nodes, links)?;
+        let entries = play(rt.alloc(), &net, 0, turns(rt.alloc(), lists)?, schedule)?;
+        let mut wanted = Vec::new(rt.alloc());
+        for (worker, node, reply) in *expected {
+            wanted.push(entry(*worker, *node, *reply))?;
+        }
+        assert_eq!(rt; entries, wanted, "case {case}");
+    }
+    Ok(())
+}
+
+#[test]
+fn first_faults(rt: HostRuntime) -> Result<(), Fail> {
+    // Node 3 has no link, and node 4 is none.
+    let net = Net::new(rt.alloc(), 4, &[(0, 1), (1, 2)])?;
+    let bad = |worker, at| PlayFault::BadTarget { worker, at };
+    // The destination, the nodes that each worker is to turn, the schedule, and the faults of the machine and of the play.
+    let cases: [(u32, &[&[u32]], &[u32], Option<PlayFault>, Option<PlayFault>); 9] = [
+        (
+            0,
+            &[&[1], &[1, 0]],
+            &[0, 1],
+            Some(bad(1, 1)),
+            Some(bad(1, 1)),
+        ),
+        (0, &[&[1], &[1, 0]], &[], Some(bad(1, 1)), Some(bad(1, 1))),
+        (
+            0,
+            &[&[1], &[1, 0]],
+            &[2],
+            Some(bad(1, 1)),
+            Some(PlayFault::Range),
+        ),
+        (
+            4,
+            &[&[1], &[1, 0]],
+            &[0],
+            Some(PlayFault::Range),
+            Some(PlayFault::Range),
+        ),
+        (
+            0,
+            &[&[1, 2, 4], &[0]],
+            &[0],
+            Some(bad(0, 2)),
+            Some(bad(0, 2)),
+        ),
+        (0, &[&[], &[3, 0]], &[0], Some(bad(1, 0)), Some(bad(1, 0))),
+        (2, &[&[1, 2]], &[0], Some(bad(0, 1)), Some(bad(0, 1))),
+        (0, &[], &[0], None, Some(PlayFault::Range)),
+        (2, &[&[1, 0]], &[0], None, None),
+    ];
+    for (case, (dest, lists, schedule, of_machine, of_play)) in cases.iter().enumerate() {
+        let machine = Machine::new(rt.alloc(), &net, *dest, turns(rt.alloc(), lists)?);
+        assert_eq!(rt; machine.err(), *of_machine, "the machine of case {case}");
+        let entries = play(rt.alloc(), &net, *dest, turns(rt.alloc(), lists)?, schedule);
+        assert_eq!(rt; entries.err(), *of_play, "the play of case {case}");
+    }
+    Ok(())
+}

@@ -1,0 +1,56 @@
+//! What a machine's workers are to do.
+
+ghost use Rattle.std.specs.Prelude.{◌≡◌, ◌↔◌, IsTrue, IfSome, IfNone};
+ghost use Rattle.fr_core.specs.Targets.{IsUnturnable, IsRefused, IsFirstBadTarget, AreAccepted, AreAllAccepted, lists_of};
+ghost use Rattle.fr_core.specs.Sound.{IsFirstRefused};
+
+use fr_net::Net;
+
+/// One thing that a worker of a machine is to do.
+#[derive(Debug, Drop, Clone, Copy, PartialEq, Eq)]
+pub enum Target {
+    /// Turn this node, if it is a sink.
+    Turn(u32),
+}
+
+/// Whether a turn of node `x` would be refused: it is no node, the destination, or has no link.
+fn is_unturnable(net: &Net, dest: u32, x: u32) -> bool
+    ensures { IsTrue result ↔ IsUnturnable net.now.nodes dest net.now.links x }
+{
+    x >= net.nodes() || x == dest || net.degree(x) == 0
+}
+
+/// Whether a machine refuses the target.
+fn is_refused(net: &Net, dest: u32, target: Target) -> bool
+    ensures { IsTrue result ↔ IsRefused net.now.nodes dest net.now.links target }
+{
+    match target {
+        Target::Turn(x) => is_unturnable(net, dest, x),
+    }
+}
+
+/// The place of the first target that a machine refuses.
+fn first_refused(net: &Net, dest: u32, targets: &[Target]) -> Option<usize>
+    ensures found { IfSome result (IsFirstRefused net.now.nodes dest net.now.links targets.now) }
+    ensures none { IfNone result (AreAccepted net.now.nodes dest net.now.links targets.now) }
+{
+    for (at, target) in targets.iter().enumerate() {
+        if is_refused(net, dest, *target) {
+            return Some(at);
+        }
+    }
+    None
+}
+
+/// The places, among the lists and in its list, of the first target that a machine refuses.
+pub(crate) fn first_bad(net: &Net, dest: u32, targets: &[Vec<Target>]) -> Option<(usize, usize)>
+    ensures found { IfSome result (λ p. IsFirstBadTarget net.now.nodes dest net.now.links (lists_of targets.now) p.0 p.1) }
+    ensures none { IfNone result (AreAllAccepted net.now.nodes dest net.now.links (lists_of targets.now)) }
+{
+    for (worker, list) in targets.iter().enumerate() {
+        if let Some(at) = first_refused(net, dest, list) {
+            return Some((worker, at));
+        }
+    }
+    None
+}

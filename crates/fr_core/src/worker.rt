@@ -1,0 +1,181 @@
+//! The workers of a machine.
+
+ghost use Rattle.std.specs.Prelude.{◌≡◌, ◌<◌, ◌^◌, All, length};
+ghost use Rattle.fr_net.specs.Rows.{row};
+ghost use Rattle.fr_core.specs.Machine.{fresh, all_but_first, load_own, load_neighbour, exchange, step_idle, outcome, least_count};
+ghost use Rattle.fr_core.specs.Sound.{CanStep, IsOnNode, outcome_with};
+ghost use Rattle.fr_core.specs.declared.worker.Phase.TheVariants.{Idle};
+
+use crate::entry::Reply;
+use crate::targets::Target;
+use fr_net::{First, Net};
+use std::collections::VecDeque;
+use std::marker::Model;
+
+/// Where a worker stands in a call on a node.
+#[derive(Debug, Drop, Clone, Copy, PartialEq, Eq)]
+pub(crate) enum Phase {
+    /// The worker is in no call.
+    Idle,
+    /// The node had turned so often, and the neighbour at this place of its row is the next to be looked at.
+    Looking { node: u32, count: u64, place: u32 },
+    /// The node had turned so often, and no neighbour held it.
+    Swapping { node: u32, count: u64 },
+}
+
+/// A worker: the targets that it has not used up, and where it stands in the call on the first of them.
+#[derive(Debug, Drop)]
+pub(crate) struct Worker {
+    left: VecDeque<Target>,
+    phase: Phase,
+}
+
+impl Model for Worker {
+    ghost use Rattle.fr_core.specs.Machine.{WorkerState};
+
+    ghost Value = { WorkerState };
+
+    ghost view = { λ s. record { left = s.left.items; phase = s.phase } };
+}
+
+/// The least count of a neighbour at which its link points to a node of this count.
+fn least_count(first: First, count: u64) -> u64
+    requires { count < 2 ^ 32 }
+    ensures { result ≡ least_count first count }
+{
+    match first {
+        First::Outward => count + 1,
+        First::Inward => count,
+    }
+}
+
+impl Worker {
+    /// A worker before its first step.
+    pub fn new(targets: Vec<Target>) -> Worker
+        ensures { result ≡ fresh targets.items }
+    {
+        Worker {
+            left: VecDeque::from_vec(targets),
+            phase: Phase::Idle,
+        }
+    }
+
+    fn phase(&self) -> Phase
+        ensures { result ≡ self.now.phase }
+    {
+        self.phase
+    }
+
+    /// A decided call uses up its target.
+    fn end_call(&mut self)
+        ensures { self.new ≡ record { left = all_but_first self.old.left; phase = Idle } }
+    {
+        self.left.pop_front();
+        self.phase = Phase::Idle;
+    }
+
+    /// The load of the own count.
+    fn load_own(&mut self, nodes: u32, counts: &[u64], node: u32) -> Option<(u32, Reply)>
+        requires { node < length counts.now }
+        ensures { outcome_with counts.now self.new result ≡ load_own nodes counts.now self.old.left node }
+    {
+        let count = counts[node as usize];
+        if count == u64::from(nodes) {
+            self.end_call();
+            return Some((node, Reply::Cut));
+        }
+        self.phase = Phase::Looking {
+            node,
+            count,
+            place: 0,
+        };
+        None
+    }
+
+    /// The first step of a call.
+    fn begin_call(&mut self, nodes: u32, counts: &[u64]) -> Option<(u32, Reply)>
+        requires inside { All (IsOnNode (length counts.now)) self.old.left }
+        requires phase { self.old.phase ≡ Idle }
+        ensures { outcome_with counts.now self.new result ≡ step_idle nodes counts.now self.old.left }
+    {
+        let Some(target) = self.left.front() else {
+            return None;
+        };
+        match *target {
+            Target::Turn(node) => self.load_own(nodes, counts, node),
+        }
+    }
+
+    /// The load of a neighbour's count.
+    fn load_neighbour(
+        &mut self,
+        net: &Net,
+        counts: &[u64],
+        node: u32,
+        count: u64,
+        place: u32,
+    ) -> Option<(u32, Reply)>
+        requires node { node < net.now.nodes }
+        requires place { place < length (row net.now.nodes net.now.links node) }
+        requires one_each { length counts.now ≡ net.now.nodes }
+        requires below_cap { count < net.now.nodes }
+        ensures { outcome_with counts.now self.new result
+            ≡ load_neighbour (row net.now.nodes net.now.links node) counts.now self.old.left node count place }
+    {
+        // For what the calls say: there are few nodes, so few neighbours.
+        let _nodes = net.nodes();
+        let degree = net.degree(node);
+        let (neighbour, first) = net.neighbour(node, place);
+        if counts[neighbour as usize] < least_count(first, count) {
+            self.end_call();
+            return Some((node, Reply::Held { by: neighbour }));
+        }
+        self.phase = if place + 1 == degree {
+            Phase::Swapping { node, count }
+        } else {
+            Phase::Looking {
+                node,
+                count,
+                place: place + 1,
+            }
+        };
+        None
+    }
+
+    /// The exchange of the own count.
+    fn exchange(&mut self, counts: &mut [u64], node: u32, count: u64) -> Option<(u32, Reply)>
+        requires node { node < length counts.old }
+        requires below_cap { count < 2 ^ 32 }
+        ensures { outcome_with counts.new self.new result ≡ exchange counts.old self.old.left node count }
+    {
+        let found = counts[node as usize];
+        self.end_call();
+        let reply = if found == count {
+            counts[node as usize] = count + 1;
+            Reply::Turned { count: count + 1 }
+        } else {
+            Reply::Moved {
+                had: count,
+                count: found,
+            }
+        };
+        Some((node, reply))
+    }
+
+    /// One step: the load or the exchange of one count. The node and the reply of the call, if the step decides it.
+    pub fn step(&mut self, net: &Net, counts: &mut [u64]) -> Option<(u32, Reply)>
+        requires one_each { length counts.old ≡ net.now.nodes }
+        requires can { CanStep net.now.nodes net.now.links self.old }
+        ensures { outcome_with counts.new self.new result
+            ≡ outcome net.now.nodes net.now.links counts.old self.old.left self.old.phase }
+    {
+        let nodes = net.nodes();
+        match self.phase() {
+            Phase::Idle => self.begin_call(nodes, counts),
+            Phase::Looking { node, count, place } => {
+                self.load_neighbour(net, counts, node, count, place)
+            }
+            Phase::Swapping { node, count } => self.exchange(counts, node, count),
+        }
+    }
+}
