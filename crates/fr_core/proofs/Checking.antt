@@ -7,7 +7,7 @@ use Rattle.fr_core.proofs.Runs.{run_to}
 use Rattle.fr_core.proofs.Turning.{run_keeps}
 use Rattle.fr_core.specs.Checks.{Fails, IsBadAt}
 use Rattle.fr_core.specs.Runs.{IsRunTo}
-use Rattle.fr_core.specs.History.{Moment, after, after_all, after_reply, moment_of}
+use Rattle.fr_core.specs.History.{Moment, after, after_reply, moment_of}
 use Rattle.fr_core.specs.Legal.{IsLegal, IsRun}
 use Rattle.fr_core.specs.declared.check.fault.Why.{Why}
 use Rattle.fr_core.specs.declared.entry.Entry.{Entry}

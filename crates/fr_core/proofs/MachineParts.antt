@@ -3,11 +3,15 @@ use Rattle.std.proofs.Common.{List, None, Option, Some, [], ap, eq-eqb, false, l
 use Rattle.std.proofs.lemmas.Bool.{cases_eq, cases_lt, cond-false, cond-true, cond_both}
 use Rattle.std.proofs.lemmas.List.{append_assoc, get_or-set_other, get_or-set_same, get_or_past, map-append, set_past}
 use Rattle.std.proofs.lemmas.List.Elements.{filter-append}
+use Rattle.fr_net.specs.Links.{IsNet}
 use Rattle.fr_net.specs.Rows.{row}
 use Rattle.fr_net.specs.declared.rows.First.{First}
+use Rattle.fr_core.proofs.MachineRuns.{machine_runs}
 use Rattle.fr_core.specs.History.{part}
 use Rattle.fr_core.specs.Machine.{Outcome, State, WorkerState, all_but_first, begin_call, decided_by, decides, entries_of, entry_of, exchange, fresh, least_count, load_neighbour, load_own, neighbour_at, outcome, outcome_of, start, state_after, step, step_idle, worker_of}
-use Rattle.fr_core.specs.Played.{HasPart, answer_of, target_of}
+use Rattle.fr_core.specs.Played.{HasPart, IsPlay, answer_of, target_of}
+use Rattle.fr_core.specs.Runs.{IsRunTo}
+use Rattle.fr_core.specs.Targets.{IsPlayable}
 use Rattle.fr_core.specs.declared.entry.Entry.{Entry}
 use Rattle.fr_core.specs.declared.entry.Reply.{Reply}
 use Rattle.fr_core.specs.declared.entry.Reply.TheVariants.{Cut, Held, Moved, Turned}
@@ -145,4 +149,14 @@ pub parts_are_replies : (n : ℕ) (first : List (ℕ × ℕ)) (targets : List (L
 parts_are_replies n first targets schedule k = record {
   replies = replies n first (start n targets) k schedule;
   used_up = used_up n first (start n targets) k (start_on_first n targets) schedule ∙ ap (λ (w : WorkerState). w.left) (fresh_at targets k);
+}
+
+-- entries that the table decides are a play
+pub played : (n d : ℕ) (first : List (ℕ × ℕ)) (targets : List (List Target)) (schedule : List ℕ) (entries : List Entry) → IsNet n first → IsPlayable n d first targets schedule
+    → entries ≡ entries_of n first (start n targets) schedule → IsPlay n d first targets schedule entries
+played n d first targets schedule entries net playable decided = record {
+  playable = playable;
+  decided = decided;
+  run = subst (λ (es : List Entry). IsRunTo n d first es (state_after n first (start n targets) schedule).counts) (sym decided) (machine_runs n d first targets schedule net playable.accepted);
+  parts = λ k. subst (λ (es : List Entry). HasPart n first targets schedule es k) (sym decided) (parts_are_replies n first targets schedule k);
 }

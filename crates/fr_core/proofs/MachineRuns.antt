@@ -1,11 +1,9 @@
 -- A machine makes a run, and keeps what its functions need.
-use Rattle.std.proofs.Common.{All, List, Option, [], ap, arith, drop, inl, inr, length, map, refl, replicate, slice_index_or, slice_set, subst, sym, take, ℕ, ⊎_elim, ◌++◌, ◌<◌, ◌∙◌, ◌∷◌, ◌≡◌, ◌≤◌}
+use Rattle.std.proofs.Common.{List, Option, [], ap, drop, inl, inr, length, map, refl, replicate, slice_index_or, slice_set, subst, sym, take, ℕ, ⊎_elim, ◌++◌, ◌<◌, ◌∙◌, ◌∷◌, ◌≡◌, ◌≤◌}
 use Rattle.std.proofs.lemmas.Bool.{cases_lt}
 use Rattle.std.proofs.lemmas.List.{append-nil, append_assoc, drop_all, get_or_default, get_or_past, take_all}
 use Rattle.std.proofs.lemmas.List.Elements.{All-get_or, All-map, All-nil, All-set, All-weaker}
-use Rattle.fr_net.specs.Counts.{AreLawful, links_at}
-use Rattle.fr_net.specs.Links.{IsAlone, IsNet, Joins}
-use Rattle.fr_net.specs.Rows.{row}
+use Rattle.fr_net.specs.Links.{IsNet}
 use Rattle.fr_core.proofs.Finishing.{zeros_lawful}
 use Rattle.fr_core.proofs.MachineSteps.{IsFine, outcome_fine, phase_rises}
 use Rattle.fr_core.proofs.Rounds.{after_all-append, run_append}
@@ -14,7 +12,6 @@ use Rattle.fr_core.proofs.Settling.{cases_linked}
 use Rattle.fr_core.specs.History.{Moment, after_all, moment_of}
 use Rattle.fr_core.specs.Legal.{IsRun}
 use Rattle.fr_core.specs.Machine.{Outcome, State, WorkerState, entries_of, entry_of, fresh, outcome, outcome_of, start, state_after, step, worker_of}
-use Rattle.fr_core.specs.Played.{MachineView}
 use Rattle.fr_core.specs.Runs.{IsRunTo}
 use Rattle.fr_core.specs.Sound.{CanStep, IsFit, IsOnNode, IsPhaseInside, IsSound, IsSoundMachine, IsSoundPhase, IsSoundWorker, IsTurnable, outcome_with, view_of}
 use Rattle.fr_core.specs.Targets.{AreAllAccepted, AreAccepted, IsUnturnable, IsRefused}
@@ -78,7 +75,7 @@ start_sound n d first targets good = record {
   lawful = zeros_lawful n d first;
   workers = All-map (IsSoundWorker n d first (replicate n 0)) fresh targets
       (All-weaker (AreAccepted n d first) (λ (list : List Target). IsSoundWorker n d first (replicate n 0) (fresh list))
-      (λ list taken. record { fit = All-weaker (λ (t : Target). ¬ IsRefused n d first t) (IsFit n d first) (fit_from n d first) list taken; phase = tt }) targets good);
+      (λ list accepted. record { fit = All-weaker (λ (t : Target). ¬ IsRefused n d first t) (IsFit n d first) (fit_from n d first) list accepted; phase = tt }) targets good);
 }
 
 pub machine_runs : (n d : ℕ) (first : List (ℕ × ℕ)) (targets : List (List Target)) (schedule : List ℕ) → IsNet n first → AreAllAccepted n d first targets

@@ -1,22 +1,20 @@
 -- One step of a machine from lawful counts.
-use Rattle.std.proofs.Common.{All, Contains, List, Option, Some, None, [], ap, arith, false, inl, inr, length, nat_lt, refl, slice_index, slice_index_or, slice_set, subst, sym, true, ℕ, ⊎_elim, ◌+◌, ◌<◌, ◌==◌, ◌∙◌, ◌∷◌, ◌≡◌, ◌≤◌}
+use Rattle.std.proofs.Common.{All, Contains, List, [], arith, false, length, nat_lt, refl, slice_index, slice_set, subst, sym, ℕ, ⊎_elim, ◌+◌, ◌<◌, ◌==◌, ◌∙◌, ◌∷◌, ◌≡◌, ◌≤◌}
 use Rattle.std.proofs.lemmas.Bool.{cases_eq, cond_both, eqb-false, eqb-true, ltb-false, ltb-true}
 use Rattle.std.proofs.lemmas.List.{get_or_default}
 use Rattle.std.proofs.lemmas.List.Elements.{All-head, All-nil, All-tail, Contains-get_or}
 use Rattle.fr_net.proofs.Neighbours.{in_of_row, out_of_row, row_of_in, row_of_out}
 use Rattle.fr_net.specs.Counts.{AreLawful, links_at}
-use Rattle.fr_net.specs.Links.{IsNet, Joins, Points}
+use Rattle.fr_net.specs.Links.{IsNet, Points}
 use Rattle.fr_net.specs.Rows.{row}
 use Rattle.fr_net.specs.declared.rows.First.{First}
 use Rattle.fr_net.specs.declared.rows.First.TheVariants.{Inward, Outward}
 use Rattle.fr_core.proofs.Loads.{held_against, held_along, sink_from_seen}
 use Rattle.fr_core.proofs.Turning.{raised-here, raised-other, turn-links_at, turn_lawful}
-use Rattle.fr_core.specs.History.{Moment, after_all, moment_of}
+use Rattle.fr_core.specs.History.{after_all, moment_of}
 use Rattle.fr_core.specs.Legal.{CanTurn, IsRun}
 use Rattle.fr_core.specs.Machine.{Outcome, all_but_first, begin_call, decides, entry_of, exchange, goes_on, least_count, load_neighbour, load_own, neighbour_at, outcome, step_idle}
 use Rattle.fr_core.specs.Sound.{IsFit, IsSoundPhase, IsTurnable, IsUnderWay}
-use Rattle.fr_core.specs.declared.entry.Entry.{Entry}
-use Rattle.fr_core.specs.declared.entry.Reply.{Reply}
 use Rattle.fr_core.specs.declared.entry.Reply.TheVariants.{Cut, Held, Moved, Turned}
 use Rattle.fr_core.specs.declared.targets.Target.{Target}
 use Rattle.fr_core.specs.declared.targets.Target.TheVariants.{Turn}

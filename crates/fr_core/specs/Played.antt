@@ -1,7 +1,9 @@
 -- What a machine makes of a schedule.
-use Rattle.std.specs.Prelude.{◌≡◌, ℕ, List, [], ◌++◌, map, slice_index_or, Option, option_to_list}
+use Rattle.std.specs.Prelude.{◌≡◌, ℕ, List, [], ◌++◌, map, slice_index_or}
 use Rattle.fr_core.specs.History.{part}
 use Rattle.fr_core.specs.Machine.{State, start, worker_of, entries_of, state_after, decided_by}
+use Rattle.fr_core.specs.Runs.{IsRunTo}
+use Rattle.fr_core.specs.Targets.{IsPlayable}
 use Rattle.fr_core.specs.declared.entry.Entry.{Entry}
 use Rattle.fr_core.specs.declared.entry.Reply.{Reply}
 use Rattle.fr_core.specs.declared.targets.Target.{Target}
@@ -28,3 +30,14 @@ answer_of e = (e.node, e.reply)
 pub record HasPart (n : ℕ) (first : List (ℕ × ℕ)) (targets : List (List Target)) (schedule : List ℕ) (entries : List Entry) (k : ℕ) : Type 0 where
   pub replies : map answer_of (part k entries) ≡ decided_by n first (start n targets) k schedule
   pub used_up : map target_of (part k entries) ++ (worker_of (state_after n first (start n targets) schedule) k).left ≡ slice_index_or targets k []
+
+-- what a schedule makes of a machine before its first step
+pub record IsPlay (n d : ℕ) (first : List (ℕ × ℕ)) (targets : List (List Target)) (schedule : List ℕ) (entries : List Entry) : Type 0 where
+  -- none of the faults stands,
+  pub playable : IsPlayable n d first targets schedule
+  -- the entries are those that the steps of the schedule decide, in order,
+  pub decided : entries ≡ entries_of n first (start n targets) schedule
+  -- they are a run to the counts of the machine,
+  pub run : IsRunTo n d first entries (state_after n first (start n targets) schedule).counts
+  -- and each worker's part of them is its replies
+  pub parts : (k : ℕ) → HasPart n first targets schedule entries k

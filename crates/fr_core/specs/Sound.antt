@@ -1,10 +1,10 @@
 -- What holds of a machine between any two steps, and what a worker needs for its step. For the machine's own functions alone.
-use Rattle.std.specs.Prelude.{◌≡◌, ℕ, ◌+◌, ◌<◌, ◌≤◌, List, ◌++◌, length, slice_get, slice_index, Option, Some}
+use Rattle.std.specs.Prelude.{◌≡◌, ℕ, ◌<◌, ◌≤◌, List, ◌++◌, length, slice_get, slice_index, Option, Some}
 use Rattle.std.specs.List.{All}
 use Rattle.fr_net.specs.Counts.{AreLawful}
 use Rattle.fr_net.specs.Links.{IsNet, Joins}
 use Rattle.fr_net.specs.Rows.{row}
-use Rattle.fr_core.specs.Machine.{WorkerState, State, Outcome, neighbour_at, least_count, entries_of, state_after}
+use Rattle.fr_core.specs.Machine.{WorkerState, State, Outcome, neighbour_at, least_count, entries_of}
 use Rattle.fr_core.specs.Played.{MachineView}
 use Rattle.fr_core.specs.Targets.{IsRefused}
 use Rattle.fr_core.specs.declared.entry.Entry.{Entry}
@@ -82,5 +82,4 @@ pub record IsOnTheWay (begun now : MachineView) (entries : List Entry) (rest who
   pub dest : now.dest ≡ begun.dest
   pub links : now.links ≡ begun.links
   pub workers : length now.state.workers ≡ length begun.state.workers
-  pub entries_come : entries ++ entries_of now.nodes now.links now.state rest ≡ entries_of begun.nodes begun.links begun.state whole
-  pub after : state_after now.nodes now.links now.state rest ≡ state_after begun.nodes begun.links begun.state whole
+  pub come : entries ++ entries_of now.nodes now.links now.state rest ≡ entries_of begun.nodes begun.links begun.state whole

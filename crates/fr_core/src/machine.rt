@@ -19,9 +19,10 @@ use fr_net::Net;
 use std::alloc::{AllocError, Global};
 use std::marker::Model;
 
-/// Workers at the counts of a network, each with its targets. A step is one atomic load or one compare and exchange of one
-/// count; who steps next is the caller's choice, so a caller can go through any interleaving. Whatever it is, what the
+/// Workers at the counts of a network, each with its targets. A step is the atomic load or the compare and exchange of one
+/// count, and who steps next is the caller's choice, so a caller can go through any interleaving. Whatever it is, what the
 /// machine decides is a run of full reversal on one thread: the clause `run` of [`machine_law`](crate::laws::machine_law).
+/// A step takes no memory.
 #[derive(Debug, Drop)]
 pub struct Machine<'a> {
     net: &'a Net,
@@ -40,12 +41,13 @@ impl<'a> Model for Machine<'a> {
 
     ghost view = { λ s. view_of s.net.now.nodes s.dest s.net.now.links s.counts.items s.workers.items };
 
-    ghost invariant = { λ s. IsSoundMachine (view_of s.net.now.nodes s.dest s.net.now.links s.counts.items s.workers.items) };
+    ghost invariant = { λ s. IsSoundMachine
+        (view_of s.net.now.nodes s.dest s.net.now.links s.counts.items s.workers.items) };
 }
 
 impl<'a> Machine<'a> {
     /// A machine before its first step, with a worker for each list of targets, or the first fault that stands: Range where
-    /// `dest` is no node, and then the first target that no turn could be of.
+    /// `dest` is no node, and then the first target that is no node that can turn.
     pub fn new(
         alloc: Global,
         net: &'a Net,

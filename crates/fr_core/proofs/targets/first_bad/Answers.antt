@@ -1,4 +1,4 @@
-use Rattle.std.proofs.Common.{All, Global, List, Vec, [], ap, arith, get_or, length, subst, sym, take_all, ◌<◌, ◌∙◌, ◌≡◌}
+use Rattle.std.proofs.Common.{Global, Vec, [], ap, arith, get_or, subst, sym, take_all, ◌∙◌, ◌≡◌}
 use Rattle.std.proofs.lemmas.List.{get_or-map, length-map}
 use Rattle.std.proofs.lemmas.List.Elements.{All-more}
 use Rattle.fr_core.specs.Targets.{AreAllAccepted, AreAccepted, lists_of}

@@ -1,4 +1,4 @@
-use Rattle.std.proofs.Common.{All, arith, sym, take_all, ◌∙◌, subst}
+use Rattle.std.proofs.Common.{arith, sym, take_all, ◌∙◌, subst}
 use Rattle.std.proofs.lemmas.Bool.{false≢true}
 use Rattle.std.proofs.lemmas.List.Elements.{All-more}
 use Rattle.fr_core.specs.Targets.{AreAccepted, IsRefused}

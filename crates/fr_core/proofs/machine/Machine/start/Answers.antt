@@ -1,6 +1,6 @@
-use Rattle.std.proofs.Common.{Global, List, Vec, [], ap, replicate, rules, sym, ℕ, ◌++◌, ◌∙◌, ◌∷◌, ◌≡◌, map}
+use Rattle.std.proofs.Common.{Global, List, Vec, [], ap, replicate, rules, sym, ◌++◌, ◌∙◌, ◌∷◌, ◌≡◌, map}
 use Rattle.std.proofs.lemmas.List.{append-nil, nil_from_length}
-use Rattle.std.specs.Vec.Iter.{into_iter_items, into_iter_len}
+use Rattle.std.specs.Vec.Iter.{into_iter_items}
 use Rattle.fr_core.proofs.MachineRuns.{begun_sound, one_more}
 use Rattle.fr_core.specs.Machine.{WorkerState, fresh}
 use Rattle.fr_core.specs.Targets.{lists_of}

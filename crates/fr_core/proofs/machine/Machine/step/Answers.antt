@@ -1,4 +1,4 @@
-use Rattle.std.proofs.Common.{List, ap, arith, drop, length, slice_set, subst, sym, take, ℕ, ◌++◌, ◌<◌, ◌∙◌, ◌≡◌}
+use Rattle.std.proofs.Common.{List, ap, arith, drop, length, slice_set, subst, sym, take, ℕ, ◌++◌, ◌<◌, ◌∙◌}
 use Rattle.fr_core.proofs.MachineRuns.{keeps_sound, written}
 use Rattle.fr_core.specs.Machine.{outcome}
 use Rattle.fr_core.specs.Played.{MachineView}

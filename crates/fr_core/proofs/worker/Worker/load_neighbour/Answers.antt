@@ -1,7 +1,6 @@
-use Rattle.std.proofs.Common.{arith, ℕ, ◌<◌}
+use Rattle.std.proofs.Common.{arith, ◌<◌}
 use Rattle.fr_core.proofs.RowLinks.{row_below}
 use Rattle.fr_core.proofs.worker.Worker.load_neighbour.Goals as goal
-use Rattle.fr_net.proofs.Neighbours.{length-row-le}
 
 pub bounds-counts-neighbour : goal.bounds-counts-neighbour
 bounds-counts-neighbour c =

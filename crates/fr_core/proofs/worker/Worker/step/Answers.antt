@@ -1,4 +1,4 @@
-use Rattle.std.proofs.Common.{◌∙◌, arith, sym, subst, ap}
+use Rattle.std.proofs.Common.{◌∙◌, arith, sym, subst}
 use Rattle.fr_core.specs.Sound.{IsPhaseInside}
 use Rattle.fr_core.proofs.worker.Worker.step.Goals as goal
 
