@@ -8,7 +8,7 @@ use Rattle.fr_net.specs.Rows.{row}
 use Rattle.fr_net.specs.declared.rows.First.{First}
 use Rattle.fr_core.proofs.MachineRuns.{machine_runs}
 use Rattle.fr_core.specs.History.{part}
-use Rattle.fr_core.specs.Machine.{Outcome, State, WorkerState, all_but_first, begin_call, decided_by, decides, entries_of, entry_of, exchange, fresh, least_count, load_neighbour, load_own, neighbour_at, outcome, outcome_of, start, state_after, step, step_idle, worker_of}
+use Rattle.fr_core.specs.Machine.{Outcome, MachineState, WorkerState, all_but_first, begin_call, decided_by, decides, entries_of, entry_of, exchange, fresh, bound_of, load_neighbour, load_own, neighbour_at, outcome, outcome_of, start, state_after, step, step_idle, worker_of}
 use Rattle.fr_core.specs.Played.{HasPart, IsPlay, answer_of, target_of}
 use Rattle.fr_core.specs.Runs.{IsRunTo}
 use Rattle.fr_core.specs.Targets.{IsPlayable}
@@ -43,7 +43,7 @@ part_targets j k (Some p) = one_entry target_of (j == k) (record { worker = j; n
 part_append : {B : Type 0} (f : Entry → B) (k : ℕ) (a b : List Entry) → map f (part k (a ++ b)) ≡ map f (part k a) ++ map f (part k b)
 part_append f k a b = ap (map f) (filter-append (λ (e : Entry). e.worker == k) a b) ∙ map-append f (part k a) (part k b)
 
-replies : (n : ℕ) (first : List (ℕ × ℕ)) (m : State) (k : ℕ) (schedule : List ℕ) → map answer_of (part k (entries_of n first m schedule)) ≡ decided_by n first m k schedule
+replies : (n : ℕ) (first : List (ℕ × ℕ)) (m : MachineState) (k : ℕ) (schedule : List ℕ) → map answer_of (part k (entries_of n first m schedule)) ≡ decided_by n first m k schedule
 replies n first m k [] = refl
 replies n first m k (j ∷ ks) =
     part_append answer_of k (entry_of j (outcome_of n first m j).decided) (entries_of n first (step n first m j) ks)
@@ -74,7 +74,7 @@ idle_uses n counts (t ∷ ts) = begin_uses n counts t ts
 
 load_neighbour_uses : (r : List (ℕ × First)) (counts : List ℕ) (left : List Target) (x c j : ℕ) → (ts : List Target) × (left ≡ Turn x ∷ ts) → UsesUp left (load_neighbour r counts left x c j)
 load_neighbour_uses r counts left x c j b =
-    cond_both (nat_lt (slice_index counts (neighbour_at r j).0) (least_count (neighbour_at r j).1 c)) _ _ (UsesUp left)
+    cond_both (nat_lt (slice_index counts (neighbour_at r j).0) (bound_of (neighbour_at r j).1 c)) _ _ (UsesUp left)
     (λ t. decides_uses counts left x (Held (neighbour_at r j).0) b)
     (λ f. cond_both (j + 1 == length r) _ _ (UsesUp left) (λ t. (refl, b)) (λ g. (refl, b)))
 
@@ -89,10 +89,10 @@ outcome_uses n first counts left Idle b = idle_uses n counts left
 outcome_uses n first counts left (Looking x c j) b = load_neighbour_uses (row n first x) counts left x c j b
 outcome_uses n first counts left (Swapping x c) b = exchange_uses counts left x c b
 
-abbrev AreOnFirst : State → Type 0
+abbrev AreOnFirst : MachineState → Type 0
 AreOnFirst m = (k : ℕ) → IsOnFirst (worker_of m k).left (worker_of m k).phase
 
-module _ (n : ℕ) (first : List (ℕ × ℕ)) (m : State) (j k : ℕ) where
+module _ (n : ℕ) (first : List (ℕ × ℕ)) (m : MachineState) (j k : ℕ) where
   same_past : length m.workers ≤ j → worker_of (step n first m j) k ≡ worker_of m k
   same_past past = ap (λ (ws : List WorkerState). slice_index_or ws k (fresh [])) (set_past m.workers j (outcome_of n first m j).worker past)
 
@@ -127,7 +127,7 @@ module _ (n : ℕ) (first : List (ℕ × ℕ)) (m : State) (j k : ℕ) where
       (λ past. λ i. map target_of (part k (entry_of j (none_past past i))) ++ (same_past past i).left)
       (cases_lt j (length m.workers))
 
-used_up : (n : ℕ) (first : List (ℕ × ℕ)) (m : State) (k : ℕ) → AreOnFirst m → (schedule : List ℕ)
+used_up : (n : ℕ) (first : List (ℕ × ℕ)) (m : MachineState) (k : ℕ) → AreOnFirst m → (schedule : List ℕ)
     → map target_of (part k (entries_of n first m schedule)) ++ (worker_of (state_after n first m schedule) k).left ≡ (worker_of m k).left
 used_up n first m k all [] = refl
 used_up n first m k all (j ∷ ks) =

@@ -11,10 +11,10 @@ use Rattle.fr_core.proofs.Runs.{run_to}
 use Rattle.fr_core.proofs.Settling.{cases_linked}
 use Rattle.fr_core.specs.History.{Moment, after_all, moment_of}
 use Rattle.fr_core.specs.Legal.{IsRun}
-use Rattle.fr_core.specs.Machine.{Outcome, State, WorkerState, entries_of, entry_of, fresh, outcome, outcome_of, start, state_after, step, worker_of}
+use Rattle.fr_core.specs.Machine.{Outcome, MachineState, WorkerState, entries_of, entry_of, fresh, outcome, outcome_of, start, state_after, step, worker_of}
 use Rattle.fr_core.specs.Runs.{IsRunTo}
 use Rattle.fr_core.specs.Sound.{CanStep, IsFit, IsOnNode, IsPhaseInside, IsSound, IsSoundMachine, IsSoundPhase, IsSoundWorker, IsTurnable, outcome_with, view_of}
-use Rattle.fr_core.specs.Targets.{AreAllAccepted, AreAccepted, IsUnturnable, IsRefused}
+use Rattle.fr_core.specs.Targets.{AreAllAccepted, AreAccepted, IsUnturnable, IsTargetRefused}
 use Rattle.fr_core.specs.declared.entry.Entry.{Entry}
 use Rattle.fr_core.specs.declared.entry.Reply.{Reply}
 use Rattle.fr_core.specs.declared.targets.Target.{Target}
@@ -22,16 +22,16 @@ use Rattle.fr_core.specs.declared.targets.Target.TheVariants.{Turn}
 use Rattle.fr_core.specs.declared.worker.Phase.{Phase}
 use Rattle.fr_core.specs.declared.worker.Phase.TheVariants.{Idle, Looking, Swapping}
 
-sound_worker : (n d : ℕ) (first : List (ℕ × ℕ)) (m : State) → IsSound n d first m → (k : ℕ) → IsSoundWorker n d first m.counts (worker_of m k)
+sound_worker : (n d : ℕ) (first : List (ℕ × ℕ)) (m : MachineState) → IsSound n d first m → (k : ℕ) → IsSoundWorker n d first m.counts (worker_of m k)
 sound_worker n d first m sound k = ⊎_elim
     (λ l. All-get_or (IsSoundWorker n d first m.counts) m.workers k (fresh []) l sound.workers)
     (λ past. subst (IsSoundWorker n d first m.counts) (sym (get_or_past m.workers k (fresh []) past)) (record { fit = All-nil (IsFit n d first); phase = tt }))
     (cases_lt k (length m.workers))
 
-step_fine : (n d : ℕ) (first : List (ℕ × ℕ)) → IsNet n first → (m : State) → IsSound n d first m → (k : ℕ) → IsFine n d first k m.counts (outcome_of n first m k)
+step_fine : (n d : ℕ) (first : List (ℕ × ℕ)) → IsNet n first → (m : MachineState) → IsSound n d first m → (k : ℕ) → IsFine n d first k m.counts (outcome_of n first m k)
 step_fine n d first net m sound k = let w = sound_worker n d first m sound k in outcome_fine n d first net k m.counts sound.lawful (worker_of m k).left w.fit (worker_of m k).phase w.phase
 
-step_sound : (n d : ℕ) (first : List (ℕ × ℕ)) → IsNet n first → (m : State) → IsSound n d first m → (k : ℕ) → IsSound n d first (step n first m k)
+step_sound : (n d : ℕ) (first : List (ℕ × ℕ)) → IsNet n first → (m : MachineState) → IsSound n d first m → (k : ℕ) → IsSound n d first (step n first m k)
 step_sound n d first net m sound k =
     let fine = step_fine n d first net m sound k in
     let after : List ℕ = (outcome_of n first m k).counts in
@@ -42,12 +42,12 @@ step_sound n d first net m sound k =
     }
 
 -- what a sound machine makes of a schedule
-record IsSoundRun (n d : ℕ) (first : List (ℕ × ℕ)) (m : State) (entries : List Entry) (end : State) : Type 0 where
+record IsSoundRun (n d : ℕ) (first : List (ℕ × ℕ)) (m : MachineState) (entries : List Entry) (end : MachineState) : Type 0 where
   run : IsRun n d (moment_of first m.counts) entries
   moment : after_all (moment_of first m.counts) entries ≡ moment_of first end.counts
   sound : IsSound n d first end
 
-sound_run : (n d : ℕ) (first : List (ℕ × ℕ)) → IsNet n first → (m : State) → IsSound n d first m → (schedule : List ℕ) → IsSoundRun n d first m (entries_of n first m schedule) (state_after n first m schedule)
+sound_run : (n d : ℕ) (first : List (ℕ × ℕ)) → IsNet n first → (m : MachineState) → IsSound n d first m → (schedule : List ℕ) → IsSoundRun n d first m (entries_of n first m schedule) (state_after n first m schedule)
 sound_run n d first net m sound [] = record { run = tt; moment = refl; sound = sound }
 sound_run n d first net m sound (k ∷ ks) =
     let fine = step_fine n d first net m sound k in
@@ -67,7 +67,7 @@ turnable_from n d first x good = record {
   linked = ⊎_elim (λ l. l) (λ alone. absurd (good (inr (inr alone)))) (cases_linked first x);
 }
 
-fit_from : (n d : ℕ) (first : List (ℕ × ℕ)) (t : Target) → ¬ IsRefused n d first t → IsFit n d first t
+fit_from : (n d : ℕ) (first : List (ℕ × ℕ)) (t : Target) → ¬ IsTargetRefused n d first t → IsFit n d first t
 fit_from n d first (Turn x) good = turnable_from n d first x good
 
 start_sound : (n d : ℕ) (first : List (ℕ × ℕ)) (targets : List (List Target)) → AreAllAccepted n d first targets → IsSound n d first (start n targets)
@@ -75,7 +75,7 @@ start_sound n d first targets good = record {
   lawful = zeros_lawful n d first;
   workers = All-map (IsSoundWorker n d first (replicate n 0)) fresh targets
       (All-weaker (AreAccepted n d first) (λ (list : List Target). IsSoundWorker n d first (replicate n 0) (fresh list))
-      (λ list accepted. record { fit = All-weaker (λ (t : Target). ¬ IsRefused n d first t) (IsFit n d first) (fit_from n d first) list accepted; phase = tt }) targets good);
+      (λ list accepted. record { fit = All-weaker (λ (t : Target). ¬ IsTargetRefused n d first t) (IsFit n d first) (fit_from n d first) list accepted; phase = tt }) targets good);
 }
 
 pub machine_runs : (n d : ℕ) (first : List (ℕ × ℕ)) (targets : List (List Target)) (schedule : List ℕ) → IsNet n first → AreAllAccepted n d first targets
@@ -92,7 +92,7 @@ pub begun_sound : (n d : ℕ) (first : List (ℕ × ℕ)) (targets : List (List 
     → IsSoundMachine (view_of n d first counts workers)
 begun_sound n d first targets counts workers net good e f = record {
   net = net;
-  sound = subst (λ (m : State). IsSound n d first m) (λ i. record { counts = sym e i; workers = sym f i }) (start_sound n d first targets good);
+  sound = subst (λ (m : MachineState). IsSound n d first m) (λ i. record { counts = sym e i; workers = sym f i }) (start_sound n d first targets good);
 }
 
 -- what a worker of a sound machine can rely on in its step
@@ -118,7 +118,7 @@ module _ (n d : ℕ) (first : List (ℕ × ℕ)) (counts : List ℕ) (workers : 
   pub keeps_sound : (new : WorkerState) (decided : Option (ℕ × Reply)) (shown now : List ℕ) → outcome_with now new decided ≡ outcome n first counts old.left old.phase → shown ≡ now
       → IsSoundMachine (view_of n d first shown (slice_set workers k new))
   keeps_sound new decided shown now step_made same =
-      let m : State = record { counts = counts; workers = workers } in
+      let m : MachineState = record { counts = counts; workers = workers } in
       let here : worker_of m k ≡ old = get_or_default workers k (fresh []) old inside ∙ sym at in
       let by : outcome n first counts old.left old.phase ≡ outcome_of n first m k = ap (λ (w : WorkerState). outcome n first counts w.left w.phase) (sym here) in
       let all : Outcome = outcome_of n first m k in
@@ -126,7 +126,7 @@ module _ (n d : ℕ) (first : List (ℕ × ℕ)) (counts : List ℕ) (workers : 
       let w : all.worker ≡ new = sym (ap (λ (o : Outcome). o.worker) (step_made ∙ by)) in
       record {
         net = is.net;
-        sound = subst (λ (z : State). IsSound n d first z) (λ i. record { counts = c i; workers = slice_set workers k (w i) }) (step_sound n d first is.net m is.sound k);
+        sound = subst (λ (z : MachineState). IsSound n d first z) (λ i. record { counts = c i; workers = slice_set workers k (w i) }) (step_sound n d first is.net m is.sound k);
       }
 
 -- a list that was written over as a slice

@@ -13,7 +13,7 @@ use Rattle.fr_core.proofs.Loads.{held_against, held_along, sink_from_seen}
 use Rattle.fr_core.proofs.Turning.{raised-here, raised-other, turn-links_at, turn_lawful}
 use Rattle.fr_core.specs.History.{after_all, moment_of}
 use Rattle.fr_core.specs.Legal.{CanTurn, IsRun}
-use Rattle.fr_core.specs.Machine.{Outcome, all_but_first, begin_call, decides, entry_of, exchange, goes_on, least_count, load_neighbour, load_own, neighbour_at, outcome, step_idle}
+use Rattle.fr_core.specs.Machine.{Outcome, all_but_first, begin_call, decides, entry_of, exchange, goes_on, bound_of, load_neighbour, load_own, neighbour_at, outcome, step_idle}
 use Rattle.fr_core.specs.Sound.{IsFit, IsSoundPhase, IsTurnable, IsUnderWay}
 use Rattle.fr_core.specs.declared.entry.Reply.TheVariants.{Cut, Held, Moved, Turned}
 use Rattle.fr_core.specs.declared.targets.Target.{Target}
@@ -75,12 +75,12 @@ module _ (n d : ℕ) (first : List (ℕ × ℕ)) (net : IsNet n first) (k : ℕ)
       inside = omega (arith, l, lawful.one_each)
 
   -- a neighbour of too low a count holds x
-  too_low_holds : (x c : ℕ) → c ≤ slice_index counts x → (w : ℕ) (way : First) → Contains (row n first x) (w, way) → slice_index counts w < least_count way c → Points (links_at first counts) x w
+  too_low_holds : (x c : ℕ) → c ≤ slice_index counts x → (w : ℕ) (way : First) → Contains (row n first x) (w, way) → slice_index counts w < bound_of way c → Points (links_at first counts) x w
   too_low_holds x c low w Outward h miss = held_along first counts lawful.kept x w c low (out_of_row n first x w h) miss
   too_low_holds x c low w Inward h miss = held_against first counts lawful.kept x w c low (in_of_row n first x w h) miss
 
-  enough_all : (x c : ℕ) → IsUnderWay n d first counts x c (length (row n first x)) → (e : ℕ × First) → Contains (row n first x) e → least_count e.1 c ≤ slice_index counts e.0
-  enough_all x c call e (i, l, at) = subst (λ (p : ℕ × First). least_count p.1 c ≤ slice_index counts p.0) (get_or_default (row n first x) i (0, Outward) e l ∙ at) (call.enough i l)
+  enough_all : (x c : ℕ) → IsUnderWay n d first counts x c (length (row n first x)) → (e : ℕ × First) → Contains (row n first x) e → bound_of e.1 c ≤ slice_index counts e.0
+  enough_all x c call e (i, l, at) = subst (λ (p : ℕ × First). bound_of p.1 c ≤ slice_index counts p.0) (get_or_default (row n first x) i (0, Outward) e l ∙ at) (call.enough i l)
 
   can_turn : (x c : ℕ) → IsUnderWay n d first counts x c (length (row n first x)) → slice_index counts x ≡ c → CanTurn n d (moment_of first counts) x
   can_turn x c call e = record {
@@ -99,7 +99,7 @@ module _ (n d : ℕ) (first : List (ℕ × ℕ)) (net : IsNet n first) (k : ℕ)
 
   load_neighbour_fine : (x c j : ℕ) → IsUnderWay n d first counts x c j → j < length (row n first x) → IsFine n d first k counts (load_neighbour (row n first x) counts left x c j)
   load_neighbour_fine x c j call place =
-      cond_both (nat_lt (slice_index counts w.0) (least_count w.1 c)) _ _ (IsFine n d first k counts)
+      cond_both (nat_lt (slice_index counts w.0) (bound_of w.1 c)) _ _ (IsFine n d first k counts)
       (λ t. fine_held x w.0 call.turnable.inside (too_low_holds x c call.low w.0 w.1 (Contains-get_or (row n first x) j (0, Outward) place) (ltb-true _ _ t)))
       (λ f. cond_both (j + 1 == length (row n first x)) _ _ (IsFine n d first k counts)
       (λ t. fine_on (Swapping x c) (subst (λ (z : ℕ). IsUnderWay n d first counts x c z) (eqb-true _ _ t) (more f)))
@@ -108,13 +108,13 @@ module _ (n d : ℕ) (first : List (ℕ × ℕ)) (net : IsNet n first) (k : ℕ)
       w : ℕ × First
       w = neighbour_at (row n first x) j
 
-      more : nat_lt (slice_index counts (neighbour_at (row n first x) j).0) (least_count (neighbour_at (row n first x) j).1 c) ≡ false → IsUnderWay n d first counts x c (j + 1)
+      more : nat_lt (slice_index counts (neighbour_at (row n first x) j).0) (bound_of (neighbour_at (row n first x) j).1 c) ≡ false → IsUnderWay n d first counts x c (j + 1)
       more f = record {
         turnable = call.turnable;
         low = call.low;
         below_cap = call.below_cap;
         enough = λ i l. ⊎_elim
-            (λ e. subst (λ (z : ℕ). least_count (neighbour_at (row n first x) z).1 c ≤ slice_index counts (neighbour_at (row n first x) z).0) (sym e) (ltb-false _ _ f))
+            (λ e. subst (λ (z : ℕ). bound_of (neighbour_at (row n first x) z).1 c ≤ slice_index counts (neighbour_at (row n first x) z).0) (sym e) (ltb-false _ _ f))
             (λ ne. call.enough i (omega (arith, ne, l)))
             (cases_eq i j);
       }

@@ -1,4 +1,4 @@
--- Lawful counts at which no node can turn are the settled ones.
+-- Where no node can turn, lawful counts are settled.
 use Rattle.std.proofs.Common.{List, [], ap, arith, inl, inr, length, refl, slice_index, subst, suc, sym, zero, ℕ, ⊎_elim, ◌++◌, ◌+◌, ◌<◌, ◌∙◌, ◌∷◌, ◌≡◌, ◌≤◌, ◌⊎◌}
 use Rattle.std.proofs.lemmas.Bool.{cases_eq, cases_lt}
 use Rattle.fr_core.proofs.Away.{Climbs, climbs_from_meets, lawful_at_most}

@@ -1,7 +1,7 @@
 -- Small plays, by computation: the machine's definition decides what it is meant to decide.
 use Rattle.std.proofs.Common.{List, [], map, refl, replicate, ℕ, ◌∷◌, ◌≡◌}
 use Rattle.fr_core.specs.History.{part}
-use Rattle.fr_core.specs.Machine.{State, entries_of, start, state_after}
+use Rattle.fr_core.specs.Machine.{MachineState, entries_of, start, state_after}
 use Rattle.fr_core.specs.declared.entry.Entry.{Entry}
 use Rattle.fr_core.specs.declared.entry.Reply.{Reply}
 use Rattle.fr_core.specs.declared.entry.Reply.TheVariants.{Cut, Held, Moved, Turned}
@@ -15,7 +15,7 @@ abbrev reply_of : Entry → Reply
 reply_of e = e.reply
 
 -- two workers at one node, step by step
-abbrev two_at_one : State
+abbrev two_at_one : MachineState
 two_at_one = start 2 (turns (1 ∷ []) ∷ turns (1 ∷ []) ∷ [])
 
 two_at_one_entries : entries_of 2 ((0, 1) ∷ []) two_at_one (0 ∷ 1 ∷ 0 ∷ 1 ∷ 0 ∷ 1 ∷ []) ≡ record { worker = 0; node = 1; reply = Turned 1 } ∷ record { worker = 1; node = 1; reply = Moved 0 1 } ∷ []

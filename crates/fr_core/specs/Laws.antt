@@ -92,7 +92,7 @@ SinkByCounts = (n d : ℕ) (first : List (ℕ × ℕ)) (counts : List ℕ) (x : 
 abbrev pub LawfulIsAtMostAway : Type 0
 LawfulIsAtMostAway = (n d : ℕ) (first : List (ℕ × ℕ)) (counts : List ℕ) (x away : ℕ) → AreLawful n d first counts → HasWalk first d x away → slice_index counts x ≤ away
 
--- lawful counts at which no node can turn are the settled ones
+-- where no node can turn, lawful counts are settled
 abbrev pub NoTurnLeftIsSettled : Type 0
 NoTurnLeftIsSettled = (n d : ℕ) (first : List (ℕ × ℕ)) (counts : List ℕ) → IsNet n first → d < n → AreLawful n d first counts → NoneCanTurn n d (moment_of first counts) → AreSettled n d first counts
 
@@ -112,7 +112,7 @@ LawfulIsAtMostSettled = (n d : ℕ) (first : List (ℕ × ℕ)) (counts settled 
 abbrev pub ZeroIsAPath : Type 0
 ZeroIsAPath = (n d : ℕ) (first : List (ℕ × ℕ)) (counts : List ℕ) (x : ℕ) → AreSettled n d first counts → x < n → ¬ IsAlone first x → (slice_index counts x ≡ 0) ↔ HasPath first x d
 
--- a linked node has the settled count n exactly if it is not joined with the destination
+-- the settled count of a linked node is n just where nothing joins it with the destination
 abbrev pub CapIsNotJoined : Type 0
 CapIsNotJoined = (n d : ℕ) (first : List (ℕ × ℕ)) (counts : List ℕ) (x : ℕ) → IsNet n first → d < n → AreSettled n d first counts → x < n → ¬ IsAlone first x → (slice_index counts x ≡ n) ↔ (¬ IsJoined first d x)
 

@@ -5,7 +5,7 @@
 --   Idle, none left    nothing
 --   Idle, turn of x    loads the count c of x                   c is n: decides Cut
 --                                                               else Looking x c 0
---   Looking x c j      loads the count of neighbour j of x      below its least count: decides Held by it
+--   Looking x c j      loads the count of neighbour j of x      below its bound: decides Held by it
 --                                                               else, the last neighbour: Swapping x c
 --                                                               else Looking x c (j + 1)
 --   Swapping x c       exchanges the count of x, if it is c,    it was c: decides Turned, with c + 1
@@ -28,7 +28,7 @@ pub record WorkerState : Type 0 where
   pub phase : Phase
 
 -- the machine: how often each node has turned, and the workers
-pub record State : Type 0 where
+pub record MachineState : Type 0 where
   pub counts : List ℕ
   pub workers : List WorkerState
 
@@ -37,7 +37,7 @@ abbrev pub fresh : List Target → WorkerState
 fresh targets = record { left = targets; phase = Idle }
 
 -- the machine before its first step
-abbrev pub start : ℕ → List (List Target) → State
+abbrev pub start : ℕ → List (List Target) → MachineState
 start n targets = record { counts = replicate n 0; workers = map fresh targets }
 
 -- what a step comes to: the counts, the worker, and the node and the reply of the call that it decides, if it decides one
@@ -58,10 +58,10 @@ all_but_first (t ∷ ts) = ts
 abbrev pub decides : List ℕ → List Target → ℕ → Reply → Outcome
 decides counts left x reply = record { counts = counts; worker = record { left = all_but_first left; phase = Idle }; decided = Some (x, reply) }
 
--- the least count of a neighbour at which its link points to a node of count c
-abbrev pub least_count : First → ℕ → ℕ
-least_count Outward c = c + 1
-least_count Inward c = c
+-- the bound of a neighbour: the link points to a node of count c from there on
+abbrev pub bound_of : First → ℕ → ℕ
+bound_of Outward c = c + 1
+bound_of Inward c = c
 
 -- the load of the own count
 abbrev pub load_own : ℕ → List ℕ → List Target → ℕ → Outcome
@@ -77,7 +77,7 @@ neighbour_at neighbours j = slice_index_or neighbours j (0, Outward)
 abbrev pub load_neighbour : List (ℕ × First) → List ℕ → List Target → ℕ → ℕ → ℕ → Outcome
 load_neighbour neighbours counts left x c j =
     let w = neighbour_at neighbours j in
-    if nat_lt (slice_index counts w.0) (least_count w.1 c) then decides counts left x (Held w.0)
+    if nat_lt (slice_index counts w.0) (bound_of w.1 c) then decides counts left x (Held w.0)
     else if j + 1 == length neighbours then goes_on counts left (Swapping x c)
     else goes_on counts left (Looking x c (j + 1))
 
@@ -101,15 +101,15 @@ outcome n first counts left Idle = step_idle n counts left
 outcome n first counts left (Looking x c j) = load_neighbour (row n first x) counts left x c j
 outcome n first counts left (Swapping x c) = exchange counts left x c
 
-abbrev pub worker_of : State → ℕ → WorkerState
+abbrev pub worker_of : MachineState → ℕ → WorkerState
 worker_of m k = slice_index_or m.workers k (fresh [])
 
 -- what a step of worker k comes to
-abbrev pub outcome_of : ℕ → List (ℕ × ℕ) → State → ℕ → Outcome
+abbrev pub outcome_of : ℕ → List (ℕ × ℕ) → MachineState → ℕ → Outcome
 outcome_of n first m k = outcome n first m.counts (worker_of m k).left (worker_of m k).phase
 
 -- the machine after a step of worker k
-abbrev pub step : ℕ → List (ℕ × ℕ) → State → ℕ → State
+abbrev pub step : ℕ → List (ℕ × ℕ) → MachineState → ℕ → MachineState
 step n first m k = record { counts = (outcome_of n first m k).counts; workers = slice_set m.workers k (outcome_of n first m k).worker }
 
 -- the entry of a call that worker k decided, if it decided one
@@ -118,17 +118,17 @@ entry_of k None = []
 entry_of k (Some d) = record { worker = k; node = d.0; reply = d.1 } ∷ []
 
 -- the entries that the steps of a schedule decide, in order
-abbrev pub entries_of : ℕ → List (ℕ × ℕ) → State → List ℕ → List Entry
+abbrev pub entries_of : ℕ → List (ℕ × ℕ) → MachineState → List ℕ → List Entry
 entries_of n first m [] = []
 entries_of n first m (k ∷ ks) = entry_of k (outcome_of n first m k).decided ++ entries_of n first (step n first m k) ks
 
 -- the machine after a schedule
-abbrev pub state_after : ℕ → List (ℕ × ℕ) → State → List ℕ → State
+abbrev pub state_after : ℕ → List (ℕ × ℕ) → MachineState → List ℕ → MachineState
 state_after n first m [] = m
 state_after n first m (k ∷ ks) = state_after n first (step n first m k) ks
 
 -- what the steps of worker k alone decide under a schedule, in order
-abbrev pub decided_by : ℕ → List (ℕ × ℕ) → State → ℕ → List ℕ → List (ℕ × Reply)
+abbrev pub decided_by : ℕ → List (ℕ × ℕ) → MachineState → ℕ → List ℕ → List (ℕ × Reply)
 decided_by n first m k [] = []
 decided_by n first m k (j ∷ ks) =
     (if j == k then option_to_list (outcome_of n first m j).decided else []) ++ decided_by n first (step n first m j) k ks

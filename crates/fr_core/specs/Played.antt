@@ -1,7 +1,7 @@
 -- What a machine makes of a schedule.
 use Rattle.std.specs.Prelude.{◌≡◌, ℕ, List, [], ◌++◌, map, slice_index_or}
 use Rattle.fr_core.specs.History.{part}
-use Rattle.fr_core.specs.Machine.{State, start, worker_of, entries_of, state_after, decided_by}
+use Rattle.fr_core.specs.Machine.{MachineState, start, worker_of, entries_of, state_after, decided_by}
 use Rattle.fr_core.specs.Runs.{IsRunTo}
 use Rattle.fr_core.specs.Targets.{IsPlayable}
 use Rattle.fr_core.specs.declared.entry.Entry.{Entry}
@@ -14,7 +14,7 @@ pub record MachineView : Type 0 where
   pub nodes : ℕ
   pub dest : ℕ
   pub links : List (ℕ × ℕ)
-  pub state : State
+  pub state : MachineState
 
 abbrev pub started : ℕ → ℕ → List (ℕ × ℕ) → List (List Target) → MachineView
 started n d links targets = record { nodes = n; dest = d; links = links; state = start n targets }

@@ -4,9 +4,9 @@ use Rattle.std.specs.List.{All}
 use Rattle.fr_net.specs.Counts.{AreLawful}
 use Rattle.fr_net.specs.Links.{IsNet, Joins}
 use Rattle.fr_net.specs.Rows.{row}
-use Rattle.fr_core.specs.Machine.{WorkerState, State, Outcome, neighbour_at, least_count, entries_of}
+use Rattle.fr_core.specs.Machine.{WorkerState, MachineState, Outcome, neighbour_at, bound_of, entries_of}
 use Rattle.fr_core.specs.Played.{MachineView}
-use Rattle.fr_core.specs.Targets.{IsRefused}
+use Rattle.fr_core.specs.Targets.{IsTargetRefused}
 use Rattle.fr_core.specs.declared.entry.Entry.{Entry}
 use Rattle.fr_core.specs.declared.entry.Reply.{Reply}
 use Rattle.fr_core.specs.declared.targets.Target.{Target}
@@ -27,15 +27,15 @@ IsFit n d first (Turn x) = IsTurnable n d first x
 pub record IsFirstRefused (n d : ℕ) (links : List (ℕ × ℕ)) (list : List Target) (at : ℕ) : Type 0 where
   pub target : Target
   pub here : slice_get list at ≡ Some target
-  pub refused : IsRefused n d links target
-  pub first : (i : ℕ) (t : Target) → slice_get list i ≡ Some t → i < at → ¬ IsRefused n d links t
+  pub refused : IsTargetRefused n d links target
+  pub first : (i : ℕ) (t : Target) → slice_get list i ≡ Some t → i < at → ¬ IsTargetRefused n d links t
 
--- what a call on x stands on after the load of its own count c: the first j neighbours have at least their least counts
+-- what a call on x stands on after the load of its own count c: the first j neighbours meet their bounds
 pub record IsUnderWay (n d : ℕ) (first : List (ℕ × ℕ)) (counts : List ℕ) (x c j : ℕ) : Type 0 where
   pub turnable : IsTurnable n d first x
   pub low : c ≤ slice_index counts x
   pub below_cap : c < n
-  pub enough : (i : ℕ) → i < j → least_count (neighbour_at (row n first x) i).1 c ≤ slice_index counts (neighbour_at (row n first x) i).0
+  pub enough : (i : ℕ) → i < j → bound_of (neighbour_at (row n first x) i).1 c ≤ slice_index counts (neighbour_at (row n first x) i).0
 
 abbrev pub IsSoundPhase : ℕ → ℕ → List (ℕ × ℕ) → List ℕ → Phase → Type 0
 IsSoundPhase n d first counts Idle = Unit {0}
@@ -46,7 +46,7 @@ pub record IsSoundWorker (n d : ℕ) (first : List (ℕ × ℕ)) (counts : List 
   pub fit : All (IsFit n d first) worker.left
   pub phase : IsSoundPhase n d first counts worker.phase
 
-pub record IsSound (n d : ℕ) (first : List (ℕ × ℕ)) (m : State) : Type 0 where
+pub record IsSound (n d : ℕ) (first : List (ℕ × ℕ)) (m : MachineState) : Type 0 where
   pub lawful : AreLawful n d first m.counts
   pub workers : All (IsSoundWorker n d first m.counts) m.workers
 

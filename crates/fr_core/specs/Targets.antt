@@ -16,12 +16,12 @@ module _ {A Z : Type 0} where
 abbrev pub IsUnturnable : ℕ → ℕ → List (ℕ × ℕ) → ℕ → Type 0
 IsUnturnable n d links x = (n ≤ x) ⊎ (x ≡ d) ⊎ IsAlone links x
 
-abbrev pub IsRefused : ℕ → ℕ → List (ℕ × ℕ) → Target → Type 0
-IsRefused n d links (Turn x) = IsUnturnable n d links x
+abbrev pub IsTargetRefused : ℕ → ℕ → List (ℕ × ℕ) → Target → Type 0
+IsTargetRefused n d links (Turn x) = IsUnturnable n d links x
 
 -- no target of a list would be refused, and none of any worker's list
 abbrev pub AreAccepted : ℕ → ℕ → List (ℕ × ℕ) → List Target → Type 0
-AreAccepted n d links list = All (λ t. ¬ IsRefused n d links t) list
+AreAccepted n d links list = All (λ t. ¬ IsTargetRefused n d links t) list
 
 abbrev pub AreAllAccepted : ℕ → ℕ → List (ℕ × ℕ) → List (List Target) → Type 0
 AreAllAccepted n d links targets = All (AreAccepted n d links) targets
@@ -38,15 +38,15 @@ ComesBefore k i worker at = (k < worker) ⊎ ((k ≡ worker) × (i < at))
 pub record IsFirstBadTarget (n d : ℕ) (links : List (ℕ × ℕ)) (targets : List (List Target)) (worker at : ℕ) : Type 0 where
   pub target : Target
   pub here : IsTarget targets worker at target
-  pub refused : IsRefused n d links target
-  pub first : (k i : ℕ) (t : Target) → IsTarget targets k i t → ComesBefore k i worker at → ¬ IsRefused n d links t
+  pub refused : IsTargetRefused n d links target
+  pub first : (k i : ℕ) (t : Target) → IsTarget targets k i t → ComesBefore k i worker at → ¬ IsTargetRefused n d links t
 
 -- the destination is no node, or a number of the schedule is no worker
-abbrev pub IsOutOfRange : ℕ → ℕ → List (List Target) → List ℕ → Type 0
-IsOutOfRange n d targets schedule = (n ≤ d) ⊎ Any (λ k. length targets ≤ k) schedule
+abbrev pub IsPlayOutOfRange : ℕ → ℕ → List (List Target) → List ℕ → Type 0
+IsPlayOutOfRange n d targets schedule = (n ≤ d) ⊎ Any (λ k. length targets ≤ k) schedule
 
 -- the destination is a node, and each number of the schedule is a worker
-pub record IsInRange (n d : ℕ) (targets : List (List Target)) (schedule : List ℕ) : Type 0 where
+pub record IsPlayInRange (n d : ℕ) (targets : List (List Target)) (schedule : List ℕ) : Type 0 where
   pub destination : d < n
   pub workers : All (λ k. k < length targets) schedule
 
@@ -58,11 +58,11 @@ IsMachineFault n d links targets Memory = ⊥
 
 -- the same for a play under a schedule
 abbrev pub IsPlayFault : ℕ → ℕ → List (ℕ × ℕ) → List (List Target) → List ℕ → PlayFault → Type 0
-IsPlayFault n d links targets schedule Range = IsOutOfRange n d targets schedule
-IsPlayFault n d links targets schedule (BadTarget worker at) = IsInRange n d targets schedule × IsFirstBadTarget n d links targets worker at
+IsPlayFault n d links targets schedule Range = IsPlayOutOfRange n d targets schedule
+IsPlayFault n d links targets schedule (BadTarget worker at) = IsPlayInRange n d targets schedule × IsFirstBadTarget n d links targets worker at
 IsPlayFault n d links targets schedule Memory = ⊥
 
 -- none of the faults stands
 pub record IsPlayable (n d : ℕ) (links : List (ℕ × ℕ)) (targets : List (List Target)) (schedule : List ℕ) : Type 0 where
-  pub in_range : IsInRange n d targets schedule
+  pub in_range : IsPlayInRange n d targets schedule
   pub accepted : AreAllAccepted n d links targets

@@ -28,7 +28,7 @@ fn points(net: &Net, counts: &[u64], x: u32, w: u32) -> bool
     requires node { x < net.now.nodes }
     ensures { IsTrue result ↔ Points (links_at net.now.links counts.now) x w }
 {
-    // For what the call says: the row has each link of `x`.
+    // For what `nodes` ensures: the links are those of a network, so the row has each link of `x`.
     let _nodes = net.nodes();
     let row = net.row(x);
     for (neighbour, first) in row {
@@ -125,7 +125,8 @@ fn fault_of(net: &Net, dest: u32, counts: &[u64], entry: Entry) -> Option<Why>
 /// Checks a history from the counts 0, entry by entry, and answers how often each node has turned at its end; or the first
 /// entry that is not legal after those before it, with the first test that it fails. It stands on what the entries say
 /// alone, and not on how they came to be. Linear in the entries times the degree of their nodes: links are never turned,
-/// since the counts say where they point, and the counts are all the memory that it takes.
+/// since the counts say where they point, and the counts are all the memory that it takes. `Range` where `dest` is no node,
+/// before any entry is looked at; `Memory` where no room could be had for the counts.
 pub fn check_run(
     alloc: Global,
     net: &Net,

@@ -91,7 +91,7 @@ pub fn is_sink(net: &Net, counts: &[u64], x: u32) -> bool
     requires node { x < net.now.nodes }
     ensures { IsTrue result ↔ IsSink (links_at net.now.links counts.now) x }
 {
-    // For what the call says: the row has each link of `x`.
+    // For what `nodes` ensures: the links are those of a network, so the row has each link of `x`.
     let _nodes = net.nodes();
     let row = net.row(x);
     for (w, first) in row {

@@ -16,7 +16,10 @@ pub enum Reply {
 /// A decided call of a worker on a node.
 #[derive(Debug, Drop, Clone, Copy, PartialEq, Eq)]
 pub struct Entry {
+    /// Any number: what a history is does not depend on who made its calls.
     pub worker: u32,
+    /// The node that the call was on.
     pub node: u32,
+    /// What the call came to.
     pub reply: Reply,
 }

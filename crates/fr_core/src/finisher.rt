@@ -24,14 +24,15 @@ fn total(counts: &[u64]) -> u64
 /// No node is turned: a search writes the settled counts, linear in nodes and links, and takes no memory. That turning
 /// ends there is a law, the clause `leads` of [`schedule_law`](crate::laws::schedule_law): a run of turns alone leads from
 /// the old counts to the new ones, has as many turns as this answers, and leaves no node that can turn. By its clause
-/// `alike` each run that leaves no such node ends there too.
+/// `alike` each run that leaves no such node ends there too. The destination has to be a node, and the counts have to be
+/// lawful, as [`lawful`](crate::lawful) tests; counts 0 are.
 pub fn finish(net: &Net, dest: u32, counts: &mut [u64]) -> u64
     requires node { dest < net.now.nodes }
     requires lawful { AreLawful net.now.nodes dest net.now.links counts.old }
     ensures settled { AreSettled net.now.nodes dest net.now.links counts.new }
     ensures run { IsFinish net.now.nodes dest net.now.links counts.old counts.new result }
 {
-    // For what the call says: how many nodes there are at most, and that the links are a network's.
+    // For what `nodes` ensures: how many nodes there are at most, and that the links are those of a network.
     let _nodes = net.nodes();
     let before = total(counts);
     settle(net, dest, counts);

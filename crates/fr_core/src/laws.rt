@@ -36,7 +36,7 @@ pub fn sink_law()
     ensures seen { SeenBoundsSink }
 {}
 
-/// Lawful counts at which no node can turn are the settled ones, and no lawful count is above its settled one.
+/// Where no node can turn the counts are settled, there is but one list of such counts, and no lawful count is above its own.
 pub fn settled_law()
     ensures bound { LawfulIsAtMostAway }
     ensures settled { NoTurnLeftIsSettled }

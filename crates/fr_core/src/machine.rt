@@ -20,9 +20,9 @@ use std::alloc::{AllocError, Global};
 use std::marker::Model;
 
 /// Workers at the counts of a network, each with its targets. A step is the atomic load or the compare and exchange of one
-/// count, and who steps next is the caller's choice, so a caller can go through any interleaving. Whatever it is, what the
-/// machine decides is a run of full reversal on one thread: the clause `run` of [`machine_law`](crate::laws::machine_law).
-/// A step takes no memory.
+/// count, and who steps next is the caller's choice, so a caller can go through any interleaving. Whatever it is, the
+/// decided calls are a run: each reply is the one that full reversal on one thread gives at that point, which is the clause
+/// `run` of [`machine_law`](crate::laws::machine_law). A step takes no memory.
 #[derive(Debug, Drop)]
 pub struct Machine<'a> {
     net: &'a Net,
@@ -46,8 +46,9 @@ impl<'a> Model for Machine<'a> {
 }
 
 impl<'a> Machine<'a> {
-    /// A machine before its first step, with a worker for each list of targets, or the first fault that stands: Range where
-    /// `dest` is no node, and then the first target that is no node that can turn.
+    /// A machine before its first step, with a worker for each list of targets, or the first fault that stands: `Range` where
+    /// `dest` is no node, and then `BadTarget` with the first target that is no node, the destination, or has no link.
+    /// `Memory` where no room could be had for the counts or the workers.
     pub fn new(
         alloc: Global,
         net: &'a Net,
@@ -108,7 +109,8 @@ impl<'a> Machine<'a> {
         &self.counts
     }
 
-    /// One atomic step of the worker, and the entry if the step decides a call. A worker with no target left does nothing.
+    /// One atomic step of a worker, from 0 to one below how many there are, and the entry if the step decides a call. Once a
+    /// worker's targets are used up, its steps change nothing.
     pub fn step(&mut self, worker: u32) -> Option<Entry>
         requires { worker < length self.old.state.workers }
         ensures next { self.new ≡ record self.old { state = step self.old.nodes self.old.links self.old.state worker } }

@@ -15,7 +15,7 @@ pub enum PlayFault {
     Range,
     /// The first target, by worker and then by place in the worker's list, that is no node, the destination or a node with
     /// no link.
-    #[error("target {at} of worker {worker} is no node that can turn")]
+    #[error("target {at} of worker {worker} is no node, the destination, or has no link")]
     BadTarget { worker: usize, at: usize },
     /// An allocation was refused.
     #[error("no memory")]

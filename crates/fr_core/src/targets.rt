@@ -1,7 +1,7 @@
 //! What a machine's workers are to do.
 
 ghost use Rattle.std.specs.Prelude.{◌≡◌, ◌↔◌, IsTrue, IfSome, IfNone};
-ghost use Rattle.fr_core.specs.Targets.{IsUnturnable, IsRefused, IsFirstBadTarget, AreAccepted, AreAllAccepted, lists_of};
+ghost use Rattle.fr_core.specs.Targets.{IsUnturnable, IsTargetRefused, IsFirstBadTarget, AreAccepted, AreAllAccepted, lists_of};
 ghost use Rattle.fr_core.specs.Sound.{IsFirstRefused};
 
 use fr_net::Net;
@@ -22,7 +22,7 @@ fn is_unturnable(net: &Net, dest: u32, x: u32) -> bool
 
 /// Whether a machine refuses the target.
 fn is_refused(net: &Net, dest: u32, target: Target) -> bool
-    ensures { IsTrue result ↔ IsRefused net.now.nodes dest net.now.links target }
+    ensures { IsTrue result ↔ IsTargetRefused net.now.nodes dest net.now.links target }
 {
     match target {
         Target::Turn(x) => is_unturnable(net, dest, x),

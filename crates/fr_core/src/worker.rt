@@ -2,7 +2,7 @@
 
 ghost use Rattle.std.specs.Prelude.{◌≡◌, ◌<◌, ◌^◌, All, length};
 ghost use Rattle.fr_net.specs.Rows.{row};
-ghost use Rattle.fr_core.specs.Machine.{fresh, all_but_first, load_own, load_neighbour, exchange, step_idle, outcome, least_count};
+ghost use Rattle.fr_core.specs.Machine.{fresh, all_but_first, load_own, load_neighbour, exchange, step_idle, outcome, bound_of};
 ghost use Rattle.fr_core.specs.Sound.{CanStep, IsOnNode, outcome_with};
 ghost use Rattle.fr_core.specs.declared.worker.Phase.TheVariants.{Idle};
 
@@ -38,10 +38,10 @@ impl Model for Worker {
     ghost view = { λ s. record { left = s.left.items; phase = s.phase } };
 }
 
-/// The least count of a neighbour at which its link points to a node of this count.
-fn least_count(first: First, count: u64) -> u64
+/// The bound of a neighbour: its link points to a node of this count once the neighbour's count is no less.
+fn bound_of(first: First, count: u64) -> u64
     requires { count < 2 ^ 32 }
-    ensures { result ≡ least_count first count }
+    ensures { result ≡ bound_of first count }
 {
     match first {
         First::Outward => count + 1,
@@ -122,11 +122,11 @@ impl Worker {
         ensures { outcome_with counts.now self.new result
             ≡ load_neighbour (row net.now.nodes net.now.links node) counts.now self.old.left node count place }
     {
-        // For what the calls say: there are few nodes, so few neighbours.
+        // For what `nodes` ensures: there are few nodes, so few neighbours.
         let _nodes = net.nodes();
         let degree = net.degree(node);
         let (neighbour, first) = net.neighbour(node, place);
-        if counts[neighbour as usize] < least_count(first, count) {
+        if counts[neighbour as usize] < bound_of(first, count) {
             self.end_call();
             return Some((node, Reply::Held { by: neighbour }));
         }

@@ -17,12 +17,12 @@ use Rattle.fr_net.specs.declared.requests.Request.TheVariants.{Network, Ask}
 
 -- a request, with its links as a list
 pub data PlainRequest : Type 0 where
-  network : ℕ → ℕ → List (ℕ × ℕ) → PlainRequest
+  new_network : ℕ → ℕ → List (ℕ × ℕ) → PlainRequest
   ask : Question → PlainRequest
 
 -- a request of the code, without the room that its `Vec` has
 abbrev pub plain : Request → PlainRequest
-plain (Network nodes dest links) = network nodes dest links.items
+plain (Network nodes dest links) = new_network nodes dest links.items
 plain (Ask question) = ask question
 
 -- the items, one after the other
@@ -68,7 +68,7 @@ network_request [] = None
 network_request (n ∷ []) = None
 network_request (n ∷ d ∷ []) = None
 network_request (n ∷ d ∷ ls ∷ []) =
-    option_and_then (λ nodes. option_and_then (λ dest. option_map (network nodes dest)
+    option_and_then (λ nodes. option_and_then (λ dest. option_map (new_network nodes dest)
     (links_in ls)) (number_in d)) (number_in n)
 network_request (n ∷ d ∷ ls ∷ x ∷ rest) = None
 

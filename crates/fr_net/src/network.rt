@@ -42,8 +42,8 @@ impl Model for Net {
 
 impl Net {
     /// The network with nodes 0 to `nodes - 1` and these links, each from its tail to its head, in whatever order they
-    /// are listed; or the first fault that stands, tested over the whole list in the order of [`NetFault`]. It sorts
-    /// the links, and all else is linear.
+    /// are listed; or the first fault that stands, tested over the whole list in the order of [`NetFault`]. `Memory` where no
+    /// room could be had. It sorts the links and their ends; all else is linear, with a binary search for each node.
     pub fn new(alloc: Global, nodes: u32, links: &[(u32, u32)]) -> Result<Net, NetFault>
         ensures ok { IfOk result (IsNetworkOf nodes links.now) }
         ensures refused { IfErr result (λ fault. fault ≢ Memory → IsFirstFault nodes links.now fault) }
@@ -91,7 +91,7 @@ impl Net {
         &self.links
     }
 
-    /// How many neighbours node `x` has.
+    /// How many neighbours node `x` has, which has to be a node.
     pub fn degree(&self, x: u32) -> u32
         requires { x < self.now.nodes }
         ensures { result ≡ length (row self.now.nodes self.now.links x) }
@@ -100,7 +100,7 @@ impl Net {
     }
 
     /// The neighbour at place `j` of the row of node `x`, counted from 0 in rising order of the neighbours, and the
-    /// direction of its link as seen from `x`.
+    /// direction of its link as seen from `x`. There has to be such a node and such a place.
     pub fn neighbour(&self, x: u32, j: u32) -> (u32, First)
         requires node { x < self.now.nodes }
         requires place { j < length (row self.now.nodes self.now.links x) }
@@ -111,7 +111,7 @@ impl Net {
     }
 
     /// All neighbours of node `x` in rising order, each with the direction of its link as seen from `x`: what
-    /// `neighbour` answers for each place, for a loop over a whole row.
+    /// `neighbour` answers for each place, for a loop over a whole row. It has to be a node.
     pub fn row(&self, x: u32) -> &[(u32, First)]
         requires { x < self.now.nodes }
         ensures { result.now ≡ row self.now.nodes self.now.links x }
@@ -120,7 +120,8 @@ impl Net {
     }
 
     /// The network of the links that the counts give, one count for each node: a link stays where its head has turned
-    /// as often as its tail, and is reversed where its head has turned once more. The only fault is want of memory.
+    /// as often as its tail, and is reversed where its head has turned once more; the counts have to leave no other case. The
+    /// only fault is `Memory`, where no room could be had.
     pub fn turned_by(&self, alloc: Global, counts: &[u64]) -> Result<Net, NetFault>
         requires one_each { length counts.now ≡ self.now.nodes }
         requires kept { All (IsKept counts.now) self.now.links }

@@ -2,7 +2,7 @@
 use Rattle.std.proofs.Common.{◌≡◌, ◌∙◌, ℕ, zero, suc, ◌+◌, ◌<◌, ◌↔◌, ◌++◌, Bool, true, false, IsTrue, List, [], ◌∷◌, refl, sym, ap, subst, inl, inr, arith, Option, Some, None, Result, Ok, Err, MatchBool}
 use Rattle.fr_net.specs.Order.{in_order}
 use Rattle.fr_net.specs.Counts.{links_at}
-use Rattle.fr_net.specs.Requests.{PlainRequest, network, ask, reading}
+use Rattle.fr_net.specs.Requests.{PlainRequest, new_network, ask, reading}
 use Rattle.fr_net.specs.declared.requests.Question.TheVariants.{Links, Counts}
 use Rattle.fr_net.specs.declared.requests.LineFault.{LineFault}
 use Rattle.fr_net.specs.declared.requests.LineFault.TheVariants.{NotJson, NotRequest, Memory as LineMemory}
@@ -35,10 +35,10 @@ one_number : (n : ℕ) (links : List (ℕ × ℕ)) (f g : NetFault) → IsFirstF
 one_number n links f g hf hg = number_by_place n links f hf ∙ (ap number_at (first_fault_place n links f g hf hg) ∙ sym (number_by_place n links g hg))
 
 refused_unique : (s : Option State) (r : PlainRequest) (j k : ℕ) → IsRefused s r j → IsRefused s r k → j ≡ k
-refused_unique s (network n d links) j k (inl a) (inl b) = a.2 ∙ (one_number n links a.0 b.0 a.1 b.1 ∙ sym b.2)
-refused_unique s (network n d links) j k (inl a) (inr b) = absurd (no_first_fault n links a.0 b.0 a.1)
-refused_unique s (network n d links) j k (inr a) (inl b) = absurd (no_first_fault n links b.0 a.0 b.1)
-refused_unique s (network n d links) j k (inr a) (inr b) = a.2 ∙ sym b.2
+refused_unique s (new_network n d links) j k (inl a) (inl b) = a.2 ∙ (one_number n links a.0 b.0 a.1 b.1 ∙ sym b.2)
+refused_unique s (new_network n d links) j k (inl a) (inr b) = absurd (no_first_fault n links a.0 b.0 a.1)
+refused_unique s (new_network n d links) j k (inr a) (inl b) = absurd (no_first_fault n links b.0 a.0 b.1)
+refused_unique s (new_network n d links) j k (inr a) (inr b) = a.2 ∙ sym b.2
 refused_unique None (ask q) j k a b = a ∙ sym b
 refused_unique (Some s) (ask q) j k a b = absurd a
 
@@ -51,13 +51,13 @@ round_unique n d first s t a b =
     λ i. record { nodes = k i; dest = e i; links = l i; counts = c i }
 
 accepted_unique : (s : Option State) (r : PlainRequest) (a b : State) → IsAccepted s r a → IsAccepted s r b → a ≡ b
-accepted_unique s (network n d links) a b p q = round_unique n d links a b p.2 q.2
+accepted_unique s (new_network n d links) a b p q = round_unique n d links a b p.2 q.2
 accepted_unique None (ask q) a b h g = absurd h
 accepted_unique (Some s) (ask q) a b h g = h ∙ sym g
 
 not_both : (s : Option State) (r : PlainRequest) (k : ℕ) (new : State) → IsRefused s r k → ¬ IsAccepted s r new
-not_both s (network n d links) k new (inl a) h = no_first_fault n links a.0 h.0 a.1
-not_both s (network n d links) k new (inr a) h = let l = h.1 in omega (arith, a.1, l)
+not_both s (new_network n d links) k new (inl a) h = no_first_fault n links a.0 h.0 a.1
+not_both s (new_network n d links) k new (inr a) h = let l = h.1 in omega (arith, a.1, l)
 not_both None (ask q) k new a h = h
 not_both (Some s) (ask q) k new a h = a
 
@@ -82,7 +82,7 @@ report_unique s t u (a, k, r, e) (b, l, q, f) =
     e ∙ ((λ i. report_text (turned i) (cut i)) ∙ sym f)
 
 text_unique : (s : State) (r : PlainRequest) (t u : List ℕ) → IsText s r t → IsText s r u → t ≡ u
-text_unique s (network n d links) t u a b = report_unique s t u a b
+text_unique s (new_network n d links) t u a b = report_unique s t u a b
 text_unique s (ask Links) t u a b = a ∙ sym b
 text_unique s (ask Counts) t u a b = a ∙ sym b
 

@@ -1,7 +1,7 @@
 -- The answer to each line, from the state before it.
 use Rattle.std.specs.Prelude.{◌≡◌, ℕ, ◌<◌, ◌≤◌, ◌⊎◌, List, [], ◌∷◌, ◌++◌, Option, Some, None, Result, Ok, Err, MatchBool}
 use Rattle.fr_net.specs.Faults.{IsFirstFault, IsFaultless}
-use Rattle.fr_net.specs.Requests.{PlainRequest, network, ask, reading}
+use Rattle.fr_net.specs.Requests.{PlainRequest, new_network, ask, reading}
 use Rattle.fr_net.specs.declared.requests.Question.TheVariants.{Links, Counts}
 use Rattle.fr_net.specs.declared.requests.LineFault.{LineFault}
 use Rattle.fr_net.specs.declared.requests.LineFault.TheVariants.{NotJson, NotRequest, Memory as LineMemory}
@@ -23,7 +23,7 @@ fault_number Memory = 0
 -- the request is refused in this state, by this number: a network for the first fault of its links, or else for a
 -- destination that is no node, and a question where there is no network yet
 abbrev pub IsRefused : Option State → PlainRequest → ℕ → Type 0
-IsRefused s (network n d links) number =
+IsRefused s (new_network n d links) number =
     ((fault : NetFault) × IsFirstFault n links fault × (number ≡ fault_number fault))
     ⊎ (IsFaultless n links × (n ≤ d) × (number ≡ 4))
 IsRefused None (ask question) number = number ≡ 3
@@ -31,7 +31,7 @@ IsRefused (Some s) (ask question) number = ⊥
 
 -- the request is accepted, and this is the state after it: a network begins a round, and a question changes nothing
 abbrev pub IsAccepted : Option State → PlainRequest → State → Type 0
-IsAccepted s (network n d links) new = IsFaultless n links × (d < n) × IsRound n d links new
+IsAccepted s (new_network n d links) new = IsFaultless n links × (d < n) × IsRound n d links new
 IsAccepted None (ask question) new = ⊥
 IsAccepted (Some s) (ask question) new = new ≡ s
 
@@ -41,7 +41,7 @@ IsReportLine s text = (turned : ℕ) × (cut : ℕ) × IsReport s turned cut × 
 
 -- the answer to an accepted request, from the state after it
 abbrev pub IsText : State → PlainRequest → List ℕ → Type 0
-IsText s (network n d links) text = IsReportLine s text
+IsText s (new_network n d links) text = IsReportLine s text
 IsText s (ask Links) text = text ≡ links_text s.links
 IsText s (ask Counts) text = text ≡ counts_text s.counts
 

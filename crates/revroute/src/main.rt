@@ -10,28 +10,49 @@ mod run;
 mod session;
 mod texts;
 
-use run::{run, run_end};
-use std::io::BufWriter;
+use run::{RunFault, run, run_end};
+use std::io::{BufWriter, ErrorKind};
 use std::process::ExitCode;
 use std::rt::Env;
 use std::{env, io};
 
 const USAGE: &str = "usage: revroute run < requests > answers";
 
-fn main(rt: HostRuntime) -> io::Result<ExitCode> {
-    let alloc = rt.alloc();
-    let words: Vec<String> = env::args(&rt)?.collect(alloc)?;
-    if words.len() != 2 || words[1].as_str() != "run" {
-        let _ = rt.eprintln(USAGE);
-        return Ok(ExitCode::from(2));
-    }
-    let mut out = BufWriter::new(alloc, io::writer(&rt))?;
-    match run(alloc, &mut rt.reader(), &mut out) {
-        Ok(_) => Ok(ExitCode::SUCCESS),
+fn main(rt: HostRuntime) -> ExitCode {
+    let end = match asks_to_run(&rt) {
+        Ok(true) => answer(&rt),
+        Ok(false) => {
+            let _ = rt.eprintln(USAGE);
+            return ExitCode::from(2);
+        }
+        Err(fault) => Err(fault),
+    };
+    match end {
+        Ok(_) => ExitCode::SUCCESS,
         Err(fault) => {
             let (status, text) = run_end(&fault);
             let _ = rt.eprintln(text);
-            Ok(ExitCode::from(status))
+            ExitCode::from(status)
         }
     }
+}
+
+/// Whether the words of the command line are the one word `run`. A word that is no UTF-8 is another word.
+fn asks_to_run(rt: &HostRuntime) -> Result<bool, RunFault> {
+    let words = match env::args(rt) {
+        Ok(words) => words,
+        Err(error) if error.kind() == ErrorKind::InvalidData => return Ok(false),
+        Err(_) => return Err(RunFault::Memory),
+    };
+    let mut words = words.skip(1);
+    let first = words.next();
+    Ok(first.is_some_and(|word| word.as_str() == "run") && words.next().is_none())
+}
+
+/// Answers the lines of standard input on standard output.
+fn answer(rt: &HostRuntime) -> Result<u64, RunFault> {
+    let Ok(mut out) = BufWriter::new(rt.alloc(), io::writer(rt)) else {
+        return Err(RunFault::Memory);
+    };
+    run(rt.alloc(), &mut rt.reader(), &mut out)
 }

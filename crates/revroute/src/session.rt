@@ -1,7 +1,7 @@
 //! What the lines so far have made, and the answer to the next one.
 
 ghost use Rattle.std.specs.Prelude.{◌≡◌, ℕ, ◌<◌, true, false, None, IfOk, OnErr, IfSome, IfNone, string_bytes};
-ghost use Rattle.fr_net.specs.Requests.{ask, network, plain, reading};
+ghost use Rattle.fr_net.specs.Requests.{ask, new_network, plain, reading};
 ghost use Rattle.revroute.specs.Lines.{is_blank as is_blank_line};
 ghost use Rattle.revroute.specs.Answers.{IsAnswer, IsLineAnswer, fault_number as fault_number_of};
 
@@ -75,7 +75,7 @@ impl Session {
         dest: u32,
         links: &[(u32, u32)],
     ) -> Result<String, AllocError>
-        ensures ok { IfOk result (λ text. IsAnswer self.old (network nodes dest links.now) (string_bytes text) self.new) }
+        ensures ok { IfOk result (λ text. IsAnswer self.old (new_network nodes dest links.now) (string_bytes text) self.new) }
         ensures err { OnErr result (self.new ≡ self.old) }
     {
         let net = match Net::new(alloc, nodes, links) {

@@ -135,6 +135,22 @@ fn known_schedules(rt: HostRuntime) -> Result<(), Fail> {
 }
 
 #[test]
+fn the_destination_is_no_target(rt: HostRuntime) -> Result<(), Fail> {
+    let net = Net::new(rt.alloc(), 3, &[(0, 1), (1, 2)])?;
+    let schedules: [&[u32]; 4] = [&[], &[0], &[1, 0], &[0, 1, 1, 0]];
+    for schedule in schedules {
+        let targets = turns(rt.alloc(), &[&[1], &[1, 0]])?;
+        let fault = play(rt.alloc(), &net, 0, targets, schedule).err();
+        let bad = PlayFault::BadTarget { worker: 1, at: 1 };
+        assert_eq!(rt; fault, Some(bad), "{schedule:?}");
+    }
+    let targets = turns(rt.alloc(), &[&[1], &[1, 0]])?;
+    let fault = play(rt.alloc(), &net, 0, targets, &[2]).err();
+    assert_eq!(rt; fault, Some(PlayFault::Range));
+    Ok(())
+}
+
+#[test]
 fn first_faults(rt: HostRuntime) -> Result<(), Fail> {
     // Node 3 has no link, and node 4 is none.
     let net = Net::new(rt.alloc(), 4, &[(0, 1), (1, 2)])?;

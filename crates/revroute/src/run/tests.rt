@@ -58,6 +58,11 @@ const NETWORKS: &[(&str, &str)] = &[
         "[\"net\",2,0,[[0,1]]]\n[\"net\",2,0,[[0,0]]]\n[\"links\"]\n[\"net\",2,1,[[1,0]]]\n[\"links\"]\n",
         "turned 1 cut 0\nrefused 5\nlinks 1>0\nturned 1 cut 0\nlinks 0>1\n",
     ),
+    // One refusal does not change the next.
+    (
+        "[\"net\",3,0,[[2,2]]]\n[\"net\",1024,0,[[1024,0]]]\n[\"net\",1025,0,[]]\n[\"net\",0,0,[]]\n[\"net\",2,2,[[1,0]]]\n[\"net\",3,5,[[0,1],[1,2],[2,0]]]",
+        "refused 5\nrefused 4\nrefused 9\nrefused 4\nrefused 4\nrefused 7\n",
+    ),
     // No input has no output.
     ("", ""),
 ];
