@@ -1,0 +1,81 @@
+-- What the steps of a call make of what a worker knows. For the functions of the steps alone.
+use Rattle.std.specs.Prelude.{◌≡◌, ℕ, ◌+◌, ◌<◌, ◌≤◌, true, List, [], length, slice_index, replicate}
+use Rattle.atomic_table.specs.declared.shared.Seat.{Seat}
+use Rattle.fr_net.specs.Links.{Points}
+use Rattle.fr_net.specs.Rows.{row}
+use Rattle.fr_net.specs.declared.rows.First.{First}
+use Rattle.fr_core.specs.Machine.{least_count, neighbour_at}
+use Rattle.fr_core.specs.declared.entry.Reply.{Reply}
+use Rattle.fr_core.specs.declared.entry.Reply.TheVariants.{Turned, Held, Moved, Cut}
+use Rattle.fr_round.specs.declared.view.Setup.{Setup}
+use Rattle.fr_round.specs.declared.view.View.{View}
+use Rattle.fr_round.specs.Histories.{reached, entry}
+use Rattle.fr_round.specs.Steps.{Extends}
+
+abbrev pub RoundSeat : Type 0
+RoundSeat = Seat (Unit {0}) View
+
+-- the view of a worker in a round of this setup
+pub record IsWorker (b : Setup) (v : View) : Type 0 where
+  pub works : v.works ≡ true
+  pub setup : v.setup ≡ b
+
+-- a count of x that the worker has seen once it has the reply
+abbrev pub ShowsCount : ℕ → List ℕ → List ℕ → ℕ → Reply → Type 0
+ShowsCount n before after x (Turned k) = slice_index after x ≡ k
+ShowsCount n before after x (Held w) = Unit {0}
+ShowsCount n before after x (Moved had k) = (slice_index after x ≡ k) × (slice_index before x ≤ had)
+ShowsCount n before after x Cut = slice_index after x ≡ n
+
+-- a decided call on x
+pub record IsCallMade (v : View) (x : ℕ) (reply : Reply) (w : View) : Type 0 where
+  pub same : w ≡ record v { known = w.known; seen = w.seen; node = w.node; count = w.count }
+  pub extends : Extends v.setup v.number v.known (entry v.number x reply) w.known
+  pub below : (z : ℕ) → slice_index w.seen z ≤ reached v.setup w.known z
+  pub up : (z : ℕ) → slice_index v.seen z ≤ slice_index w.seen z
+  pub shows : ShowsCount v.setup.nodes v.seen w.seen x reply
+
+-- the call on x goes on, with the own count c
+pub record IsLooking (v : View) (x c : ℕ) (w : View) : Type 0 where
+  pub same : w ≡ record v { seen = w.seen; node = x; count = c }
+  pub up : (z : ℕ) → slice_index v.seen z ≤ slice_index w.seen z
+  pub had : slice_index v.seen x ≤ c
+  pub own : c ≤ slice_index w.seen x
+
+-- the first j neighbours of a row have at least their least counts
+abbrev pub AreEnough : List (ℕ × First) → ℕ → List ℕ → ℕ → Type 0
+AreEnough neighbours j seen c = (i : ℕ) → i < j → least_count (neighbour_at neighbours i).1 c ≤ slice_index seen (neighbour_at neighbours i).0
+
+-- the same with the first j neighbours looked at
+pub record IsUnderWay (b : Setup) (v : View) (x c j : ℕ) (w : View) (seen : List ℕ) : Type 0 where
+  pub looking : IsLooking v x c w
+  pub noted : w.seen ≡ seen
+  pub enough : AreEnough (row b.nodes b.links x) j seen c
+  pub low : c ≤ b.nodes
+
+-- a worker is in a call on x, with the own count c
+pub record IsInCall (b : Setup) (x c : ℕ) (w : View) (seen : List ℕ) : Type 0 where
+  pub worker : IsWorker b w
+  pub noted : w.seen ≡ seen
+  pub node : w.node ≡ x
+  pub count : w.count ≡ c
+  pub own : c ≤ slice_index seen x
+  pub low : c ≤ b.nodes
+  pub in_range : x < b.nodes
+  pub long : length seen ≡ b.nodes
+
+-- the same seat at the same table, with the slots that it had
+abbrev pub IsSameSeat : RoundSeat → RoundSeat → Type 0
+IsSameSeat p q = (q.table_id ≡ p.table_id) × (q.id ≡ p.id) × (q.me.1 ≡ p.me.1)
+
+-- the view of worker k before its first call
+pub record IsNewView (v : View) (k : ℕ) : Type 0 where
+  pub works : v.works ≡ true
+  pub number : v.number ≡ k
+  pub known : v.known ≡ []
+  pub seen : v.seen ≡ replicate v.setup.nodes 0
+
+-- every neighbour of x has at least its least count
+pub record AllMeet (first : List (ℕ × ℕ)) (counts : List ℕ) (x c : ℕ) : Type 0 where
+  pub along : (w : ℕ) → Points first x w → c + 1 ≤ slice_index counts w
+  pub against : (w : ℕ) → Points first w x → c ≤ slice_index counts w

@@ -1,0 +1,35 @@
+-- What the closing of a round says.
+use Rattle.std.specs.Prelude.{◌≡◌, ℕ, ◌<◌, List, map}
+use Rattle.std.specs.List.{AllByRecursion as Each}
+use Rattle.fr_core.specs.History.{part, turn_count}
+use Rattle.fr_core.specs.Runs.{IsRunTo}
+use Rattle.fr_core.specs.declared.entry.Entry.{Entry}
+use Rattle.fr_round.specs.Histories.{StartsWith, AreApart}
+use Rattle.fr_round.specs.Knowledge.{Knowledge, OpenRound}
+
+-- a worker's number, with the history that it knows, and with how often its own calls turned a node
+abbrev pub number_and_known : Knowledge → ℕ × List Entry
+number_and_known k = (k.number, k.known)
+
+abbrev pub number_and_turns : Knowledge → ℕ × ℕ
+number_and_turns k = (k.number, turn_count (part k.number k.known))
+
+-- what a worker that was handed back knows is a beginning of the history, in which its own calls are those that it made
+pub record IsPartOf (history : List Entry) (k : Knowledge) : Type 0 where
+  pub begins : StartsWith history k.known
+  pub own : part k.number history ≡ part k.number k.known
+
+-- a round ends: one history
+pub record Closes (r : OpenRound) (workers : List Knowledge) (counts : List ℕ) (turned : List (ℕ × ℕ)) : Type 0 where
+  pub history : List Entry
+  -- is a run of full reversal by one thread from the first links to the counts at the end, and no closed walk stands there,
+  pub run : IsRunTo r.setup.nodes r.setup.dest r.setup.links history counts
+  -- each of its entries is of a worker with which the round was opened,
+  pub opened : Each (λ (e : Entry). e.worker < r.setup.workers) history
+  -- what each worker that was handed back knows is a part of it,
+  pub parts : Each (IsPartOf history) workers
+  -- these workers have different numbers, below the number of workers opened,
+  pub apart : AreApart (map (λ (k : Knowledge). k.number) workers)
+  pub numbered : Each (λ (k : Knowledge). k.number < r.setup.workers) workers
+  -- and the pairs are their numbers and turns, in the order in which they were handed back
+  pub pairs : turned ≡ map number_and_turns workers

@@ -1,0 +1,62 @@
+-- What contracts see of a round and of its workers.
+use Rattle.std.specs.Prelude.{◌≡◌, ◌≢◌, ◌⊎◌, ℕ, zero, suc, ◌<◌, ◌≤◌, List, [], ◌∷◌, ◌++◌, slice_index, replicate}
+use Rattle.atomic_table.specs.Seated.{TableId}
+use Rattle.fr_net.specs.Links.{IsAlone}
+use Rattle.fr_core.specs.History.{turn_count_of}
+use Rattle.fr_core.specs.declared.entry.Entry.{Entry}
+use Rattle.fr_round.specs.declared.view.Setup.{Setup}
+use Rattle.fr_round.specs.declared.faults.Refusal.{Refusal}
+use Rattle.fr_round.specs.declared.faults.Refusal.TheVariants.{NoNode, Destination, Alone}
+use Rattle.fr_round.specs.declared.faults.OpenWhy.{OpenWhy}
+use Rattle.fr_round.specs.declared.faults.OpenWhy.TheVariants.{Range, Memory}
+use Rattle.fr_round.specs.Histories.{IsHistory}
+
+-- a worker: the table of words of its round, and what the round was opened with; its number; the history up to its last
+-- call; and counts that the nodes had reached
+pub record Knowledge : Type 0 where
+  pub table : TableId
+  pub setup : Setup
+  pub number : ℕ
+  pub known : List Entry
+  pub seen : List ℕ
+
+-- an open round: its table of words, and what it was opened with
+pub record OpenRound : Type 0 where
+  pub table : TableId
+  pub setup : Setup
+
+-- the worker is one of this round: no other round has its table
+pub record IsOwn (r : OpenRound) (w : Knowledge) : Type 0 where
+  pub table : w.table ≡ r.table
+  pub setup : w.setup ≡ r.setup
+
+-- what a worker knows is true: the history is a run, and no count that was seen is above the turns in it
+pub record IsKnowledge (k : Knowledge) : Type 0 where
+  pub run : IsHistory k.setup k.known
+  pub below : (z : ℕ) → slice_index k.seen z ≤ turn_count_of z k.known
+
+-- a call on x is refused, each refusal just in its case and in this order
+abbrev pub Refuses : Setup → ℕ → Refusal → Type 0
+Refuses b x NoNode = b.nodes ≤ x
+Refuses b x Destination = (x < b.nodes) × (x ≡ b.dest)
+Refuses b x Alone = (x < b.nodes) × (x ≢ b.dest) × IsAlone b.links x
+
+-- worker k before its first call
+abbrev pub new_worker : TableId → Setup → ℕ → Knowledge
+new_worker t b k = record { table = t; setup = b; number = k; known = []; seen = replicate b.nodes 0 }
+
+-- the workers with the numbers below k, in order
+abbrev pub new_workers : TableId → Setup → ℕ → List Knowledge
+new_workers t b zero = []
+new_workers t b (suc k) = new_workers t b k ++ new_worker t b k ∷ []
+
+-- the destination is a node, and there are 1 to 16 workers
+pub record IsOpenable (nodes dest workers : ℕ) : Type 0 where
+  pub destination : dest < nodes
+  pub some : 1 ≤ workers
+  pub few : workers ≤ 16
+
+-- why no round was opened
+abbrev pub IsWhyNotOpened : ℕ → ℕ → ℕ → OpenWhy → Type 0
+IsWhyNotOpened nodes dest workers Range = (nodes ≤ dest) ⊎ (workers ≡ 0) ⊎ (16 < workers)
+IsWhyNotOpened nodes dest workers Memory = IsOpenable nodes dest workers

@@ -1,0 +1,11 @@
+pub mod Setups
+pub mod Histories
+pub mod Rule
+pub mod Steps
+pub mod Calls
+pub mod Knowledge
+pub mod Closing
+pub mod WorkerInside
+pub mod RoundInside
+pub mod Seated
+pub mod Laws

@@ -1,0 +1,6 @@
+-- What a round was opened with, as its seats know it.
+use Rattle.fr_round.specs.declared.view.Setup.{Setup}
+use Rattle.fr_round.specs.declared.terms.Terms.{Terms}
+
+abbrev pub setup_of : Terms → Setup
+setup_of k = record { nodes = k.net.nodes; dest = k.dest; links = k.net.links; workers = k.workers }

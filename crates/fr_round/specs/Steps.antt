@@ -1,0 +1,64 @@
+-- What each step on the words tells the worker that takes it.
+use Rattle.std.specs.Prelude.{◌≡◌, ◌≢◌, ℕ, ◌+◌, ◌<◌, ◌≤◌, List, [], ◌∷◌, ◌++◌, slice_index, slice_set}
+use Rattle.atomic_table.specs.Table.{Me, Step}
+use Rattle.fr_core.specs.History.{part}
+use Rattle.fr_core.specs.declared.entry.Entry.{Entry}
+use Rattle.fr_core.specs.declared.entry.Reply.{Reply}
+use Rattle.fr_core.specs.declared.entry.Reply.TheVariants.{Turned, Held, Moved, Cut}
+use Rattle.fr_round.specs.declared.view.Setup.{Setup}
+use Rattle.fr_round.specs.declared.view.View.{View}
+use Rattle.fr_round.specs.Rule.{closing_view}
+use Rattle.fr_round.specs.Histories.{IsHistory, reached, entry}
+
+-- a worker's known history goes on, by what others did meanwhile,
+pub record Extends (b : Setup) (number : ℕ) (known : List Entry) (e : Entry) (known' : List Entry) : Type 0 where
+  pub between : List Entry
+  -- to one that ends with this entry,
+  pub begins : known' ≡ (known ++ between) ++ e ∷ []
+  -- which is a run of full reversal by one thread,
+  pub run : IsHistory b known'
+  -- and the worker's own part of it has this entry more, and no other
+  pub own : part number known' ≡ part number known ++ e ∷ []
+
+-- a count is noted, and nothing else changes
+abbrev pub noted : View → ℕ → ℕ → View
+noted v y found = record v { seen = slice_set v.seen y found }
+
+-- the same for the load that begins a call
+abbrev pub begun : View → ℕ → ℕ → View
+begun v x found = record v { seen = slice_set v.seen x found; node = x; count = found }
+
+-- the step decides the call on x, and notes the count c of y
+pub record EndsCall (v : View) (x : ℕ) (reply : Reply) (y c : ℕ) (w : View) : Type 0 where
+  pub same : w ≡ record v { seen = slice_set v.seen y c; known = w.known }
+  pub extends : Extends v.setup v.number v.known (entry v.number x reply) w.known
+  pub below : (z : ℕ) → slice_index w.seen z ≤ reached v.setup w.known z
+
+module _ {S : Type 0} where
+  -- the load of the own count: the cap decides Cut, and any other count begins the call
+  abbrev pub own_loaded : Step S → Me S View → ℕ → Me S View → Type 0
+  own_loaded s me found me' =
+      (slice_index me.0.seen s.word ≤ found) × (found ≤ me.0.setup.nodes)
+      × (found ≢ me.0.setup.nodes → me'.0 ≡ begun me.0 s.word found)
+      × (found ≡ me.0.setup.nodes → EndsCall me.0 s.word Cut s.word found me'.0)
+      × (me'.1 ≡ me.1)
+
+  -- the load of a neighbour's count, whose least count is `more` above the own one: less decides Held, and else it is noted
+  abbrev pub neighbour_loaded : ℕ → Step S → Me S View → ℕ → Me S View → Type 0
+  neighbour_loaded more s me found me' =
+      (slice_index me.0.seen s.word ≤ found)
+      × (me.0.count + more ≤ found → me'.0 ≡ noted me.0 s.word found)
+      × (found < me.0.count + more → EndsCall me.0 me.0.node (Held s.word) s.word found me'.0)
+      × (me'.1 ≡ me.1)
+
+  -- the exchange of the own count: Turned where it was still there, and else Moved
+  abbrev pub exchange_made : Step S → Me S View → ℕ → Me S View → Type 0
+  exchange_made s me found me' =
+      (slice_index me.0.seen s.word ≤ found)
+      × (found ≡ s.first → EndsCall me.0 s.word (Turned (s.first + 1)) s.word (s.first + 1) me'.0)
+      × (found ≢ s.first → EndsCall me.0 s.word (Moved s.first found) s.word found me'.0)
+      × (me'.1 ≡ me.1)
+
+  -- the load with which a closing seat comes
+  abbrev pub closing_begun : Step S → Me S View → ℕ → Me S View → Type 0
+  closing_begun s me found me' = me'.0 ≡ closing_view me.0.setup

@@ -1,0 +1,37 @@
+//! Why a round cannot be opened, and why a call takes no step.
+
+use fr_net::Net;
+use thiserror::Error;
+
+/// Why a call on a node takes no step. The variants stand in the order in which they are tested.
+#[derive(Debug, Drop, Clone, Copy, Error, PartialEq, Eq)]
+pub enum Refusal {
+    /// The network has no such node.
+    #[error("there is no such node")]
+    NoNode,
+    /// The node is the destination, which never turns.
+    #[error("the destination never turns")]
+    Destination,
+    /// The node has no link.
+    #[error("the node has no link")]
+    Alone,
+}
+
+/// Why a round cannot be opened. The variants stand in the order in which they are tested.
+#[derive(Debug, Drop, Clone, Copy, Error, PartialEq, Eq)]
+pub enum OpenWhy {
+    /// The destination is no node, or the number of workers is not 1 to 16.
+    #[error("the destination is no node, or the number of workers is not 1 to 16")]
+    Range,
+    /// An allocation was refused.
+    #[error("no memory")]
+    Memory,
+}
+
+/// A round that could not be opened: its network, handed back, and why.
+#[derive(Debug, Drop, Error)]
+#[error("no round was opened: {why}")]
+pub struct OpenFault {
+    pub net: Net,
+    pub why: OpenWhy,
+}

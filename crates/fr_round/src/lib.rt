@@ -1,0 +1,24 @@
+//! A round of full link reversal on running threads: the counts of one network in atomic words, which any number of
+//! threads share with no lock, and workers that turn its nodes.
+//!
+//! [`Round::open`] takes a network and answers an open round with its workers. A thread that holds a [`Worker`] calls
+//! [`Round::try_turn`] on the nodes that it likes, and [`Round::close`] ends the round once no thread shares it. At each
+//! moment the calls so far stand in one list that one thread could have made; [`round_law`] says it in one sentence.
+#![tactic(auto)]
+
+mod closing;
+mod faults;
+mod laws;
+mod opening;
+mod round;
+mod rule;
+mod steps;
+mod terms;
+mod view;
+mod worker;
+
+pub use closing::Closed;
+pub use faults::{OpenFault, OpenWhy, Refusal};
+pub use laws::round_law;
+pub use round::Round;
+pub use worker::Worker;

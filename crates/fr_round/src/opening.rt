@@ -1,0 +1,77 @@
+//! How a round gets its words, its workers, and the room that its closing needs.
+
+ghost use Rattle.std.specs.Prelude.{◌≡◌, ◌≤◌, ◌<◌, ◌^◌, IfOk, length, [], vec_capacity, replicate};
+ghost use Rattle.fr_net.specs.Links.{IsNet};
+ghost use Rattle.fr_round.specs.Knowledge.{new_workers};
+ghost use Rattle.fr_round.specs.Setups.{setup_of};
+ghost use Rattle.fr_round.specs.Seated.{IsTableOf};
+
+use crate::rule::{NumberWorker, Rule};
+use crate::terms::Terms;
+use crate::view::View;
+use crate::worker::Worker;
+use atomic_table::Table;
+use std::alloc::{AllocError, Global};
+
+/// The words of a round.
+pub(crate) type RoundTable = Table<(), View, Terms, Rule, Global>;
+
+/// The words of a round, and its workers.
+struct Seated {
+    table: RoundTable,
+    workers: Vec<Worker>,
+}
+
+fn zeros(alloc: Global, count: u32) -> Result<Vec<u64>, AllocError>
+    ensures { IfOk result (λ v. v.items ≡ replicate count 0) }
+{
+    vec![in alloc; 0u64; count as usize]
+}
+
+/// The words, all 0, and the workers. The seat that gives out their numbers goes at the end: it could not be shared by threads.
+fn make_table(alloc: Global, terms: &Terms) -> Result<Seated, AllocError>
+    requires dest { terms.now.dest < terms.now.net.nodes }
+    requires net { IsNet terms.now.net.nodes terms.now.net.links }
+    ensures table { IfOk result (λ d. IsTableOf terms.now d.table.shared) }
+    ensures workers { IfOk result
+        (λ d. d.workers.items ≡ new_workers d.table.shared.table_id (setup_of terms.now) terms.now.workers) }
+{
+    let nodes = terms.net.nodes();
+    let words = zeros(alloc, nodes)?;
+    let (table, mut opening) = Table::of_words(alloc, words.as_slice(), terms)?;
+    let mut workers = Vec::new(alloc);
+    for number in 0..terms.workers {
+        let seen = zeros(alloc, nodes)?;
+        let seat = table.shared.split_seat::<NumberWorker>(&mut opening);
+        workers.push(Worker::new(seat, number, seen))?;
+    }
+    Ok(Seated { table, workers })
+}
+
+/// The words, the workers, and the room that closing needs.
+pub(crate) struct Prepared {
+    pub table: RoundTable,
+    pub workers: Vec<Worker>,
+    pub counts: Vec<u64>,
+    pub turned: Vec<(u32, u64)>,
+}
+
+pub(crate) fn prepare(alloc: Global, terms: &Terms) -> Result<Prepared, AllocError>
+    requires dest { terms.now.dest < terms.now.net.nodes }
+    requires net { IsNet terms.now.net.nodes terms.now.net.links }
+    ensures table { IfOk result (λ p. IsTableOf terms.now p.table.shared) }
+    ensures workers { IfOk result
+        (λ p. p.workers.items ≡ new_workers p.table.shared.table_id (setup_of terms.now) terms.now.workers) }
+    ensures counts { IfOk result (λ p. length p.counts.items ≡ terms.now.net.nodes) }
+    ensures turned { IfOk result (λ p. (p.turned.items ≡ []) × (terms.now.workers ≤ vec_capacity p.turned)) }
+{
+    let counts = zeros(alloc, terms.net.nodes())?;
+    let turned = Vec::with_capacity(alloc, terms.workers as usize)?;
+    let Seated { table, workers } = make_table(alloc, terms)?;
+    Ok(Prepared {
+        table,
+        workers,
+        counts,
+        turned,
+    })
+}

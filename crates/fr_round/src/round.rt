@@ -1,0 +1,188 @@
+//! Rounds.
+
+ghost use Rattle.std.specs.Prelude.{◌≡◌, ◌≤◌, ◌<◌, ℕ, MatchResult, IfOk, IfErr, length, slice_index};
+ghost use Rattle.std.specs.List.{AllByRecursion as Each};
+ghost use Rattle.fr_core.specs.Sound.{IsTurnable};
+ghost use Rattle.fr_round.specs.Histories.{entry};
+ghost use Rattle.fr_round.specs.Steps.{Extends};
+ghost use Rattle.fr_round.specs.Calls.{ShowsCount};
+ghost use Rattle.fr_round.specs.Knowledge.{IsOwn, IsKnowledge, IsOpenable, Refuses, IsWhyNotOpened, new_workers};
+ghost use Rattle.fr_round.specs.Closing.{Closes};
+
+use crate::closing::{Closed, read_counts, take_over};
+use crate::faults::{OpenFault, OpenWhy, Refusal};
+use crate::opening::{Prepared, RoundTable, prepare};
+use crate::rule::BeginClosing;
+use crate::terms::Terms;
+use crate::worker::Worker;
+use fr_core::Reply;
+use fr_net::Net;
+use std::alloc::Global;
+use std::marker::Model;
+
+/// An open round: one atomic word for each node, which counts its turns. Threads share it by reference, and each turns
+/// nodes by a worker of its own. A round keeps no seat at its words, as no seat can be shared.
+#[derive(Drop)]
+pub struct Round {
+    terms: Terms,
+    table: RoundTable,
+    // The room that `close` needs.
+    counts: Vec<u64>,
+    turned: Vec<(u32, u64)>,
+}
+
+impl Model for Round {
+    ghost use Rattle.fr_round.specs.Knowledge.{OpenRound};
+
+    ghost Value = { OpenRound };
+
+    ghost use Rattle.fr_round.specs.RoundInside.{open_round_of, IsSoundRound};
+
+    ghost view = { open_round_of };
+
+    ghost invariant = { IsSoundRound };
+}
+
+impl Round {
+    /// Opens a round on a network that no node has turned yet: all counts are 0. It answers the round and its workers,
+    /// whose numbers are 0, 1 and so on.
+    ///
+    /// The destination has to be a node of the network, and `workers` 1 to 16; otherwise, or where there is no memory, the
+    /// fault hands the network back. All memory that the round needs up to its end is taken here.
+    pub fn open(
+        alloc: Global,
+        net: Net,
+        dest: u32,
+        workers: u32,
+    ) -> Result<(Round, Vec<Worker>), OpenFault>
+        ensures openable { IfOk result (λ _. IsOpenable net.nodes dest workers) }
+        ensures setup { IfOk result
+            (λ r. r.0.setup ≡ record { nodes = net.nodes; dest = dest; links = net.links; workers = workers }) }
+        ensures workers { IfOk result (λ r. r.1.items ≡ new_workers r.0.table r.0.setup workers) }
+        ensures handed_back { IfErr result (λ fault. fault.net ≡ net) }
+        ensures why { IfErr result (λ fault. IsWhyNotOpened net.nodes dest workers fault.why) }
+    {
+        if dest >= net.nodes() || workers == 0 || workers > 16 {
+            return Err(OpenFault {
+                net,
+                why: OpenWhy::Range,
+            });
+        }
+        let terms = Terms { net, dest, workers };
+        match prepare(alloc, &terms) {
+            Ok(prepared) => {
+                let Prepared {
+                    table,
+                    workers: list,
+                    counts,
+                    turned,
+                } = prepared;
+                let round = Round {
+                    terms,
+                    table,
+                    counts,
+                    turned,
+                };
+                Ok((round, list))
+            }
+            Err(_) => {
+                let Terms {
+                    net,
+                    dest: _,
+                    workers: _,
+                } = terms;
+                Err(OpenFault {
+                    net,
+                    why: OpenWhy::Memory,
+                })
+            }
+        }
+    }
+
+    /// How many workers it was opened with. It takes no step and no memory.
+    pub fn workers(&self) -> u32
+        ensures { result ≡ self.now.setup.workers }
+    {
+        self.terms.workers
+    }
+
+    /// Its network, with the first links. It takes no step and no memory.
+    pub fn net(&self) -> &Net
+        ensures nodes { result.now.nodes ≡ self.now.setup.nodes }
+        ensures links { result.now.links ≡ self.now.setup.links }
+    {
+        &self.terms.net
+    }
+
+    /// Its destination. It takes no step and no memory.
+    pub fn dest(&self) -> u32
+        ensures { result ≡ self.now.setup.dest }
+    {
+        self.terms.dest
+    }
+
+    /// Turns node `x` if it is a sink: full reversal (E. Gafni and D. Bertsekas, 1981), by single atomic loads and one
+    /// exchange. It takes no memory, and waits for nobody, whatever other threads do or leave undone.
+    ///
+    /// The worker has to be one of this round. A call on what is no node, on the destination or on a node with no link is
+    /// refused, in this order, with no step, and nothing changes. Every other call is decided: `Turned` where it turned the
+    /// node, `Held` by a neighbour to which a link points, `Moved` where another worker turned the node meanwhile, and
+    /// `Cut` where the node has turned as often as there are nodes. Each reply is one that full reversal by one thread
+    /// gives after a history that goes on from all that the worker knew; with it, the history is what the worker knows now.
+    pub fn try_turn(&self, worker: &mut Worker, x: u32) -> Result<Reply, Refusal>
+        requires { IsOwn self.now worker.old }
+        ensures own { IsOwn self.now worker.new }
+        ensures number { worker.new.number ≡ worker.old.number }
+        ensures decided { IfOk result (λ _. IsTurnable self.now.setup.nodes self.now.setup.dest self.now.setup.links x) }
+        ensures refused { IfErr result (λ refusal. Refuses self.now.setup x refusal × (worker.new ≡ worker.old)) }
+        ensures history { IfOk result
+            (λ reply. Extends self.now.setup worker.old.number worker.old.known (entry worker.old.number x reply) worker.new.known) }
+        ensures seen { (z : ℕ) → slice_index worker.old.seen z ≤ slice_index worker.new.seen z }
+        ensures count { IfOk result (λ reply. ShowsCount self.now.setup.nodes worker.old.seen worker.new.seen x reply) }
+        ensures known { IfOk result (λ _. IsKnowledge worker.new) }
+    {
+        let net = &self.terms.net;
+        if x >= net.nodes() {
+            return Err(Refusal::NoNode);
+        }
+        if x == self.terms.dest {
+            return Err(Refusal::Destination);
+        }
+        if net.degree(x) == 0 {
+            return Err(Refusal::Alone);
+        }
+        Ok(worker.turn(&self.terms, &self.table.shared, x))
+    }
+
+    /// Ends the round: the network, the counts at the end, and the number and turns of each worker that is handed back. The
+    /// workers have to be of this round, and no more than it was opened with; some may be missing. It takes no memory, and
+    /// waits for nobody: that no thread shares the round any more shows in its being owned.
+    pub fn close(self, workers: Vec<Worker>) -> Closed
+        requires own { Each (IsOwn self) workers.items }
+        requires few { length workers.items ≤ self.setup.workers }
+        ensures net { (result.net.nodes ≡ self.setup.nodes) × (result.net.links ≡ self.setup.links) }
+        ensures history { Closes self workers.items result.counts.items result.turned.items }
+    {
+        let Round {
+            terms,
+            table,
+            mut counts,
+            mut turned,
+        } = self;
+        let (_, mut seat) = table.shared.load_new_seat::<BeginClosing>(0);
+        take_over(&table.shared, &mut seat, &mut turned, workers);
+        let closed = table.close_with(seat);
+        read_counts(&closed, counts.as_mut_slice());
+        closed.free();
+        let Terms {
+            net,
+            dest: _,
+            workers: _,
+        } = terms;
+        Closed {
+            net,
+            counts,
+            turned,
+        }
+    }
+}

@@ -1,0 +1,84 @@
+//! What holds of the words of a round and of what its seats know, between any two steps, and what each step tells.
+
+use crate::terms::Terms;
+use crate::view::View;
+use atomic_table::{Join, Play, Split, TableRule};
+
+/// One history stands behind the words and behind all that the seats know.
+pub struct Rule;
+
+impl TableRule<(), View, Terms> for Rule {
+    ghost use Rattle.fr_round.specs.Rule.{KeepsRule, opening_view};
+    ghost use Rattle.fr_round.specs.Setups.{setup_of};
+
+    ghost holds = { λ k s. KeepsRule (setup_of k) s };
+
+    ghost first = { λ k. opening_view (setup_of k) };
+}
+
+/// A call's load of its node's own count.
+pub struct LoadOwn;
+
+impl Play<(), View> for LoadOwn {
+    ghost use Rattle.fr_round.specs.Steps.{own_loaded};
+
+    ghost then = { own_loaded };
+}
+
+/// The load of the count of a neighbour to which the link pointed first.
+pub struct LoadAlong;
+
+impl Play<(), View> for LoadAlong {
+    ghost use Rattle.fr_round.specs.Steps.{neighbour_loaded};
+
+    ghost then = { neighbour_loaded 1 };
+}
+
+/// The load of the count of a neighbour from which the link pointed first.
+pub struct LoadAgainst;
+
+impl Play<(), View> for LoadAgainst {
+    ghost use Rattle.fr_round.specs.Steps.{neighbour_loaded};
+
+    ghost then = { neighbour_loaded 0 };
+}
+
+/// The exchange that turns a node.
+pub struct Exchange;
+
+impl Play<(), View> for Exchange {
+    ghost use Rattle.fr_round.specs.Steps.{exchange_made};
+
+    ghost then = { exchange_made };
+}
+
+/// How the opening seat gives out a number.
+pub struct NumberWorker;
+
+impl Split<View> for NumberWorker {
+    ghost use Rattle.fr_round.specs.Rule.{numbered_next, worker_view};
+
+    ghost left = { numbered_next };
+
+    ghost right = { worker_view };
+}
+
+/// The load with which a closing seat comes.
+pub struct BeginClosing;
+
+impl Play<(), View> for BeginClosing {
+    ghost use Rattle.fr_round.specs.Steps.{closing_begun};
+
+    ghost then = { closing_begun };
+}
+
+/// How a closing seat takes a worker back.
+pub struct TakeWorker;
+
+impl Join<View> for TakeWorker {
+    ghost use Rattle.fr_round.specs.Rule.{with_taken, spent_view};
+
+    ghost both = { with_taken };
+
+    ghost spent = { spent_view };
+}

@@ -1,0 +1,110 @@
+//! The workers of a round.
+
+ghost use Rattle.std.specs.Prelude.{◌≡◌, ◌<◌, ◌≤◌, ℕ, [], true, slice_index};
+ghost use Rattle.fr_core.specs.History.{part, turn_count};
+ghost use Rattle.fr_core.specs.Sound.{IsTurnable};
+ghost use Rattle.fr_round.specs.Setups.{setup_of};
+ghost use Rattle.fr_round.specs.Histories.{entry};
+ghost use Rattle.fr_round.specs.Steps.{Extends};
+ghost use Rattle.fr_round.specs.Calls.{ShowsCount, IsNewView};
+ghost use Rattle.fr_round.specs.Knowledge.{IsKnowledge, new_worker};
+ghost use Rattle.fr_round.specs.Closing.{number_and_known};
+
+use crate::steps::{RoundSeat, RoundWords, turn_at};
+use crate::terms::Terms;
+use fr_core::Reply;
+use std::marker::Model;
+
+/// A worker of a round, which one thread at a time holds. Contracts see what it knows: the history up to its last call, and
+/// counts that the nodes had reached.
+#[derive(Drop)]
+pub struct Worker {
+    seat: RoundSeat,
+    number: u32,
+    seen: Vec<u64>,
+    turned: u64,
+}
+
+impl Model for Worker {
+    ghost use Rattle.fr_round.specs.Knowledge.{Knowledge};
+
+    ghost Value = { Knowledge };
+
+    ghost use Rattle.fr_round.specs.WorkerInside.{knowledge_of, IsSoundWorker};
+
+    ghost view = { knowledge_of };
+
+    ghost invariant = { IsSoundWorker };
+}
+
+impl Worker {
+    /// A worker before its first call.
+    pub(crate) fn new(seat: RoundSeat, number: u32, seen: Vec<u64>) -> Worker
+        requires { (seat.me.1 ≡ []) × IsNewView seat.me.0 number × (seat.me.0.seen ≡ seen.items) }
+        ensures { result ≡ new_worker seat.table_id seat.me.0.setup number }
+    {
+        Worker {
+            seat,
+            number,
+            seen,
+            turned: 0,
+        }
+    }
+
+    /// Its seat, and nothing else of it.
+    pub(crate) fn into_seat(self) -> RoundSeat
+        ensures { (result.table_id ≡ self.table) × (result.me.1 ≡ []) × (result.me.0.works ≡ true)
+            × (result.me.0.setup ≡ self.setup) × ((result.me.0.number, result.me.0.known) ≡ number_and_known self) }
+    {
+        let Worker {
+            seat,
+            number: _,
+            seen: _,
+            turned: _,
+        } = self;
+        seat
+    }
+
+    /// Its number in the round, from 0 on.
+    pub fn number(&self) -> u32
+        ensures { result ≡ self.now.number }
+    {
+        self.number
+    }
+
+    /// How often its own calls turned a node.
+    pub fn turned(&self) -> u64
+        ensures { result ≡ turn_count (part self.now.number self.now.known) }
+    {
+        self.turned
+    }
+
+    /// A count that node `x` had reached by the worker's last call. It never falls, and takes no step.
+    pub fn seen(&self, x: u32) -> u64
+        requires { x < self.now.setup.nodes }
+        ensures seen { result ≡ slice_index self.now.seen x }
+        ensures known { IsKnowledge self.now }
+    {
+        self.seen[x as usize]
+    }
+
+    /// One call on node `x`, on the words of its own round.
+    pub(crate) fn turn(&mut self, terms: &Terms, words: &RoundWords, x: u32) -> Reply
+        requires table { (self.old.table ≡ words.now.table_id) × (words.now.table_id.words ≡ terms.now.net.nodes) × (words.now.key ≡ terms.now) }
+        requires setup { self.old.setup ≡ setup_of terms.now }
+        requires node { IsTurnable terms.now.net.nodes terms.now.dest terms.now.net.links x }
+        ensures same { self.new ≡ record self.old { known = self.new.known; seen = self.new.seen } }
+        ensures history { Extends self.old.setup self.old.number self.old.known (entry self.old.number x result) self.new.known }
+        ensures up { (z : ℕ) → slice_index self.old.seen z ≤ slice_index self.new.seen z }
+        ensures shows { ShowsCount self.old.setup.nodes self.old.seen self.new.seen x result }
+        ensures known { IsKnowledge self.new }
+    {
+        // For the proof that the turns fit: there are few nodes.
+        let _nodes = terms.net.nodes();
+        let reply = turn_at(terms, words, &mut self.seat, self.seen.as_mut_slice(), x);
+        if let Reply::Turned { .. } = reply {
+            self.turned += 1;
+        }
+        reply
+    }
+}
