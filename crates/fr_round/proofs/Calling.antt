@@ -9,7 +9,7 @@ use Rattle.fr_net.specs.declared.rows.First.{First}
 use Rattle.fr_net.specs.declared.rows.First.TheVariants.{Outward, Inward}
 use Rattle.fr_net.proofs.Neighbours.{row_of_in, row_of_out}
 use Rattle.fr_core.proofs.RowLinks.{row_below}
-use Rattle.fr_core.specs.Machine.{least_count, neighbour_at}
+use Rattle.fr_core.specs.Machine.{bound_of, neighbour_at}
 use Rattle.fr_core.specs.declared.entry.Entry.{Entry}
 use Rattle.fr_core.specs.declared.entry.Reply.{Reply}
 use Rattle.fr_core.specs.declared.entry.Reply.TheVariants.{Cut}
@@ -60,19 +60,19 @@ begins b v w x c seen is le inside same low =
     }
 
 enough_next : (neighbours : List (ℕ × First)) (j c : ℕ) (seen seen' : List ℕ) → ((z : ℕ) → slice_index seen z ≤ slice_index seen' z) → AreEnough neighbours j seen c
-    → least_count (neighbour_at neighbours j).1 c ≤ slice_index seen' (neighbour_at neighbours j).0 → AreEnough neighbours (j + 1) seen' c
+    → bound_of (neighbour_at neighbours j).1 c ≤ slice_index seen' (neighbour_at neighbours j).0 → AreEnough neighbours (j + 1) seen' c
 enough_next neighbours j c seen seen' up before here i below =
     ⊎_elim
-    (λ (e : i ≡ j). subst (λ (k : ℕ). least_count (neighbour_at neighbours k).1 c ≤ slice_index seen' (neighbour_at neighbours k).0) (sym e) here)
+    (λ (e : i ≡ j). subst (λ (k : ℕ). bound_of (neighbour_at neighbours k).1 c ≤ slice_index seen' (neighbour_at neighbours k).0) (sym e) here)
     (λ (lt : i < j). let p = before i lt in let q = up (neighbour_at neighbours i).0 in omega arith)
     (split i j below)
   where
     split : (k i : ℕ) → k < i + 1 → (k ≡ i) ⊎ (k < i)
     split k i h = grind arith
 
--- a neighbour that has at least its least count
+-- a neighbour that meets its bound
 pub looks_on : (b : Setup) (v w w' : View) (x c i y : ℕ) (seen seen' : List ℕ) → IsUnderWay b v x c i w seen → w' ≡ noted w y (slice_index seen' y) → w'.seen ≡ seen' → slice_index seen y ≤ slice_index seen' y
-    → least_count (neighbour_at (row b.nodes b.links x) i).1 c ≤ slice_index seen' (neighbour_at (row b.nodes b.links x) i).0 → IsUnderWay b v x c (i + 1) w' seen'
+    → bound_of (neighbour_at (row b.nodes b.links x) i).1 c ≤ slice_index seen' (neighbour_at (row b.nodes b.links x) i).0 → IsUnderWay b v x c (i + 1) w' seen'
 looks_on b v w w' x c i y seen seen' g is same le here =
     let l = g.looking in
     let f : ℕ = slice_index seen' y in
@@ -92,11 +92,11 @@ looks_on b v w w' x c i y seen seen' g is same le here =
       low = g.low;
     }
 
--- every neighbour has at least its least count once the whole row has
+-- every neighbour meets its bound once the whole row has
 pub all_meet : (b : Setup) (x c j : ℕ) (seen : List ℕ) → IsNet b.nodes b.links → length (row b.nodes b.links x) ≤ j → AreEnough (row b.nodes b.links x) j seen c → AllMeet b.links seen x c
 all_meet b x c j seen net all enough =
     let neighbours : List (ℕ × First) = row b.nodes b.links x in
-    let IsEnough : ℕ × First → Type 0 = λ e. least_count e.1 c ≤ slice_index seen e.0 in
+    let IsEnough : ℕ × First → Type 0 = λ e. bound_of e.1 c ≤ slice_index seen e.0 in
     let each : All IsEnough neighbours = All-from_get_or IsEnough neighbours (0, Outward) (λ k lt. enough k (omega arith)) in
     record {
       along = λ w there. All-contains IsEnough neighbours (w, Outward) each (row_of_out b.nodes b.links x w net there);

@@ -4,7 +4,7 @@ use Rattle.atomic_table.specs.declared.shared.Seat.{Seat}
 use Rattle.fr_net.specs.Links.{Points}
 use Rattle.fr_net.specs.Rows.{row}
 use Rattle.fr_net.specs.declared.rows.First.{First}
-use Rattle.fr_core.specs.Machine.{least_count, neighbour_at}
+use Rattle.fr_core.specs.Machine.{bound_of, neighbour_at}
 use Rattle.fr_core.specs.declared.entry.Reply.{Reply}
 use Rattle.fr_core.specs.declared.entry.Reply.TheVariants.{Turned, Held, Moved, Cut}
 use Rattle.fr_round.specs.declared.view.Setup.{Setup}
@@ -42,9 +42,9 @@ pub record IsLooking (v : View) (x c : ℕ) (w : View) : Type 0 where
   pub had : slice_index v.seen x ≤ c
   pub own : c ≤ slice_index w.seen x
 
--- the first j neighbours of a row have at least their least counts
+-- the first j neighbours of a row meet their bounds
 abbrev pub AreEnough : List (ℕ × First) → ℕ → List ℕ → ℕ → Type 0
-AreEnough neighbours j seen c = (i : ℕ) → i < j → least_count (neighbour_at neighbours i).1 c ≤ slice_index seen (neighbour_at neighbours i).0
+AreEnough neighbours j seen c = (i : ℕ) → i < j → bound_of (neighbour_at neighbours i).1 c ≤ slice_index seen (neighbour_at neighbours i).0
 
 -- the same with the first j neighbours looked at
 pub record IsUnderWay (b : Setup) (v : View) (x c j : ℕ) (w : View) (seen : List ℕ) : Type 0 where
@@ -75,7 +75,7 @@ pub record IsNewView (v : View) (k : ℕ) : Type 0 where
   pub known : v.known ≡ []
   pub seen : v.seen ≡ replicate v.setup.nodes 0
 
--- every neighbour of x has at least its least count
+-- every neighbour of x meets its bound
 pub record AllMeet (first : List (ℕ × ℕ)) (counts : List ℕ) (x c : ℕ) : Type 0 where
   pub along : (w : ℕ) → Points first x w → c + 1 ≤ slice_index counts w
   pub against : (w : ℕ) → Points first w x → c ≤ slice_index counts w

@@ -43,7 +43,7 @@ module _ {S : Type 0} where
       × (found ≡ me.0.setup.nodes → EndsCall me.0 s.word Cut s.word found me'.0)
       × (me'.1 ≡ me.1)
 
-  -- the load of a neighbour's count, whose least count is `more` above the own one: less decides Held, and else it is noted
+  -- the load of a neighbour's count, whose bound is `more` above the own one: less decides Held, and else it is noted
   abbrev pub neighbour_loaded : ℕ → Step S → Me S View → ℕ → Me S View → Type 0
   neighbour_loaded more s me found me' =
       (slice_index me.0.seen s.word ≤ found)

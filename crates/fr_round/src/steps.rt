@@ -3,7 +3,7 @@
 ghost use Rattle.std.specs.Prelude.{◌≡◌, ◌+◌, ◌<◌, ◌≤◌, ◌^◌, MatchBool, length, slice_index};
 ghost use Rattle.std.specs.List.{Contains};
 ghost use Rattle.fr_net.specs.Rows.{row};
-ghost use Rattle.fr_core.specs.Machine.{least_count};
+ghost use Rattle.fr_core.specs.Machine.{bound_of};
 ghost use Rattle.fr_core.specs.Sound.{IsTurnable};
 ghost use Rattle.fr_core.specs.declared.entry.Reply.TheVariants.{Held};
 ghost use Rattle.fr_round.specs.Setups.{setup_of};
@@ -23,7 +23,7 @@ pub type RoundWords = Shared<(), View, Terms, Rule>;
 /// A seat at them.
 pub type RoundSeat = Seat<(), View>;
 
-/// Loads the count of a neighbour. True if it has at least its least count; else the call is decided.
+/// Loads the count of a neighbour. True if it meets its bound; else the call is decided.
 fn load_neighbour(
     words: &RoundWords,
     seat: &mut RoundSeat,
@@ -40,7 +40,7 @@ fn load_neighbour(
     ensures seat { IsSameSeat seat.old seat.new }
     ensures seen { (seat.new.me.0.seen ≡ seen.new) × (slice_index seen.old neighbour ≤ slice_index seen.new neighbour) }
     ensures step { MatchBool result
-        ((least_count first c ≤ slice_index seen.new neighbour) × (seat.new.me.0 ≡ noted seat.old.me.0 neighbour (slice_index seen.new neighbour)))
+        ((bound_of first c ≤ slice_index seen.new neighbour) × (seat.new.me.0 ≡ noted seat.old.me.0 neighbour (slice_index seen.new neighbour)))
         (EndsCall seat.old.me.0 x (Held neighbour) neighbour (slice_index seen.new neighbour) seat.new.me.0) }
 {
     let at = neighbour as usize;

@@ -3,7 +3,7 @@ use Rattle.std.specs.Prelude.{slice_index, slice_set}
 use Rattle.std.specs.List.{Contains}
 use Rattle.fr_net.specs.Rows.{row}
 use Rattle.fr_net.specs.declared.rows.First.{First}
-use Rattle.fr_core.specs.Machine.{least_count, neighbour_at}
+use Rattle.fr_core.specs.Machine.{bound_of, neighbour_at}
 use Rattle.fr_core.specs.declared.entry.Reply.TheVariants.{Turned, Held, Moved}
 use Rattle.fr_round.specs.declared.view.View.{View}
 use Rattle.fr_round.specs.declared.terms.Terms.{Terms}
@@ -75,7 +75,7 @@ loop-neighbour-preserved c =
     let j : ℕ = c.loop-neighbour.neighbour-index in
     let m = c.load_neighbour in
     let step = c.if-not-load_neighbour.ensures.step in
-    let enough = subst (λ (l : List (ℕ × First)). least_count (neighbour_at l j).1 c.load-c.result ≤ slice_index m.new.seen (neighbour_at l j).0) c.row-neighbour-items.ensures step.0 in (
+    let enough = subst (λ (l : List (ℕ × First)). bound_of (neighbour_at l j).1 c.load-c.result ≤ slice_index m.new.seen (neighbour_at l j).0) c.row-neighbour-items.ensures step.0 in (
       (m.ensures.seat.0 ∙ i.0.0, m.ensures.seat.1 ∙ i.0.1, m.ensures.seat.2 ∙ i.0.2),
       looks_on b c.args.seat.now.me.0 c.loop-neighbour.seat.me.0 m.new.seat.me.0 c.args.x c.load-c.result j (neighbour_at c.row-neighbour-items.result.now j).0 c.loop-neighbour.seen m.new.seen i.1 step.1 m.ensures.seen.0 m.ensures.seen.1 enough,
     )
