@@ -1,5 +1,5 @@
 -- The closing of a round.
-use Rattle.std.proofs.Common.{◌≡◌, ◌≢◌, ℕ, zero, suc, ◌+◌, ◌<◌, ◌≤◌, true, List, [], ◌∷◌, ◌++◌, map, length, get_or, set, refl, sym, ap, ◌∙◌, subst, arith, append_assoc, append-nil, length-append, get_or-set_same, get_or-set_other, ext_get_or}
+use Rattle.std.proofs.Common.{◌≡◌, ◌≢◌, ℕ, zero, suc, ◌+◌, ◌<◌, ◌≤◌, true, List, [], ◌∷◌, ◌++◌, map, length, get_or, set, refl, sym, ap, ◌∙◌, subst, arith, append_assoc, append-nil, length-append, get_or-set_same, get_or-set_other, ext_get_or, sum_by}
 use mathlib.Core.List.{map-append}
 use Rattle.std.specs.List.{AllByRecursion as Each}
 use mathlib.Core.Option.{some, some-ne-none, some-injective}
@@ -21,6 +21,7 @@ use Rattle.fr_round.specs.Knowledge.{Knowledge, OpenRound}
 use Rattle.fr_round.specs.Closing.{Closes, IsPartOf, number_and_known, number_and_turns}
 use Rattle.fr_round.proofs.Keeping.{each_weaker}
 use Rattle.fr_round.proofs.Entries.{lawful_after}
+use Rattle.fr_round.proofs.Totals.{all_handed_back}
 
 -- so many workers were taken over
 pub record IsPartGathered (p q : RoundSeat) (first turned : List (ℕ × ℕ)) (done rest all : List Knowledge) : Type 0 where
@@ -87,14 +88,23 @@ closes r workers words xs id v turned final closes' taken pairs =
     let k = final.1.0 in
     let mine = (k.views id v final.1.1).closing closes' in
     let all = each_map (IsTaken k.next k.seat_of id k.history) number_and_known workers (subst (λ l. Each (IsTaken k.next k.seat_of id k.history) l) taken mine.taken) in
+    let run : IsRunTo r.setup.nodes r.setup.dest r.setup.links k.history words = subst (λ (l : List ℕ). IsRunTo r.setup.nodes r.setup.dest r.setup.links k.history l) final.2 (some_run r.setup s k) in
+    let opened : Each (λ (e : Entry). e.worker < r.setup.workers) k.history =
+    each_weaker (λ (e : Entry). e.worker < k.next) (λ (e : Entry). e.worker < r.setup.workers) (λ e lt. let m = k.most in omega arith) k.history k.given_out in
+    let parts : Each (IsPartOf k.history) workers =
+    each_weaker (λ (x : Knowledge). IsTaken k.next k.seat_of id k.history (number_and_known x)) (IsPartOf k.history) (λ x t. record { begins = t.begins; own = t.own }) workers all in
+    let apart : AreApart (map (λ (x : Knowledge). x.number) workers) = subst AreApart (ap (map (λ (t : ℕ × List Entry). t.0)) taken ∙ left_numbers workers) mine.apart in
+    let numbered : Each (λ (x : Knowledge). x.number < r.setup.workers) workers =
+    each_weaker (λ (x : Knowledge). IsTaken k.next k.seat_of id k.history (number_and_known x)) (λ (x : Knowledge). x.number < r.setup.workers) (λ x t. let m = k.most in let l = t.numbered in omega arith) workers all in
     record {
       history = k.history;
-      run = subst (λ (l : List ℕ). IsRunTo r.setup.nodes r.setup.dest r.setup.links k.history l) final.2 (some_run r.setup s k);
-      opened = each_weaker (λ (e : Entry). e.worker < k.next) (λ (e : Entry). e.worker < r.setup.workers) (λ e lt. let m = k.most in omega arith) k.history k.given_out;
-      parts = each_weaker (λ (x : Knowledge). IsTaken k.next k.seat_of id k.history (number_and_known x)) (IsPartOf k.history) (λ x t. record { begins = t.begins; own = t.own }) workers all;
-      apart = subst AreApart (ap (map (λ (t : ℕ × List Entry). t.0)) taken ∙ left_numbers workers) mine.apart;
-      numbered = each_weaker (λ (x : Knowledge). IsTaken k.next k.seat_of id k.history (number_and_known x)) (λ (x : Knowledge). x.number < r.setup.workers) (λ x t. let m = k.most in let l = t.numbered in omega arith) workers all;
+      run = run;
+      opened = opened;
+      parts = parts;
+      apart = apart;
+      numbered = numbered;
       pairs = pairs;
+      all_back = λ whole. ap (sum_by (λ (p : ℕ × ℕ). p.1)) pairs ∙ all_handed_back r.setup k.history words workers run opened parts apart numbered whole;
     }
 
 -- the counts at the end are as many as nodes

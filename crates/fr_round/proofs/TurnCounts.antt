@@ -19,7 +19,7 @@ turn_of r = cond (is_turned r) 1 0
 pub turn_count_push : (h : List Entry) (e : Entry) → turn_count (h ++ e ∷ []) ≡ turn_count h + turn_of e.reply
 turn_count_push h e = sum_by_push (λ (f : Entry). cond (is_turned f.reply) 1 0) h e
 
-turn_count_cons : (e : Entry) (h : List Entry) → turn_count (e ∷ h) ≡ turn_of e.reply + turn_count h
+pub turn_count_cons : (e : Entry) (h : List Entry) → turn_count (e ∷ h) ≡ turn_of e.reply + turn_count h
 turn_count_cons e h = sum_by-cons (λ (f : Entry). cond (is_turned f.reply) 1 0) e h
 
 turn_count_part : (k : ℕ) (h : List Entry) → turn_count (part k h) ≤ turn_count h

@@ -1,5 +1,5 @@
 -- What the closing of a round says.
-use Rattle.std.specs.Prelude.{◌≡◌, ℕ, ◌<◌, List, map}
+use Rattle.std.specs.Prelude.{◌≡◌, ℕ, ◌<◌, List, length, map, sum, sum_by}
 use Rattle.std.specs.List.{AllByRecursion as Each}
 use Rattle.fr_core.specs.History.{part, turn_count}
 use Rattle.fr_core.specs.Runs.{IsRunTo}
@@ -31,5 +31,7 @@ pub record Closes (r : OpenRound) (workers : List Knowledge) (counts : List ℕ)
   -- these workers have different numbers, below the number of workers opened,
   pub apart : AreApart (map (λ (k : Knowledge). k.number) workers)
   pub numbered : Each (λ (k : Knowledge). k.number < r.setup.workers) workers
-  -- and the pairs are their numbers and turns, in the order in which they were handed back
+  -- the pairs are their numbers and turns, in the order in which they were handed back,
   pub pairs : turned ≡ map number_and_turns workers
+  -- and where all came back, their turns add up to the counts
+  pub all_back : length workers ≡ r.setup.workers → sum_by (λ (p : ℕ × ℕ). p.1) turned ≡ sum counts

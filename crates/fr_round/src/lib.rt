@@ -14,6 +14,8 @@ mod round;
 mod rule;
 mod steps;
 mod terms;
+#[cfg(test)]
+mod tests;
 mod view;
 mod worker;
 
