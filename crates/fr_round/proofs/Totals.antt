@@ -1,5 +1,5 @@
 -- Where all workers are handed back, their turns are all the turns of the history.
-use Rattle.std.proofs.Common.{◌≡◌, ◌≢◌, ◌⊎◌, ℕ, zero, suc, ◌+◌, ◌<◌, Bool, cond, eqb, Contains, List, [], ◌∷◌, map, length, replicate, refl, sym, ap, ◌∙◌, subst, ⊎_elim, inl, inr, arith, eq-eqb, ne_eqb, sum, sum_by}
+use Rattle.std.proofs.Common.{◌≡◌, ◌≢◌, ◌⊎◌, ℕ, suc, ◌+◌, ◌<◌, Bool, cond, eqb, Contains, List, [], ◌∷◌, map, length, replicate, refl, sym, ap, ◌∙◌, subst, ⊎_elim, inl, inr, arith, eq-eqb, ne_eqb, sum, sum_by}
 use Rattle.std.proofs.lemmas.Bool.{cases_eq}
 use Rattle.std.proofs.lemmas.List.{length-replicate}
 use Rattle.std.proofs.lemmas.List.Folds.{sum_by-replicate}
@@ -8,7 +8,7 @@ use Rattle.std.specs.List.{AllByRecursion as Each, IsDistinct}
 use Rattle.fr_net.proofs.Members.{Contains-cases, Contains-head, Contains-none, Contains-tail}
 use Rattle.fr_core.proofs.Pigeons.{IsDistinct-more, IsDistinct-none, distinct_length}
 use Rattle.fr_core.proofs.Runs.{run_sum}
-use Rattle.fr_core.specs.History.{Moment, moment_of, part, turn_count}
+use Rattle.fr_core.specs.History.{Moment, part, turn_count}
 use Rattle.fr_core.specs.Runs.{IsRunTo}
 use Rattle.fr_core.specs.declared.entry.Entry.{Entry}
 use Rattle.fr_round.specs.declared.view.Setup.{Setup}
