@@ -1,4 +1,4 @@
--- Each step of a worker keeps the rule, and tells what its play says.
+-- Each step of a worker keeps the rule, and tells what `specs/Steps.antt` says of it.
 use Rattle.std.proofs.Common.{◌≡◌, ◌≢◌, ℕ, ◌+◌, ◌<◌, ◌≤◌, true, eqb, List, [], ◌∷◌, ◌++◌, length, set, refl, sym, ap, ◌∙◌, subst, ⊎_elim, arith, le_refl, length-set, get_or-set_same, append-nil, append_assoc, true≢false}
 use Rattle.std.specs.Prelude.{slice_index, slice_set}
 use Rattle.std.specs.List.{AllByRecursion as Each, Contains}
@@ -52,7 +52,7 @@ grows_by k x r h = record { rest = entry k x r ∷ []; is = refl; others = λ i 
 starts_on : (k : ℕ) (h h' known : List Entry) → Grows k h h' → StartsWith h known → StartsWith h' known
 starts_on k h h' known g s = (s.0 ++ g.rest, g.is ∙ (ap (λ l. l ++ g.rest) s.1 ∙ append_assoc known s.0 g.rest))
 
--- what the rule says of another seat goes on to hold
+-- what the rule says of the other seats goes on to hold
 pub others_stay : (b : Setup) (next : ℕ) (seat_of : ℕ → ℕ) (at : ℕ) (h h' : List Entry) (words words' : List ℕ) (k : ℕ) → Grows k h h' → ((y : ℕ) → slice_index words y ≤ slice_index words' y)
     → (j : ℕ) (u : View) → seat_of k ≢ j → ViewFits b next seat_of at h words j u → ViewFits b next seat_of at h' words' j u
 others_stay b next seat_of at h h' words words' k g up j u apart f = record {

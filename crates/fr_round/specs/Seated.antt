@@ -16,6 +16,6 @@ pub record IsTableOf (g : Terms) (t : Shared (Unit {0}) View Terms Rule) : Type 
 -- the opening seat after so many numbers were given out
 pub record IsNumbering (g : Terms) (t : Shared (Unit {0}) View Terms Rule) (p : RoundSeat) (k : ℕ) : Type 0 where
   pub table : IsTableOf g t
-  pub pen_table : p.table_id ≡ t.table_id
-  pub pen_empty : p.me.1 ≡ []
+  pub seat_table : p.table_id ≡ t.table_id
+  pub seat_empty : p.me.1 ≡ []
   pub view : p.me.0 ≡ record (opening_view (setup_of g)) { next = k }

@@ -70,32 +70,26 @@ impl Round {
         }
         let terms = Terms { net, dest, workers };
         match prepare(alloc, &terms) {
-            Ok(prepared) => {
-                let Prepared {
+            Ok(
+                Prepared {
                     table,
-                    workers: list,
+                    workers,
                     counts,
                     turned,
-                } = prepared;
+                },
+            ) => {
                 let round = Round {
                     terms,
                     table,
                     counts,
                     turned,
                 };
-                Ok((round, list))
+                Ok((round, workers))
             }
-            Err(_) => {
-                let Terms {
-                    net,
-                    dest: _,
-                    workers: _,
-                } = terms;
-                Err(OpenFault {
-                    net,
-                    why: OpenWhy::Memory,
-                })
-            }
+            Err(_) => Err(OpenFault {
+                net: terms.into_net(),
+                why: OpenWhy::Memory,
+            }),
         }
     }
 
@@ -174,13 +168,8 @@ impl Round {
         let closed = table.close_with(seat);
         read_counts(&closed, counts.as_mut_slice());
         closed.free();
-        let Terms {
-            net,
-            dest: _,
-            workers: _,
-        } = terms;
         Closed {
-            net,
+            net: terms.into_net(),
             counts,
             turned,
         }

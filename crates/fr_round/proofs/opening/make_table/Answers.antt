@@ -22,8 +22,8 @@ loop-number-init c =
     let long : length c.as_slice.result.now ≡ g.net.nodes = ap (λ (l : List ℕ). length l) (c.as_slice.ensures.value ∙ c.in_ok-words.ensures) ∙ (length-replicate c.nodes-nodes.result 0 ∙ c.nodes-nodes.ensures.value) in (
       record {
         table = record { key = t.5; words = t.0 ∙ long; slots = t.1 };
-        pen_table = t.2;
-        pen_empty = ap (λ m. m.1) t.4;
+        seat_table = t.2;
+        seat_empty = ap (λ m. m.1) t.4;
         view = ap (λ m. m.0) t.4;
       },
       c.new-workers.ensures.items,
@@ -35,7 +35,7 @@ split_seat-seat-requires c =
     let v = c.loop-number.opening.me.0 in
     let few : 0 < c.in_ok-table.table.shared.table_id.words = let w = d.table.words in let r = c.requires.dest in omega arith in
     let more : v.next < c.in_ok-table.table.shared.key.workers = let e : v.next ≡ c.loop-number.number = ap (λ (u : View). u.next) d.view in let k : c.in_ok-table.table.shared.key.workers ≡ c.args.terms.now.workers = ap (λ (z : Terms). z.workers) d.table.key in let t = c.loop-number-test.true in omega arith in
-    (d.pen_table, few, splits (setup_of c.in_ok-table.table.shared.key) c.loop-number.opening.id v (ap (λ (u : View). u.opens) d.view) (ap (λ (u : View). u.works) d.view) (ap (λ (u : View). u.closes) d.view) more)
+    (d.seat_table, few, splits (setup_of c.in_ok-table.table.shared.key) c.loop-number.opening.id v (ap (λ (u : View). u.opens) d.view) (ap (λ (u : View). u.works) d.view) (ap (λ (u : View). u.closes) d.view) more)
 
 pub new-requires : goal.new-requires
 new-requires c =
@@ -57,11 +57,11 @@ loop-number-preserved c =
     let t = c.in_ok-table.table.shared.table_id in
     let is : c.split_seat-seat.result.me.0 ≡ worker_view (record (opening_view b) { next = k }) = ap (λ m. m.0) s.4 ∙ ap worker_view d.view in
     let setup : c.split_seat-seat.result.me.0.setup ≡ b = ap (λ (u : View). u.setup) is in
-    let new : c.new.result ≡ new_worker t b k = c.new.ensures ∙ (λ i. new_worker ((s.3 ∙ d.pen_table) i) (setup i) k) in (
+    let new : c.new.result ≡ new_worker t b k = c.new.ensures ∙ (λ i. new_worker ((s.3 ∙ d.seat_table) i) (setup i) k) in (
       record {
         table = d.table;
-        pen_table = s.0 ∙ d.pen_table;
-        pen_empty = ap (λ m. m.1) s.2 ∙ d.pen_empty;
+        seat_table = s.0 ∙ d.seat_table;
+        seat_empty = ap (λ m. m.1) s.2 ∙ d.seat_empty;
         view = ap (λ m. m.0) s.2 ∙ ap numbered_next d.view;
       },
       c.in_ok-push.ensures.items ∙ ((λ j. c.loop-number.invariant.1 j ++ new j ∷ []) ∙ sym (ap (new_workers t b) (add-one k))),
