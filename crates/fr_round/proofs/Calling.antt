@@ -1,5 +1,5 @@
 -- What the steps of a call come to.
-use Rattle.std.proofs.Common.{◌≡◌, ◌⊎◌, ℕ, ◌+◌, ◌<◌, ◌≤◌, List, length, sym, ap, ◌∙◌, subst, ⊎_elim, arith, le_refl, get_or-set_same}
+use Rattle.std.proofs.Common.{◌≡◌, ◌⊎◌, ℕ, ◌+◌, ◌<◌, ◌≤◌, List, length, sym, ap, ◌∙◌, subst, ⊎_elim, arith, get_or-set_same}
 use Rattle.std.specs.Prelude.{slice_index, slice_set}
 use Rattle.std.specs.List.{All, Contains}
 use Rattle.std.proofs.lemmas.List.Elements.{All-contains, All-from_get_or, Contains-get_or}
@@ -12,7 +12,6 @@ use Rattle.fr_core.proofs.RowLinks.{row_below}
 use Rattle.fr_core.specs.Machine.{bound_of, neighbour_at}
 use Rattle.fr_core.specs.declared.entry.Entry.{Entry}
 use Rattle.fr_core.specs.declared.entry.Reply.{Reply}
-use Rattle.fr_core.specs.declared.entry.Reply.TheVariants.{Cut}
 use Rattle.fr_round.specs.declared.view.Setup.{Setup}
 use Rattle.fr_round.specs.declared.view.View.{View}
 use Rattle.fr_round.specs.Steps.{EndsCall, noted, begun}
@@ -38,11 +37,6 @@ call_made_at v s a k x reply y f w' up le d shows =
 pub call_made : (v : View) (x c : ℕ) (w w' : View) (reply : Reply) (y f : ℕ) → IsLooking v x c w → slice_index w.seen y ≤ f → EndsCall w x reply y f w'
     → (w'.seen ≡ slice_set w.seen y f → ShowsCount v.setup.nodes v.seen w'.seen x reply) → IsCallMade v x reply w'
 call_made v x c w w' reply y f l le d shows = call_made_at v w.seen x c x reply y f w' l.up le (subst (λ (u : View). EndsCall u x reply y f w') l.same d) shows
-
--- a call is decided by its first step
-pub cut_at_once : (v w' : View) (x f : ℕ) → slice_index v.seen x ≤ f → f ≡ v.setup.nodes → x < length v.seen → EndsCall v x Cut x f w' → IsCallMade v x Cut w'
-cut_at_once v w' x f le full inside d =
-    call_made_at v v.seen v.node v.count x Cut x f w' (λ z. le_refl _) le d (λ (e : w'.seen ≡ slice_set v.seen x f). ap (λ l. slice_index l x) e ∙ (get_or-set_same v.seen x f 0 inside ∙ full))
 
 pub begins : (b : Setup) (v w : View) (x c : ℕ) (seen : List ℕ) → w ≡ begun v x c → slice_index v.seen x ≤ c → x < length v.seen → v.seen ≡ seen → c ≤ b.nodes → IsUnderWay b v x c 0 w (slice_set seen x c)
 begins b v w x c seen is le inside same low =

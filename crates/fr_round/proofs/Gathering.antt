@@ -107,12 +107,6 @@ closes r workers words xs id v turned final closes' taken pairs =
       all_back = λ whole. ap (sum_by (λ (p : ℕ × ℕ). p.1)) pairs ∙ all_handed_back r.setup k.history words workers run opened parts apart numbered whole;
     }
 
--- the counts at the end are as many as nodes
-pub final_length : {S : Type 0} (b : Setup) (words : List ℕ) (xs : List S) (id : ℕ) (v : View) → Final (Seen (KeepsRule {S = S} b) id v) words xs → length words ≡ b.nodes
-final_length b words xs id v final =
-    let k = final.1.0 in
-    ap (λ (l : List ℕ). length l) (sym final.2 ∙ k.words) ∙ (lawful_after b k.history k.net k.run).lawful.one_each
-
 pub nil_of : {A : Type 0} (l : List A) → length l ≡ 0 → l ≡ []
 nil_of [] e = refl
 nil_of (x ∷ xs) e = absurd (omega arith)

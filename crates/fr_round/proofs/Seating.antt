@@ -28,11 +28,6 @@ at_end [] a b (suc j) e = absurd (some-ne-none b (sym e))
 at_end (x ∷ xs) a b zero e = inl e
 at_end (x ∷ xs) a b (suc j) e = ⊎_elim (λ here. inl here) (λ (t : (j ≡ length xs) × (a ≡ b)). inr (ap suc t.0, t.1)) (at_end xs a b j e)
 
-at_inside : {A : Type 0} (l : List A) (j : ℕ) (b : A) → get_elem? l j ≡ some b → j < length l
-at_inside [] j b e = absurd (some-ne-none b (sym e))
-at_inside (x ∷ xs) zero b e = omega arith
-at_inside (x ∷ xs) (suc j) b e = let h = at_inside xs j b e in omega arith
-
 -- a number that was not given out has no entries
 none_of : (k : ℕ) (h : List Entry) → Each (λ (e : Entry). e.worker < k) h → part k h ≡ []
 none_of k [] a = refl
