@@ -6,3 +6,4 @@ pub mod Totals
 pub mod Calling
 pub mod SoundCalls
 pub mod Gathering
+pub mod SameSteps

@@ -1,6 +1,7 @@
-//! The law of a round: each clause is a law of `specs/Laws.antt`, proved. The function does nothing.
+//! The laws of a round: each clause is a law of `specs/Laws.antt`, proved. The functions do nothing.
 
 ghost use Rattle.fr_round.specs.Laws.{SomeRunStandsBehindTheWords, RuleHoldsAtFirst};
+ghost use Rattle.fr_round.specs.Laws.{OwnLoadIsTheMachines, NeighbourLoadIsTheMachines, ExchangeIsTheMachines};
 
 /// At each moment of a round the calls so far stand in one list, in which each call has its place: full reversal by one
 /// thread (E. Gafni and D. Bertsekas, 1981) could have made it, its counts are the words, its links are those that the
@@ -9,4 +10,12 @@ ghost use Rattle.fr_round.specs.Laws.{SomeRunStandsBehindTheWords, RuleHoldsAtFi
 pub fn round_law()
     ensures run { SomeRunStandsBehindTheWords }
     ensures first { RuleHoldsAtFirst }
+{}
+
+/// Each step that a worker takes on the words is a step of the machine of `fr_core` at the same words: what the table of the
+/// machine decides there, the worker's known history gains.
+pub fn step_law()
+    ensures own { OwnLoadIsTheMachines }
+    ensures neighbour { NeighbourLoadIsTheMachines }
+    ensures exchange { ExchangeIsTheMachines }
 {}

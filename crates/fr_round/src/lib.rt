@@ -21,6 +21,6 @@ mod worker;
 
 pub use closing::Closed;
 pub use faults::{OpenFault, OpenWhy, Refusal};
-pub use laws::round_law;
+pub use laws::{round_law, step_law};
 pub use round::Round;
 pub use worker::Worker;

@@ -76,7 +76,7 @@ fn two_threads_turn(rt: HostRuntime) -> Result<(), Fail> {
     let net = Net::new(rt.alloc(), 3, &[(0, 1), (1, 2)])?;
     let (round, mut workers) = Round::open(rt.alloc(), net, 0, 2)?;
     let (Some(b), Some(a)) = (workers.pop(), workers.pop()) else {
-        return Ok(());
+        return Err(Fail::from("there are not two workers"));
     };
     let ((a, first), (b, second)) = two_threads(&rt, &round, a, b);
     assert_eq!(rt; (first, second), (1, 1));
@@ -89,6 +89,83 @@ fn two_threads_turn(rt: HostRuntime) -> Result<(), Fail> {
     Ok(())
 }
 
+/// What the worker has seen of node `x`, if that is a node.
+fn seen_by(round: &Round, worker: &Worker, x: u32) -> Option<u64>
+    requires { IsOwn round.now worker.now }
+{
+    if x < round.net().nodes() {
+        Some(worker.seen(x))
+    } else {
+        None
+    }
+}
+
+#[test]
+fn two_workers_at_one_node(rt: HostRuntime) -> Result<(), Fail> {
+    let net = Net::new(rt.alloc(), 2, &[(0, 1)])?;
+    let (round, mut workers) = Round::open(rt.alloc(), net, 0, 2)?;
+    let (Some(mut b), Some(mut a)) = (workers.pop(), workers.pop()) else {
+        return Err(Fail::from("there are not two workers"));
+    };
+    assert_eq!(rt; round.try_turn(&mut a, 1), Ok(Reply::Turned { count: 1 }));
+    assert_eq!(rt; round.try_turn(&mut b, 1), Ok(Reply::Held { by: 0 }));
+    assert_eq!(rt; seen_by(&round, &b, 1), Some(1));
+    assert_eq!(rt; round.try_turn(&mut b, 1), Ok(Reply::Held { by: 0 }));
+    assert_eq!(rt; round.try_turn(&mut b, 0), Err(Refusal::Destination));
+    assert_eq!(rt; round.try_turn(&mut b, 2), Err(Refusal::NoNode));
+    workers.push(a)?;
+    workers.push(b)?;
+    let closed = round.close(workers);
+    assert_eq!(rt; closed.counts.as_slice(), [0, 1].as_slice());
+    assert_eq!(rt; closed.turned.as_slice(), [(0, 1), (1, 0)].as_slice());
+    Ok(())
+}
+
+#[test]
+fn workers_come_back_in_any_order(rt: HostRuntime) -> Result<(), Fail> {
+    let net = Net::new(rt.alloc(), 2, &[(0, 1)])?;
+    let (round, mut workers) = Round::open(rt.alloc(), net, 0, 2)?;
+    let (Some(b), Some(mut a)) = (workers.pop(), workers.pop()) else {
+        return Err(Fail::from("there are not two workers"));
+    };
+    assert_eq!(rt; round.try_turn(&mut a, 1), Ok(Reply::Turned { count: 1 }));
+    workers.push(b)?;
+    workers.push(a)?;
+    let closed = round.close(workers);
+    assert_eq!(rt; closed.counts.as_slice(), [0, 1].as_slice());
+    assert_eq!(rt; closed.turned.as_slice(), [(1, 0), (0, 1)].as_slice());
+    Ok(())
+}
+
+#[test]
+fn the_worker_that_turned_is_missing(rt: HostRuntime) -> Result<(), Fail> {
+    let net = Net::new(rt.alloc(), 2, &[(0, 1)])?;
+    let (round, mut workers) = Round::open(rt.alloc(), net, 0, 2)?;
+    let (Some(b), Some(mut a)) = (workers.pop(), workers.pop()) else {
+        return Err(Fail::from("there are not two workers"));
+    };
+    assert_eq!(rt; round.try_turn(&mut a, 1), Ok(Reply::Turned { count: 1 }));
+    workers.push(b)?;
+    let closed = round.close(workers);
+    assert_eq!(rt; closed.counts.as_slice(), [0, 1].as_slice());
+    assert_eq!(rt; closed.turned.as_slice(), [(1, 0)].as_slice());
+    Ok(())
+}
+
+#[test]
+fn all_workers_are_missing(rt: HostRuntime) -> Result<(), Fail> {
+    let net = Net::new(rt.alloc(), 2, &[(0, 1)])?;
+    let (round, mut workers) = Round::open(rt.alloc(), net, 0, 2)?;
+    let (Some(_b), Some(mut a)) = (workers.pop(), workers.pop()) else {
+        return Err(Fail::from("there are not two workers"));
+    };
+    assert_eq!(rt; round.try_turn(&mut a, 1), Ok(Reply::Turned { count: 1 }));
+    let closed = round.close(workers);
+    assert_eq!(rt; closed.counts.as_slice(), [0, 1].as_slice());
+    assert!(rt; closed.turned.is_empty());
+    Ok(())
+}
+
 #[test]
 fn calls_of_one_thread(rt: HostRuntime) -> Result<(), Fail> {
     let net = Net::new(rt.alloc(), 4, &[(0, 1), (1, 2)])?;
@@ -98,7 +175,7 @@ fn calls_of_one_thread(rt: HostRuntime) -> Result<(), Fail> {
         (2, 0, 4)
     );
     let (Some(mut b), Some(mut a)) = (workers.pop(), workers.pop()) else {
-        return Ok(());
+        return Err(Fail::from("there are not two workers"));
     };
     assert_eq!(rt; round.try_turn(&mut a, 1), Ok(Reply::Held { by: 2 }));
     assert_eq!(rt; round.try_turn(&mut a, 2), Ok(Reply::Turned { count: 1 }));
@@ -123,7 +200,7 @@ fn a_chain_settles(rt: HostRuntime) -> Result<(), Fail> {
     let net = Net::new(rt.alloc(), 4, &[(0, 1), (1, 2), (2, 3)])?;
     let (round, mut workers) = Round::open(rt.alloc(), net, 0, 1)?;
     let Some(mut worker) = workers.pop() else {
-        return Ok(());
+        return Err(Fail::from("there is no worker"));
     };
     assert_eq!(rt; turn_each(&round, &mut worker, &[3, 2, 1, 3, 2, 3]), 6);
     assert_eq!(rt; round.try_turn(&mut worker, 1), Ok(Reply::Held { by: 0 }));
@@ -141,10 +218,34 @@ fn what_is_not_joined_is_cut(rt: HostRuntime) -> Result<(), Fail> {
     let net = Net::new(rt.alloc(), 3, &[(1, 2)])?;
     let (round, mut workers) = Round::open(rt.alloc(), net, 0, 1)?;
     let Some(mut worker) = workers.pop() else {
-        return Ok(());
+        return Err(Fail::from("there is no worker"));
     };
-    assert_eq!(rt; turn_each(&round, &mut worker, &[2, 1, 2, 1, 2, 1]), 6);
+    assert_eq!(rt;
+        round.try_turn(&mut worker, 2),
+        Ok(Reply::Turned { count: 1 })
+    );
+    assert_eq!(rt;
+        round.try_turn(&mut worker, 1),
+        Ok(Reply::Turned { count: 1 })
+    );
+    assert_eq!(rt;
+        round.try_turn(&mut worker, 2),
+        Ok(Reply::Turned { count: 2 })
+    );
+    assert_eq!(rt;
+        round.try_turn(&mut worker, 1),
+        Ok(Reply::Turned { count: 2 })
+    );
+    assert_eq!(rt;
+        round.try_turn(&mut worker, 2),
+        Ok(Reply::Turned { count: 3 })
+    );
+    assert_eq!(rt;
+        round.try_turn(&mut worker, 1),
+        Ok(Reply::Turned { count: 3 })
+    );
     assert_eq!(rt; round.try_turn(&mut worker, 2), Ok(Reply::Cut));
+    assert_eq!(rt; round.try_turn(&mut worker, 1), Ok(Reply::Cut));
     workers.push(worker)?;
     let closed = round.close(workers);
     assert_eq!(rt; closed.counts.as_slice(), [0, 3, 3].as_slice());

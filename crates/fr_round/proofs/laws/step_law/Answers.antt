@@ -1,0 +1,11 @@
+use Rattle.fr_round.proofs.SameSteps.{exchange_same, neighbour_load_same, own_load_same}
+use Rattle.fr_round.proofs.laws.step_law.Goals as goal
+
+pub returns-clause-own : goal.returns-clause-own
+returns-clause-own c = own_load_same
+
+pub returns-clause-neighbour : goal.returns-clause-neighbour
+returns-clause-neighbour c = neighbour_load_same
+
+pub returns-clause-exchange : goal.returns-clause-exchange
+returns-clause-exchange c = exchange_same
