@@ -20,6 +20,13 @@ pub record IsWorker (b : Setup) (v : View) : Type 0 where
   pub works : v.works ≡ true
   pub setup : v.setup ≡ b
 
+-- the kinds of reply that a call to turn a node has
+abbrev pub IsReplyToTurn : Reply → Type 0
+IsReplyToTurn (Turned k) = Unit {0}
+IsReplyToTurn (Held w) = Unit {0}
+IsReplyToTurn (Moved had k) = Unit {0}
+IsReplyToTurn Cut = Unit {0}
+
 -- a count of x that the worker has seen once it has the reply
 abbrev pub ShowsCount : ℕ → List ℕ → List ℕ → ℕ → Reply → Type 0
 ShowsCount n before after x (Turned k) = slice_index after x ≡ k

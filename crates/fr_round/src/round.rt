@@ -5,7 +5,7 @@ ghost use Rattle.std.specs.List.{AllByRecursion as Each};
 ghost use Rattle.fr_core.specs.Sound.{IsTurnable};
 ghost use Rattle.fr_round.specs.Histories.{entry};
 ghost use Rattle.fr_round.specs.Steps.{Extends};
-ghost use Rattle.fr_round.specs.Calls.{ShowsCount};
+ghost use Rattle.fr_round.specs.Calls.{ShowsCount, IsReplyToTurn};
 ghost use Rattle.fr_round.specs.Knowledge.{IsOwn, IsKnowledge, IsOpenable, Refuses, IsWhyNotOpened, new_workers};
 ghost use Rattle.fr_round.specs.Closing.{Closes};
 
@@ -129,6 +129,7 @@ impl Round {
         ensures number { worker.new.number ≡ worker.old.number }
         ensures decided { IfOk result (λ _. IsTurnable self.now.setup.nodes self.now.setup.dest self.now.setup.links x) }
         ensures refused { IfErr result (λ refusal. Refuses self.now.setup x refusal × (worker.new ≡ worker.old)) }
+        ensures kind { IfOk result IsReplyToTurn }
         ensures history { IfOk result
             (λ reply. Extends self.now.setup worker.old.number worker.old.known (entry worker.old.number x reply) worker.new.known) }
         ensures seen { (z : ℕ) → slice_index worker.old.seen z ≤ slice_index worker.new.seen z }
