@@ -3,8 +3,8 @@
 ghost use Rattle.fr_round.specs.Laws.{SomeRunStandsBehindTheWords, RuleHoldsAtFirst};
 ghost use Rattle.fr_round.specs.Laws.{OwnLoadIsTheMachines, NeighbourLoadIsTheMachines, ExchangeIsTheMachines};
 
-/// At each moment of a round the calls so far stand in one list, in which each call has its place: full reversal by one
-/// thread (E. Gafni and D. Bertsekas, 1981) could have made it, its counts are the words, its links are those that the
+/// At each moment of a round the calls so far stand in one list, in which each reply is the one that full reversal on one
+/// thread (E. Gafni and D. Bertsekas, 1981) gives at that point: its counts are the words, its links are those that the
 /// words give, and no loop stands among them. The rule that this starts from holds when a round is opened, and every atomic
 /// step of every thread keeps it.
 pub fn round_law()

@@ -3,7 +3,8 @@
 //!
 //! [`Round::open`] takes a network and answers an open round with its workers. A thread that holds a [`Worker`] calls
 //! [`Round::try_turn`] on the nodes that it likes, and [`Round::close`] ends the round once no thread shares it. At each
-//! moment the calls so far stand in one list that one thread could have made; [`round_law`] says it in one sentence.
+//! moment the calls so far stand in one list in which each reply is the one that full reversal on one thread gives at that
+//! point; [`round_law`] says it in one sentence.
 #![tactic(auto)]
 
 mod closing;
