@@ -10,6 +10,7 @@ pub mod Giving
 pub mod Acyclic
 pub mod TurnedLinks
 pub mod Refusing
+pub mod Editing
 pub mod Cycles
 pub mod Items
 pub mod LineValues

@@ -7,7 +7,7 @@ use Rattle.fr_net.specs.Faults.{IsInRange, IsFaultless, IsTooLarge, IsFirstFault
 use Rattle.fr_net.specs.Limits.{IsWithinLimits}
 use Rattle.fr_net.specs.Links.{AreBelow, AreSingle, HasNoSelfLink, IsAcyclic, IsCycle}
 use Rattle.fr_net.specs.declared.fault.NetFault.{NetFault}
-use Rattle.fr_net.specs.declared.fault.NetFault.TheVariants.{Cycle, Memory, Range, SelfLink, TooMany, Twice}
+use Rattle.fr_net.specs.declared.fault.NetFault.TheVariants.{Cycle, Memory, NoLink, Range, SelfLink, TooMany, Twice}
 
 -- links without a fault are refused for memory alone
 no_self_link : (links : List (ℕ × ℕ)) (u : ℕ) → HasNoSelfLink links → ¬ Contains links (u, u)
@@ -38,6 +38,7 @@ only_memory n links (Range x) f h = absurd (range_stands n links x f.some f.is_n
 only_memory n links (SelfLink u) f h = absurd (no_self_link links u f.is_net.no_self (h (λ e. cc)).2)
 only_memory n links (Twice u v) f h = absurd (omega (arith, (h (λ e. cc)).3, not_twice links u v f.is_net.single))
 only_memory n links (Cycle walk) f h = absurd (no_cycle_stands links walk.items f.is_net.acyclic (h (λ e. cc)).4)
+only_memory n links NoLink f h = absurd (h (λ e. cc))
 only_memory n links Memory f h = refl
 
 -- the place of a fault in the order of the tests
@@ -47,7 +48,8 @@ fault_place (Range x) = 1
 fault_place (SelfLink u) = 2
 fault_place (Twice u v) = 3
 fault_place (Cycle walk) = 4
-fault_place Memory = 5
+fault_place NoLink = 5
+fault_place Memory = 6
 
 -- what a later fault says of the tests before it
 limits_passed : (n : ℕ) (links : List (ℕ × ℕ)) (g : NetFault) → 0 < fault_place g → IsFirstFault n links g → IsWithinLimits n links
@@ -56,6 +58,7 @@ limits_passed n links (Range x) l h = h.0
 limits_passed n links (SelfLink u) l h = h.0
 limits_passed n links (Twice u v) l h = h.0
 limits_passed n links (Cycle walk) l h = h.0
+limits_passed n links NoLink l h = absurd h
 limits_passed n links Memory l h = absurd h
 
 range_passed : (n : ℕ) (links : List (ℕ × ℕ)) (g : NetFault) → 1 < fault_place g → IsFirstFault n links g → IsInRange n links
@@ -64,6 +67,7 @@ range_passed n links (Range x) l h = absurd (omega arith)
 range_passed n links (SelfLink u) l h = h.1
 range_passed n links (Twice u v) l h = h.1
 range_passed n links (Cycle walk) l h = h.1
+range_passed n links NoLink l h = absurd h
 range_passed n links Memory l h = absurd h
 
 self_passed : (n : ℕ) (links : List (ℕ × ℕ)) (g : NetFault) → 2 < fault_place g → IsFirstFault n links g → HasNoSelfLink links
@@ -72,6 +76,7 @@ self_passed n links (Range x) l h = absurd (omega arith)
 self_passed n links (SelfLink u) l h = absurd (omega arith)
 self_passed n links (Twice u v) l h = h.2
 self_passed n links (Cycle walk) l h = h.2
+self_passed n links NoLink l h = absurd h
 self_passed n links Memory l h = absurd h
 
 single_passed : (n : ℕ) (links : List (ℕ × ℕ)) (g : NetFault) → 3 < fault_place g → IsFirstFault n links g → AreSingle links
@@ -80,6 +85,7 @@ single_passed n links (Range x) l h = absurd (omega arith)
 single_passed n links (SelfLink u) l h = absurd (omega arith)
 single_passed n links (Twice u v) l h = absurd (omega arith)
 single_passed n links (Cycle walk) l h = h.3
+single_passed n links NoLink l h = absurd h
 single_passed n links Memory l h = absurd h
 
 none_follows : (n : ℕ) (links : List (ℕ × ℕ)) (f g : NetFault) → fault_place f < fault_place g → IsFirstFault n links f → ¬ IsFirstFault n links g
@@ -92,7 +98,9 @@ none_follows n links (Cycle walk) (Range x) l hf hg = omega arith
 none_follows n links (Cycle walk) (SelfLink u) l hf hg = omega arith
 none_follows n links (Cycle walk) (Twice u v) l hf hg = omega arith
 none_follows n links (Cycle walk) (Cycle other) l hf hg = omega arith
+none_follows n links (Cycle walk) NoLink l hf hg = hg
 none_follows n links (Cycle walk) Memory l hf hg = hg
+none_follows n links NoLink g l hf hg = hf
 none_follows n links Memory g l hf hg = hf
 
 -- two first faults are of one kind

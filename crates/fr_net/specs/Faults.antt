@@ -6,7 +6,7 @@ use Rattle.fr_net.specs.Limits.{most_nodes, most_links, IsWithinLimits}
 use Rattle.fr_net.specs.Links.{IsNet, AreBelow, HasNoSelfLink, AreSingle, IsCycle, is_between}
 use Rattle.fr_net.specs.Network.{Network, net_of}
 use Rattle.fr_net.specs.declared.fault.NetFault.{NetFault}
-use Rattle.fr_net.specs.declared.fault.NetFault.TheVariants.{TooMany, Range, SelfLink, Twice, Cycle, Memory}
+use Rattle.fr_net.specs.declared.fault.NetFault.TheVariants.{TooMany, Range, SelfLink, Twice, Cycle, NoLink, Memory}
 
 -- there are more nodes or more links than the limits admit
 abbrev pub IsTooLarge : ℕ → List (ℕ × ℕ) → Type 0
@@ -21,13 +21,15 @@ pub record IsInRange (n : ℕ) (links : List (ℕ × ℕ)) : Type 0 where
 abbrev pub IsOutOfRange : ℕ → List (ℕ × ℕ) → ℕ → Type 0
 IsOutOfRange n links x = ((n ≡ 0) × (x ≡ 0)) ⊎ ((0 < n) × (n ≤ x) × Any (λ (l : ℕ × ℕ). (l.0 ≡ x) ⊎ (l.1 ≡ x)) links)
 
--- the fault stands, with what it names, and none that is tested before it does; want of memory is no fault of links
+-- the fault stands, with what it names, and none that is tested before it does; that there is no link to cut and want of
+-- memory are no faults of links
 abbrev pub IsFirstFault : ℕ → List (ℕ × ℕ) → NetFault → Type 0
 IsFirstFault n links TooMany = IsTooLarge n links
 IsFirstFault n links (Range x) = IsWithinLimits n links × IsOutOfRange n links x
 IsFirstFault n links (SelfLink u) = IsWithinLimits n links × IsInRange n links × Contains links (u, u)
 IsFirstFault n links (Twice u v) = IsWithinLimits n links × IsInRange n links × HasNoSelfLink links × (2 ≤ count_by (is_between u v) links)
 IsFirstFault n links (Cycle walk) = IsWithinLimits n links × IsInRange n links × HasNoSelfLink links × AreSingle links × IsCycle links walk.items
+IsFirstFault n links NoLink = ⊥
 IsFirstFault n links Memory = ⊥
 
 -- none of the faults stands

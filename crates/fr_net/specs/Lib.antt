@@ -6,6 +6,7 @@ pub mod Counts
 pub mod Network
 pub mod Rows
 pub mod Faults
+pub mod Edits
 pub mod Halves
 pub mod CycleSearch
 pub mod Inside

@@ -1,8 +1,12 @@
 -- Which line is which request. `serde_json` reads a line as one value; a request is an array of exactly these items, where
--- n, d, u and v are numbers, and every other value is no request:
+-- n, d, u, v and x are numbers, and every other value is no request:
 --     ["net", n, d, [[u, v], ..]]    take the network of n nodes, with destination d and the links from u to v
+--     ["cut", u, v]                  take out the link between u and v
+--     ["add", u, v]                  add the link from u to v
+--     ["walk", x]                    ask how one gets from x to the destination
 --     ["links"]                      ask which links there are
 --     ["counts"]                     ask how often each node has turned
+--     ["hops"]                       ask where each node sends on to
 use Rattle.std.specs.Prelude.{ℕ, ◌^◌, List, [], ◌∷◌, Option, Some, None, ok_or, option_map, option_and_then, Result, Err, nat_lt, if◌then◌else◌, codes}
 use Rattle.std.specs.Str.{bytes_eq, is_utf8}
 use Rattle.serde_json.specs.Data.{Data, Items, no_items, item}
@@ -11,18 +15,24 @@ use Rattle.serde_json.specs.Read.{read}
 use Rattle.fr_net.specs.declared.requests.LineFault.{LineFault}
 use Rattle.fr_net.specs.declared.requests.LineFault.TheVariants.{NotJson, NotRequest}
 use Rattle.fr_net.specs.declared.requests.Question.{Question}
-use Rattle.fr_net.specs.declared.requests.Question.TheVariants.{Links, Counts}
+use Rattle.fr_net.specs.declared.requests.Question.TheVariants.{Links, Counts, Hops}
 use Rattle.fr_net.specs.declared.requests.Request.{Request}
-use Rattle.fr_net.specs.declared.requests.Request.TheVariants.{Network, Ask}
+use Rattle.fr_net.specs.declared.requests.Request.TheVariants.{Network, Cut, Add, Walk, Ask}
 
 -- a request, with its links as a list
 pub data PlainRequest : Type 0 where
   new_network : ℕ → ℕ → List (ℕ × ℕ) → PlainRequest
+  cut_link : ℕ → ℕ → PlainRequest
+  add_link : ℕ → ℕ → PlainRequest
+  walk_from : ℕ → PlainRequest
   ask : Question → PlainRequest
 
 -- a request of the code, without the room that its `Vec` has
 abbrev pub plain : Request → PlainRequest
 plain (Network nodes dest links) = new_network nodes dest links.items
+plain (Cut u v) = cut_link u v
+plain (Add u v) = add_link u v
+plain (Walk x) = walk_from x
 plain (Ask question) = ask question
 
 -- the items, one after the other
@@ -41,6 +51,12 @@ small_number n = if nat_lt n (2 ^ 32) then Some n else None
 -- a number: what `as_u64` gives, where that is at most 4,294,967,295; -1 and 1.0 are none
 abbrev pub number_in : Data → Option ℕ
 number_in d = option_and_then small_number (option_and_then as_u64 (as_number d))
+
+-- just one item, a number
+abbrev pub single_number : List Data → Option ℕ
+single_number [] = None
+single_number (d ∷ []) = number_in d
+single_number (d ∷ e ∷ rest) = None
 
 -- just two items, both numbers
 abbrev pub number_pair : List Data → Option (ℕ × ℕ)
@@ -72,6 +88,14 @@ network_request (n ∷ d ∷ ls ∷ []) =
     (links_in ls)) (number_in d)) (number_in n)
 network_request (n ∷ d ∷ ls ∷ x ∷ rest) = None
 
+-- the request of two numbers, where just these are left
+abbrev pub pair_request : (ℕ → ℕ → PlainRequest) → List Data → Option PlainRequest
+pair_request request rest = option_map (λ pair. request pair.0 pair.1) (number_pair rest)
+
+-- the walk from a number, where just this is left
+abbrev pub walk_request : List Data → Option PlainRequest
+walk_request rest = option_map walk_from (single_number rest)
+
 -- the question, where no item is left
 abbrev pub ask_request : Question → List Data → Option PlainRequest
 ask_request question [] = Some (ask question)
@@ -81,9 +105,13 @@ ask_request question (d ∷ rest) = None
 unfoldable pub request_of_word : List ℕ → List Data → Option PlainRequest
 request_of_word word rest =
     if bytes_eq word (codes "net") then network_request rest
+    else (if bytes_eq word (codes "cut") then pair_request cut_link rest
+    else (if bytes_eq word (codes "add") then pair_request add_link rest
+    else (if bytes_eq word (codes "walk") then walk_request rest
     else (if bytes_eq word (codes "links") then ask_request Links rest
     else (if bytes_eq word (codes "counts") then ask_request Counts rest
-    else None))
+    else (if bytes_eq word (codes "hops") then ask_request Hops rest
+    else None))))))
 
 -- the request of an array's items, the first of which is its word
 abbrev pub request_of_items : List Data → Option PlainRequest

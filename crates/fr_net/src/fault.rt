@@ -6,7 +6,8 @@ ghost use Rattle.fr_net.specs.declared.fault.NetFault.TheVariants.{Memory};
 use std::alloc::{AllocError, AllocFailed};
 use thiserror::Error;
 
-/// Why links make no network, with the evidence. The variants stand in the order in which the faults are tested.
+/// Why links make no network, with the evidence, or why a network cannot be edited. The variants stand in the order in which
+/// the faults are tested.
 #[derive(Debug, Drop, Error, PartialEq, Eq)]
 pub enum NetFault {
     /// There are more nodes or links than the limits admit.
@@ -24,6 +25,9 @@ pub enum NetFault {
     /// The nodes of a closed walk along the links, the first again at the end.
     #[error("the links close a walk of {} steps", .0.len().saturating_sub(1))]
     Cycle(Vec<u32>),
+    /// No link joins the two nodes. Only a cut answers it, and it answers no other but `Memory`.
+    #[error("no link joins the two nodes")]
+    NoLink,
     /// An allocation was refused.
     #[error("no memory")]
     Memory,

@@ -8,6 +8,7 @@
 
 mod checks;
 mod cycle;
+mod edits;
 mod fault;
 mod limits;
 mod network;

@@ -1,15 +1,18 @@
 //! Networks.
 
-ghost use Rattle.std.specs.Prelude.{◌≡◌, ◌≢◌, ℕ, ◌<◌, ◌+◌, length, slice_get, slice_index, Some, IfOk, IfErr, All};
+ghost use Rattle.std.specs.Prelude.{◌≡◌, ◌≢◌, ℕ, ◌<◌, ◌+◌, ◌++◌, [], ◌∷◌, length, slice_get, slice_index, Some, IfOk, IfErr, OnOk, All};
 ghost use Rattle.std.specs.List.{HoldsAt};
+ghost use Rattle.fr_net.specs.Links.{Joins};
 ghost use Rattle.fr_net.specs.Order.{AreInOrder};
 ghost use Rattle.fr_net.specs.Counts.{IsKept, links_at};
 ghost use Rattle.fr_net.specs.Rows.{row};
 ghost use Rattle.fr_net.specs.declared.fault.NetFault.TheVariants.{Memory};
 ghost use Rattle.fr_net.specs.Faults.{IsFaultless, IsFirstFault, IsNetworkOf};
+ghost use Rattle.fr_net.specs.Edits.{IsCutFault, without};
 
 use crate::checks::{first_outside, first_self_link};
 use crate::cycle::find_cycle;
+use crate::edits::{cut_links, joins};
 use crate::fault::NetFault;
 use crate::limits::{MAX_LINKS, MAX_NODES};
 use crate::rows::{First, entries_of, first_twice, row_starts, sorted_halves, sorted_links};
@@ -117,6 +120,32 @@ impl Net {
         ensures { result.now ≡ row self.now.nodes self.now.links x }
     {
         &self.entries[self.starts[x as usize]..self.starts[x as usize + 1]]
+    }
+
+    /// The network without the link between `u` and `v`, whichever way it points. `NoLink` exactly where there is none, as
+    /// where one of them is no node or both are the same; `Memory` where no room could be had.
+    pub fn with_cut(&self, alloc: Global, u: u32, v: u32) -> Result<Net, NetFault>
+        ensures joined { OnOk result (Joins self.now.links u v) }
+        ensures ok { IfOk result (IsNetworkOf self.now.nodes (without u v self.now.links)) }
+        ensures refused { IfErr result (λ fault. fault ≢ Memory → IsCutFault self.now.links u v fault) }
+    {
+        if !joins(&self.links, u, v) {
+            return Err(NetFault::NoLink);
+        }
+        let kept = cut_links(alloc, &self.links, u, v)?;
+        Net::new(alloc, self.nodes, &kept)
+    }
+
+    /// The network with the link from `u` to `v` as well; or the first fault that then stands, in the order of
+    /// [`NetFault`], where a closed walk follows the links with the new one among them. `Memory` where no room could be had.
+    pub fn with_link(&self, alloc: Global, u: u32, v: u32) -> Result<Net, NetFault>
+        ensures ok { IfOk result (IsNetworkOf self.now.nodes (self.now.links ++ (u, v) ∷ [])) }
+        ensures refused { IfErr result (λ fault. fault ≢ Memory
+            → IsFirstFault self.now.nodes (self.now.links ++ (u, v) ∷ []) fault) }
+    {
+        let mut edited = self.links.as_slice().to_vec(alloc)?;
+        edited.push((u, v))?;
+        Net::new(alloc, self.nodes, &edited)
     }
 
     /// The network of the links that the counts give, one count for each node: a link stays where its head has turned

@@ -3,7 +3,7 @@
 ghost use Rattle.std.specs.Prelude.{◌≡◌, ◌≢◌, Ok, Err, Some, IfOk, IfErr, map, ok_or};
 ghost use Rattle.serde_json.specs.View.{view};
 ghost use Rattle.fr_net.specs.declared.requests.LineFault.TheVariants.{NotRequest, Memory};
-ghost use Rattle.fr_net.specs.Requests.{plain, reading, request_of, request_of_word, network_request, ask_request, links_in, link_in, number_pair, number_in};
+ghost use Rattle.fr_net.specs.Requests.{plain, reading, request_of, request_of_word, cut_link, add_link, network_request, pair_request, walk_request, ask_request, links_in, link_in, number_pair, single_number, number_in};
 
 use crate::requests::{LineFault, Question, Request};
 use serde_json::Value;
@@ -49,10 +49,41 @@ fn request_by_word(alloc: Global, word: &str, rest: &[Value]) -> Result<Request,
 {
     match word {
         "net" => network(alloc, rest),
+        "cut" => cut(rest),
+        "add" => add(rest),
+        "walk" => walk(rest),
         "links" => ask(Question::Links, rest),
         "counts" => ask(Question::Counts, rest),
+        "hops" => ask(Question::Hops, rest),
         _ => Err(LineFault::NotRequest),
     }
+}
+
+/// A cut, where just the two ends of a link stand after its word.
+fn cut(rest: &[Value]) -> Result<Request, LineFault>
+    ensures ok { IfOk result (λ request. pair_request cut_link (map view rest.now) ≡ Some (plain request)) }
+    ensures refused { IfErr result (λ fault. ok_or (pair_request cut_link (map view rest.now)) NotRequest ≡ Err fault) }
+{
+    let (u, v) = two_numbers(rest).ok_or(LineFault::NotRequest)?;
+    Ok(Request::Cut { u, v })
+}
+
+/// An added link, where just its tail and its head stand after the word.
+fn add(rest: &[Value]) -> Result<Request, LineFault>
+    ensures ok { IfOk result (λ request. pair_request add_link (map view rest.now) ≡ Some (plain request)) }
+    ensures refused { IfErr result (λ fault. ok_or (pair_request add_link (map view rest.now)) NotRequest ≡ Err fault) }
+{
+    let (u, v) = two_numbers(rest).ok_or(LineFault::NotRequest)?;
+    Ok(Request::Add { u, v })
+}
+
+/// A walk, where just its first node stands after the word.
+fn walk(rest: &[Value]) -> Result<Request, LineFault>
+    ensures ok { IfOk result (λ request. walk_request (map view rest.now) ≡ Some (plain request)) }
+    ensures refused { IfErr result (λ fault. ok_or (walk_request (map view rest.now)) NotRequest ≡ Err fault) }
+{
+    let x = one_number(rest).ok_or(LineFault::NotRequest)?;
+    Ok(Request::Walk { x })
 }
 
 /// A question, where no item stands after its word.
@@ -105,6 +136,16 @@ fn link(value: &Value) -> Option<(u32, u32)>
     ensures { result ≡ link_in (view value.now) }
 {
     two_numbers(value.as_array()?)
+}
+
+/// Just one item, a number.
+fn one_number(items: &[Value]) -> Option<u32>
+    ensures { result ≡ single_number (map view items.now) }
+{
+    let [x] = items else {
+        return None;
+    };
+    number(x)
 }
 
 /// Just two items, both numbers.

@@ -19,6 +19,25 @@ pub enum Request {
         /// The links in the order of the line, each from its tail to its head.
         links: Vec<(u32, u32)>,
     },
+    /// Take out the link between two nodes, whichever way it points: `["cut", u, v]`.
+    Cut {
+        /// One end of the link.
+        u: u32,
+        /// The other end.
+        v: u32,
+    },
+    /// Add a link: `["add", u, v]`.
+    Add {
+        /// The tail of the link.
+        u: u32,
+        /// Its head.
+        v: u32,
+    },
+    /// Tell the way from a node to the destination, and change nothing: `["walk", x]`.
+    Walk {
+        /// Where the way begins.
+        x: u32,
+    },
     /// Answer a question, and change nothing.
     Ask(Question),
 }
@@ -30,6 +49,8 @@ pub enum Question {
     Links,
     /// How many turns each node has taken: `["counts"]`.
     Counts,
+    /// Where each node sends on to, to get to the destination: `["hops"]`.
+    Hops,
 }
 
 /// Why a line is no request.

@@ -220,6 +220,91 @@ fn turns_links_by_counts(rt: HostRuntime) -> Result<(), Fail> {
 }
 
 #[test]
+fn cuts_a_link_whichever_way_it_points(rt: HostRuntime) -> Result<(), Fail> {
+    let alloc = rt.alloc();
+    let chain = Net::new(alloc, 4, &[(1, 0), (2, 1), (3, 2)])?;
+    for (u, v) in [(1, 0), (0, 1)] {
+        let cut = chain.with_cut(alloc, u, v)?;
+        assert_eq!(rt; cut.links(), [(2, 1), (3, 2)].as_slice());
+        assert_eq!(rt; cut.nodes(), 4);
+        assert_eq!(rt; cut.degree(0), 0);
+        assert_eq!(rt; cut.row(1), [(2, First::Inward)].as_slice());
+    }
+    assert_eq!(rt; chain.links().len(), 3);
+
+    let last = Net::new(alloc, 2, &[(1, 0)])?;
+    assert_eq!(rt; last.with_cut(alloc, 0, 1)?.links(), [].as_slice());
+    Ok(())
+}
+
+#[test]
+fn refuses_to_cut_where_no_link_is(rt: HostRuntime) -> Result<(), Fail> {
+    let alloc = rt.alloc();
+    let net = Net::new(alloc, 3, &[(1, 0), (2, 1)])?;
+    for (u, v) in [(0, 2), (2, 0), (1, 1), (0, 3), (3, 0), (4294967295, 7)] {
+        assert_eq!(rt; net.with_cut(alloc, u, v).err(), Some(NetFault::NoLink), "{u} and {v}");
+    }
+    let cut = net.with_cut(alloc, 0, 1)?;
+    assert_eq!(rt; cut.with_cut(alloc, 1, 0).err(), Some(NetFault::NoLink));
+    Ok(())
+}
+
+#[test]
+fn adds_a_link_in_its_direction(rt: HostRuntime) -> Result<(), Fail> {
+    let alloc = rt.alloc();
+    let chain = Net::new(alloc, 4, &[(2, 1), (3, 2)])?;
+    let ring = chain.with_link(alloc, 3, 0)?;
+    assert_eq!(rt; ring.links(), [(2, 1), (3, 0), (3, 2)].as_slice());
+    assert_eq!(rt; ring.row(0), [(3, First::Inward)].as_slice());
+    assert_eq!(rt;
+        ring.row(3),
+        [(0, First::Outward), (2, First::Outward)].as_slice()
+    );
+    let other = chain.with_link(alloc, 0, 3)?;
+    assert_eq!(rt; other.links(), [(0, 3), (2, 1), (3, 2)].as_slice());
+    assert_eq!(rt;
+        other.row(3),
+        [(0, First::Inward), (2, First::Outward)].as_slice()
+    );
+    Ok(())
+}
+
+#[test]
+fn names_the_first_fault_of_an_added_link(rt: HostRuntime) -> Result<(), Fail> {
+    let alloc = rt.alloc();
+    let net = Net::new(alloc, 3, &[(1, 0), (2, 1)])?;
+    for (u, v, fault) in [
+        (0, 3, NetFault::Range(3)),
+        (3, 0, NetFault::Range(3)),
+        (3, 3, NetFault::Range(3)),
+        (2, 2, NetFault::SelfLink(2)),
+    ] {
+        assert_eq!(rt; net.with_link(alloc, u, v).err(), Some(fault), "{u} and {v}");
+    }
+    for (u, v) in [(0, 1), (1, 0)] {
+        let Err(NetFault::Twice(x, y)) = net.with_link(alloc, u, v) else {
+            return Err(Fail::from("not twice"));
+        };
+        assert!(rt; (x, y) == (0, 1) || (x, y) == (1, 0), "{x} and {y}");
+    }
+    let Err(NetFault::Cycle(walk)) = net.with_link(alloc, 0, 2) else {
+        return Err(Fail::from("no closed walk"));
+    };
+    assert_eq!(rt; walk.len(), 4, "{walk:?}");
+    assert_eq!(rt; walk[0], walk[3], "{walk:?}");
+    for i in 1..walk.len() {
+        let step = (walk[i - 1], walk[i]);
+        assert!(rt; step == (0, 2) || net.links().contains(&step), "{walk:?}");
+    }
+
+    let full = Net::new(alloc, 1024, &links_down(alloc, 8192)?)?;
+    for (u, v) in [(1023, 0), (2000, 1), (1, 1), (1, 0), (0, 1)] {
+        assert_eq!(rt; full.with_link(alloc, u, v).err(), Some(NetFault::TooMany), "{u} and {v}");
+    }
+    Ok(())
+}
+
+#[test]
 fn says_what_the_fault_is(rt: HostRuntime) -> Result<(), Fail> {
     let alloc = rt.alloc();
     let walk = [3, 4, 5, 3].to_vec(alloc)?;
@@ -232,6 +317,7 @@ fn says_what_the_fault_is(rt: HostRuntime) -> Result<(), Fail> {
             "more than one link joins nodes 0 and 1",
         ),
         (NetFault::Cycle(walk), "the links close a walk of 3 steps"),
+        (NetFault::NoLink, "no link joins the two nodes"),
         (NetFault::Memory, "no memory"),
     ] {
         assert_eq!(rt; fault.to_string(alloc)?.as_str(), text);

@@ -2,12 +2,12 @@
 use Rattle.std.proofs.Common.{◌≡◌, ◌∙◌, ℕ, zero, suc, ◌+◌, ◌<◌, ◌↔◌, ◌++◌, Bool, true, false, IsTrue, List, [], ◌∷◌, refl, sym, ap, subst, inl, inr, arith, Option, Some, None, Result, Ok, Err, MatchBool}
 use Rattle.fr_net.specs.Order.{in_order}
 use Rattle.fr_net.specs.Counts.{links_at}
-use Rattle.fr_net.specs.Requests.{PlainRequest, new_network, ask, reading}
-use Rattle.fr_net.specs.declared.requests.Question.TheVariants.{Links, Counts}
+use Rattle.fr_net.specs.Requests.{PlainRequest, new_network, cut_link, add_link, walk_from, ask, reading}
+use Rattle.fr_net.specs.declared.requests.Question.TheVariants.{Links, Counts, Hops}
 use Rattle.fr_net.specs.declared.requests.LineFault.{LineFault}
 use Rattle.fr_net.specs.declared.requests.LineFault.TheVariants.{NotJson, NotRequest, Memory as LineMemory}
 use Rattle.fr_net.specs.declared.fault.NetFault.{NetFault}
-use Rattle.fr_net.specs.declared.fault.NetFault.TheVariants.{TooMany, Range, SelfLink, Twice, Cycle, Memory}
+use Rattle.fr_net.specs.declared.fault.NetFault.TheVariants.{TooMany, Range, SelfLink, Twice, Cycle, NoLink, Memory}
 use Rattle.fr_net.specs.Faults.{IsFirstFault}
 use Rattle.fr_net.proofs.Refusing.{fault_place, first_fault_place, no_first_fault}
 use Rattle.fr_core.proofs.Unique.{settled_unique}
@@ -29,6 +29,7 @@ number_by_place n links (Range x) h = refl
 number_by_place n links (SelfLink u) h = refl
 number_by_place n links (Twice u v) h = refl
 number_by_place n links (Cycle walk) h = refl
+number_by_place n links NoLink h = absurd h
 number_by_place n links Memory h = absurd h
 
 one_number : (n : ℕ) (links : List (ℕ × ℕ)) (f g : NetFault) → IsFirstFault n links f → IsFirstFault n links g → fault_number f ≡ fault_number g
@@ -39,8 +40,15 @@ refused_unique s (new_network n d links) j k (inl a) (inl b) = a.2 ∙ (one_numb
 refused_unique s (new_network n d links) j k (inl a) (inr b) = absurd (no_first_fault n links a.0 b.0 a.1)
 refused_unique s (new_network n d links) j k (inr a) (inl b) = absurd (no_first_fault n links b.0 a.0 b.1)
 refused_unique s (new_network n d links) j k (inr a) (inr b) = a.2 ∙ sym b.2
-refused_unique None (ask q) j k a b = a ∙ sym b
-refused_unique (Some s) (ask q) j k a b = absurd a
+refused_unique s (cut_link u v) j k a b = a ∙ sym b
+refused_unique s (add_link u v) j k a b = a ∙ sym b
+refused_unique s (walk_from x) j k a b = a ∙ sym b
+refused_unique None (ask Links) j k a b = a ∙ sym b
+refused_unique None (ask Counts) j k a b = a ∙ sym b
+refused_unique None (ask Hops) j k a b = a ∙ sym b
+refused_unique (Some s) (ask Links) j k a b = absurd a
+refused_unique (Some s) (ask Counts) j k a b = absurd a
+refused_unique (Some s) (ask Hops) j k a b = a ∙ sym b
 
 round_unique : (n d : ℕ) (first : List (ℕ × ℕ)) (s t : State) → IsRound n d first s → IsRound n d first t → s ≡ t
 round_unique n d first s t a b =
@@ -52,14 +60,24 @@ round_unique n d first s t a b =
 
 accepted_unique : (s : Option State) (r : PlainRequest) (a b : State) → IsAccepted s r a → IsAccepted s r b → a ≡ b
 accepted_unique s (new_network n d links) a b p q = round_unique n d links a b p.2 q.2
+accepted_unique s (cut_link u v) a b h g = absurd h
+accepted_unique s (add_link u v) a b h g = absurd h
+accepted_unique s (walk_from x) a b h g = absurd h
 accepted_unique None (ask q) a b h g = absurd h
-accepted_unique (Some s) (ask q) a b h g = h ∙ sym g
+accepted_unique (Some s) (ask Links) a b h g = h ∙ sym g
+accepted_unique (Some s) (ask Counts) a b h g = h ∙ sym g
+accepted_unique (Some s) (ask Hops) a b h g = absurd h
 
 not_both : (s : Option State) (r : PlainRequest) (k : ℕ) (new : State) → IsRefused s r k → ¬ IsAccepted s r new
 not_both s (new_network n d links) k new (inl a) h = no_first_fault n links a.0 h.0 a.1
 not_both s (new_network n d links) k new (inr a) h = let l = h.1 in omega (arith, a.1, l)
+not_both s (cut_link u v) k new a h = h
+not_both s (add_link u v) k new a h = h
+not_both s (walk_from x) k new a h = h
 not_both None (ask q) k new a h = h
-not_both (Some s) (ask q) k new a h = a
+not_both (Some s) (ask Links) k new a h = a
+not_both (Some s) (ask Counts) k new a h = a
+not_both (Some s) (ask Hops) k new a h = h
 
 same_bool : (a b : Bool) → (IsTrue a ↔ IsTrue b) → a ≡ b
 same_bool true true e = refl
@@ -83,6 +101,10 @@ report_unique s t u (a, k, r, e) (b, l, q, f) =
 
 text_unique : (s : State) (r : PlainRequest) (t u : List ℕ) → IsText s r t → IsText s r u → t ≡ u
 text_unique s (new_network n d links) t u a b = report_unique s t u a b
+text_unique s (cut_link u v) t o a b = absurd a
+text_unique s (add_link u v) t o a b = absurd a
+text_unique s (walk_from x) t o a b = absurd a
+text_unique s (ask Hops) t u a b = absurd a
 text_unique s (ask Links) t u a b = a ∙ sym b
 text_unique s (ask Counts) t u a b = a ∙ sym b
 

@@ -1,12 +1,12 @@
 -- The answer to each line, from the state before it.
 use Rattle.std.specs.Prelude.{◌≡◌, ℕ, ◌<◌, ◌≤◌, ◌⊎◌, List, [], ◌∷◌, ◌++◌, Option, Some, None, Result, Ok, Err, MatchBool}
 use Rattle.fr_net.specs.Faults.{IsFirstFault, IsFaultless}
-use Rattle.fr_net.specs.Requests.{PlainRequest, new_network, ask, reading}
-use Rattle.fr_net.specs.declared.requests.Question.TheVariants.{Links, Counts}
+use Rattle.fr_net.specs.Requests.{PlainRequest, new_network, cut_link, add_link, walk_from, ask, reading}
+use Rattle.fr_net.specs.declared.requests.Question.TheVariants.{Links, Counts, Hops}
 use Rattle.fr_net.specs.declared.requests.LineFault.{LineFault}
 use Rattle.fr_net.specs.declared.requests.LineFault.TheVariants.{NotJson, NotRequest, Memory as LineMemory}
 use Rattle.fr_net.specs.declared.fault.NetFault.{NetFault}
-use Rattle.fr_net.specs.declared.fault.NetFault.TheVariants.{TooMany, Range, SelfLink, Twice, Cycle, Memory}
+use Rattle.fr_net.specs.declared.fault.NetFault.TheVariants.{TooMany, Range, SelfLink, Twice, Cycle, NoLink, Memory}
 use Rattle.revroute.specs.Lines.{lines_of, is_blank}
 use Rattle.revroute.specs.States.{State, IsRound, IsReport}
 use Rattle.revroute.specs.Texts.{counts_text, links_text, report_text, refusal_text}
@@ -18,22 +18,35 @@ fault_number (Range x) = 4
 fault_number (SelfLink u) = 5
 fault_number (Twice u v) = 6
 fault_number (Cycle walk) = 7
+fault_number NoLink = 8
 fault_number Memory = 0
 
 -- the request is refused in this state, by this number: a network for the first fault of its links, or else for a
--- destination that is no node, and a question where there is no network yet
+-- destination that is no node, and a question where there is no network yet; edits, walks and hops are not answered yet
 abbrev pub IsRefused : Option State → PlainRequest → ℕ → Type 0
 IsRefused s (new_network n d links) number =
     ((fault : NetFault) × IsFirstFault n links fault × (number ≡ fault_number fault))
     ⊎ (IsFaultless n links × (n ≤ d) × (number ≡ 4))
-IsRefused None (ask question) number = number ≡ 3
-IsRefused (Some s) (ask question) number = ⊥
+IsRefused s (cut_link u v) number = number ≡ 2
+IsRefused s (add_link u v) number = number ≡ 2
+IsRefused s (walk_from x) number = number ≡ 2
+IsRefused None (ask Links) number = number ≡ 3
+IsRefused None (ask Counts) number = number ≡ 3
+IsRefused None (ask Hops) number = number ≡ 2
+IsRefused (Some s) (ask Links) number = ⊥
+IsRefused (Some s) (ask Counts) number = ⊥
+IsRefused (Some s) (ask Hops) number = number ≡ 2
 
 -- the request is accepted, and this is the state after it: a network begins a round, and a question changes nothing
 abbrev pub IsAccepted : Option State → PlainRequest → State → Type 0
 IsAccepted s (new_network n d links) new = IsFaultless n links × (d < n) × IsRound n d links new
+IsAccepted s (cut_link u v) new = ⊥
+IsAccepted s (add_link u v) new = ⊥
+IsAccepted s (walk_from x) new = ⊥
 IsAccepted None (ask question) new = ⊥
-IsAccepted (Some s) (ask question) new = new ≡ s
+IsAccepted (Some s) (ask Links) new = new ≡ s
+IsAccepted (Some s) (ask Counts) new = new ≡ s
+IsAccepted (Some s) (ask Hops) new = ⊥
 
 -- the line that reports a round, from the state after it
 abbrev pub IsReportLine : State → List ℕ → Type 0
@@ -42,6 +55,10 @@ IsReportLine s text = (turned : ℕ) × (cut : ℕ) × IsReport s turned cut × 
 -- the answer to an accepted request, from the state after it
 abbrev pub IsText : State → PlainRequest → List ℕ → Type 0
 IsText s (new_network n d links) text = IsReportLine s text
+IsText s (cut_link u v) text = ⊥
+IsText s (add_link u v) text = ⊥
+IsText s (walk_from x) text = ⊥
+IsText s (ask Hops) text = ⊥
 IsText s (ask Links) text = text ≡ links_text s.links
 IsText s (ask Counts) text = text ≡ counts_text s.counts
 

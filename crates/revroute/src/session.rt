@@ -64,6 +64,9 @@ impl Session {
         match request {
             Request::Network { nodes, dest, links } => self.open(alloc, *nodes, *dest, links),
             Request::Ask(question) => self.tell(alloc, *question),
+            Request::Cut { .. } | Request::Add { .. } | Request::Walk { .. } => {
+                refusal_line(alloc, 2)
+            }
         }
     }
 
@@ -95,12 +98,16 @@ impl Session {
     fn tell(&self, alloc: Global, question: Question) -> Result<String, AllocError>
         ensures { IfOk result (λ text. IsAnswer self.now (ask question) (string_bytes text) self.now) }
     {
+        if question == Question::Hops {
+            return refusal_line(alloc, 2);
+        }
         let Some(round) = &self.round else {
             return refusal_line(alloc, 3);
         };
         match question {
             Question::Links => links_line(alloc, round.net.links()),
             Question::Counts => counts_line(alloc, &round.counts),
+            Question::Hops => refusal_line(alloc, 2),
         }
     }
 }
@@ -115,6 +122,7 @@ fn fault_number(fault: &NetFault) -> u32
         NetFault::SelfLink(_) => 5,
         NetFault::Twice(_, _) => 6,
         NetFault::Cycle(_) => 7,
+        NetFault::NoLink => 8,
         NetFault::Memory => 0,
     }
 }

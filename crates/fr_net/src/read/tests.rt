@@ -13,7 +13,7 @@ fn is_network(
         Request::Network { nodes, dest, links } => {
             (nodes, dest) == numbers && links.as_slice() == listed
         }
-        Request::Ask(_) => false,
+        _ => false,
     })
 }
 
@@ -45,11 +45,24 @@ fn reads_networks(rt: HostRuntime) -> Result<(), Fail> {
 }
 
 #[test]
+fn reads_edits_and_walks(rt: HostRuntime) -> Result<(), Fail> {
+    let alloc = rt.alloc();
+    let cut = read_line(alloc, br#"["cut",1,0]"#)?;
+    assert!(rt; matches!(cut, Request::Cut { u: 1, v: 0 }));
+    let add = read_line(alloc, br#" [ "add" , 3 , 4294967295 ] "#)?;
+    assert!(rt; matches!(add, Request::Add { u: 3, v: 4294967295 }));
+    let walk = read_line(alloc, br#"["walk",9]"#)?;
+    assert!(rt; matches!(walk, Request::Walk { x: 9 }));
+    Ok(())
+}
+
+#[test]
 fn reads_questions(rt: HostRuntime) -> Result<(), Fail> {
     let alloc = rt.alloc();
     for (line, question) in [
         (r#"["links"]"#, Question::Links),
         (r#"["counts"]"#, Question::Counts),
+        (r#"["hops"]"#, Question::Hops),
     ] {
         let Request::Ask(asked) = read_line(alloc, line.as_bytes())? else {
             return Err(Fail::from("no question"));
@@ -85,10 +98,16 @@ fn refuses_values_that_are_no_request(rt: HostRuntime) -> Result<(), Fail> {
     for line in [
         r#"["walk",-1]"#,
         r#"["walk",1.0]"#,
-        r#"["walk",9]"#,
-        r#"["cut",1,0]"#,
-        r#"["add",3,0]"#,
-        r#"["hops"]"#,
+        r#"["walk"]"#,
+        r#"["walk",1,2]"#,
+        r#"["walk",4294967296]"#,
+        r#"["cut",1]"#,
+        r#"["cut",1,0,2]"#,
+        r#"["cut",1,"0"]"#,
+        r#"["cut",[1,0]]"#,
+        r#"["add",3]"#,
+        r#"["add",3,-1]"#,
+        r#"["hops",1]"#,
         r#"["fly",1]"#,
         "[]",
         r#"["links",1]"#,
