@@ -1,0 +1,38 @@
+//! Why a network could not be settled.
+
+ghost use Rattle.std.specs.Prelude.{◌≡◌};
+ghost use Rattle.fr_crew.specs.declared.fault.CrewFault.TheVariants.{Memory};
+
+use std::alloc::{AllocError, AllocFailed};
+use thiserror::Error;
+
+/// Why a network could not be settled.
+#[derive(Clone, Copy, Debug, Drop, Error, PartialEq, Eq)]
+pub enum CrewFault {
+    /// The destination is no node of the network. This is tested first.
+    #[error("the destination is no node")]
+    Range,
+    /// A thread could not be started. Those that were started have ended.
+    #[error("a thread could not be started")]
+    Start,
+    /// An allocation was refused.
+    #[error("no memory")]
+    Memory,
+}
+
+// By hand, since clauses say which fault a `?` gives.
+impl From<AllocError> for CrewFault {
+    ghost from_gives = { λ _ fault. fault ≡ Memory };
+
+    fn from(_refused: AllocError) -> CrewFault {
+        CrewFault::Memory
+    }
+}
+
+impl<T: Drop> From<AllocFailed<T>> for CrewFault {
+    ghost from_gives = { λ _ fault. fault ≡ Memory };
+
+    fn from(_refused: AllocFailed<T>) -> CrewFault {
+        CrewFault::Memory
+    }
+}

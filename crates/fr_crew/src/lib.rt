@@ -1,0 +1,16 @@
+//! A crew that settles a network: many workers in threads of their own turn sinks at once, and whatever the schedule, the
+//! answer is the same.
+//!
+//! [`settle`] opens a round, runs it by the workers of a [`Plan`], and finishes on one thread what these leave. A
+//! [`Gate`] is called round each call of a worker.
+#![tactic(auto)]
+
+mod fault;
+mod gate;
+mod plan;
+mod settlement;
+
+pub use fault::CrewFault;
+pub use gate::{Gate, OpenGate};
+pub use plan::Plan;
+pub use settlement::{Settled, settle};

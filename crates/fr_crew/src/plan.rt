@@ -1,0 +1,51 @@
+//! How a crew is to work.
+
+ghost use Rattle.std.specs.Prelude.{◌≡◌, ◌≤◌, ◌<◌, ◌⊎◌, ◌↔◌, IsNone, IfSome};
+
+/// How many workers turn a network, from which seed they draw, and how many calls each of them may make.
+#[derive(Clone, Copy, Debug, PartialEq, Eq)]
+pub struct Plan {
+    workers: u32,
+    seed: u64,
+    budget: u64,
+    ghost in_range: { (1 ≤ workers) × (workers ≤ 16) },
+}
+
+impl Plan {
+    /// The plan with 1 to 16 workers, each of which makes at most `budget` calls; with another number of workers there is
+    /// none. What a worker draws from the seed decides where it looks for work, and so who turns what, but no answer.
+    pub fn new(workers: u32, seed: u64, budget: u64) -> Option<Plan>
+        ensures none { IsNone result ↔ ((workers ≡ 0) ⊎ (16 < workers)) }
+        ensures some { IfSome result (λ plan. (plan.workers ≡ workers) × (plan.seed ≡ seed) × (plan.budget ≡ budget)) }
+    {
+        if workers == 0 || workers > 16 {
+            return None;
+        }
+        Some(Plan {
+            workers,
+            seed,
+            budget,
+        })
+    }
+
+    /// How many workers there are, 1 to 16.
+    pub fn workers(&self) -> u32
+        ensures { result ≡ self.now.workers }
+    {
+        self.workers
+    }
+
+    /// The seed from which the workers draw.
+    pub fn seed(&self) -> u64
+        ensures { result ≡ self.now.seed }
+    {
+        self.seed
+    }
+
+    /// How many calls each worker makes at most.
+    pub fn budget(&self) -> u64
+        ensures { result ≡ self.now.budget }
+    {
+        self.budget
+    }
+}
