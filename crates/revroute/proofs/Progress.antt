@@ -9,9 +9,11 @@ use Rattle.std.proofs.lemmas.List.{take_all}
 use Rattle.std.proofs.KnownBytes.{Appends-nil, Appends-trans, Appends-kept}
 use Rattle.std.specs.Io.KnownBytes.{Appends, Keeps}
 use Rattle.fr_net.specs.Requests.{reading}
-use Rattle.revroute.specs.Lines.{lines_of, is_blank, asking_count}
-use Rattle.revroute.specs.States.{State}
-use Rattle.revroute.specs.Answers.{AreAnswers, IsLineAnswer, IsOutput}
+use Rattle.fr_route.specs.Answers.{IsLineAnswer}
+use Rattle.fr_route.specs.Blank.{is_blank}
+use Rattle.fr_route.specs.States.{State}
+use Rattle.revroute.specs.Lines.{lines_of, asking_count}
+use Rattle.revroute.specs.Answers.{AreAnswers, IsOutput}
 use Rattle.revroute.proofs.Determined.{output_unique}
 use Rattle.revroute.specs.Outputs.{IsBeginning, WritesOutput, WritesBeginning, StopsAtLine}
 

@@ -2,8 +2,9 @@
 -- words of std about them say nothing.
 use Rattle.std.specs.Prelude.{◌≡◌, ℕ, List, ◌++◌, take, Option, None, Some, false, slice_get}
 use Rattle.std.specs.Io.KnownBytes.{Consumes, IsAtEnd, Appends}
-use Rattle.revroute.specs.Lines.{lines_of, is_blank, asking_count}
-use Rattle.revroute.specs.States.{State}
+use Rattle.fr_route.specs.Blank.{is_blank}
+use Rattle.fr_route.specs.States.{State}
+use Rattle.revroute.specs.Lines.{lines_of, asking_count}
 use Rattle.revroute.specs.Answers.{AreAnswers, IsOutput}
 
 -- the most bytes of an input

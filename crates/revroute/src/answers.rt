@@ -2,15 +2,15 @@
 
 ghost use Rattle.std.specs.Prelude.{◌≡◌, ◌≢◌, [], ◌∷◌, List, ℕ, length, IfOk, not, false, Option};
 ghost use Rattle.std.specs.Io.KnownBytes.{Appends, Keeps};
-ghost use Rattle.revroute.specs.Lines.{is_blank};
-ghost use Rattle.revroute.specs.States.{State};
+ghost use Rattle.fr_route.specs.Blank.{is_blank};
+ghost use Rattle.fr_route.specs.States.{State};
 ghost use Rattle.revroute.specs.Answers.{AreAnswers};
 ghost use Rattle.revroute.specs.Outputs.{IsBeginning, WritesOutput, WritesBeginning, StopsAtLine};
 
 use crate::lines::first_line;
 use crate::output::write_whole;
 use crate::run::RunFault;
-use crate::session::Session;
+use fr_route::Session;
 use std::alloc::Global;
 use std::io::Write;
 

@@ -2,7 +2,7 @@
 
 ghost use Rattle.std.specs.Prelude.{◌≡◌, ◌+◌, ◌==◌, ◌<◌, ◌∷◌, [], ℕ, List, length, position, IfSome};
 ghost use Rattle.std.specs.Option.{option_copied, option_map_or};
-ghost use Rattle.revroute.specs.Lines.{lines_of, is_blank as is_blank_line};
+ghost use Rattle.revroute.specs.Lines.{lines_of};
 
 /// The first line of a text, and what stands behind its byte 10, if it has one.
 pub(crate) fn first_line(text: &[u8]) -> (&[u8], Option<&[u8]>)
@@ -19,12 +19,4 @@ fn line_end(text: &[u8]) -> Option<usize>
     ensures { result ≡ position (λ x. x == 10) text.now }
 {
     text.iter().position(|byte| *byte == b'\n')
-}
-
-/// Whether a line has nothing but tabs, carriage returns and spaces.
-pub(crate) fn is_blank(line: &[u8]) -> bool
-    ensures { result ≡ is_blank_line line.now }
-{
-    line.iter()
-        .all(|byte| *byte == b'\t' || *byte == b'\r' || *byte == b' ')
 }

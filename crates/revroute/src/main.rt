@@ -5,10 +5,7 @@ mod answers;
 mod input;
 mod lines;
 mod output;
-mod round;
 mod run;
-mod session;
-mod texts;
 
 use run::{RunFault, run, run_end};
 use std::io::{BufWriter, ErrorKind};

@@ -1,6 +1,6 @@
 use Rattle.std.proofs.Common.{◌≡◌, ℕ, Bool, Some, Err, cond, not, ap, subst, sym, arith}
 use Rattle.std.specs.Option.{option_copied}
-use Rattle.revroute.specs.Lines.{is_blank}
+use Rattle.fr_route.specs.Blank.{is_blank}
 use Rattle.revroute.proofs.Progress.{HasAnswered, one_line_more, stops_writing, stops_at_line, all_answered}
 use Rattle.revroute.proofs.answers.answer_all.Goals as goal
 use Rattle.revroute.proofs.answers.answer_all.Goals.{then-branch, else-branch}

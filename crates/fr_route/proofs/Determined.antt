@@ -1,0 +1,149 @@
+-- The answer to a request and to a line is determined by the state and the request, and so are hops and reports.
+use Rattle.std.proofs.Common.{◌≡◌, ◌∙◌, ℕ, zero, suc, ◌+◌, ◌<◌, ◌++◌, List, [], ◌∷◌, get_or, length, refl, sym, ap, subst, inl, inr, arith, Option, Some, None, Result, Ok, Err}
+use Rattle.std.proofs.lemmas.List.{ext_get_or}
+use Rattle.std.proofs.lemmas.Option.{slice_get-get_or}
+use Rattle.fr_net.specs.Edits.{IsCutFault, without}
+use Rattle.fr_net.specs.Faults.{IsFirstFault}
+use Rattle.fr_net.specs.Links.{Joins}
+use Rattle.fr_net.specs.Requests.{PlainRequest, new_network, cut_link, add_link, walk_from, ask}
+use Rattle.fr_net.specs.declared.requests.Question.TheVariants.{Links, Counts, Hops}
+use Rattle.fr_net.specs.declared.requests.LineFault.{LineFault}
+use Rattle.fr_net.specs.declared.requests.LineFault.TheVariants.{NotJson, NotRequest, Memory as LineMemory}
+use Rattle.fr_net.specs.declared.fault.NetFault.{NetFault}
+use Rattle.fr_net.specs.declared.fault.NetFault.TheVariants.{TooMany, Range, SelfLink, Twice, Cycle, NoLink, Memory}
+use Rattle.fr_net.proofs.Refusing.{fault_place, first_fault_place, no_first_fault}
+use Rattle.fr_route.specs.States.{State, IsReport}
+use Rattle.fr_route.specs.Routes.{IsHop, AreHops}
+use Rattle.fr_route.specs.Texts.{report_text, hops_text, walk_text, refusal_text}
+use Rattle.fr_route.specs.Answers.{fault_number, IsRefused, IsAccepted, IsReportLine, IsWalkLine, IsText, IsAnswer, IsLineAnswer}
+use Rattle.fr_route.specs.declared.hops.Hop.{Hop}
+use Rattle.fr_route.specs.declared.hops.Hop.TheVariants as hop
+use Rattle.fr_route.proofs.CutNodes.{cut_unique}
+use Rattle.fr_route.proofs.RoundEnds.{round_unique}
+use Rattle.fr_route.proofs.Routing.{hop_unique, route_joined, route_unique}
+
+-- no node has two hops
+pub one_hop : (s : State) (x : ℕ) (a b : Hop) → IsHop s x a → IsHop s x b → a ≡ b
+one_hop s x hop.Here hop.Here h g = refl
+one_hop s x hop.Here (hop.To z) h g = absurd (g.1.0 h)
+one_hop s x hop.Here hop.CutOff h g = absurd (g.0 h)
+one_hop s x (hop.To y) hop.Here h g = absurd (h.1.0 g)
+one_hop s x (hop.To y) (hop.To z) h g = ap (λ (w : ℕ). hop.To w) (hop_unique s.links x y z h.1.1 g.1.1)
+one_hop s x (hop.To y) hop.CutOff h g = absurd (g.1 (route_joined s.links s.dest x (y ∷ h.0) h.1))
+one_hop s x hop.CutOff hop.Here h g = absurd (h.0 g)
+one_hop s x hop.CutOff (hop.To z) h g = absurd (h.1 (route_joined s.links s.dest x (z ∷ g.0) g.1))
+one_hop s x hop.CutOff hop.CutOff h g = refl
+
+hops_unique : (s : State) (n : ℕ) (a b : List Hop) → AreHops s n a → AreHops s n b → a ≡ b
+hops_unique s n a b h g = ext_get_or hop.Here a b (h.one_each ∙ sym g.one_each) (λ i low.
+    let inside : i < length b = omega (arith, h.one_each, g.one_each) in
+    one_hop s i (get_or a i hop.Here) (get_or b i hop.Here) (h.each i (get_or a i hop.Here) (slice_get-get_or a i hop.Here low)) (g.each i (get_or b i hop.Here) (slice_get-get_or b i hop.Here inside)))
+
+-- faults of one kind have one number
+number_at : ℕ → ℕ
+number_at zero = 9
+number_at (suc k) = k + 4
+
+number_by_place : (n : ℕ) (links : List (ℕ × ℕ)) (f : NetFault) → IsFirstFault n links f → fault_number f ≡ number_at (fault_place f)
+unfolding number_at
+number_by_place n links TooMany h = refl
+number_by_place n links (Range x) h = refl
+number_by_place n links (SelfLink u) h = refl
+number_by_place n links (Twice u v) h = refl
+number_by_place n links (Cycle walk) h = refl
+number_by_place n links NoLink h = absurd h
+number_by_place n links Memory h = absurd h
+
+one_number : (n : ℕ) (links : List (ℕ × ℕ)) (f g : NetFault) → IsFirstFault n links f → IsFirstFault n links g → fault_number f ≡ fault_number g
+one_number n links f g hf hg = number_by_place n links f hf ∙ (ap number_at (first_fault_place n links f g hf hg) ∙ sym (number_by_place n links g hg))
+
+-- why a link cannot be cut: it is not there
+cut_fault_number : (links : List (ℕ × ℕ)) (u v : ℕ) (f : NetFault) → IsCutFault links u v f → fault_number f ≡ 8
+cut_fault_number links u v TooMany h = absurd h
+cut_fault_number links u v (Range x) h = absurd h
+cut_fault_number links u v (SelfLink x) h = absurd h
+cut_fault_number links u v (Twice x y) h = absurd h
+cut_fault_number links u v (Cycle walk) h = absurd h
+cut_fault_number links u v NoLink h = refl
+cut_fault_number links u v Memory h = absurd h
+
+cut_fault_apart : (links : List (ℕ × ℕ)) (u v : ℕ) (f : NetFault) → IsCutFault links u v f → ¬ Joins links u v
+cut_fault_apart links u v TooMany h = absurd h
+cut_fault_apart links u v (Range x) h = absurd h
+cut_fault_apart links u v (SelfLink x) h = absurd h
+cut_fault_apart links u v (Twice x y) h = absurd h
+cut_fault_apart links u v (Cycle walk) h = absurd h
+cut_fault_apart links u v NoLink h = h
+cut_fault_apart links u v Memory h = absurd h
+
+refused_unique : (s : Option State) (r : PlainRequest) (j k : ℕ) → IsRefused s r j → IsRefused s r k → j ≡ k
+refused_unique s (new_network n d links) j k (inl a) (inl b) = a.2 ∙ (one_number n links a.0 b.0 a.1 b.1 ∙ sym b.2)
+refused_unique s (new_network n d links) j k (inl a) (inr b) = absurd (no_first_fault n links a.0 b.0 a.1)
+refused_unique s (new_network n d links) j k (inr a) (inl b) = absurd (no_first_fault n links b.0 a.0 b.1)
+refused_unique s (new_network n d links) j k (inr a) (inr b) = a.2 ∙ sym b.2
+refused_unique None (cut_link u v) j k a b = a ∙ sym b
+refused_unique None (add_link u v) j k a b = a ∙ sym b
+refused_unique None (walk_from x) j k a b = a ∙ sym b
+refused_unique None (ask q) j k a b = a ∙ sym b
+refused_unique (Some s) (cut_link u v) j k a b = (a.2 ∙ cut_fault_number s.links u v a.0 a.1) ∙ sym (b.2 ∙ cut_fault_number s.links u v b.0 b.1)
+refused_unique (Some s) (add_link u v) j k a b = a.2 ∙ (one_number s.nodes (s.links ++ (u, v) ∷ []) a.0 b.0 a.1 b.1 ∙ sym b.2)
+refused_unique (Some s) (walk_from x) j k a b = a.1 ∙ sym b.1
+refused_unique (Some s) (ask q) j k a b = absurd a
+
+accepted_unique : (s : Option State) (r : PlainRequest) (a b : State) → IsAccepted s r a → IsAccepted s r b → a ≡ b
+accepted_unique s (new_network n d links) a b p q = round_unique n d links a b p.2 q.2
+accepted_unique None (cut_link u v) a b h g = absurd h
+accepted_unique None (add_link u v) a b h g = absurd h
+accepted_unique None (walk_from x) a b h g = absurd h
+accepted_unique None (ask q) a b h g = absurd h
+accepted_unique (Some s) (cut_link u v) a b h g = round_unique s.nodes s.dest (without u v s.links) a b h.1 g.1
+accepted_unique (Some s) (add_link u v) a b h g = round_unique s.nodes s.dest (s.links ++ (u, v) ∷ []) a b h.1 g.1
+accepted_unique (Some s) (walk_from x) a b h g = h.1 ∙ sym g.1
+accepted_unique (Some s) (ask q) a b h g = h ∙ sym g
+
+not_both : (s : Option State) (r : PlainRequest) (k : ℕ) (new : State) → IsRefused s r k → ¬ IsAccepted s r new
+not_both s (new_network n d links) k new (inl a) h = no_first_fault n links a.0 h.0 a.1
+not_both s (new_network n d links) k new (inr a) h = let l = h.1 in omega (arith, a.1, l)
+not_both None (cut_link u v) k new a h = h
+not_both None (add_link u v) k new a h = h
+not_both None (walk_from x) k new a h = h
+not_both None (ask q) k new a h = h
+not_both (Some s) (cut_link u v) k new a h = cut_fault_apart s.links u v a.0 a.1 h.0
+not_both (Some s) (add_link u v) k new a h = no_first_fault s.nodes (s.links ++ (u, v) ∷ []) a.0 h.0 a.1
+not_both (Some s) (walk_from x) k new a h = omega (arith, a.0, h.0)
+not_both (Some s) (ask q) k new a h = a
+
+pub report_unique : (s : State) (t u k l : ℕ) → IsReport s t k → IsReport s u l → (t ≡ u) × (k ≡ l)
+report_unique s t u k l r q = (r.turns ∙ sym q.turns, cut_unique s.nodes s.dest s.links k l r.cut_off q.cut_off)
+
+report_line_unique : (s : State) (t u : List ℕ) → IsReportLine s t → IsReportLine s u → t ≡ u
+report_line_unique s t u (a, k, r, e) (b, l, q, f) = let same = report_unique s a b k l r q in e ∙ ((λ i. report_text (same.0 i) (same.1 i)) ∙ sym f)
+
+walk_line_unique : (s : State) (x : ℕ) (t u : List ℕ) → IsWalkLine s x t → IsWalkLine s x u → t ≡ u
+walk_line_unique s x t u (inl a) (inl b) = a.2 ∙ (ap (λ (rest : List ℕ). walk_text (x ∷ rest)) (route_unique s.links s.dest x a.0 b.0 a.1 b.1) ∙ sym b.2)
+walk_line_unique s x t u (inl a) (inr b) = absurd (b.0.1 (route_joined s.links s.dest x a.0 a.1))
+walk_line_unique s x t u (inr a) (inl b) = absurd (a.0.1 (route_joined s.links s.dest x b.0 b.1))
+walk_line_unique s x t u (inr a) (inr b) = a.1 ∙ sym b.1
+
+text_unique : (s : State) (r : PlainRequest) (t u : List ℕ) → IsText s r t → IsText s r u → t ≡ u
+text_unique s (new_network n d links) t u a b = report_line_unique s t u a b
+text_unique s (cut_link v w) t u a b = report_line_unique s t u a b
+text_unique s (add_link v w) t u a b = report_line_unique s t u a b
+text_unique s (walk_from x) t u a b = walk_line_unique s x t u a b
+text_unique s (ask Links) t u a b = a ∙ sym b
+text_unique s (ask Counts) t u a b = a ∙ sym b
+text_unique s (ask Hops) t u a b = a.2 ∙ (ap hops_text (hops_unique s s.nodes a.0 b.0 a.1 b.1) ∙ sym b.2)
+
+pub answer_unique : (s : Option State) (r : PlainRequest) (t u : List ℕ) (p q : Option State) → IsAnswer s r t p → IsAnswer s r u q → (t ≡ u) × (p ≡ q)
+answer_unique s r t u p q (inl (j, a, e, l)) (inl (k, b, f, m)) = (e ∙ (ap refusal_text (refused_unique s r j k a b) ∙ sym f), l ∙ sym m)
+answer_unique s r t u p q (inl (j, a, e, l)) (inr (n, b, f, m)) = absurd (not_both s r j n a b)
+answer_unique s r t u p q (inr (m, a, e, l)) (inl (k, b, f, g)) = absurd (not_both s r k m b a)
+answer_unique s r t u p q (inr (m, a, e, l)) (inr (n, b, f, k)) =
+    let same : m ≡ n = accepted_unique s r m n a b in
+    (text_unique n r t u (subst (λ (z : State). IsText z r t) same e) f, l ∙ (ap (λ (z : State). Some z) same ∙ sym k))
+
+pub line_unique : (s : Option State) (r : Result PlainRequest LineFault) (t u : List ℕ) (p q : Option State) → IsLineAnswer s r t p → IsLineAnswer s r u q → (t ≡ u) × (p ≡ q)
+line_unique s (Ok r) t u p q a b = answer_unique s r t u p q a b
+line_unique s (Err NotJson) t u p q a b = (a.0 ∙ sym b.0, a.1 ∙ sym b.1)
+line_unique s (Err NotRequest) t u p q a b = (a.0 ∙ sym b.0, a.1 ∙ sym b.1)
+line_unique s (Err LineMemory) t u p q a b = absurd a

@@ -1,0 +1,84 @@
+-- The answer to each request and to each line, from the state before it.
+use Rattle.std.specs.Prelude.{◌≡◌, ℕ, ◌<◌, ◌≤◌, ◌⊎◌, List, ◌∷◌, Option, Some, None, Result, Ok, Err}
+use Rattle.fr_net.specs.Faults.{IsFirstFault, IsFaultless}
+use Rattle.fr_net.specs.Requests.{PlainRequest, new_network, cut_link, add_link, walk_from, ask}
+use Rattle.fr_net.specs.declared.requests.Question.TheVariants.{Links, Counts, Hops}
+use Rattle.fr_net.specs.declared.requests.LineFault.{LineFault}
+use Rattle.fr_net.specs.declared.requests.LineFault.TheVariants.{NotJson, NotRequest, Memory as LineMemory}
+use Rattle.fr_net.specs.declared.fault.NetFault.{NetFault}
+use Rattle.fr_net.specs.declared.fault.NetFault.TheVariants.{TooMany, Range, SelfLink, Twice, Cycle, NoLink, Memory}
+use Rattle.fr_route.specs.States.{State, IsRound, IsReport, IsCutOff}
+use Rattle.fr_route.specs.Routes.{IsRoute, AreHops}
+use Rattle.fr_route.specs.Changes.{IsChanged, IsChangeFault}
+use Rattle.fr_route.specs.Texts.{counts_text, links_text, hops_text, walk_text, no_walk_text, report_text, refusal_text}
+use Rattle.fr_route.specs.declared.change.Change.TheVariants.{Cut, Add}
+use Rattle.fr_route.specs.declared.hops.Hop.{Hop}
+
+-- the number by which an answer names a fault of links or of an edit (want of memory is none, and has no number)
+abbrev pub fault_number : NetFault → ℕ
+fault_number TooMany = 9
+fault_number (Range x) = 4
+fault_number (SelfLink u) = 5
+fault_number (Twice u v) = 6
+fault_number (Cycle walk) = 7
+fault_number NoLink = 8
+fault_number Memory = 0
+
+-- the request is refused in this state, by this number: a network for the first fault of its links, or else for a
+-- destination that is no node; every other request where there is no network yet; a change for its fault; and a walk from
+-- what is no node
+abbrev pub IsRefused : Option State → PlainRequest → ℕ → Type 0
+IsRefused s (new_network n d links) number =
+    ((fault : NetFault) × IsFirstFault n links fault × (number ≡ fault_number fault))
+    ⊎ (IsFaultless n links × (n ≤ d) × (number ≡ 4))
+IsRefused None request number = number ≡ 3
+IsRefused (Some s) (cut_link u v) number = (fault : NetFault) × IsChangeFault s (Cut u v) fault × (number ≡ fault_number fault)
+IsRefused (Some s) (add_link u v) number = (fault : NetFault) × IsChangeFault s (Add u v) fault × (number ≡ fault_number fault)
+IsRefused (Some s) (walk_from x) number = (s.nodes ≤ x) × (number ≡ 4)
+IsRefused (Some s) (ask question) number = ⊥
+
+-- the request is accepted, and this is the state after it: a network and a change begin a round, and all else changes nothing
+abbrev pub IsAccepted : Option State → PlainRequest → State → Type 0
+IsAccepted s (new_network n d links) new = IsFaultless n links × (d < n) × IsRound n d links new
+IsAccepted None request new = ⊥
+IsAccepted (Some s) (cut_link u v) new = IsChanged s (Cut u v) new
+IsAccepted (Some s) (add_link u v) new = IsChanged s (Add u v) new
+IsAccepted (Some s) (walk_from x) new = (x < s.nodes) × (new ≡ s)
+IsAccepted (Some s) (ask question) new = new ≡ s
+
+-- the line that reports a round, from the state after it
+abbrev pub IsReportLine : State → List ℕ → Type 0
+IsReportLine s text = (turned : ℕ) × (cut : ℕ) × IsReport s turned cut × (text ≡ report_text turned cut)
+
+-- the line that tells where each node sends on to
+abbrev pub IsHopsLine : State → List ℕ → Type 0
+IsHopsLine s text = (hops : List Hop) × AreHops s s.nodes hops × (text ≡ hops_text hops)
+
+-- the line that tells the route from x, or that there is none
+abbrev pub IsWalkLine : State → ℕ → List ℕ → Type 0
+IsWalkLine s x text =
+    ((rest : List ℕ) × IsRoute s.links s.dest x rest × (text ≡ walk_text (x ∷ rest)))
+    ⊎ (IsCutOff s.dest s.links x × (text ≡ no_walk_text x))
+
+-- the answer to an accepted request, from the state after it
+abbrev pub IsText : State → PlainRequest → List ℕ → Type 0
+IsText s (new_network n d links) text = IsReportLine s text
+IsText s (cut_link u v) text = IsReportLine s text
+IsText s (add_link u v) text = IsReportLine s text
+IsText s (walk_from x) text = IsWalkLine s x text
+IsText s (ask Links) text = text ≡ links_text s.links
+IsText s (ask Counts) text = text ≡ counts_text s.counts
+IsText s (ask Hops) text = IsHopsLine s text
+
+-- the answer to a request, and the state after it: a refusal leaves the state as it was
+abbrev pub IsAnswer : Option State → PlainRequest → List ℕ → Option State → Type 0
+IsAnswer s request text next =
+    ((number : ℕ) × IsRefused s request number × (text ≡ refusal_text number) × (next ≡ s))
+    ⊎ ((new : State) × IsAccepted s request new × IsText new request text × (next ≡ Some new))
+
+-- the answer to a line as it is read
+abbrev pub IsLineAnswer : Option State → Result PlainRequest LineFault → List ℕ → Option State → Type 0
+IsLineAnswer s (Ok request) text next = IsAnswer s request text next
+IsLineAnswer s (Err NotJson) text next = (text ≡ refusal_text 1) × (next ≡ s)
+IsLineAnswer s (Err NotRequest) text next = (text ≡ refusal_text 2) × (next ≡ s)
+IsLineAnswer s (Err LineMemory) text next = ⊥

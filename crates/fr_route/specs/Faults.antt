@@ -1,0 +1,17 @@
+-- Which fault of a router stands for a fault of the layers below.
+use Rattle.fr_net.specs.declared.fault.NetFault.{NetFault}
+use Rattle.fr_net.specs.declared.fault.NetFault.TheVariants as net
+use Rattle.fr_crew.specs.declared.fault.CrewFault.{CrewFault}
+use Rattle.fr_crew.specs.declared.fault.CrewFault.TheVariants as crew
+use Rattle.fr_route.specs.declared.fault.RouteFault.{RouteFault}
+use Rattle.fr_route.specs.declared.fault.RouteFault.TheVariants.{Net, Range, Start, Memory}
+
+-- want of memory is no fault of links
+abbrev pub of_net_fault : NetFault → RouteFault
+of_net_fault net.Memory = Memory
+of_net_fault fault = Net fault
+
+abbrev pub of_crew_fault : CrewFault → RouteFault
+of_crew_fault crew.Range = Range
+of_crew_fault crew.Start = Start
+of_crew_fault crew.Memory = Memory

@@ -1,0 +1,59 @@
+-- The laws of routes and of answers. Each is the contract of a function of src/laws.rt.
+use Rattle.std.specs.Prelude.{◌≡◌, ℕ, ◌<◌, ◌↔◌, List, ◌∷◌, Option, Result, nat_eq}
+use Rattle.std.specs.List.{IsDistinct}
+use Rattle.fr_net.specs.Links.{IsAcyclic, IsNet, IsPath, end_of}
+use Rattle.fr_net.specs.Requests.{PlainRequest}
+use Rattle.fr_net.specs.declared.requests.LineFault.{LineFault}
+use Rattle.fr_core.specs.Walks.{IsJoined}
+use Rattle.fr_route.specs.States.{State, IsRound, IsReport}
+use Rattle.fr_route.specs.Routes.{IsRoute, IsHop}
+use Rattle.fr_route.specs.Answers.{IsAnswer, IsLineAnswer}
+use Rattle.fr_route.specs.declared.hops.Hop.{Hop}
+
+-- Rounds
+
+-- there is but one state after a round
+abbrev pub RoundIsUnique : Type 0
+RoundIsUnique = (n d : ℕ) (first : List (ℕ × ℕ)) (some other : State) → IsRound n d first some → IsRound n d first other → some ≡ other
+
+-- no closed walk stands among the links after a round
+abbrev pub RoundLeavesNoLoop : Type 0
+RoundLeavesNoLoop = (n d : ℕ) (first : List (ℕ × ℕ)) (s : State) → IsNet n first → d < n → IsRound n d first s → IsAcyclic s.links
+
+-- a round joins no node with the destination, and parts none from it
+abbrev pub RoundKeepsJoined : Type 0
+RoundKeepsJoined = (n d : ℕ) (first : List (ℕ × ℕ)) (s : State) (x : ℕ) → IsNet n first → d < n → IsRound n d first s → IsJoined first d x ↔ IsJoined s.links d x
+
+-- there is but one report of a state
+abbrev pub ReportIsUnique : Type 0
+ReportIsUnique = (s : State) (t u k l : ℕ) → IsReport s t k → IsReport s u l → (t ≡ u) × (k ≡ l)
+
+-- Routes
+
+-- after a round a node has a route exactly if it is joined with the destination
+abbrev pub RoutesLeadHome : Type 0
+RoutesLeadHome = (n d : ℕ) (first : List (ℕ × ℕ)) (s : State) (x : ℕ) → IsNet n first → d < n → IsRound n d first s
+    → IsJoined s.links d x ↔ ((rest : List ℕ) × IsRoute s.links d x rest)
+
+-- no node has two routes
+abbrev pub RouteIsUnique : Type 0
+RouteIsUnique = (links : List (ℕ × ℕ)) (d x : ℕ) (some other : List ℕ) → IsRoute links d x some → IsRoute links d x other → some ≡ other
+
+-- a route is a path along the links that ends at the destination and comes to no node twice
+abbrev pub RouteIsSimple : Type 0
+RouteIsSimple = (links : List (ℕ × ℕ)) (d x : ℕ) (rest : List ℕ) → IsAcyclic links → IsRoute links d x rest
+    → IsPath links x rest × (end_of x rest ≡ d) × IsDistinct nat_eq (x ∷ rest)
+
+-- no node has two hops
+abbrev pub HopIsUnique : Type 0
+HopIsUnique = (s : State) (x : ℕ) (some other : Hop) → IsHop s x some → IsHop s x other → some ≡ other
+
+-- Answers
+
+-- the text of an answer and the state after it are determined by the state before it and the request,
+abbrev pub AnswerIsUnique : Type 0
+AnswerIsUnique = (s : Option State) (request : PlainRequest) (t u : List ℕ) (p q : Option State) → IsAnswer s request t p → IsAnswer s request u q → (t ≡ u) × (p ≡ q)
+
+-- and so they are for a line
+abbrev pub LineAnswerIsUnique : Type 0
+LineAnswerIsUnique = (s : Option State) (line : Result PlainRequest LineFault) (t u : List ℕ) (p q : Option State) → IsLineAnswer s line t p → IsLineAnswer s line u q → (t ≡ u) × (p ≡ q)

@@ -1,0 +1,10 @@
+pub mod States
+pub mod Routes
+pub mod Faults
+pub mod Changes
+pub mod RouterInside
+pub mod Blank
+pub mod Texts
+pub mod Answers
+pub mod Refusals
+pub mod Laws

@@ -1,0 +1,13 @@
+-- What a `Router` keeps.
+use Rattle.std.specs.Prelude.{◌<◌}
+use Rattle.fr_route.specs.States.{State, IsReport, state_with}
+use Rattle.fr_route.specs.Routes.{AreHops}
+use Rattle.fr_route.specs.declared.router.Router.TheInside.{Inside}
+
+abbrev pub state_of : Inside → State
+state_of r = state_with r.net r.dest r.counts.items
+
+pub record IsSoundRouter (r : Inside) : Type 0 where
+  pub dest : r.dest < r.net.nodes
+  pub hops : AreHops (state_of r) r.net.nodes r.hops.items
+  pub report : IsReport (state_of r) r.report.turned r.report.cut

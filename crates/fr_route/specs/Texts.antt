@@ -1,0 +1,46 @@
+-- The texts of answers.
+use Rattle.std.specs.Prelude.{ℕ, List, [], ◌∷◌, ◌++◌, codes, decimal}
+use Rattle.fr_route.specs.declared.hops.Hop.{Hop}
+use Rattle.fr_route.specs.declared.hops.Hop.TheVariants.{Here, To, CutOff}
+
+-- each number after a space
+abbrev pub spaced : List ℕ → List ℕ
+spaced [] = []
+spaced (n ∷ ns) = codes " " ++ (decimal n ++ spaced ns)
+
+abbrev pub counts_text : List ℕ → List ℕ
+counts_text counts = codes "counts" ++ spaced counts
+
+-- each link after a space, as its tail, `>` and its head
+abbrev pub spaced_links : List (ℕ × ℕ) → List ℕ
+spaced_links [] = []
+spaced_links (l ∷ ls) = codes " " ++ (decimal l.0 ++ (codes ">" ++ (decimal l.1 ++ spaced_links ls)))
+
+abbrev pub links_text : List (ℕ × ℕ) → List ℕ
+links_text links = codes "links" ++ spaced_links links
+
+-- the word for a hop
+abbrev pub hop_word : Hop → List ℕ
+hop_word Here = codes "here"
+hop_word (To node) = decimal node
+hop_word CutOff = codes "cut"
+
+-- the word for each hop after a space
+abbrev pub spaced_hops : List Hop → List ℕ
+spaced_hops [] = []
+spaced_hops (hop ∷ hops) = codes " " ++ (hop_word hop ++ spaced_hops hops)
+
+abbrev pub hops_text : List Hop → List ℕ
+hops_text hops = codes "hops" ++ spaced_hops hops
+
+abbrev pub walk_text : List ℕ → List ℕ
+walk_text nodes = codes "walk" ++ spaced nodes
+
+abbrev pub no_walk_text : ℕ → List ℕ
+no_walk_text node = codes "walk " ++ (decimal node ++ codes " cut")
+
+abbrev pub report_text : ℕ → ℕ → List ℕ
+report_text turned cut = codes "turned " ++ (decimal turned ++ (codes " cut " ++ decimal cut))
+
+abbrev pub refusal_text : ℕ → List ℕ
+refusal_text number = codes "refused " ++ decimal number

@@ -1,0 +1,12 @@
+//! Blank lines.
+
+ghost use Rattle.std.specs.Prelude.{◌≡◌};
+ghost use Rattle.fr_route.specs.Blank.{is_blank as is_blank_line};
+
+/// Whether a line has nothing but tabs, carriage returns and spaces.
+pub(crate) fn is_blank(line: &[u8]) -> bool
+    ensures { result ≡ is_blank_line line.now }
+{
+    line.iter()
+        .all(|byte| *byte == b'\t' || *byte == b'\r' || *byte == b' ')
+}

@@ -1,0 +1,29 @@
+//! Changes of a network, and what the round after one reports.
+
+/// A change of the network, made between two rounds.
+#[derive(Clone, Copy, Debug, PartialEq, Eq)]
+pub enum Change {
+    /// The link between two nodes is taken out, whichever way it points.
+    Cut {
+        /// One end of the link.
+        u: u32,
+        /// The other end.
+        v: u32,
+    },
+    /// A link is added, which points from `u` to `v` at first.
+    Add {
+        /// The tail of the link.
+        u: u32,
+        /// Its head.
+        v: u32,
+    },
+}
+
+/// What a round reports.
+#[derive(Clone, Copy, Debug, PartialEq, Eq)]
+pub struct Report {
+    /// How many turns it took: the sum of the counts.
+    pub turned: u64,
+    /// How many nodes are cut off: other than the destination, and not joined with it.
+    pub cut: u64,
+}

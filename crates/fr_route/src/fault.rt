@@ -1,0 +1,87 @@
+//! Why a router gives no answer, and why a session gives none.
+
+ghost use Rattle.std.specs.Prelude.{◌≡◌};
+ghost use Rattle.fr_route.specs.declared.fault.RouteFault.TheVariants.{Memory as RouteMemory};
+ghost use Rattle.fr_route.specs.declared.fault.AnswerFault.TheVariants.{Memory as AnswerMemory};
+ghost use Rattle.fr_route.specs.Faults.{of_net_fault, of_crew_fault};
+
+use fr_crew::CrewFault;
+use fr_net::NetFault;
+use std::alloc::{AllocError, AllocFailed};
+use thiserror::Error;
+
+/// Why a router could not be opened or changed, or could not answer.
+#[derive(Debug, Drop, Error, PartialEq, Eq)]
+pub enum RouteFault {
+    /// The changed links make no network. The fault is never `Memory`.
+    #[error("{0}")]
+    Net(NetFault),
+    /// The destination is no node of the network.
+    #[error("the destination is no node")]
+    Range,
+    /// A thread could not be started. Those that were started have ended.
+    #[error("a thread could not be started")]
+    Start,
+    /// An allocation was refused.
+    #[error("no memory")]
+    Memory,
+}
+
+// By hand, since clauses say which fault a `?` gives.
+impl From<AllocError> for RouteFault {
+    ghost from_gives = { λ _ fault. fault ≡ RouteMemory };
+
+    fn from(_refused: AllocError) -> RouteFault {
+        RouteFault::Memory
+    }
+}
+
+impl<T: Drop> From<AllocFailed<T>> for RouteFault {
+    ghost from_gives = { λ _ fault. fault ≡ RouteMemory };
+
+    fn from(_refused: AllocFailed<T>) -> RouteFault {
+        RouteFault::Memory
+    }
+}
+
+impl From<NetFault> for RouteFault {
+    ghost from_gives = { λ refused fault. fault ≡ of_net_fault refused };
+
+    fn from(refused: NetFault) -> RouteFault {
+        match refused {
+            NetFault::Memory => RouteFault::Memory,
+            fault => RouteFault::Net(fault),
+        }
+    }
+}
+
+impl From<CrewFault> for RouteFault {
+    ghost from_gives = { λ refused fault. fault ≡ of_crew_fault refused };
+
+    fn from(refused: CrewFault) -> RouteFault {
+        match refused {
+            CrewFault::Range => RouteFault::Range,
+            CrewFault::Start => RouteFault::Start,
+            CrewFault::Memory => RouteFault::Memory,
+        }
+    }
+}
+
+/// Why a session gives no answer. It is then as it was, and the request can be asked again.
+#[derive(Clone, Copy, Debug, Drop, Error, PartialEq, Eq)]
+pub enum AnswerFault {
+    /// A thread could not be started. Those that were started have ended.
+    #[error("a thread could not be started")]
+    Start,
+    /// An allocation was refused.
+    #[error("no memory")]
+    Memory,
+}
+
+impl From<AllocError> for AnswerFault {
+    ghost from_gives = { λ _ fault. fault ≡ AnswerMemory };
+
+    fn from(_refused: AllocError) -> AnswerFault {
+        AnswerFault::Memory
+    }
+}

@@ -1,0 +1,24 @@
+//! Routing by full link reversal: a network that is settled again after each change, the way from each node to the
+//! destination, and the answers to request lines.
+//!
+//! A [`Router`] keeps a settled network, and answers next hops and walks. [`Router::change`] cuts or adds a link, and
+//! settles what comes of it by a crew. A [`Session`] answers request after request by a router. The laws of routes and
+//! answers are in [`laws`].
+#![tactic(auto)]
+
+mod blank;
+mod change;
+mod fault;
+mod hops;
+pub mod laws;
+mod router;
+mod session;
+#[cfg(test)]
+mod tests;
+mod texts;
+
+pub use change::{Change, Report};
+pub use fault::{AnswerFault, RouteFault};
+pub use hops::{Hop, Walked};
+pub use router::Router;
+pub use session::Session;

@@ -1,0 +1,186 @@
+//! Routers.
+
+ghost use Rattle.std.specs.Prelude.{◌≡◌, ◌<◌, IfOk, IfErr, OnErr};
+ghost use Rattle.fr_route.specs.declared.fault.RouteFault.TheVariants.{Memory};
+ghost use Rattle.fr_route.specs.States.{IsRound, IsReport};
+ghost use Rattle.fr_route.specs.Routes.{IsHop, AreHops, IsWalked};
+ghost use Rattle.fr_route.specs.Changes.{IsOpenFault, IsChanged, IsRouteFault};
+
+use crate::change::{Change, Report};
+use crate::fault::RouteFault;
+use crate::hops::{Hop, Walked, cut_count, hop_table};
+use fr_crew::{Gate, Plan, Settled, settle};
+use fr_net::Net;
+use std::alloc::Global;
+use std::marker::Model;
+use std::sync::Wait;
+use std::thread::Threads;
+
+/// A settled network: links and counts as the last round left them, and where each node sends on to. Contracts see the
+/// state: how many nodes, the destination, the links in rising order, and the counts.
+#[derive(Debug, Drop)]
+pub struct Router {
+    net: Net,
+    dest: u32,
+    counts: Vec<u64>,
+    hops: Vec<Hop>,
+    report: Report,
+}
+
+impl Model for Router {
+    ghost use Rattle.fr_route.specs.States.{State};
+
+    ghost Value = { State };
+
+    ghost use Rattle.fr_route.specs.RouterInside.{state_of, IsSoundRouter};
+
+    ghost view = { state_of };
+
+    ghost invariant = { IsSoundRouter };
+}
+
+impl Router {
+    /// Settles a network by a crew, by the plan and under the gate. `Range` where the destination is no node, `Start`
+    /// where a thread could not be started, `Memory` where no room could be had; never `Net`. On a fault the network is
+    /// given up. It comes back if the calls of the gate do.
+    pub fn open<R: Threads + Wait + Sync, G: Gate + Sync>(
+        rt: &R,
+        alloc: Global,
+        net: Net,
+        dest: u32,
+        plan: &Plan,
+        gate: &G,
+    ) -> Result<Router, RouteFault>
+        ensures opened { IfOk result (λ router. (dest < net.nodes) × IsRound net.nodes dest net.links router) }
+        ensures fault { IfErr result (IsOpenFault net.nodes dest) }
+    {
+        // For what `nodes` ensures: the links are those of a network.
+        let _nodes = net.nodes();
+        let Settled {
+            net,
+            counts,
+            by_workers,
+            by_finisher,
+        } = settle(rt, alloc, net, dest, plan, gate)?;
+        let hops = hop_table(alloc, &net, dest, &counts)?;
+        let report = Report {
+            turned: by_workers + by_finisher,
+            cut: cut_count(&hops),
+        };
+        Ok(Router {
+            net,
+            dest,
+            counts,
+            hops,
+            report,
+        })
+    }
+
+    /// The router of the changed network, settled anew by a crew. All that the change needs is made here.
+    pub(crate) fn changed<R: Threads + Wait + Sync, G: Gate + Sync>(
+        &self,
+        rt: &R,
+        alloc: Global,
+        change: Change,
+        plan: &Plan,
+        gate: &G,
+    ) -> Result<Router, RouteFault>
+        ensures changed { IfOk result (IsChanged self.now change) }
+        ensures fault { IfErr result (IsRouteFault self.now change) }
+    {
+        let net = match change {
+            Change::Cut { u, v } => self.net.with_cut(alloc, u, v)?,
+            Change::Add { u, v } => self.net.with_link(alloc, u, v)?,
+        };
+        Router::open(rt, alloc, net, self.dest, plan, gate)
+    }
+
+    /// Changes the network and settles it anew by a crew, by the plan and under the gate, and answers what the round
+    /// reports. `Net` with the fault for which the change is refused: a cut for `NoLink` alone, an added link for what
+    /// `Net::with_link` names; `Start` and `Memory` as in `open`; never `Range`. Any fault leaves the router as it was.
+    pub fn change<R: Threads + Wait + Sync, G: Gate + Sync>(
+        &mut self,
+        rt: &R,
+        alloc: Global,
+        change: Change,
+        plan: &Plan,
+        gate: &G,
+    ) -> Result<Report, RouteFault>
+        ensures changed { IfOk result (λ _. IsChanged self.old change self.new) }
+        ensures report { IfOk result (λ report. IsReport self.new report.turned report.cut) }
+        ensures fault { IfErr result (IsRouteFault self.old change) }
+        ensures unchanged { OnErr result (self.new ≡ self.old) }
+    {
+        let router = self.changed(rt, alloc, change, plan, gate)?;
+        let report = router.report();
+        *self = router;
+        Ok(report)
+    }
+
+    /// What the last round reported: how many turns it took, and how many nodes are cut off.
+    pub fn report(&self) -> Report
+        ensures { IsReport self.now result.turned result.cut }
+    {
+        self.report
+    }
+
+    /// The network as the last round left it.
+    pub fn net(&self) -> &Net
+        ensures nodes { result.now.nodes ≡ self.now.nodes }
+        ensures links { result.now.links ≡ self.now.links }
+    {
+        &self.net
+    }
+
+    /// The destination, which is a node of the network.
+    pub fn dest(&self) -> u32
+        ensures value { result ≡ self.now.dest }
+        ensures node { self.now.dest < self.now.nodes }
+    {
+        self.dest
+    }
+
+    /// How often each node turned in the last round.
+    pub fn counts(&self) -> &[u64]
+        ensures { result.now ≡ self.now.counts }
+    {
+        &self.counts
+    }
+
+    /// Where each node sends on to.
+    pub(crate) fn hops(&self) -> &[Hop]
+        ensures { AreHops self.now self.now.nodes result.now }
+    {
+        &self.hops
+    }
+
+    /// Where node `x` sends on to, which has to be a node. It takes the same time for each.
+    pub fn next_hop(&self, x: u32) -> Hop
+        requires { x < self.now.nodes }
+        ensures { IsHop self.now x result }
+    {
+        self.hops[x as usize]
+    }
+
+    /// The way from node `x` to the destination, hop by hop; `x` has to be a node. Linear in its length. The only fault is
+    /// `Memory`.
+    pub fn walk(&self, alloc: Global, x: u32) -> Result<Walked, RouteFault>
+        requires { x < self.now.nodes }
+        ensures walked { IfOk result (IsWalked self.now x) }
+        ensures memory { IfErr result (λ fault. fault ≡ Memory) }
+    {
+        // For what `nodes` ensures: no closed walk follows the links.
+        let _nodes = self.net.nodes();
+        if self.next_hop(x) == Hop::CutOff {
+            return Ok(Walked::CutOff);
+        }
+        let mut route = Vec::new(alloc);
+        route.push(x)?;
+        let mut at = x;
+        'hops: while let Hop::To(next) = self.next_hop(at) {
+            route.push(next)?;
+            at = next;
+        }
+        Ok(Walked::Route(route))
+    }
+}

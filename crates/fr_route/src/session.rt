@@ -1,0 +1,213 @@
+//! What the requests so far have made, and the answer to the next one.
+
+ghost use Rattle.std.specs.Prelude.{◌≡◌, ℕ, ◌<◌, true, false, Some, None, IfOk, IfErr, OnErr, IfSome, IfNone, string_bytes};
+ghost use Rattle.fr_net.specs.Requests.{ask, new_network, walk_from, plain, reading};
+ghost use Rattle.fr_route.specs.Blank.{is_blank as is_blank_line};
+ghost use Rattle.fr_route.specs.Answers.{IsAnswer, IsLineAnswer, IsReportLine, fault_number as fault_number_of};
+ghost use Rattle.fr_route.specs.Refusals.{request_of_change, IsRefusalOf};
+ghost use Rattle.fr_route.specs.declared.fault.AnswerFault.TheVariants.{Memory};
+
+use crate::blank::is_blank;
+use crate::change::Change;
+use crate::fault::{AnswerFault, RouteFault};
+use crate::hops::Walked;
+use crate::router::Router;
+use crate::texts::{counts_line, hops_line, links_line, no_walk_line, refusal_line, report_line, walk_line};
+use fr_crew::{Gate, Plan};
+use fr_net::{LineFault, Net, NetFault, Question, Request, read_line};
+use std::alloc::Global;
+use std::marker::Model;
+use std::sync::Wait;
+use std::thread::Threads;
+
+/// A session: the router of the last network that was accepted, if there was one. Contracts see its state.
+#[derive(Debug, Drop)]
+pub struct Session {
+    router: Option<Router>,
+}
+
+impl Model for Session {
+    ghost use Rattle.std.specs.Prelude.{Option};
+    ghost use Rattle.fr_route.specs.States.{State};
+
+    ghost Value = { Option State };
+
+    ghost view = { λ s. s.router };
+}
+
+impl Session {
+    /// A session that holds no network yet.
+    pub fn new() -> Session
+        ensures { result ≡ None }
+    {
+        Session { router: None }
+    }
+
+    /// The answer to a line, or None for a blank one; `specs/Answers.antt` says what the answer to a line is. The session is
+    /// then in the state after the line, which for a refused line is the state before it. A fault says that no thread could
+    /// be started, or that memory ran out, and leaves the session as it was. Networks are settled by the plan and under the
+    /// gate, on which no answer depends.
+    pub fn answer_line<R: Threads + Wait + Sync, G: Gate + Sync>(
+        &mut self,
+        rt: &R,
+        alloc: Global,
+        line: &[u8],
+        plan: &Plan,
+        gate: &G,
+    ) -> Result<Option<String>, AnswerFault>
+        ensures blank { IfOk result (λ answer. IfNone answer ((is_blank_line line.now ≡ true) × (self.new ≡ self.old))) }
+        ensures text { IfOk result (λ answer. IfSome answer (λ text. (is_blank_line line.now ≡ false)
+            × IsLineAnswer self.old (reading line.now) (string_bytes text) self.new)) }
+        ensures unchanged { OnErr result ((is_blank_line line.now ≡ false) × (self.new ≡ self.old)) }
+    {
+        if is_blank(line) {
+            return Ok(None);
+        }
+        match read_line(alloc, line) {
+            Ok(request) => Ok(Some(self.answer(rt, alloc, &request, plan, gate)?)),
+            Err(LineFault::NotJson) => Ok(Some(refusal_line(alloc, 1)?)),
+            Err(LineFault::NotRequest) => Ok(Some(refusal_line(alloc, 2)?)),
+            Err(LineFault::Memory) => Err(AnswerFault::Memory),
+        }
+    }
+
+    /// The answer to a request, as `answer_line` gives it to the line of the request. The text has no line end.
+    pub fn answer<R: Threads + Wait + Sync, G: Gate + Sync>(
+        &mut self,
+        rt: &R,
+        alloc: Global,
+        request: &Request,
+        plan: &Plan,
+        gate: &G,
+    ) -> Result<String, AnswerFault>
+        ensures text { IfOk result (λ text. IsAnswer self.old (plain request.now) (string_bytes text) self.new) }
+        ensures unchanged { OnErr result (self.new ≡ self.old) }
+    {
+        match request {
+            Request::Network { nodes, dest, links } => {
+                self.open(rt, alloc, *nodes, *dest, links, plan, gate)
+            }
+            Request::Cut { u, v } => {
+                self.change(rt, alloc, Change::Cut { u: *u, v: *v }, plan, gate)
+            }
+            Request::Add { u, v } => {
+                self.change(rt, alloc, Change::Add { u: *u, v: *v }, plan, gate)
+            }
+            Request::Walk { x } => self.walk(alloc, *x),
+            Request::Ask(question) => self.tell(alloc, *question),
+        }
+    }
+
+    /// Takes a network, or says for which fault it is refused.
+    fn open<R: Threads + Wait + Sync, G: Gate + Sync>(
+        &mut self,
+        rt: &R,
+        alloc: Global,
+        nodes: u32,
+        dest: u32,
+        links: &[(u32, u32)],
+        plan: &Plan,
+        gate: &G,
+    ) -> Result<String, AnswerFault>
+        ensures text { IfOk result (λ text. IsAnswer self.old (new_network nodes dest links.now) (string_bytes text) self.new) }
+        ensures unchanged { OnErr result (self.new ≡ self.old) }
+    {
+        let net = match Net::new(alloc, nodes, links) {
+            Ok(net) => net,
+            Err(fault) => return refusal(alloc, &RouteFault::from(fault)),
+        };
+        match Router::open(rt, alloc, net, dest, plan, gate) {
+            Ok(router) => self.put(alloc, router),
+            Err(fault) => refusal(alloc, &fault),
+        }
+    }
+
+    /// Changes the network, or says for which fault the change is refused.
+    fn change<R: Threads + Wait + Sync, G: Gate + Sync>(
+        &mut self,
+        rt: &R,
+        alloc: Global,
+        change: Change,
+        plan: &Plan,
+        gate: &G,
+    ) -> Result<String, AnswerFault>
+        ensures text { IfOk result (λ text. IsAnswer self.old (request_of_change change) (string_bytes text) self.new) }
+        ensures unchanged { OnErr result (self.new ≡ self.old) }
+    {
+        let Some(router) = &self.router else {
+            return Ok(refusal_line(alloc, 3)?);
+        };
+        match router.changed(rt, alloc, change, plan, gate) {
+            Ok(router) => self.put(alloc, router),
+            Err(fault) => refusal(alloc, &fault),
+        }
+    }
+
+    /// Puts a router in place, once the line that reports its round is made.
+    fn put(&mut self, alloc: Global, router: Router) -> Result<String, AnswerFault>
+        ensures text { IfOk result (λ text. IsReportLine router (string_bytes text) × (self.new ≡ Some router)) }
+        ensures unchanged { OnErr result (self.new ≡ self.old) }
+    {
+        let text = report_line(alloc, router.report())?;
+        self.router = Some(router);
+        Ok(text)
+    }
+
+    /// Tells the route from a node, once there is a network.
+    fn walk(&self, alloc: Global, x: u32) -> Result<String, AnswerFault>
+        ensures { IfOk result (λ text. IsAnswer self.now (walk_from x) (string_bytes text) self.now) }
+    {
+        let Some(router) = &self.router else {
+            return Ok(refusal_line(alloc, 3)?);
+        };
+        if x >= router.net().nodes() {
+            return Ok(refusal_line(alloc, 4)?);
+        }
+        match router.walk(alloc, x) {
+            Ok(Walked::Route(nodes)) => Ok(walk_line(alloc, &nodes)?),
+            Ok(Walked::CutOff) => Ok(no_walk_line(alloc, x)?),
+            Err(_) => Err(AnswerFault::Memory),
+        }
+    }
+
+    /// Answers a question, once there is a network.
+    fn tell(&self, alloc: Global, question: Question) -> Result<String, AnswerFault>
+        ensures { IfOk result (λ text. IsAnswer self.now (ask question) (string_bytes text) self.now) }
+    {
+        let Some(router) = &self.router else {
+            return Ok(refusal_line(alloc, 3)?);
+        };
+        match question {
+            Question::Links => Ok(links_line(alloc, router.net().links())?),
+            Question::Counts => Ok(counts_line(alloc, router.counts())?),
+            Question::Hops => Ok(hops_line(alloc, router.hops())?),
+        }
+    }
+}
+
+/// The answer to a request that is refused for this fault; a fault that is no refusal is handed on.
+fn refusal(alloc: Global, fault: &RouteFault) -> Result<String, AnswerFault>
+    ensures { IfOk result (λ text. IsRefusalOf fault.now (string_bytes text)) }
+{
+    match fault {
+        RouteFault::Net(fault) => Ok(refusal_line(alloc, fault_number(fault))?),
+        RouteFault::Range => Ok(refusal_line(alloc, 4)?),
+        RouteFault::Start => Err(AnswerFault::Start),
+        RouteFault::Memory => Err(AnswerFault::Memory),
+    }
+}
+
+/// The number by which an answer names a fault of links or of an edit.
+fn fault_number(fault: &NetFault) -> u32
+    ensures { result ≡ fault_number_of fault.now }
+{
+    match fault {
+        NetFault::TooMany => 9,
+        NetFault::Range(_) => 4,
+        NetFault::SelfLink(_) => 5,
+        NetFault::Twice(_, _) => 6,
+        NetFault::Cycle(_) => 7,
+        NetFault::NoLink => 8,
+        NetFault::Memory => 0,
+    }
+}

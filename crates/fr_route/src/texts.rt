@@ -1,0 +1,86 @@
+//! The texts of answers.
+
+ghost use Rattle.std.specs.Prelude.{◌≡◌, ◌++◌, IfOk, OnOk, codes, string_bytes};
+ghost use Rattle.fr_route.specs.Texts.{counts_text, links_text, hops_text, hop_word, walk_text, no_walk_text, report_text, refusal_text};
+
+use crate::change::Report;
+use crate::hops::Hop;
+use std::alloc::{AllocError, Global};
+use std::fmt::Write;
+
+/// `links`, and each link after a space, as `tail>head`.
+pub(crate) fn links_line(alloc: Global, links: &[(u32, u32)]) -> Result<String, AllocError>
+    ensures { IfOk result (λ line. string_bytes line ≡ links_text links.now) }
+{
+    let mut line = String::from_str(alloc, "links")?;
+    for (tail, head) in links {
+        write!(line, " {tail}>{head}")?;
+    }
+    Ok(line)
+}
+
+/// `counts`, and each count after a space.
+pub(crate) fn counts_line(alloc: Global, counts: &[u64]) -> Result<String, AllocError>
+    ensures { IfOk result (λ line. string_bytes line ≡ counts_text counts.now) }
+{
+    let mut line = String::from_str(alloc, "counts")?;
+    for count in counts {
+        write!(line, " {count}")?;
+    }
+    Ok(line)
+}
+
+/// A space, and the word for a hop: `here`, the node that is sent to, or `cut`.
+fn push_hop(line: &mut String, hop: Hop) -> Result<(), AllocError>
+    ensures { OnOk result (string_bytes line.new ≡ string_bytes line.old ++ (codes " " ++ hop_word hop)) }
+{
+    match hop {
+        Hop::Here => line.push_str(" here"),
+        Hop::To(node) => write!(line, " {node}"),
+        Hop::CutOff => line.push_str(" cut"),
+    }
+}
+
+/// `hops`, and the word for each hop after a space.
+pub(crate) fn hops_line(alloc: Global, hops: &[Hop]) -> Result<String, AllocError>
+    ensures { IfOk result (λ line. string_bytes line ≡ hops_text hops.now) }
+{
+    let mut line = String::from_str(alloc, "hops")?;
+    for hop in hops {
+        push_hop(&mut line, *hop)?;
+    }
+    Ok(line)
+}
+
+/// `walk`, and each node after a space.
+pub(crate) fn walk_line(alloc: Global, nodes: &[u32]) -> Result<String, AllocError>
+    ensures { IfOk result (λ line. string_bytes line ≡ walk_text nodes.now) }
+{
+    let mut line = String::from_str(alloc, "walk")?;
+    for node in nodes {
+        write!(line, " {node}")?;
+    }
+    Ok(line)
+}
+
+/// The walk of a node that is cut off.
+pub(crate) fn no_walk_line(alloc: Global, node: u32) -> Result<String, AllocError>
+    ensures { IfOk result (λ line. string_bytes line ≡ no_walk_text node) }
+{
+    format!(in alloc; "walk {node} cut")
+}
+
+/// How many turns a round took, and how many nodes are cut off.
+pub(crate) fn report_line(alloc: Global, report: Report) -> Result<String, AllocError>
+    ensures { IfOk result (λ line. string_bytes line ≡ report_text report.turned report.cut) }
+{
+    let Report { turned, cut } = report;
+    format!(in alloc; "turned {turned} cut {cut}")
+}
+
+/// The answer to a line that is refused by this number.
+pub(crate) fn refusal_line(alloc: Global, number: u32) -> Result<String, AllocError>
+    ensures { IfOk result (λ line. string_bytes line ≡ refusal_text number) }
+{
+    format!(in alloc; "refused {number}")
+}
