@@ -10,41 +10,73 @@ use std::sync::{Mutex, Wait};
 /// Nodes that may be sinks, first in first out, under one lock. The lock is held only to take a candidate or to put some.
 #[derive(Drop)]
 pub(crate) struct Candidates {
-    queue: Mutex<VecDeque<u32>>,
+    list: Mutex<List>,
+}
+
+/// The list under the lock. No node stands in it twice, so that it never needs more room than it has at first.
+#[derive(Drop)]
+struct List {
+    queue: VecDeque<u32>,
+    queued: Vec<bool>,
+}
+
+impl List {
+    /// Puts node `x` at the end, where it is not in the list yet. A candidate that finds no memory is dropped, and so left
+    /// to the finisher.
+    fn put(&mut self, x: u32) {
+        if let Some(queued) = self.queued.get_mut(x as usize) {
+            if !*queued {
+                *queued = self.queue.push_back(x).is_ok();
+            }
+        }
+    }
+
+    /// Takes the node that was put first, if there is one.
+    fn take(&mut self) -> Option<u32> {
+        let x = self.queue.pop_front()?;
+        if let Some(queued) = self.queued.get_mut(x as usize) {
+            *queued = false;
+        }
+        Some(x)
+    }
 }
 
 impl Candidates {
     /// All nodes that have a link, but the destination, in rising order.
     pub fn first(alloc: Global, net: &Net, dest: u32) -> Result<Candidates, AllocError> {
-        let mut queue = VecDeque::with_capacity(alloc, net.nodes() as usize)?;
-        for x in 0..net.nodes() {
+        let nodes = net.nodes();
+        let mut list = List {
+            queue: VecDeque::with_capacity(alloc, nodes as usize)?,
+            queued: vec![in alloc; false; nodes as usize]?,
+        };
+        for x in 0..nodes {
             if x != dest && net.degree(x) > 0 {
-                queue.push_back(x)?;
+                list.put(x);
             }
         }
         Ok(Candidates {
-            queue: Mutex::new(queue),
+            list: Mutex::new(list),
         })
     }
 
     /// The candidate that was put first, if there is one.
     pub fn take<R: Wait>(&self, rt: &R) -> Option<u32> {
-        self.queue.lock(rt).pop_front()
+        self.list.lock(rt).take()
     }
 
-    /// Node `x` again. A candidate that finds no memory is dropped, and left to the finisher.
+    /// Node `x` again.
     pub fn put<R: Wait>(&self, rt: &R, x: u32) {
-        let _ = self.queue.lock(rt).push_back(x);
+        self.list.lock(rt).put(x);
     }
 
     /// All neighbours of node `x` but the destination: each may be a sink now that `x` has turned.
     pub fn put_neighbours<R: Wait>(&self, rt: &R, net: &Net, dest: u32, x: u32)
         requires { x < net.now.nodes }
     {
-        let mut queue = self.queue.lock(rt);
+        let mut list = self.list.lock(rt);
         for (neighbour, _) in net.row(x) {
             if *neighbour != dest {
-                let _ = queue.push_back(*neighbour);
+                list.put(*neighbour);
             }
         }
     }

@@ -92,7 +92,10 @@ fn start_each<'s, 'e, R: Wait + Sync, G: Gate + Sync>(
         let promise = GivesBack(Snapshot::of(&worker));
         match scope.spawn_with(promise, move || work(rt, job, gate, worker)) {
             Ok(thread) => threads.push_reserved(thread),
-            Err(_) => return Started { threads, all: false },
+            Err(_) => return Started {
+                threads,
+                all: false,
+            },
         }
     }
     Started { threads, all: true }
@@ -128,11 +131,7 @@ fn run_each<'s, 'e, R: Threads + Wait + Sync, G: Gate + Sync>(
     let threads = Vec::with_capacity(alloc, workers.len())?;
     let Started { threads, all } = start_each(scope, rt, job, gate, threads, workers);
     let back = join_each(rt, threads, back);
-    if all {
-        Ok(back)
-    } else {
-        Err(CrewFault::Start)
-    }
+    if all { Ok(back) } else { Err(CrewFault::Start) }
 }
 
 /// Lets all workers work at once, each in a thread of its own, and gives them back in their order. Where a thread cannot be

@@ -139,17 +139,34 @@ fn without_budget_the_finisher_does_all(rt: HostRuntime) -> Result<(), Fail> {
     assert_eq!(rt; turns(&settled), (0, 6));
     assert_eq!(rt; settled.counts.as_slice(), [0, 1, 2, 3].as_slice());
     assert_eq!(rt; settled.net.links(), [(1, 0), (2, 1), (3, 2)].as_slice());
-    let settled = settle(&rt, rt.alloc(), square(rt.alloc())?, 0, &plan(16, 0)?, &OpenGate)?;
+    let settled = settle(
+        &rt,
+        rt.alloc(),
+        square(rt.alloc())?,
+        0,
+        &plan(16, 0)?,
+        &OpenGate,
+    )?;
     assert_eq!(rt; turns(&settled), (0, 4));
     Ok(())
 }
 
 #[test]
 fn with_budget_the_workers_do_all(rt: HostRuntime) -> Result<(), Fail> {
-    let settled = settle(&rt, rt.alloc(), square(rt.alloc())?, 0, &plan(2, 1000)?, &OpenGate)?;
+    let settled = settle(
+        &rt,
+        rt.alloc(),
+        square(rt.alloc())?,
+        0,
+        &plan(2, 1000)?,
+        &OpenGate,
+    )?;
     assert_eq!(rt; turns(&settled), (4, 0));
     assert_eq!(rt; settled.counts.as_slice(), [0, 1, 1, 2].as_slice());
-    assert_eq!(rt; settled.net.links(), [(1, 0), (2, 0), (3, 1), (3, 2)].as_slice());
+    assert_eq!(rt;
+        settled.net.links(),
+        [(1, 0), (2, 0), (3, 1), (3, 2)].as_slice()
+    );
     Ok(())
 }
 
@@ -157,7 +174,14 @@ fn with_budget_the_workers_do_all(rt: HostRuntime) -> Result<(), Fail> {
 fn the_budget_bounds_the_calls_of_a_worker(rt: HostRuntime) -> Result<(), Fail> {
     // The first two candidates are held, and the third turns.
     for (budget, split) in [(1, (0, 4)), (3, (1, 3)), (9, (4, 0))] {
-        let settled = settle(&rt, rt.alloc(), square(rt.alloc())?, 0, &plan(1, budget)?, &OpenGate)?;
+        let settled = settle(
+            &rt,
+            rt.alloc(),
+            square(rt.alloc())?,
+            0,
+            &plan(1, budget)?,
+            &OpenGate,
+        )?;
         assert_eq!(rt; turns(&settled), split);
     }
     Ok(())
@@ -201,7 +225,14 @@ fn every_plan_ends_alike(rt: HostRuntime) -> Result<(), Fail> {
 fn a_long_chain_settles(rt: HostRuntime) -> Result<(), Fail> {
     for workers in [1, 2, 8] {
         let net = chain(rt.alloc(), 0, 1024)?;
-        let settled = settle(&rt, rt.alloc(), net, 0, &plan(workers, 1_000_000)?, &OpenGate)?;
+        let settled = settle(
+            &rt,
+            rt.alloc(),
+            net,
+            0,
+            &plan(workers, 1_000_000)?,
+            &OpenGate,
+        )?;
         assert_eq!(rt; all_turns(&settled), 523_776);
         assert_eq!(rt; settled.counts.last().copied(), Some(1023));
     }
@@ -220,7 +251,14 @@ fn a_part_without_the_destination_turns_to_the_cap(rt: HostRuntime) -> Result<()
 fn two_threads_run(rt: HostRuntime) -> Result<(), Fail> {
     for (held, until) in [(0, 1), (1, 0)] {
         let gate = HoldingGate::new(held, until, 1);
-        let settled = settle(&rt, rt.alloc(), square(rt.alloc())?, 0, &plan(2, 1000)?, &gate)?;
+        let settled = settle(
+            &rt,
+            rt.alloc(),
+            square(rt.alloc())?,
+            0,
+            &plan(2, 1000)?,
+            &gate,
+        )?;
         assert_eq!(rt; settled.counts.as_slice(), [0, 1, 1, 2].as_slice());
         assert!(rt; !gate.reached.load(Ordering::SeqCst));
         assert!(rt; gate.before.load(Ordering::SeqCst) >= 4);
@@ -235,10 +273,24 @@ fn slow_workers_change_no_answer(rt: HostRuntime) -> Result<(), Fail> {
         slow: 3,
         turns: AtomicU64::new(0),
     };
-    let settled = settle(&rt, rt.alloc(), chain(rt.alloc(), 0, 1024)?, 0, &plan(8, 1_000_000)?, &slow)?;
+    let settled = settle(
+        &rt,
+        rt.alloc(),
+        chain(rt.alloc(), 0, 1024)?,
+        0,
+        &plan(8, 1_000_000)?,
+        &slow,
+    )?;
     assert_eq!(rt; all_turns(&settled), 523_776);
     let odd = OddGate(HoldingGate::new(16, 0, 10));
-    let settled = settle(&rt, rt.alloc(), chain(rt.alloc(), 0, 1024)?, 0, &plan(8, 1_000_000)?, &odd)?;
+    let settled = settle(
+        &rt,
+        rt.alloc(),
+        chain(rt.alloc(), 0, 1024)?,
+        0,
+        &plan(8, 1_000_000)?,
+        &odd,
+    )?;
     assert_eq!(rt; all_turns(&settled), 523_776);
     assert_eq!(rt; settled.counts.last().copied(), Some(1023));
     Ok(())

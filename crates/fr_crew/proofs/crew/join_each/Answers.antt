@@ -13,7 +13,7 @@ loop-thread-preserved g c =
       count = search rules;
       room = search rules;
       own = λ round each.
-        let here = subst (Each (IsOwnThread round)) next (was.rest round each) in
-        rw c.push_reserved.ensures.items (each_snoc (IsOwn round) _ _ (was.own round each) (own_again round _ _ here.0 c.join.ensures));
+          let here = subst (Each (IsOwnThread round)) next (was.rest round each) in
+          rw c.push_reserved.ensures.items (each_snoc (IsOwn round) _ _ (was.own round each) (own_again round _ _ here.0 c.join.ensures));
       rest = λ round each. (subst (Each (IsOwnThread round)) next (was.rest round each)).1;
     }
