@@ -5,10 +5,14 @@
 //! [`Gate`] is called round each call of a worker.
 #![tactic(auto)]
 
+mod candidates;
+mod crew;
 mod fault;
 mod gate;
 mod plan;
 mod settlement;
+#[cfg(test)]
+mod tests;
 
 pub use fault::CrewFault;
 pub use gate::{Gate, OpenGate};

@@ -1,15 +1,18 @@
 //! Settling a network.
 
-ghost use Rattle.std.specs.Prelude.{◌≡◌, ◌<◌, ◌≤◌, ◌↔◌, IfOk, IfErr, sum};
+ghost use Rattle.std.specs.Prelude.{◌≡◌, ℕ, ◌<◌, ◌≤◌, ◌^◌, ◌↔◌, IfOk, IfErr, sum, sum_by};
 ghost use Rattle.fr_net.specs.Counts.{AreLawful};
 ghost use Rattle.fr_crew.specs.Settlements.{IsSettlement};
 ghost use Rattle.fr_crew.specs.declared.fault.CrewFault.TheVariants.{Range, Memory};
 
+use crate::candidates::Candidates;
+use crate::crew::{Job, run_crew};
 use crate::fault::CrewFault;
 use crate::gate::Gate;
 use crate::plan::Plan;
 use fr_core::finish;
 use fr_net::Net;
+use fr_round::{Closed, Round};
 use std::alloc::Global;
 use std::sync::Wait;
 use std::thread::Threads;
@@ -27,14 +30,24 @@ pub struct Settled {
     pub by_finisher: u64,
 }
 
-/// Turns a network by the workers of the plan, each in a thread of its own, and finishes what they leave.
+/// Turns a network until no node can turn: full reversal (E. Gafni and D. Bertsekas, 1981) by the workers of the plan, each
+/// in a thread of its own, and what they leave by [`finish`](fr_core::finish) on one thread. Whatever the plan, the gate and
+/// the schedule, the answer is the same but for who made how many turns.
+///
+/// A worker takes a candidate, tries to turn it, and makes candidates of all its neighbours where it did, and of the node
+/// itself where another worker was faster. It ends as soon as it finds no candidate, or its budget is spent. At first all
+/// nodes with a link but the destination are candidates.
+///
+/// `Range` where the destination is no node, which is tested first. The room for the whole round is taken before the first
+/// thread is started; after that the only fault is `Start`. Where there is a fault, the network is given up. It comes back
+/// if the calls of the gate do.
 pub fn settle<R: Threads + Wait + Sync, G: Gate + Sync>(
-    _rt: &R,
+    rt: &R,
     alloc: Global,
     net: Net,
     dest: u32,
-    _plan: &Plan,
-    _gate: &G,
+    plan: &Plan,
+    gate: &G,
 ) -> Result<Settled, CrewFault>
     ensures settled { IfOk result (λ settled. IsSettlement net.nodes dest net.links settled) }
     ensures range { IfErr result (λ fault. (fault ≡ Range) ↔ (net.nodes ≤ dest)) }
@@ -42,8 +55,32 @@ pub fn settle<R: Threads + Wait + Sync, G: Gate + Sync>(
     if dest >= net.nodes() {
         return Err(CrewFault::Range);
     }
-    let counts = vec![in alloc; 0u64; net.nodes() as usize]?;
-    finished(alloc, net, dest, counts, 0)
+    let candidates = Candidates::first(alloc, &net, dest)?;
+    let Ok((round, workers)) = Round::open(alloc, net, dest, plan.workers()) else {
+        return Err(CrewFault::Memory);
+    };
+    let job = Job {
+        round,
+        candidates,
+        budget: plan.budget(),
+    };
+    let workers = run_crew(rt, alloc, &job, gate, workers)?;
+    let Job { round, .. } = job;
+    let Closed {
+        net,
+        counts,
+        turned,
+    } = round.close(workers);
+    let by_workers = turns_of(&turned);
+    finished(alloc, net, dest, counts, by_workers)
+}
+
+/// How many turns the workers made together, each told with its number.
+fn turns_of(turned: &[(u32, u64)]) -> u64
+    requires { sum_by (λ (p : ℕ × ℕ). p.1) turned.now < 2 ^ 64 }
+    ensures { result ≡ sum_by (λ (p : ℕ × ℕ). p.1) turned.now }
+{
+    turned.iter().map(|(_, turns)| turns).sum()
 }
 
 /// Finishes on one thread what the workers have left.

@@ -1,0 +1,24 @@
+-- The workers of a crew are those of its round.
+use Rattle.std.proofs.Common.{◌≡◌, ◌∙◌, ℕ, zero, suc, ◌+◌, ◌∷◌, [], List, length, ap, refl, arith, length-append}
+use Rattle.std.specs.List.{AllByRecursion as Each}
+use Rattle.fr_round.specs.Knowledge.{Knowledge, OpenRound, IsOwn, new_worker, new_workers}
+use Rattle.fr_round.proofs.Keeping.{each_snoc}
+use Rattle.fr_crew.specs.Crews.{IsSameWorker}
+
+pub own_again : (round : OpenRound) (before after : Knowledge) → IsOwn round before → IsSameWorker before after → IsOwn round after
+own_again round before after own same = record {
+  table = same.table ∙ own.table;
+  setup = same.setup ∙ own.setup;
+}
+
+pub new_workers_own : (round : OpenRound) (k : ℕ) → Each (IsOwn round) (new_workers round.table round.setup k)
+new_workers_own round zero = tt
+new_workers_own round (suc k) = each_snoc (IsOwn round) (new_workers round.table round.setup k) (new_worker round.table round.setup k) (new_workers_own round k) (record { table = refl; setup = refl })
+
+new_workers_length : (round : OpenRound) (k : ℕ) → length (new_workers round.table round.setup k) ≡ k
+new_workers_length round zero = refl
+new_workers_length round (suc k) = omega (arith, length-append (new_workers round.table round.setup k) (new_worker round.table round.setup k ∷ []), new_workers_length round k)
+
+-- as many came back as there were opened
+pub all_came_back : (round : OpenRound) (k : ℕ) (workers back : List Knowledge) → round.setup.workers ≡ k → workers ≡ new_workers round.table round.setup k → length back ≡ length workers → length back ≡ round.setup.workers
+all_came_back round k workers back opened are_new same = omega (arith, opened, same, ap length are_new, new_workers_length round k)
