@@ -16,7 +16,7 @@ use crate::edits::{cut_links, joins};
 use crate::fault::NetFault;
 use crate::limits::{MAX_LINKS, MAX_NODES};
 use crate::rows::{First, entries_of, first_twice, row_starts, sorted_halves, sorted_links};
-use crate::turned::turned_links;
+use crate::turned::{push_out_links, push_turned};
 use std::alloc::Global;
 use std::marker::Model;
 
@@ -150,14 +150,27 @@ impl Net {
 
     /// The network of the links that the counts give, one count for each node: a link stays where its head has turned
     /// as often as its tail, and is reversed where its head has turned once more; the counts have to leave no other case. The
-    /// only fault is `Memory`, where no room could be had.
+    /// only fault is `Memory`, where no room could be had. It is linear.
     pub fn turned_by(&self, alloc: Global, counts: &[u64]) -> Result<Net, NetFault>
         requires one_each { length counts.now ≡ self.now.nodes }
         requires kept { All (IsKept counts.now) self.now.links }
         ensures ok { IfOk result (IsNetworkOf self.now.nodes (links_at self.now.links counts.now)) }
         ensures memory { IfErr result (λ fault. fault ≡ Memory) }
     {
-        let links = turned_links(alloc, &self.links, counts)?;
-        Net::new(alloc, self.nodes, &links)
+        let mut links = Vec::with_capacity(alloc, self.links.len())?;
+        let mut starts = Vec::with_capacity(alloc, self.starts.len())?;
+        let mut entries = Vec::with_capacity(alloc, self.entries.len())?;
+        starts.push(0)?;
+        for x in 0..self.nodes {
+            push_turned(&mut entries, x, self.row(x), counts)?;
+            push_out_links(&mut links, x, &entries[starts[x as usize]..])?;
+            starts.push(entries.len())?;
+        }
+        Ok(Net {
+            nodes: self.nodes,
+            links,
+            starts,
+            entries,
+        })
     }
 }
