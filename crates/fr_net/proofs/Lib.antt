@@ -15,6 +15,7 @@ pub mod Sorting
 pub mod RowLists
 pub mod TurnedRows
 pub mod Remaking
+pub mod CutRows
 pub mod Cycles
 pub mod Items
 pub mod LineValues

@@ -55,7 +55,7 @@ order_cons q (r ∷ rs) head order (suc k) d l =
     let e : suc k + 1 ≡ suc (k + 1) = omega arith in
     rw e (order k d (omega arith))
 
-least_first : (q : ℕ × ℕ) (qs : List (ℕ × ℕ)) (x : ℕ × ℕ) → AreInOrder (q ∷ qs) → Contains qs x → IsNotAfter q x
+pub least_first : (q : ℕ × ℕ) (qs : List (ℕ × ℕ)) (x : ℕ × ℕ) → AreInOrder (q ∷ qs) → Contains qs x → IsNotAfter q x
 least_first q [] x order h = absurd (omega (arith, h.1))
 least_first q (r ∷ rs) x order h =
     let first = order_head q r rs order in

@@ -12,7 +12,7 @@ use Rattle.fr_net.specs.Links.{Points}
 use Rattle.fr_net.specs.Network.{Network}
 use Rattle.fr_net.specs.Order.{AreInOrder, in_order}
 use Rattle.fr_net.specs.RowLists.{AreRows}
-use Rattle.fr_net.specs.Rows.{has_link, row}
+use Rattle.fr_net.specs.Rows.{has_link, row, row_entry}
 use Rattle.fr_net.specs.declared.rows.First.{First}
 
 -- rows depend on which links there are alone
@@ -26,10 +26,14 @@ same_test a b u v to from =
       ]
     ]
 
+pub row_entry_same : (a b : List (ℕ × ℕ)) (x w : ℕ) → (Points a x w → Points b x w) → (Points b x w → Points a x w) → (Points a w x → Points b w x) → (Points b w x → Points a w x) → row_entry a x w ≡ row_entry b x w
+row_entry_same a b x w out_to out_from back_to back_from =
+    rw (same_test a b x w out_to out_from, same_test a b w x back_to back_from) refl
+
 pub row_same : (k : ℕ) (a b : List (ℕ × ℕ)) (x : ℕ) → ((u v : ℕ) → Points a u v → Points b u v) → ((u v : ℕ) → Points b u v → Points a u v) → row k a x ≡ row k b x
 row_same zero a b x to from = refl
 row_same (suc w) a b x to from =
-    rw (row_same w a b x to from, same_test a b x w (to x w) (from x w), same_test a b w x (to w x) (from w x)) refl
+    rw (row_same w a b x to from, row_entry_same a b x w (to x w) (from x w) (to w x) (from w x)) refl
 
 -- what a network keeps
 pub record IsMade (n : ℕ) (made : List (ℕ × ℕ)) (starts : List ℕ) (entries : List (ℕ × First)) : Type 0 where

@@ -24,7 +24,7 @@ use Rattle.fr_net.specs.declared.rows.First.TheVariants.{Inward, Outward}
 not_linked : (links : List (ℕ × ℕ)) (u v : ℕ) → ¬ Points links u v → has_link links u v ≡ false
 not_linked links u v bar = elim (cases_Bool (has_link links u v)) [ inl e ↦ absurd (bar (Points-has_link links u v e)) | inr e ↦ e ]
 
-row_entry_none : (links : List (ℕ × ℕ)) (x w : ℕ) → ¬ Points links x w → ¬ Points links w x → row_entry links x w ≡ None
+pub row_entry_none : (links : List (ℕ × ℕ)) (x w : ℕ) → ¬ Points links x w → ¬ Points links w x → row_entry links x w ≡ None
 row_entry_none links x w out back = rw (not_linked links x w out, not_linked links w x back) refl
 
 not_before_itself : (l x : ℕ × ℕ) → l ≡ x → ¬ IsBefore l x

@@ -1,7 +1,8 @@
--- The rows of all nodes, one after the other in one list, and what becomes of an entry when links turn. For the making of a
--- `Net` alone.
-use Rattle.std.specs.Prelude.{◌≡◌, ℕ, zero, suc, ◌≤◌, ◌+◌, ◌++◌, ◌==◌, if◌then◌else◌, List, [], length, slice_index, Option, Some, None}
+-- The rows of all nodes, one after the other in one list, and what becomes of an entry when links turn or are
+-- edited. For the making of a `Net` alone.
+use Rattle.std.specs.Prelude.{◌≡◌, ℕ, zero, suc, ◌≤◌, ◌+◌, ◌++◌, ◌==◌, if◌then◌else◌, Bool, not, List, [], length, slice_index, Option, Some, None}
 use Rattle.std.specs.List.{filter_map}
+use Rattle.fr_net.specs.Links.{is_between}
 use Rattle.fr_net.specs.declared.rows.First.{First}
 use Rattle.fr_net.specs.declared.rows.First.TheVariants.{Outward, Inward}
 
@@ -24,6 +25,10 @@ opposite Inward = Outward
 abbrev pub turned_entry : List ℕ → ℕ → ℕ × First → ℕ × First
 turned_entry counts x entry =
     if slice_index counts entry.0 == slice_index counts x then entry else (entry.0, opposite entry.1)
+
+-- whether an entry of x stays where the link between u and v is cut
+abbrev pub stays : ℕ → ℕ → ℕ → ℕ × First → Bool
+stays u v x entry = not (is_between u v (x, entry.0))
 
 -- the link from x to w, where its direction is outward
 abbrev pub link_to : ℕ → ℕ → First → Option (ℕ × ℕ)
