@@ -16,7 +16,7 @@ from_filter_by : (b : Bool) (p : ℕ × ℕ → Bool) (l : ℕ × ℕ) (ls : Lis
 from_filter_by true p l ls x rest h = elim (Contains-cases x l (filter p ls) h) [ inl e ↦ subst (λ (y : ℕ × ℕ). Contains (l ∷ ls) y) e (Contains-head l ls) | inr g ↦ Contains-tail x l ls (rest g) ]
 from_filter_by false p l ls x rest h = Contains-tail x l ls (rest h)
 
-from_filter : (p : ℕ × ℕ → Bool) (links : List (ℕ × ℕ)) (x : ℕ × ℕ) → Contains (filter p links) x → Contains links x
+pub from_filter : (p : ℕ × ℕ → Bool) (links : List (ℕ × ℕ)) (x : ℕ × ℕ) → Contains (filter p links) x → Contains links x
 from_filter p [] x h = h
 from_filter p (l ∷ ls) x h = from_filter_by (p l) p l ls x (from_filter p ls x) h
 

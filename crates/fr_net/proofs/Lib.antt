@@ -11,6 +11,11 @@ pub mod Acyclic
 pub mod TurnedLinks
 pub mod Refusing
 pub mod Editing
+pub mod Sorting
+pub mod RowLists
+pub mod TurnedRows
+pub mod Remaking
+pub mod CutRows
 pub mod Cycles
 pub mod Items
 pub mod LineValues

@@ -16,10 +16,10 @@ use Rattle.fr_net.specs.declared.rows.First.TheVariants.{Inward, Outward}
 abbrev pub Rises : List (ℕ × First) → Type 0
 Rises xs = (i j : ℕ) (d : ℕ × First) → i < j → j < length xs → (get_or xs i d).0 < (get_or xs j d).0
 
-rises_tail : (x : ℕ × First) (xs : List (ℕ × First)) → Rises (x ∷ xs) → Rises xs
+pub rises_tail : (x : ℕ × First) (xs : List (ℕ × First)) → Rises (x ∷ xs) → Rises xs
 rises_tail x xs r i j d lt l = r (suc i) (suc j) d (omega arith) (omega arith)
 
-rises_head : (x : ℕ × First) (xs : List (ℕ × First)) (e : ℕ × First) → Rises (x ∷ xs) → Contains xs e → x.0 < e.0
+pub rises_head : (x : ℕ × First) (xs : List (ℕ × First)) (e : ℕ × First) → Rises (x ∷ xs) → Contains xs e → x.0 < e.0
 rises_head x xs e r h = let t = r 0 (suc h.0) e (omega arith) (omega (arith, h.1)) in rw h.2 at t
 
 -- two rising lists of the same entries are equal

@@ -1,7 +1,7 @@
 -- A list of links in rising order is determined by how often it has each link.
 use Rattle.std.proofs.Common.{Bool, Contains, IsPermutation, List, [], add-one, ap, arith, cond, count_by, eq-eqb, eqb, eqb-true, false, get_or, inl, inr, leb, ltb, refl, subst, suc, sym, true, zero, ℕ, ◌&&◌, ◌+◌, ◌∙◌, ◌∷◌, ◌≡◌, ◌≤◌}
 use Rattle.std.proofs.lemmas.Bool.{cases_Bool, cases_eq, leb-false, leb-true, ltb-false, ltb-true}
-use Rattle.std.proofs.lemmas.List.Sorted.{IsNonDecreasingBy-from_all_adjacent, sum_by-IsPermutation}
+use Rattle.std.proofs.lemmas.List.Sorted.{IsNonDecreasingBy-from_all_adjacent, IsPermutation-cons, IsPermutation-middle, IsPermutation-refl, IsPermutation-sym, IsPermutation-trans, sum_by-IsPermutation}
 use Rattle.std.proofs.lemmas.List.Sums.{sum_by-cons}
 use Rattle.fr_net.proofs.Booleans.{and_cases, and_false, or_cases, or_false}
 use Rattle.fr_net.proofs.Counting.{weigh}
@@ -42,7 +42,7 @@ shift_at : (q : ℕ × ℕ) (qs : List (ℕ × ℕ)) (k : ℕ) (d : ℕ × ℕ) 
 shift_at q qs k d = rw add-one refl
 
 -- the first link of a list in order is up to each other
-order_tail : (q : ℕ × ℕ) (qs : List (ℕ × ℕ)) → AreInOrder (q ∷ qs) → AreInOrder qs
+pub order_tail : (q : ℕ × ℕ) (qs : List (ℕ × ℕ)) → AreInOrder (q ∷ qs) → AreInOrder qs
 order_tail q qs order k d l = let t = order (k + 1) d (omega arith) in rw (← shift_at q qs k d, ← shift_at q qs (k + 1) d) t
 
 order_head : (q r : ℕ × ℕ) (rs : List (ℕ × ℕ)) → AreInOrder (q ∷ (r ∷ rs)) → IsNotAfter q r
@@ -55,7 +55,7 @@ order_cons q (r ∷ rs) head order (suc k) d l =
     let e : suc k + 1 ≡ suc (k + 1) = omega arith in
     rw e (order k d (omega arith))
 
-least_first : (q : ℕ × ℕ) (qs : List (ℕ × ℕ)) (x : ℕ × ℕ) → AreInOrder (q ∷ qs) → Contains qs x → IsNotAfter q x
+pub least_first : (q : ℕ × ℕ) (qs : List (ℕ × ℕ)) (x : ℕ × ℕ) → AreInOrder (q ∷ qs) → Contains qs x → IsNotAfter q x
 least_first q [] x order h = absurd (omega (arith, h.1))
 least_first q (r ∷ rs) x order h =
     let first = order_head q r rs order in
@@ -74,16 +74,16 @@ times xs x = count_by (is_pair x.0 x.1) xs
 itself : (x : ℕ × ℕ) → is_pair x.0 x.1 x ≡ true
 itself x = rw (eq-eqb x.0 x.0 refl, eq-eqb x.1 x.1 refl) refl
 
-pair_from : (x y : ℕ × ℕ) → is_pair x.0 x.1 y ≡ true → y ≡ x
+pub pair_from : (x y : ℕ × ℕ) → is_pair x.0 x.1 y ≡ true → y ≡ x
 pair_from (a, b) (c, d) e = let t = and_cases _ _ e in let f : c ≡ a = eqb-true _ _ t.0 in let g : d ≡ b = eqb-true _ _ t.1 in cc
 
-times-cons : (y : ℕ × ℕ) (ys : List (ℕ × ℕ)) (x : ℕ × ℕ) → times (y ∷ ys) x ≡ weigh (is_pair x.0 x.1 y) + times ys x
+pub times-cons : (y : ℕ × ℕ) (ys : List (ℕ × ℕ)) (x : ℕ × ℕ) → times (y ∷ ys) x ≡ weigh (is_pair x.0 x.1 y) + times ys x
 times-cons y ys x = let weight : ℕ × ℕ → ℕ = λ l. weigh (is_pair x.0 x.1 l) in sum_by-cons weight y ys
 
 times_some : (y : ℕ × ℕ) (ys : List (ℕ × ℕ)) → 1 ≤ times (y ∷ ys) y
 times_some y ys = let z : weigh (is_pair y.0 y.1 y) ≡ 1 = rw (itself y) refl in omega (arith, times-cons y ys y, z)
 
-contains_counted : (xs : List (ℕ × ℕ)) (x : ℕ × ℕ) → 1 ≤ times xs x → Contains xs x
+pub contains_counted : (xs : List (ℕ × ℕ)) (x : ℕ × ℕ) → 1 ≤ times xs x → Contains xs x
 contains_counted [] x l = absurd (omega arith)
 contains_counted (y ∷ ys) x l =
     elim (cases_Bool (is_pair x.0 x.1 y)) [
@@ -185,3 +185,22 @@ into_order links x h = contains_counted (in_order links) x (omega (arith, times-
 
 pub out_of_order : (links : List (ℕ × ℕ)) (x : ℕ × ℕ) → Contains (in_order links) x → Contains links x
 out_of_order links x h = contains_counted links x (omega (arith, times-in_order links x, one_counted (in_order links) x h))
+
+-- the same links in order are those links in another order
+with_in_order_permutes_by : (b : Bool) (p q : ℕ × ℕ) (qs : List (ℕ × ℕ)) → IsPermutation (p ∷ qs) (with_in_order p qs) → IsPermutation (p ∷ (q ∷ qs)) (cond b (p ∷ (q ∷ qs)) (q ∷ with_in_order p qs))
+with_in_order_permutes_by true p q qs rest = IsPermutation-refl (p ∷ (q ∷ qs))
+with_in_order_permutes_by false p q qs rest =
+    IsPermutation-trans (p ∷ (q ∷ qs)) (q ∷ (p ∷ qs)) (q ∷ with_in_order p qs)
+    (IsPermutation-sym (q ∷ (p ∷ qs)) (p ∷ (q ∷ qs)) (IsPermutation-middle (q ∷ []) p qs))
+    (IsPermutation-cons q (p ∷ qs) (with_in_order p qs) rest)
+
+with_in_order_permutes : (p : ℕ × ℕ) (qs : List (ℕ × ℕ)) → IsPermutation (p ∷ qs) (with_in_order p qs)
+with_in_order_permutes p [] = IsPermutation-refl (p ∷ [])
+with_in_order_permutes p (q ∷ qs) = with_in_order_permutes_by (is_not_after p q) p q qs (with_in_order_permutes p qs)
+
+pub in_order_permutes : (links : List (ℕ × ℕ)) → IsPermutation links (in_order links)
+in_order_permutes [] = IsPermutation-refl []
+in_order_permutes (l ∷ ls) =
+    IsPermutation-trans (l ∷ ls) (l ∷ in_order ls) (with_in_order l (in_order ls))
+    (IsPermutation-cons l ls (in_order ls) (in_order_permutes ls))
+    (with_in_order_permutes l (in_order ls))

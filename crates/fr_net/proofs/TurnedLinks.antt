@@ -1,8 +1,7 @@
 -- The links that counts give are those of a network again.
-use Rattle.std.proofs.Common.{All, List, Some, [], ap, arith, count_by, eq-eqb, eqb, eqb-true, false, get_or, inl, inr, length, refl, suc, sym, take, ℕ, ◌++◌, ◌+◌, ◌<◌, ◌∷◌, ◌≡◌, ◌⊎◌}
+use Rattle.std.proofs.Common.{All, List, Some, [], ap, arith, count_by, eq-eqb, eqb, eqb-true, false, get_or, inl, inr, length, refl, suc, sym, ℕ, ◌+◌, ◌<◌, ◌∷◌, ◌≡◌, ◌⊎◌}
 use Rattle.std.proofs.lemmas.Bool.{cases_Bool}
-use Rattle.std.proofs.lemmas.List.{take_more}
-use Rattle.std.proofs.lemmas.List.Elements.{All-contains, Contains-get_or, filter_map-append}
+use Rattle.std.proofs.lemmas.List.Elements.{All-contains, Contains-get_or}
 use Rattle.std.proofs.lemmas.List.Sums.{sum_by-cons}
 use Rattle.fr_net.proofs.Acyclic.{links_at_acyclic}
 use Rattle.fr_net.proofs.Booleans.{flip}
@@ -19,11 +18,6 @@ kept_cases counts l (inl e) = inl (rw (eq-eqb _ _ e) refl, e)
 kept_cases counts l (inr e) =
     let off : eqb (get_or counts l.1 0) (get_or counts l.0 0) ≡ false = elim (cases_Bool (eqb (get_or counts l.1 0) (get_or counts l.0 0))) [ inl t ↦ absurd (omega (arith, eqb-true _ _ t, e)) | inr f ↦ f ] in
     inr (rw (off, eq-eqb _ _ e) refl, e)
-
--- the links links_at so far, and one more
-pub links_at_more : (links : List (ℕ × ℕ)) (counts : List ℕ) (i : ℕ) (d y : ℕ × ℕ) → i < length links → link_at counts (get_or links i d) ≡ Some y → links_at (take (i + 1) links) counts ≡ links_at (take i links) counts ++ y ∷ []
-links_at_more links counts i d y l e =
-    rw (take_more links i d l, filter_map-append, e) refl
 
 all_tail : (counts : List ℕ) (l : ℕ × ℕ) (ls : List (ℕ × ℕ)) → All (IsKept counts) (l ∷ ls) → All (IsKept counts) ls
 all_tail counts l ls all k d i = all (suc k) d (omega arith)

@@ -8,6 +8,7 @@ pub mod Rows
 pub mod Faults
 pub mod Edits
 pub mod Halves
+pub mod RowLists
 pub mod CycleSearch
 pub mod Inside
 pub mod Requests

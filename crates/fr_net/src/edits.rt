@@ -1,9 +1,12 @@
-//! The links of a network with one taken out.
+//! The links and rows of a network with one link taken out.
 
-ghost use Rattle.std.specs.Prelude.{◌≡◌, ◌↔◌, IsTrue, IfOk};
+ghost use Rattle.std.specs.Prelude.{◌≡◌, ◌↔◌, ◌++◌, IsTrue, IfOk, OnOk};
+ghost use Rattle.std.specs.List.{filter};
 ghost use Rattle.fr_net.specs.Links.{Joins};
 ghost use Rattle.fr_net.specs.Edits.{without};
+ghost use Rattle.fr_net.specs.RowLists.{stays};
 
+use crate::rows::First;
 use std::alloc::{AllocError, Global};
 
 /// Whether a link joins `u` and `v`, whichever way it points.
@@ -35,4 +38,27 @@ pub(crate) fn cut_links(
         }
     }
     Ok(kept)
+}
+
+/// Adds the row of `x` to the entries, but for the link between `u` and `v`.
+pub(crate) fn push_cut(
+    entries: &mut Vec<(u32, First)>,
+    x: u32,
+    row: &[(u32, First)],
+    u: u32,
+    v: u32,
+) -> Result<(), AllocError>
+    ensures { OnOk result (entries.new.items ≡ entries.old.items ++ filter (stays u v x) row.now) }
+{
+    if x != u && x != v {
+        entries.extend_from_slice(row)?;
+        return Ok(());
+    }
+    for (w, first) in row {
+        let joined = (x == u && *w == v) || (x == v && *w == u);
+        if !joined {
+            entries.push((*w, *first))?;
+        }
+    }
+    Ok(())
 }

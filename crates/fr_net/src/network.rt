@@ -12,11 +12,11 @@ ghost use Rattle.fr_net.specs.Edits.{IsCutFault, without};
 
 use crate::checks::{first_outside, first_self_link};
 use crate::cycle::find_cycle;
-use crate::edits::{cut_links, joins};
+use crate::edits::{cut_links, joins, push_cut};
 use crate::fault::NetFault;
 use crate::limits::{MAX_LINKS, MAX_NODES};
 use crate::rows::{First, entries_of, first_twice, row_starts, sorted_halves, sorted_links};
-use crate::turned::turned_links;
+use crate::turned::{push_out_links, push_turned};
 use std::alloc::Global;
 use std::marker::Model;
 
@@ -123,7 +123,7 @@ impl Net {
     }
 
     /// The network without the link between `u` and `v`, whichever way it points. `NoLink` exactly where there is none, as
-    /// where one of them is no node or both are the same; `Memory` where no room could be had.
+    /// where one of them is no node or both are the same; `Memory` where no room could be had. It is linear.
     pub fn with_cut(&self, alloc: Global, u: u32, v: u32) -> Result<Net, NetFault>
         ensures joined { OnOk result (Joins self.now.links u v) }
         ensures ok { IfOk result (IsNetworkOf self.now.nodes (without u v self.now.links)) }
@@ -132,8 +132,20 @@ impl Net {
         if !joins(&self.links, u, v) {
             return Err(NetFault::NoLink);
         }
-        let kept = cut_links(alloc, &self.links, u, v)?;
-        Net::new(alloc, self.nodes, &kept)
+        let links = cut_links(alloc, &self.links, u, v)?;
+        let mut starts = Vec::with_capacity(alloc, self.starts.len())?;
+        let mut entries = Vec::with_capacity(alloc, self.entries.len())?;
+        starts.push(0)?;
+        for x in 0..self.nodes {
+            push_cut(&mut entries, x, self.row(x), u, v)?;
+            starts.push(entries.len())?;
+        }
+        Ok(Net {
+            nodes: self.nodes,
+            links,
+            starts,
+            entries,
+        })
     }
 
     /// The network with the link from `u` to `v` as well; or the first fault that then stands, in the order of
@@ -150,14 +162,27 @@ impl Net {
 
     /// The network of the links that the counts give, one count for each node: a link stays where its head has turned
     /// as often as its tail, and is reversed where its head has turned once more; the counts have to leave no other case. The
-    /// only fault is `Memory`, where no room could be had.
+    /// only fault is `Memory`, where no room could be had. It is linear.
     pub fn turned_by(&self, alloc: Global, counts: &[u64]) -> Result<Net, NetFault>
         requires one_each { length counts.now ≡ self.now.nodes }
         requires kept { All (IsKept counts.now) self.now.links }
         ensures ok { IfOk result (IsNetworkOf self.now.nodes (links_at self.now.links counts.now)) }
         ensures memory { IfErr result (λ fault. fault ≡ Memory) }
     {
-        let links = turned_links(alloc, &self.links, counts)?;
-        Net::new(alloc, self.nodes, &links)
+        let mut links = Vec::with_capacity(alloc, self.links.len())?;
+        let mut starts = Vec::with_capacity(alloc, self.starts.len())?;
+        let mut entries = Vec::with_capacity(alloc, self.entries.len())?;
+        starts.push(0)?;
+        for x in 0..self.nodes {
+            push_turned(&mut entries, x, self.row(x), counts)?;
+            push_out_links(&mut links, x, &entries[starts[x as usize]..])?;
+            starts.push(entries.len())?;
+        }
+        Ok(Net {
+            nodes: self.nodes,
+            links,
+            starts,
+            entries,
+        })
     }
 }

@@ -1,0 +1,119 @@
+-- The rows of all nodes, one after the other in one list.
+use Rattle.std.proofs.Common.{Contains, List, [], add-one, ap, arith, drop, get_or, inl, inr, length, length-append, refl, slice_range, subst, suc, sym, take, take_all, zero, ℕ, ⊎_elim, ◌++◌, ◌+◌, ◌-◌, ◌<◌, ◌∙◌, ◌∷◌, ◌≡◌, ◌≤◌}
+use Rattle.std.proofs.lemmas.Bool.{cases_eq, cases_lt}
+use Rattle.std.proofs.lemmas.List.{drop-append-le, get_or_append_left, get_or_push, length-drop, length_push, take-append-le}
+use Rattle.std.proofs.lemmas.List.Elements.{Contains-append_cases, Contains-append_left, Contains-append_right}
+use Rattle.std.proofs.Math.Seq.{drop-append_seam}
+use Rattle.fr_net.proofs.Members.{Contains-none}
+use Rattle.fr_net.proofs.Sorting.{IsSorted, sorted-append}
+use Rattle.fr_net.specs.Halves.{ShowsRow}
+use Rattle.fr_net.specs.RowLists.{AreRows, rows_below}
+use Rattle.fr_net.specs.Rows.{row}
+use Rattle.fr_net.specs.declared.rows.First.{First}
+
+abbrev length_below : {X : Type 0} → ℕ → (ℕ → List X) → ℕ
+length_below k rows = length (rows_below k rows)
+
+length_more : {X : Type 0} (k : ℕ) (rows : ℕ → List X) → length_below (suc k) rows ≡ length_below k rows + length (rows k)
+length_more k rows = length-append (rows_below k rows) (rows k)
+
+length_up : {X : Type 0} (x k : ℕ) (rows : ℕ → List X) → x ≤ k → length_below x rows ≤ length_below k rows
+length_up zero zero rows le = omega arith
+length_up (suc x) zero rows le = absurd (omega arith)
+length_up x (suc k) rows le =
+    elim (cases_eq x (suc k)) [
+      | inl e ↦ rw e (omega arith)
+      | inr ne ↦ omega (arith, length_more k rows, length_up x k rows (omega (arith, ne)))
+    ]
+
+-- the part between two starts is the row
+pub part_is_row : {X : Type 0} (k x : ℕ) (rows : ℕ → List X) → x < k → slice_range (rows_below k rows) (length_below x rows) (length_below (suc x) rows) ≡ rows x
+part_is_row zero x rows lt = absurd (omega arith)
+part_is_row (suc k) x rows lt =
+    elim (cases_eq x k) [
+      | inl e ↦
+          let whole : length_below (suc k) rows - length_below k rows ≡ length (rows k) = omega (arith, length_more k rows) in
+          rw (e, whole, drop-append_seam (rows_below k rows) (rows k)) (take_all (length (rows k)) (rows k) (omega arith))
+      | inr ne ↦
+          let lt' : x < k = omega (arith, ne) in
+          let a = length_below x rows in
+          let b = length_below (suc x) rows in
+          let low : a ≤ length (rows_below k rows) = length_up x k rows (omega (arith, lt')) in
+          let high : b ≤ length (rows_below k rows) = length_up (suc x) k rows (omega (arith, lt')) in
+          let dropped : drop a (rows_below k rows ++ rows k) ≡ drop a (rows_below k rows) ++ rows k = drop-append-le a (rows_below k rows) (rows k) low in
+          let taken = take-append-le (b - a) (drop a (rows_below k rows)) (rows k) (omega (arith, length-drop a (rows_below k rows), high)) in
+          ap (take (b - a)) dropped ∙ taken ∙ part_is_row k x rows lt'
+    ]
+
+-- rows in one list show the row of each node
+pub rows_show : (n : ℕ) (links : List (ℕ × ℕ)) (starts : List ℕ) (entries : List (ℕ × First)) → AreRows n (row n links) starts entries → (x : ℕ) → x < n → ShowsRow n links starts entries x
+rows_show n links starts entries at x lt =
+    let here = at.start x (omega arith) in
+    let more : x + 1 ≡ suc x = omega arith in
+    let next : get_or starts (x + 1) 0 ≡ length_below (suc x) (row n links) = at.start (x + 1) (omega arith) ∙ ap (λ (k : ℕ). length_below k (row n links)) more in
+    let all : length entries ≡ length_below n (row n links) = ap length at.joined in
+    record {
+      low = omega (arith, here, next, length_up x (suc x) (row n links) (omega arith));
+      high = omega (arith, next, all, length_up (suc x) n (row n links) (omega arith));
+      is_row = rw (here, next, at.joined) (part_is_row n x (row n links) lt);
+    }
+
+-- one row more
+pub rows_more : (k : ℕ) (rows : ℕ → List (ℕ × First)) (starts : List ℕ) (entries more : List (ℕ × First)) → AreRows k rows starts entries → more ≡ entries ++ rows k → AreRows (k + 1) rows (starts ++ length more ∷ []) more
+rows_more k rows starts entries more at is =
+    let joined : more ≡ rows_below (suc k) rows = is ∙ ap (λ (es : List (ℕ × First)). es ++ rows k) at.joined in
+    record {
+      one_each = omega (arith, length_push starts (length more), at.one_each);
+      joined = rw add-one joined;
+      start = λ x le. elim (cases_lt x (k + 1)) [
+        | inl lt ↦ rw (get_or_append_left starts (length more ∷ []) 0 x (omega (arith, at.one_each))) (at.start x (omega arith))
+        | inr ge ↦
+            let e : x ≡ suc k = omega arith in
+            rw (get_or_push starts (length more) 0 x (omega (arith, at.one_each)), e) (ap length joined)
+      ];
+    }
+
+-- what stands from the start of the new row on is the row
+pub new_row : (k : ℕ) (rows : ℕ → List (ℕ × First)) (starts : List ℕ) (entries more : List (ℕ × First)) (a : ℕ) → AreRows k rows starts entries → more ≡ entries ++ rows k → a ≡ get_or starts k 0 → take (length more - a) (drop a more) ≡ rows k
+new_row k rows starts entries more a at is from =
+    let here : a ≡ length (rows_below k rows) = from ∙ at.start k (omega arith) in
+    let rest : drop a more ≡ rows k = rw (here, is, at.joined) (drop-append_seam (rows_below k rows) (rows k)) in
+    take_all (length more - a) (drop a more) (omega (arith, length-drop a more)) ∙ rest
+
+-- what the rows list, with those of one row more
+pub listed_more : {X : Type 0} (k : ℕ) (rows : ℕ → List X) (listed more : List X) → listed ≡ rows_below k rows → more ≡ listed ++ rows k → more ≡ rows_below (k + 1) rows
+listed_more {X} k rows listed more are is =
+    let joined : more ≡ rows_below (suc k) rows = is ∙ ap (λ (es : List X). es ++ rows k) are in
+    rw add-one joined
+
+-- no row yet
+pub rows_none : (rows : ℕ → List (ℕ × First)) → AreRows 0 rows (0 ∷ []) []
+rows_none rows = record {
+  one_each = omega arith;
+  joined = refl;
+  start = λ x le. let e : x ≡ 0 = omega arith in rw e refl;
+}
+
+-- an element of the rows stands in one of them
+pub from_rows : {X : Type 0} (k : ℕ) (rows : ℕ → List X) (y : X) → Contains (rows_below k rows) y → (x : ℕ) × (x < k) × Contains (rows x) y
+from_rows zero rows y h = absurd (Contains-none y h)
+from_rows (suc k) rows y h =
+    elim (Contains-append_cases (rows_below k rows) (rows k) y h) [
+      | inl g ↦ let t = from_rows k rows y g in (t.0, omega (arith, t.1), t.2)
+      | inr g ↦ (k, omega arith, g)
+    ]
+
+pub into_rows : {X : Type 0} (k x : ℕ) (rows : ℕ → List X) (y : X) → x < k → Contains (rows x) y → Contains (rows_below k rows) y
+into_rows zero x rows y lt h = absurd (omega arith)
+into_rows (suc k) x rows y lt h =
+    elim (cases_lt x k) [
+      | inl less ↦ Contains-append_left (rows_below k rows) (rows k) y (into_rows k x rows y less h)
+      | inr ge ↦ let e : x ≡ k = omega arith in Contains-append_right (rows_below k rows) (rows k) y (subst (λ (z : ℕ). Contains (rows z) y) e h)
+    ]
+
+-- rows that are sorted, each before the next, are sorted together
+pub sorted_rows : {X : Type 0} (R : X → X → Type 0) (rows : ℕ → List X) → ((x : ℕ) → IsSorted R (rows x)) → ((x z : ℕ) (a b : X) → x < z → Contains (rows x) a → Contains (rows z) b → R a b) → (k : ℕ) → IsSorted R (rows_below k rows)
+sorted_rows R rows each across zero = tt
+sorted_rows R rows each across (suc k) =
+    sorted-append R (rows_below k rows) (rows k) (sorted_rows R rows each across k) (each k)
+    (λ a b h g. let t = from_rows k rows a h in across t.0 k a b t.1 t.2 g)
