@@ -22,6 +22,7 @@ pub(crate) fn read_input<R: Read>(alloc: Global, reader: &mut R) -> Result<Vec<u
     ensures too_long { result ≡ Err RunFault.TooLong → (bytes : List ℕ)
         × Consumes (R.remaining reader.old) (R.remaining reader.new) bytes × (most_bytes < length bytes) }
     ensures no_write { result ≢ Err RunFault.Write }
+    ensures no_start { result ≢ Err RunFault.Start }
 {
     let mut input = Vec::new(alloc);
     let mut piece = [0u8; PIECE];

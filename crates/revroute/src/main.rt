@@ -7,10 +7,14 @@ mod lines;
 mod output;
 mod run;
 
+use fr_crew::{OpenGate, Plan};
 use run::{RunFault, run, run_end};
 use std::io::{BufWriter, ErrorKind};
 use std::process::ExitCode;
+use std::alloc::Global;
 use std::rt::Env;
+use std::sync::Wait;
+use std::thread::Threads;
 use std::{env, io};
 
 const USAGE: &str = "usage: revroute run < requests > answers";
@@ -47,9 +51,12 @@ fn asks_to_run(rt: &HostRuntime) -> Result<bool, RunFault> {
 }
 
 /// Answers the lines of standard input on standard output.
-fn answer(rt: &HostRuntime) -> Result<u64, RunFault> {
+fn answer<R: Threads + Wait + Sync + Alloc<A = Global> + Input + Print>(rt: &R) -> Result<u64, RunFault> {
     let Ok(mut out) = BufWriter::new(rt.alloc(), io::writer(rt)) else {
         return Err(RunFault::Memory);
     };
-    run(rt.alloc(), &mut rt.reader(), &mut out)
+    let Some(plan) = Plan::new(4, 0, 1_000_000) else {
+        return Err(RunFault::Memory);
+    };
+    run(rt, rt.alloc(), &mut rt.reader(), &mut out, &plan, &OpenGate)
 }

@@ -6,8 +6,11 @@ ghost use Rattle.revroute.specs.Outputs.{most_bytes, ReadsAll, WritesOutput, Wri
 
 use crate::answers::answer_all;
 use crate::input::read_input;
+use fr_crew::{Gate, Plan};
 use std::alloc::Global;
 use std::io::{Read, Write};
+use std::sync::Wait;
+use std::thread::Threads;
 use thiserror::Error;
 
 /// Why a run stopped.
@@ -22,6 +25,9 @@ pub enum RunFault {
     /// The input has more than 16,777,216 bytes. Nothing was written.
     #[error("input too long")]
     TooLong,
+    /// A thread could not be started. What went out is the answers to the lines before the one that failed.
+    #[error("no thread")]
+    Start,
     /// An allocation was refused. What went out is the answers to the lines before the one that failed.
     #[error("no memory")]
     Memory,
@@ -29,11 +35,15 @@ pub enum RunFault {
 
 /// Reads the whole input, answers each of its lines that is not blank, flushes once at the end, and tells how many lines
 /// were answered. At most one byte past the limit of 16,777,216 bytes is read. The input is cut into lines at each
-/// byte 10, and `specs/Answers.antt` says what the answer to a line is.
-pub fn run<R: Read, W: Write>(
+/// byte 10, and `specs/Answers.antt` of fr_route says what the answer to a line is. Each network is settled by threads, by the
+/// plan and under the gate, on which no answer depends; the run comes back if the calls of the gate do.
+pub fn run<T: Threads + Wait + Sync, R: Read, W: Write, G: Gate + Sync>(
+    rt: &T,
     alloc: Global,
     reader: &mut R,
     writer: &mut W,
+    plan: &Plan,
+    gate: &G,
 ) -> Result<u64, RunFault>
     ensures ok { IfOk result (λ count. (bytes : List ℕ)
         × ReadsAll (R.remaining reader.old) (R.remaining reader.new) bytes × (length bytes ≤ most_bytes)
@@ -45,13 +55,18 @@ pub fn run<R: Read, W: Write>(
         × ReadsAll (R.remaining reader.old) (R.remaining reader.new) bytes
         × WritesBeginning bytes (W.contents writer.old) (W.contents writer.new) }
 
+    // A thread was missing at a line.
+    ensures start { result ≡ Err RunFault.Start → (bytes : List ℕ)
+        × ReadsAll (R.remaining reader.old) (R.remaining reader.new) bytes
+        × StopsAtLine bytes (W.contents writer.old) (W.contents writer.new) }
+
     // Memory ran out while reading, or at a line.
     ensures memory { result ≡ Err RunFault.Memory → Keeps (W.contents writer.old) (W.contents writer.new)
         ⊎ ((bytes : List ℕ) × ReadsAll (R.remaining reader.old) (R.remaining reader.new) bytes
         × StopsAtLine bytes (W.contents writer.old) (W.contents writer.new)) }
 {
     let input = read_input(alloc, reader)?;
-    let count = answer_all(alloc, &input, writer)?;
+    let count = answer_all(rt, alloc, &input, writer, plan, gate)?;
     match writer.flush() {
         Ok(()) => Ok(count),
         Err(_) => Err(RunFault::Write),
@@ -64,6 +79,7 @@ pub fn run_end(fault: &RunFault) -> (u8, &'static str) {
         RunFault::Read => (1, "revroute: read fault"),
         RunFault::Write => (1, "revroute: write fault"),
         RunFault::TooLong => (1, "revroute: input too long"),
+        RunFault::Start => (1, "revroute: no thread"),
         RunFault::Memory => (1, "revroute: no memory"),
     }
 }

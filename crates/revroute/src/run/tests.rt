@@ -1,67 +1,179 @@
+//! What a run writes for worked examples, that its networks are settled by threads under the gate, and what no clause says:
+//! readers and writers that fail.
+
 use super::*;
+use fr_crew::OpenGate;
 use std::alloc::AllocError;
 use std::io;
+use std::sync::atomic::{AtomicBool, AtomicU64, Ordering};
 use std::test::Fail;
 
+fn plan(workers: u32, budget: u64) -> Result<Plan, Fail> {
+    Ok(Plan::new(workers, 0, budget).ok_or("no such plan")?)
+}
+
 /// What a run writes for an input, and how many lines it answers.
-fn written(alloc: Global, input: &[u8]) -> Result<(Vec<u8>, u64), RunFault> {
+fn written<T: Threads + Wait + Sync, G: Gate + Sync>(
+    rt: &T,
+    alloc: Global,
+    input: &[u8],
+    plan: &Plan,
+    gate: &G,
+) -> Result<(Vec<u8>, u64), RunFault> {
     let mut reader = input;
     let mut out = Vec::new(alloc);
-    let count = run(alloc, &mut reader, &mut out)?;
+    let count = run(rt, alloc, &mut reader, &mut out, plan, gate)?;
     Ok((out, count))
 }
 
-/// Inputs, each with the answers that it gets: the small networks on which the method can be followed by hand.
-const NETWORKS: &[(&str, &str)] = &[
+/// Inputs, each with its output: the small networks on which the method can be followed by hand.
+const SESSIONS: &[(&str, &str)] = &[
     // A chain that points away from the destination, as in examples/chain.jsonl.
     (
-        "[\"net\",4,0,[[0,1],[1,2],[2,3]]]\n[\"links\"]\n[\"counts\"]\n",
-        "turned 6 cut 0\nlinks 1>0 2>1 3>2\ncounts 0 1 2 3\n",
+        r#"["net",4,0,[[0,1],[1,2],[2,3]]]
+["links"]
+["counts"]
+["hops"]
+["walk",3]
+"#,
+        "turned 6 cut 0\nlinks 1>0 2>1 3>2\ncounts 0 1 2 3\nhops here 0 1 2\nwalk 3 2 1 0\n",
     ),
-    // A chain that points home already.
+    // A chain that points home already; its first link fails, a new one closes it from the other end, and another fails.
     (
-        "[\"net\",4,0,[[1,0],[2,1],[3,2]]]\n[\"links\"]\n",
-        "turned 0 cut 0\nlinks 1>0 2>1 3>2\n",
+        r#"["net",4,0,[[1,0],[2,1],[3,2]]]
+["links"]
+["cut",1,0]
+["links"]
+["walk",3]
+["add",3,0]
+["counts"]
+["links"]
+["walk",1]
+["cut",2,3]
+["counts"]
+["links"]
+["hops"]
+"#,
+        "turned 0 cut 0\nlinks 1>0 2>1 3>2\nturned 12 cut 3\nlinks 2>1 3>2\nwalk 3 cut\nturned 3 cut 0\ncounts 0 2 1 0\nlinks 1>2 2>3 3>0\nwalk 1 2 3 0\nturned 8 cut 2\ncounts 0 4 4 0\nlinks 1>2 3>0\nhops here cut cut 0\n",
+    ),
+    // The tour of the README, as in examples/tour.jsonl: a link fails, a new one would close a walk, and another does not.
+    (
+        r#"["net",5,0,[[1,0],[2,0],[3,1],[3,2],[4,3]]]
+["walk",4]
+["cut",1,0]
+["links"]
+["walk",1]
+["walk",4]
+["add",0,4]
+["add",4,0]
+["hops"]
+"#,
+        "turned 0 cut 0\nwalk 4 3 1 0\nturned 1 cut 0\nlinks 1>3 2>0 3>2 4>3\nwalk 1 3 2 0\nwalk 4 3 2 0\nrefused 7\nturned 0 cut 0\nhops here 3 0 2 0\n",
     ),
     // A destination alone.
     (
-        "[\"net\",1,0,[]]\n[\"links\"]\n[\"counts\"]\n",
-        "turned 0 cut 0\nlinks\ncounts 0\n",
+        r#"["net",1,0,[]]
+["walk",0]
+["links"]
+["counts"]
+"#,
+        "turned 0 cut 0\nwalk 0\nlinks\ncounts 0\n",
     ),
     // Two nodes that are cut off turn up to the cap, and their link is back where it was.
     (
-        "[\"net\",4,0,[[1,0],[2,3]]]\n[\"links\"]\n[\"counts\"]\n",
-        "turned 8 cut 2\nlinks 1>0 2>3\ncounts 0 0 4 4\n",
+        r#"["net",4,0,[[1,0],[2,3]]]
+["links"]
+["counts"]
+["hops"]
+"#,
+        "turned 8 cut 2\nlinks 1>0 2>3\ncounts 0 0 4 4\nhops here 0 cut cut\n",
     ),
     // A node without links is cut off, and never turns.
     (
-        "[\"net\",3,0,[[1,0]]]\n[\"counts\"]\n",
-        "turned 0 cut 1\ncounts 0 0 0\n",
+        r#"["net",3,0,[[1,0]]]
+["walk",2]
+["hops"]
+"#,
+        "turned 0 cut 1\nwalk 2 cut\nhops here 0 cut\n",
     ),
-    // Two ways to the destination, as in examples/diamond.jsonl.
+    // Two ways to the destination, as in examples/square.jsonl.
     (
-        "[\"net\",4,0,[[0,1],[0,2],[1,3],[2,3]]]\n[\"counts\"]\n[\"links\"]\n",
-        "turned 4 cut 0\ncounts 0 1 1 2\nlinks 1>0 2>0 3>1 3>2\n",
+        r#"["net",4,0,[[0,1],[0,2],[1,3],[2,3]]]
+["counts"]
+["links"]
+["walk",3]
+"#,
+        "turned 4 cut 0\ncounts 0 1 1 2\nlinks 1>0 2>0 3>1 3>2\nwalk 3 1 0\n",
     ),
     // One link on a way around has to turn.
     (
-        "[\"net\",4,0,[[0,1],[2,1],[2,3],[3,0]]]\n[\"counts\"]\n[\"links\"]\n",
-        "turned 1 cut 0\ncounts 0 1 0 0\nlinks 1>0 1>2 2>3 3>0\n",
+        r#"["net",4,0,[[0,1],[2,1],[2,3],[3,0]]]
+["counts"]
+["links"]
+["walk",2]
+["walk",1]
+"#,
+        "turned 1 cut 0\ncounts 0 1 0 0\nlinks 1>0 1>2 2>3 3>0\nwalk 2 3 0\nwalk 1 0\n",
     ),
     // The links come in rising order, also where some turned and some did not.
     (
-        "[\"net\",5,0,[[0,1],[1,2],[0,3],[2,3],[3,4]]]\n[\"counts\"]\n[\"links\"]\n",
-        "turned 5 cut 0\ncounts 0 1 1 1 2\nlinks 1>0 1>2 2>3 3>0 4>3\n",
+        r#"["net",5,0,[[0,1],[1,2],[0,3],[2,3],[3,4]]]
+["counts"]
+["links"]
+["walk",2]
+["walk",4]
+"#,
+        "turned 5 cut 0\ncounts 0 1 1 1 2\nlinks 1>0 1>2 2>3 3>0 4>3\nwalk 2 3 0\nwalk 4 3 0\n",
+    ),
+    // Changes that are refused, and change nothing.
+    (
+        r#"["net",3,0,[[1,0],[2,1]]]
+["add",0,2]
+["add",0,1]
+["cut",0,2]
+["links"]
+"#,
+        "turned 0 cut 0\nrefused 7\nrefused 6\nrefused 8\nlinks 1>0 2>1\n",
+    ),
+    // Two links between two nodes are one fault, and a closed walk the other.
+    (
+        r#"["net",2,0,[[1,0],[0,1]]]
+"#,
+        "refused 6\n",
     ),
     // A later network takes the place of the one before it, and a refused one does not.
     (
-        "[\"net\",2,0,[[0,1]]]\n[\"net\",2,0,[[0,0]]]\n[\"links\"]\n[\"net\",2,1,[[1,0]]]\n[\"links\"]\n",
+        r#"["net",2,0,[[0,1]]]
+["net",2,0,[[0,0]]]
+["links"]
+["net",2,1,[[1,0]]]
+["links"]
+"#,
         "turned 1 cut 0\nrefused 5\nlinks 1>0\nturned 1 cut 0\nlinks 0>1\n",
     ),
     // One refusal does not change the next.
     (
-        "[\"net\",3,0,[[2,2]]]\n[\"net\",1024,0,[[1024,0]]]\n[\"net\",1025,0,[]]\n[\"net\",0,0,[]]\n[\"net\",2,2,[[1,0]]]\n[\"net\",3,5,[[0,1],[1,2],[2,0]]]",
+        r#"["net",3,0,[[2,2]]]
+["net",1024,0,[[1024,0]]]
+["net",1025,0,[]]
+["net",0,0,[]]
+["net",2,2,[[1,0]]]
+["net",3,5,[[0,1],[1,2],[2,0]]]"#,
         "refused 5\nrefused 4\nrefused 9\nrefused 4\nrefused 4\nrefused 7\n",
+    ),
+    // Faults of each kind between answers, a blank line, and no byte 10 at the end.
+    (
+        r#"["walk",9]
+["net",2,0,[[1,0]
+
+["net",2,0,[[1,0]]]
+["walk",2]
+["walk",-1]
+["walk",1.0]
+["fly",1]
+[]
+["walk",1]"#,
+        "refused 3\nrefused 1\nturned 0 cut 0\nrefused 4\nrefused 2\nrefused 2\nrefused 2\nrefused 2\nwalk 1 0\n",
     ),
     // No input has no output.
     ("", ""),
@@ -69,44 +181,102 @@ const NETWORKS: &[(&str, &str)] = &[
 
 #[test]
 fn answers_small_networks(rt: HostRuntime) -> Result<(), Fail> {
-    for (input, output) in NETWORKS {
-        let (out, count) = written(rt.alloc(), input.as_bytes())?;
-        assert!(rt; out.as_slice() == output.as_bytes(), "{input}");
-        let lines = output.as_bytes().iter().filter(|b| **b == b'\n').count();
-        assert!(rt; count == lines as u64, "{input}");
+    for (workers, budget) in [(1, 0), (3, 2), (16, 1000)] {
+        let plan = plan(workers, budget)?;
+        for (input, output) in SESSIONS {
+            let (out, count) = written(&rt, rt.alloc(), input.as_bytes(), &plan, &OpenGate)?;
+            assert!(rt; out.as_slice() == output.as_bytes(), "{input}");
+            let lines = output.as_bytes().iter().filter(|b| **b == b'\n').count();
+            assert!(rt; count == lines as u64, "{input}");
+        }
     }
     Ok(())
 }
 
 /// Lines that are refused, each with its answer.
 const REFUSALS: &[(&str, &str)] = &[
-    ("[\"net\",2,0,[[1,0]", "refused 1\n"),
-    ("[\"links\"] x", "refused 1\n"),
-    ("[\"links\",1]", "refused 2\n"),
-    ("[\"fly\",1]", "refused 2\n"),
+    (r#"["net",2,0,[[1,0]"#, "refused 1\n"),
+    (r#"["links"] x"#, "refused 1\n"),
+    (r#"["links",1]"#, "refused 2\n"),
+    (r#"["fly",1]"#, "refused 2\n"),
     ("[]", "refused 2\n"),
-    ("[\"net\",2,0,[[1,0,0]]]", "refused 2\n"),
-    ("[\"net\",4294967296,0,[]]", "refused 2\n"),
-    ("[\"links\"]", "refused 3\n"),
-    ("[\"counts\"]", "refused 3\n"),
-    ("[\"net\",4294967295,0,[]]", "refused 9\n"),
-    ("[\"net\",1025,0,[]]", "refused 9\n"),
-    ("[\"net\",0,0,[]]", "refused 4\n"),
-    ("[\"net\",1024,0,[[1024,0]]]", "refused 4\n"),
-    ("[\"net\",2,2,[[1,0]]]", "refused 4\n"),
-    ("[\"net\",3,0,[[2,2]]]", "refused 5\n"),
-    ("[\"net\",2,0,[[1,0],[0,1]]]", "refused 6\n"),
-    ("[\"net\",3,5,[[0,1],[1,2],[2,0]]]", "refused 7\n"),
+    (r#"["net",2,0,[[1,0,0]]]"#, "refused 2\n"),
+    (r#"["net",4294967296,0,[]]"#, "refused 2\n"),
+    (r#"["links"]"#, "refused 3\n"),
+    (r#"["counts"]"#, "refused 3\n"),
+    (r#"["hops"]"#, "refused 3\n"),
+    (r#"["walk",0]"#, "refused 3\n"),
+    (r#"["cut",0,1]"#, "refused 3\n"),
+    (r#"["add",0,1]"#, "refused 3\n"),
+    (r#"["net",4294967295,0,[]]"#, "refused 9\n"),
 ];
 
 #[test]
 fn refuses_lines(rt: HostRuntime) -> Result<(), Fail> {
+    let plan = plan(1, 0)?;
     for (line, answer) in REFUSALS {
-        let (out, count) = written(rt.alloc(), line.as_bytes())?;
+        let (out, count) = written(&rt, rt.alloc(), line.as_bytes(), &plan, &OpenGate)?;
         assert!(rt; out.as_slice() == answer.as_bytes() && count == 1, "{line}");
     }
-    let (out, count) = written(rt.alloc(), &[255])?;
+    let (out, count) = written(&rt, rt.alloc(), &[255], &plan, &OpenGate)?;
     assert!(rt; out.as_slice() == b"refused 1\n".as_slice() && count == 1);
+    Ok(())
+}
+
+/// The longest that the gate holds a worker, in turns of a loop.
+const LIMIT: u64 = 1_000_000_000;
+
+/// A gate that holds the first call of one worker until the first call of another is answered, and counts the calls.
+#[derive(Drop)]
+struct HoldingGate {
+    held: u32,
+    until: u32,
+    answered: AtomicBool,
+    reached: AtomicBool,
+    before: AtomicU64,
+    after: AtomicU64,
+}
+
+impl Gate for HoldingGate {
+    fn before(&self, worker: u32, call: u64) {
+        self.before.fetch_add(1, Ordering::SeqCst);
+        if worker != self.held || call != 1 {
+            return;
+        }
+        for _ in 0..LIMIT {
+            if self.answered.load(Ordering::SeqCst) {
+                return;
+            }
+        }
+        self.reached.store(true, Ordering::SeqCst);
+    }
+
+    fn after(&self, worker: u32, call: u64) {
+        self.after.fetch_add(1, Ordering::SeqCst);
+        if worker == self.until && call == 1 {
+            self.answered.store(true, Ordering::SeqCst);
+        }
+    }
+}
+
+#[test]
+fn settles_by_threads_under_the_gate(rt: HostRuntime) -> Result<(), Fail> {
+    for (held, until) in [(0, 1), (1, 0)] {
+        let gate = HoldingGate {
+            held,
+            until,
+            answered: AtomicBool::new(false),
+            reached: AtomicBool::new(false),
+            before: AtomicU64::new(0),
+            after: AtomicU64::new(0),
+        };
+        let line = b"[\"net\",4,0,[[0,1],[0,2],[1,3],[2,3]]]".as_slice();
+        let (out, _) = written(&rt, rt.alloc(), line, &plan(2, 1000)?, &gate)?;
+        assert!(rt; out.as_slice() == b"turned 4 cut 0\n".as_slice());
+        assert!(rt; !gate.reached.load(Ordering::SeqCst));
+        assert!(rt; gate.before.load(Ordering::SeqCst) >= 4);
+        assert!(rt; gate.after.load(Ordering::SeqCst) >= 4);
+    }
     Ok(())
 }
 
@@ -126,7 +296,8 @@ fn bounds_the_nesting(rt: HostRuntime) -> Result<(), Fail> {
         (128, b"refused 1\n".as_slice()),
         (200, b"refused 1\n".as_slice()),
     ] {
-        let (out, _) = written(rt.alloc(), &brackets(rt.alloc(), deep)?)?;
+        let line = brackets(rt.alloc(), deep)?;
+        let (out, _) = written(&rt, rt.alloc(), &line, &plan(1, 0)?, &OpenGate)?;
         assert!(rt; out.as_slice() == answer, "{deep}");
     }
     Ok(())
@@ -142,7 +313,7 @@ const ANSWERS: &[u8] =
 
 #[test]
 fn passes_over_blank_lines(rt: HostRuntime) -> Result<(), Fail> {
-    let (out, count) = written(rt.alloc(), SESSION)?;
+    let (out, count) = written(&rt, rt.alloc(), SESSION, &plan(1, 0)?, &OpenGate)?;
     assert_eq!(rt; out.as_slice(), ANSWERS);
     assert_eq!(rt; count, 7);
     Ok(())
@@ -168,8 +339,14 @@ fn settles_the_longest_chain(rt: HostRuntime) -> Result<(), Fail> {
         (0, b"turned 523776 cut 0\n".as_slice()),
         (1, b"turned 1047552 cut 1023\n".as_slice()),
     ] {
-        let (out, _) = written(rt.alloc(), long_chain(rt.alloc(), start)?.as_bytes())?;
-        assert!(rt; out.as_slice() == answer, "from {start}");
+        let mut input = long_chain(rt.alloc(), start)?;
+        input.push_str("\n[\"links\"]\n[\"counts\"]\n[\"hops\"]\n")?;
+        let (first, _) = written(&rt, rt.alloc(), input.as_bytes(), &plan(1, 0)?, &OpenGate)?;
+        assert!(rt; first.starts_with(answer), "from {start}");
+        for workers in [1, 2, 8] {
+            let (out, _) = written(&rt, rt.alloc(), input.as_bytes(), &plan(workers, 20_000)?, &OpenGate)?;
+            assert!(rt; out == first, "from {start} by {workers}");
+        }
     }
     Ok(())
 }
@@ -184,11 +361,13 @@ fn bounds_the_input(rt: HostRuntime) -> Result<(), Fail> {
     let Some((_, most)) = long.split_last() else {
         return Err(Fail::from("no bytes"));
     };
-    let (out, count) = written(rt.alloc(), most)?;
+    let plan = plan(1, 0)?;
+    let (out, count) = written(&rt, rt.alloc(), most, &plan, &OpenGate)?;
     assert!(rt; out.is_empty() && count == 0);
     let mut reader = long.as_slice();
     let mut out = Vec::new(rt.alloc());
-    assert!(rt; run(rt.alloc(), &mut reader, &mut out) == Err(RunFault::TooLong));
+    let end = run(&rt, rt.alloc(), &mut reader, &mut out, &plan, &OpenGate);
+    assert!(rt; end == Err(RunFault::TooLong));
     assert!(rt; out.is_empty());
     Ok(())
 }
@@ -226,7 +405,7 @@ fn stops_where_a_read_fails(rt: HostRuntime) -> Result<(), Fail> {
             good,
         };
         let mut out = Vec::new(rt.alloc());
-        match run(rt.alloc(), &mut reader, &mut out) {
+        match run(&rt, rt.alloc(), &mut reader, &mut out, &plan(1, 0)?, &OpenGate) {
             Ok(count) => assert!(rt; good == reads && count == 7 && out.as_slice() == ANSWERS),
             Err(fault) => assert!(rt; good < reads && fault == RunFault::Read && out.is_empty()),
         }
@@ -276,7 +455,7 @@ fn stops_where_a_write_fails(rt: HostRuntime) -> Result<(), Fail> {
                 good,
                 fails,
             };
-            match run(rt.alloc(), &mut reader, &mut writer) {
+            match run(&rt, rt.alloc(), &mut reader, &mut writer, &plan(1, 0)?, &OpenGate) {
                 Ok(count) => assert!(rt; count == 7 && writer.out.as_slice() == ANSWERS),
                 Err(fault) => assert!(rt;
                     fault == RunFault::Write && ANSWERS.starts_with(writer.out.as_slice())
@@ -295,6 +474,7 @@ fn tells_how_a_run_ended(rt: HostRuntime) {
         (RunFault::Read, "revroute: read fault"),
         (RunFault::Write, "revroute: write fault"),
         (RunFault::TooLong, "revroute: input too long"),
+        (RunFault::Start, "revroute: no thread"),
         (RunFault::Memory, "revroute: no memory"),
     ] {
         assert!(rt; run_end(&fault) == (1, text));
