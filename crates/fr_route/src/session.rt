@@ -12,7 +12,9 @@ use crate::change::Change;
 use crate::fault::{AnswerFault, RouteFault};
 use crate::hops::Walked;
 use crate::router::Router;
-use crate::texts::{counts_line, hops_line, links_line, no_walk_line, refusal_line, report_line, walk_line};
+use crate::texts::{
+    counts_line, hops_line, links_line, no_walk_line, refusal_line, report_line, walk_line,
+};
 use fr_crew::{Gate, Plan};
 use fr_net::{LineFault, Net, NetFault, Question, Request, read_line};
 use std::alloc::Global;
