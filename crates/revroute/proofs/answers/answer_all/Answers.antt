@@ -13,6 +13,14 @@ returns-in_err-answer_one-clause-write g c e =
     stops_writing c.args.input.now c.in-Some.text.now c.first_line.result.0.now c.first_line.result.1 c.lines.session (g.W.Write.contents c.args.writer.now) (g.W.Write.contents c.lines.writer) c.lines.count h c.first_line.ensures.first
     part.1 (g.W.Write.contents c.answer_one.new.writer) part.0 part.2 part.3 part.4 part.5
 
+pub returns-in_err-answer_one-clause-start : goal.returns-in_err-answer_one-clause-start
+returns-in_err-answer_one-clause-start g c e =
+    let h : HasAnswered c.args.input.now (Some c.in-Some.text.now) c.lines.session (g.W.Write.contents c.args.writer.now) (g.W.Write.contents c.lines.writer) c.lines.count = rw c.in-Some.is at c.lines.invariant in
+    let same = rw e at c.from_residual.ensures in
+    let part = c.in_err-answer_one.ensures.start (ap Err (sym same.1)) in
+    stops_at_line c.args.input.now c.in-Some.text.now c.first_line.result.0.now c.first_line.result.1 c.lines.session (g.W.Write.contents c.args.writer.now) (g.W.Write.contents c.lines.writer) c.lines.count h c.first_line.ensures.first
+    (g.W.Write.contents c.answer_one.new.writer) part.0 part.1
+
 pub returns-in_err-answer_one-clause-memory : goal.returns-in_err-answer_one-clause-memory
 returns-in_err-answer_one-clause-memory g c e =
     let h : HasAnswered c.args.input.now (Some c.in-Some.text.now) c.lines.session (g.W.Write.contents c.args.writer.now) (g.W.Write.contents c.lines.writer) c.lines.count = rw c.in-Some.is at c.lines.invariant in
