@@ -3,6 +3,7 @@
 use crate::net::Net;
 use crate::request::Refusal;
 use crate::settle::{settled_counts, Method};
+use std::cell::OnceCell;
 
 #[derive(Clone, Copy, PartialEq, Eq)]
 pub enum Hop {
@@ -15,7 +16,8 @@ pub struct Round {
     net: Net,
     dest: u32,
     counts: Vec<u32>,
-    hops: Vec<Hop>,
+    /// Made when it is asked for.
+    hops: OnceCell<Vec<Hop>>,
 }
 
 impl Round {
@@ -27,7 +29,7 @@ impl Round {
             net,
             dest,
             counts: Vec::new(),
-            hops: Vec::new(),
+            hops: OnceCell::new(),
         };
         round.settle(method);
         Ok(round)
@@ -47,20 +49,8 @@ impl Round {
 
     fn settle(&mut self, method: Method) {
         self.counts = settled_counts(&self.net, self.dest, method);
-        if self.counts.iter().any(|&count| count > 0) {
-            self.net.turn_by(&self.counts);
-        }
-        self.hops = (0..self.net.nodes()).map(|x| self.hop_of(x)).collect();
-    }
-
-    fn hop_of(&self, x: u32) -> Hop {
-        if x == self.dest {
-            return Hop::Here;
-        }
-        if self.counts[x as usize] == self.net.nodes() {
-            return Hop::CutOff;
-        }
-        self.net.heads(x).next().map_or(Hop::CutOff, Hop::To)
+        self.net.turn_by(&self.counts);
+        self.hops.take();
     }
 
     pub fn turned(&self) -> u32 {
@@ -68,7 +58,13 @@ impl Round {
     }
 
     pub fn cut_off(&self) -> usize {
-        self.hops.iter().filter(|&&hop| hop == Hop::CutOff).count()
+        (0..self.net.nodes())
+            .filter(|&x| self.is_cut_off(x))
+            .count()
+    }
+
+    fn is_cut_off(&self, x: u32) -> bool {
+        x != self.dest && (self.counts[x as usize] == self.net.nodes() || self.net.degree(x) == 0)
     }
 
     /// The links in rising order of tail, then head.
@@ -81,6 +77,17 @@ impl Round {
     }
 
     pub fn hops(&self) -> &[Hop] {
-        &self.hops
+        self.hops
+            .get_or_init(|| (0..self.net.nodes()).map(|x| self.hop_of(x)).collect())
+    }
+
+    fn hop_of(&self, x: u32) -> Hop {
+        if x == self.dest {
+            Hop::Here
+        } else if self.is_cut_off(x) {
+            Hop::CutOff
+        } else {
+            self.net.heads(x).next().map_or(Hop::CutOff, Hop::To)
+        }
     }
 }

@@ -23,9 +23,9 @@ pub fn settled_counts(net: &Net, dest: u32, method: Method) -> Vec<u32> {
 fn by_turns(net: &Net, dest: u32) -> Vec<u32> {
     let cap = net.nodes();
     let mut counts = vec![0; cap as usize];
-    let mut outward = net.out_degrees();
+    let mut outward = net.outward().to_vec();
     let mut sinks: VecDeque<u32> = (0..cap)
-        .filter(|&x| x != dest && outward[x as usize] == 0 && !net.row(x).is_empty())
+        .filter(|&x| x != dest && outward[x as usize] == 0 && net.degree(x) > 0)
         .collect();
     while let Some(x) = sinks.pop_front() {
         let row = net.row(x);
@@ -46,7 +46,7 @@ fn by_turns(net: &Net, dest: u32) -> Vec<u32> {
 fn by_search(net: &Net, dest: u32) -> Vec<u32> {
     let far = net.nodes();
     let mut counts: Vec<u32> = (0..far)
-        .map(|x| if net.row(x).is_empty() { 0 } else { far })
+        .map(|x| if net.degree(x) == 0 { 0 } else { far })
         .collect();
     counts[dest as usize] = 0;
     let mut queue = vec![dest];
