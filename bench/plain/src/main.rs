@@ -1,18 +1,40 @@
-//! The plain Rust beside `revroute`, for time alone: `plain run` does what `revroute run` does, and `plain times N` does what
-//! the program `times` does.
+//! The plain Rust beside `revroute`, for time alone. `plain run` answers the same lines: it settles a network by turning sink
+//! after sink on one thread. `plain run --search` finds the settled counts by a search and turns no node.
 
 mod net;
-mod run;
+mod request;
+mod round;
+mod session;
 mod settle;
-mod times;
+#[cfg(test)]
+mod tests;
 
-use std::{env, io};
+use session::answer_lines;
+use settle::Method;
+use std::env;
+use std::io::{self, BufWriter, Read, Write};
+
+const MOST_BYTES: u64 = 16_777_216;
 
 fn main() -> io::Result<()> {
     let words: Vec<String> = env::args().skip(1).collect();
     match words.iter().map(String::as_str).collect::<Vec<_>>()[..] {
-        ["run"] => run::run(),
-        ["times", number] => times::times(number.parse().unwrap_or(1)),
-        _ => Err(io::Error::other("usage: plain run | plain times N")),
+        ["run"] => run(Method::Turns),
+        ["run", "--search"] => run(Method::Search),
+        _ => Err(io::Error::other("usage: plain run [--search]")),
     }
+}
+
+fn run(method: Method) -> io::Result<()> {
+    let mut input = Vec::new();
+    io::stdin()
+        .lock()
+        .take(MOST_BYTES + 1)
+        .read_to_end(&mut input)?;
+    if input.len() as u64 > MOST_BYTES {
+        return Err(io::Error::other("input too long"));
+    }
+    let mut out = BufWriter::with_capacity(1 << 16, io::stdout().lock());
+    answer_lines(&input, method, &mut out)?;
+    out.flush()
 }

@@ -1,0 +1,82 @@
+//! What a line asks for, and why it is refused.
+
+use serde_json::Value;
+
+/// The numbers of the refusals.
+#[derive(Debug, Clone, Copy, PartialEq, Eq)]
+pub enum Refusal {
+    NotJson = 1,
+    NotRequest = 2,
+    NoNetwork = 3,
+    Range = 4,
+    SelfLink = 5,
+    Twice = 6,
+    Cycle = 7,
+    NoLink = 8,
+    TooMany = 9,
+}
+
+pub enum Request {
+    Network {
+        nodes: u32,
+        dest: u32,
+        links: Vec<(u32, u32)>,
+    },
+    Cut {
+        u: u32,
+        v: u32,
+    },
+    Add {
+        u: u32,
+        v: u32,
+    },
+    Walk {
+        x: u32,
+    },
+    Links,
+    Counts,
+    Hops,
+}
+
+/// Reads the line as one JSON value, and the request from that.
+pub fn read_line(line: &[u8]) -> Result<Request, Refusal> {
+    let value: Value = serde_json::from_slice(line).map_err(|_| Refusal::NotJson)?;
+    request_in(&value).ok_or(Refusal::NotRequest)
+}
+
+fn request_in(value: &Value) -> Option<Request> {
+    let [word, rest @ ..] = value.as_array()?.as_slice() else {
+        return None;
+    };
+    Some(match (word.as_str()?, rest) {
+        ("net", [nodes, dest, links]) => Request::Network {
+            nodes: number(nodes)?,
+            dest: number(dest)?,
+            links: links.as_array()?.iter().map(link).collect::<Option<_>>()?,
+        },
+        ("cut", [u, v]) => Request::Cut {
+            u: number(u)?,
+            v: number(v)?,
+        },
+        ("add", [u, v]) => Request::Add {
+            u: number(u)?,
+            v: number(v)?,
+        },
+        ("walk", [x]) => Request::Walk { x: number(x)? },
+        ("links", []) => Request::Links,
+        ("counts", []) => Request::Counts,
+        ("hops", []) => Request::Hops,
+        _ => return None,
+    })
+}
+
+fn link(value: &Value) -> Option<(u32, u32)> {
+    match value.as_array()?.as_slice() {
+        [tail, head] => Some((number(tail)?, number(head)?)),
+        _ => None,
+    }
+}
+
+fn number(value: &Value) -> Option<u32> {
+    u32::try_from(value.as_u64()?).ok()
+}

@@ -1,0 +1,93 @@
+//! The network as the last round left it.
+
+use crate::net::Net;
+use crate::request::Refusal;
+use crate::settle::{settled_counts, Method};
+use std::cell::OnceCell;
+
+#[derive(Clone, Copy, PartialEq, Eq)]
+pub enum Hop {
+    Here,
+    To(u32),
+    CutOff,
+}
+
+pub struct Round {
+    net: Net,
+    dest: u32,
+    counts: Vec<u32>,
+    /// Made when it is asked for.
+    hops: OnceCell<Vec<Hop>>,
+}
+
+impl Round {
+    pub fn open(net: Net, dest: u32, method: Method) -> Result<Round, Refusal> {
+        if dest >= net.nodes() {
+            return Err(Refusal::Range);
+        }
+        let mut round = Round {
+            net,
+            dest,
+            counts: Vec::new(),
+            hops: OnceCell::new(),
+        };
+        round.settle(method);
+        Ok(round)
+    }
+
+    pub fn cut(&mut self, u: u32, v: u32, method: Method) -> Result<(), Refusal> {
+        self.net.cut(u, v)?;
+        self.settle(method);
+        Ok(())
+    }
+
+    pub fn add(&mut self, u: u32, v: u32, method: Method) -> Result<(), Refusal> {
+        self.net.add(u, v)?;
+        self.settle(method);
+        Ok(())
+    }
+
+    fn settle(&mut self, method: Method) {
+        self.counts = settled_counts(&self.net, self.dest, method);
+        self.net.turn_by(&self.counts);
+        self.hops.take();
+    }
+
+    pub fn turned(&self) -> u32 {
+        self.counts.iter().sum()
+    }
+
+    pub fn cut_off(&self) -> usize {
+        (0..self.net.nodes())
+            .filter(|&x| self.is_cut_off(x))
+            .count()
+    }
+
+    fn is_cut_off(&self, x: u32) -> bool {
+        x != self.dest && (self.counts[x as usize] == self.net.nodes() || self.net.degree(x) == 0)
+    }
+
+    /// The links in rising order of tail, then head.
+    pub fn links(&self) -> impl Iterator<Item = (u32, u32)> + '_ {
+        (0..self.net.nodes()).flat_map(|x| self.net.heads(x).map(move |head| (x, head)))
+    }
+
+    pub fn counts(&self) -> &[u32] {
+        &self.counts
+    }
+
+    pub fn hops(&self) -> &[Hop] {
+        self.hops
+            .get_or_init(|| (0..self.net.nodes()).map(|x| self.hop_of(x)).collect())
+    }
+
+    fn hop_of(&self, x: u32) -> Hop {
+        if x == self.dest {
+            Hop::Here
+        } else if self.is_cut_off(x) {
+            Hop::CutOff
+        } else {
+            self.net.heads(x).next().map_or(Hop::CutOff, Hop::To)
+        }
+    }
+}

@@ -1,0 +1,104 @@
+//! Request after request, and the text of each answer.
+
+use crate::net::Net;
+use crate::request::{read_line, Refusal, Request};
+use crate::round::{Hop, Round};
+use crate::settle::Method;
+use std::io::{self, Write};
+
+/// Answers each line of the input that is not blank.
+pub fn answer_lines(input: &[u8], method: Method, out: &mut impl Write) -> io::Result<()> {
+    let mut round = None;
+    for line in input.split(|&byte| byte == b'\n') {
+        if line.iter().all(|byte| b"\t\r ".contains(byte)) {
+            continue;
+        }
+        match read_line(line) {
+            Ok(request) => answer(&mut round, request, method, out)?,
+            Err(refusal) => refused(refusal, out)?,
+        }
+        out.write_all(b"\n")?;
+    }
+    Ok(())
+}
+
+fn answer(
+    round: &mut Option<Round>,
+    request: Request,
+    method: Method,
+    out: &mut impl Write,
+) -> io::Result<()> {
+    match (request, round) {
+        (Request::Network { nodes, dest, links }, round) => {
+            let opened = Net::new(nodes, &links).and_then(|net| Round::open(net, dest, method));
+            report(opened.map(|opened| &*round.insert(opened)), out)
+        }
+        (_, None) => refused(Refusal::NoNetwork, out),
+        (Request::Cut { u, v }, Some(round)) => {
+            report(round.cut(u, v, method).map(|()| &*round), out)
+        }
+        (Request::Add { u, v }, Some(round)) => {
+            report(round.add(u, v, method).map(|()| &*round), out)
+        }
+        (Request::Walk { x }, Some(round)) => walk(round, x, out),
+        (Request::Links, Some(round)) => links(round, out),
+        (Request::Counts, Some(round)) => counts(round, out),
+        (Request::Hops, Some(round)) => hops(round, out),
+    }
+}
+
+fn report(settled: Result<&Round, Refusal>, out: &mut impl Write) -> io::Result<()> {
+    match settled {
+        Ok(round) => write!(out, "turned {} cut {}", round.turned(), round.cut_off()),
+        Err(refusal) => refused(refusal, out),
+    }
+}
+
+fn refused(refusal: Refusal, out: &mut impl Write) -> io::Result<()> {
+    write!(out, "refused {}", refusal as u32)
+}
+
+fn links(round: &Round, out: &mut impl Write) -> io::Result<()> {
+    out.write_all(b"links")?;
+    for (tail, head) in round.links() {
+        write!(out, " {tail}>{head}")?;
+    }
+    Ok(())
+}
+
+fn counts(round: &Round, out: &mut impl Write) -> io::Result<()> {
+    out.write_all(b"counts")?;
+    for count in round.counts() {
+        write!(out, " {count}")?;
+    }
+    Ok(())
+}
+
+fn hops(round: &Round, out: &mut impl Write) -> io::Result<()> {
+    out.write_all(b"hops")?;
+    for hop in round.hops() {
+        match hop {
+            Hop::Here => out.write_all(b" here")?,
+            Hop::To(node) => write!(out, " {node}")?,
+            Hop::CutOff => out.write_all(b" cut")?,
+        }
+    }
+    Ok(())
+}
+
+/// The nodes from `x` to the destination, each sending on to the next.
+fn walk(round: &Round, x: u32, out: &mut impl Write) -> io::Result<()> {
+    let Some(&hop) = round.hops().get(x as usize) else {
+        return refused(Refusal::Range, out);
+    };
+    write!(out, "walk {x}")?;
+    let mut hop = hop;
+    while let Hop::To(node) = hop {
+        write!(out, " {node}")?;
+        hop = round.hops()[node as usize];
+    }
+    if hop == Hop::CutOff {
+        out.write_all(b" cut")?;
+    }
+    Ok(())
+}
