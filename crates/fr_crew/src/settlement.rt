@@ -1,7 +1,9 @@
 //! Settling a network.
 
-ghost use Rattle.std.specs.Prelude.{◌≡◌, ℕ, ◌<◌, ◌≤◌, ◌^◌, ◌↔◌, IfOk, IfErr, sum, sum_by};
+ghost use Rattle.std.specs.Prelude.{◌≡◌, ◌≢◌, ℕ, ◌<◌, ◌≤◌, ◌^◌, ◌↔◌, false, IfOk, IfErr, replicate, sum, sum_by};
 ghost use Rattle.fr_net.specs.Counts.{AreLawful};
+ghost use Rattle.fr_core.specs.History.{moment_of};
+ghost use Rattle.fr_core.specs.Legal.{NoneCanTurn};
 ghost use Rattle.fr_crew.specs.Settlements.{IsSettlement};
 ghost use Rattle.fr_crew.specs.declared.fault.CrewFault.TheVariants.{Range, Memory};
 
@@ -10,7 +12,7 @@ use crate::crew::{Job, run_crew};
 use crate::fault::CrewFault;
 use crate::gate::Gate;
 use crate::plan::Plan;
-use fr_core::finish;
+use fr_core::{finish, is_sink};
 use fr_net::Net;
 use fr_round::{Closed, Round};
 use std::alloc::Global;
@@ -36,7 +38,7 @@ pub struct Settled {
 ///
 /// A worker takes a candidate, tries to turn it, and makes candidates of all its neighbours where it did, and of the node
 /// itself where another worker was faster. It ends as soon as it finds no candidate, or its budget is spent. At first all
-/// nodes with a link but the destination are candidates.
+/// nodes with a link but the destination are candidates. No thread is started where no node can turn at all.
 ///
 /// `Range` where the destination is no node, which is tested first. The room for the whole round is taken before the first
 /// thread is started; after that the only fault is `Start`. Where there is a fault, the network is given up. It comes back
@@ -55,6 +57,31 @@ pub fn settle<R: Threads + Wait + Sync, G: Gate + Sync>(
     if dest >= net.nodes() {
         return Err(CrewFault::Range);
     }
+    let counts = vec![in alloc; 0u64; net.nodes() as usize]?;
+    if can_any_turn(&net, dest, &counts) {
+        return settle_by_crew(rt, alloc, net, dest, plan, gate);
+    }
+    Ok(Settled {
+        net,
+        counts,
+        by_workers: 0,
+        by_finisher: 0,
+    })
+}
+
+/// Opens a round, lets a crew of threads turn its nodes, and finishes what they leave.
+fn settle_by_crew<R: Threads + Wait + Sync, G: Gate + Sync>(
+    rt: &R,
+    alloc: Global,
+    net: Net,
+    dest: u32,
+    plan: &Plan,
+    gate: &G,
+) -> Result<Settled, CrewFault>
+    requires { dest < net.nodes }
+    ensures settled { IfOk result (λ settled. IsSettlement net.nodes dest net.links settled) }
+    ensures fault { IfErr result (λ fault. fault ≢ Range) }
+{
     let candidates = Candidates::first(alloc, &net, dest)?;
     let Ok((round, workers)) = Round::open(alloc, net, dest, plan.workers()) else {
         return Err(CrewFault::Memory);
@@ -73,6 +100,19 @@ pub fn settle<R: Threads + Wait + Sync, G: Gate + Sync>(
     } = round.close(workers);
     let by_workers = turns_of(&turned);
     finished(alloc, net, dest, counts, by_workers)
+}
+
+/// Whether some node can turn at the counts 0.
+fn can_any_turn(net: &Net, dest: u32, counts: &[u64]) -> bool
+    requires { counts.now ≡ replicate net.now.nodes 0 }
+    ensures { result ≡ false → NoneCanTurn net.now.nodes dest (moment_of net.now.links counts.now) }
+{
+    for x in 0..net.nodes() {
+        if x != dest && is_sink(net, counts, x) {
+            return true;
+        }
+    }
+    false
 }
 
 /// How many turns the workers made together, each told with its number.

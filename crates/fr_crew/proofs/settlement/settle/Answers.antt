@@ -1,32 +1,33 @@
-use Rattle.std.proofs.Common.{rules, ◌≡◌, ◌≤◌, ◌∙◌, ℕ, length, sum, sum_by, ap, arith}
-use Rattle.fr_net.specs.Limits.{most_nodes}
-use Rattle.fr_core.proofs.SettledRuns.{lawful_sum_fits}
-use Rattle.fr_round.specs.declared.view.Setup.{Setup}
-use Rattle.fr_crew.proofs.Workers.{new_workers_own, all_came_back}
+use Rattle.std.proofs.Common.{◌≡◌, ◌∙◌, ℕ, ◌<◌, List, sum, replicate, mul-zero, ap, subst, sym, arith}
+use Rattle.std.proofs.lemmas.List.Folds.{sum_by-replicate}
+use Rattle.std.proofs.lemmas.List.Sorted.{IsPermutation-refl}
+use Rattle.fr_net.specs.Counts.{AreLawful, links_at}
+use Rattle.fr_net.specs.Network.{Network, net_of}
+use Rattle.fr_net.specs.Order.{AreInOrder, in_order}
+use Rattle.fr_net.proofs.Ordering.{order_of_listed}
+use Rattle.fr_core.specs.History.{moment_of}
+use Rattle.fr_core.specs.Legal.{NoneCanTurn}
+use Rattle.fr_core.proofs.Finishing.{links_at-zeros, zeros_lawful}
+use Rattle.fr_core.proofs.Runs.{lawful_sum}
+use Rattle.fr_core.proofs.Settling.{settled_from_none}
 use Rattle.fr_crew.proofs.settlement.settle.Goals as goal
 
-pub run_crew-requires-after_bounds : goal.run_crew-requires-after_bounds
-run_crew-requires-after_bounds g c κs within = rw c.in-Ok.ensures.workers (new_workers_own c.in-Ok.round c.workers.result)
-
-pub close-net-requires-clause-few : goal.close-net-requires-clause-few
-close-net-requires-clause-few g c =
-    let same : length c.in_ok-workers.workers.items ≡ length c.in-Ok.workers.items = search rules in
-    let all : length c.in_ok-workers.workers.items ≡ c.in-Ok.round.setup.workers = all_came_back _ _ _ _ (ap (λ (s : Setup). s.workers) c.in-Ok.ensures.setup) c.in-Ok.ensures.workers same in
-    let few : length c.in_ok-workers.workers.items ≤ c.in-Ok.round.setup.workers = omega (arith, all) in
-    few
-
-pub turns_of-by_workers-requires : goal.turns_of-by_workers-requires
-turns_of-by_workers-requires g c =
-    let same : length c.in_ok-workers.workers.items ≡ length c.in-Ok.workers.items = search rules in
-    let all : length c.in_ok-workers.workers.items ≡ c.in-Ok.round.setup.workers = all_came_back _ _ _ _ (ap (λ (s : Setup). s.workers) c.in-Ok.ensures.setup) c.in-Ok.ensures.workers same in
-    let h = c.close-net.ensures.history in
-    let turned : sum_by (λ (p : ℕ × ℕ). p.1) c.close-net.result.turned.items ≡ sum c.close-net.result.counts.items = h.all_back all in
-    let few : c.in-Ok.round.setup.nodes ≤ most_nodes = omega (arith, ap (λ (s : Setup). s.nodes) c.in-Ok.ensures.setup, c.nodes.ensures.faultless.limits.nodes_few) in
-    let fits = lawful_sum_fits _ _ _ _ few h.run.lawful in
-    rw c.deref.ensures.value (omega (arith, turned, fits))
-
-pub finished-requires-clause-turned : goal.finished-requires-clause-turned
-finished-requires-clause-turned g c =
-    let same : length c.in_ok-workers.workers.items ≡ length c.in-Ok.workers.items = search rules in
-    let all : length c.in_ok-workers.workers.items ≡ c.in-Ok.round.setup.workers = all_came_back _ _ _ _ (ap (λ (s : Setup). s.workers) c.in-Ok.ensures.setup) c.in-Ok.ensures.workers same in
-    c.turns_of-by_workers.ensures ∙ ap (sum_by (λ (p : ℕ × ℕ). p.1)) c.deref.ensures.value ∙ c.close-net.ensures.history.all_back all
+pub returns-clause-settled : goal.returns-clause-settled
+returns-clause-settled g c =
+    let n = c.args.net.nodes in
+    let d = c.args.dest in
+    let first = c.args.net.links in
+    let none : List ℕ = replicate n 0 in
+    let zeros : c.in_ok-counts.counts.items ≡ none = c.in_ok-counts.ensures.items_if_clones_equal (λ y e. e) ∙ ap (λ (k : ℕ). replicate {A = ℕ} k 0) c.nodes-2.ensures.value in
+    let below : d < n = omega (arith, c.if-dest-nodes.false, c.nodes.ensures.value) in
+    let lawful : AreLawful n d first none = zeros_lawful n d first in
+    let left : NoneCanTurn n d (moment_of first none) = subst (λ (counts : List ℕ). NoneCanTurn n d (moment_of first counts)) (c.deref.ensures.value ∙ zeros) (c.can_any_turn.ensures c.if-can_any_turn.false) in
+    let sorted : AreInOrder first = subst (λ (m : Network). AreInOrder m.links) c.net.view_is c.net.invariant.sorted in
+    let order : in_order (links_at first none) ≡ first = ap in_order (links_at-zeros n first) ∙ sym (order_of_listed first first (IsPermutation-refl first) sorted) in
+    record {
+      destination = below;
+      counts = rw zeros (settled_from_none n d first c.nodes.ensures.faultless.is_net below none lawful left);
+      links = rw zeros (ap (λ (links : List (ℕ × ℕ)). record { nodes = n; links = links }) (sym order));
+      turns = rw zeros (sym (sum_by-replicate (λ (x : ℕ). x) n 0 ∙ mul-zero n));
+      most = rw zeros (lawful_sum n d first none lawful);
+    }
