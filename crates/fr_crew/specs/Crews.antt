@@ -1,7 +1,6 @@
 -- The workers of a crew, before their threads and after them.
 use Rattle.std.specs.Prelude.{◌≡◌}
 use Rattle.std.specs.declared.thread.PromisedHandle.{PromisedHandle}
-use Rattle.fr_round.specs.declared.worker.Worker.{Worker}
 use Rattle.fr_round.specs.Knowledge.{Knowledge, OpenRound, IsOwn}
 use Rattle.fr_crew.specs.declared.crew.GivesBack.{GivesBack}
 

@@ -38,7 +38,8 @@ pub struct Settled {
 ///
 /// A worker takes a candidate, tries to turn it, and makes candidates of all its neighbours where it did, and of the node
 /// itself where another worker was faster. It ends as soon as it finds no candidate, or its budget is spent. At first all
-/// nodes with a link but the destination are candidates. No thread is started where no node can turn at all.
+/// nodes with a link but the destination are candidates. No thread is started where no node can turn at all, or where no
+/// worker may make a call.
 ///
 /// `Range` where the destination is no node, which is tested first. The room for the whole round is taken before the first
 /// thread is started; after that the only fault is `Start`. Where there is a fault, the network is given up. It comes back
@@ -58,15 +59,18 @@ pub fn settle<R: Threads + Wait + Sync, G: Gate + Sync>(
         return Err(CrewFault::Range);
     }
     let counts = vec![in alloc; 0u64; net.nodes() as usize]?;
-    if can_any_turn(&net, dest, &counts) {
-        return settle_by_crew(rt, alloc, net, dest, plan, gate);
+    if !can_any_turn(&net, dest, &counts) {
+        return Ok(Settled {
+            net,
+            counts,
+            by_workers: 0,
+            by_finisher: 0,
+        });
     }
-    Ok(Settled {
-        net,
-        counts,
-        by_workers: 0,
-        by_finisher: 0,
-    })
+    if plan.budget() == 0 {
+        return finished(alloc, net, dest, counts, 0);
+    }
+    settle_by_crew(rt, alloc, net, dest, plan, gate)
 }
 
 /// Opens a round, lets a crew of threads turn its nodes, and finishes what they leave.

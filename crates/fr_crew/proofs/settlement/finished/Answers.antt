@@ -1,4 +1,4 @@
-use Rattle.std.proofs.Common.{◌≡◌, ◌∙◌, ◌+◌, sum, ap, arith}
+use Rattle.std.proofs.Common.{◌≡◌, ◌∙◌, sum, ap, arith}
 use Rattle.std.proofs.lemmas.List.{with_items_is}
 use Rattle.std.specs.Vec.{with_items}
 use Rattle.fr_net.specs.Counts.{links_at}

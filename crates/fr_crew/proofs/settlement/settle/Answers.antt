@@ -1,8 +1,8 @@
-use Rattle.std.proofs.Common.{◌≡◌, ◌∙◌, ℕ, ◌<◌, List, sum, replicate, mul-zero, ap, subst, sym, arith}
+use Rattle.std.proofs.Common.{◌≡◌, ◌∙◌, ℕ, ◌<◌, List, replicate, mul-zero, ap, subst, sym, arith}
 use Rattle.std.proofs.lemmas.List.Folds.{sum_by-replicate}
 use Rattle.std.proofs.lemmas.List.Sorted.{IsPermutation-refl}
 use Rattle.fr_net.specs.Counts.{AreLawful, links_at}
-use Rattle.fr_net.specs.Network.{Network, net_of}
+use Rattle.fr_net.specs.Network.{Network}
 use Rattle.fr_net.specs.Order.{AreInOrder, in_order}
 use Rattle.fr_net.proofs.Ordering.{order_of_listed}
 use Rattle.fr_core.specs.History.{moment_of}
@@ -12,8 +12,8 @@ use Rattle.fr_core.proofs.Runs.{lawful_sum}
 use Rattle.fr_core.proofs.Settling.{settled_from_none}
 use Rattle.fr_crew.proofs.settlement.settle.Goals as goal
 
-pub returns-clause-settled : goal.returns-clause-settled
-returns-clause-settled g c =
+pub returns-then-not-can_any_turn-clause-settled : goal.returns-then-not-can_any_turn-clause-settled
+returns-then-not-can_any_turn-clause-settled g c =
     let n = c.args.net.nodes in
     let d = c.args.dest in
     let first = c.args.net.links in
@@ -21,7 +21,7 @@ returns-clause-settled g c =
     let zeros : c.in_ok-counts.counts.items ≡ none = c.in_ok-counts.ensures.items_if_clones_equal (λ y e. e) ∙ ap (λ (k : ℕ). replicate {A = ℕ} k 0) c.nodes-2.ensures.value in
     let below : d < n = omega (arith, c.if-dest-nodes.false, c.nodes.ensures.value) in
     let lawful : AreLawful n d first none = zeros_lawful n d first in
-    let left : NoneCanTurn n d (moment_of first none) = subst (λ (counts : List ℕ). NoneCanTurn n d (moment_of first counts)) (c.deref.ensures.value ∙ zeros) (c.can_any_turn.ensures c.if-can_any_turn.false) in
+    let left : NoneCanTurn n d (moment_of first none) = subst (λ (counts : List ℕ). NoneCanTurn n d (moment_of first counts)) (c.deref.ensures.value ∙ zeros) (c.can_any_turn.ensures c.if-not-can_any_turn.true) in
     let sorted : AreInOrder first = subst (λ (m : Network). AreInOrder m.links) c.net.view_is c.net.invariant.sorted in
     let order : in_order (links_at first none) ≡ first = ap in_order (links_at-zeros n first) ∙ sym (order_of_listed first first (IsPermutation-refl first) sorted) in
     record {
