@@ -1,8 +1,8 @@
 //! The search for a closed walk along links: depth first, with the path as a stack, so that each link is passed once and
 //! the evidence is at hand.
 
-ghost use Rattle.std.specs.Prelude.{◌≡◌, ◌≢◌, ℕ, ◌<◌, ◌≤◌, ◌+◌, ◌++◌, [], ◌∷◌, length, drop, vec_len, slice_index, slice_index_or, IfOk, IfSome, IfNone, OnOk, MatchOption, Contains, ◌-◌, ◌*◌, take, slice_set};
-ghost use Rattle.fr_net.specs.Links.{AreBelow, IsAcyclic, IsCycle, Points};
+ghost use Rattle.std.specs.Prelude.{◌≡◌, ◌≢◌, ℕ, List, ◌<◌, ◌≤◌, ◌+◌, ◌++◌, [], ◌∷◌, length, drop, vec_len, slice_index, slice_index_or, IfOk, IfSome, IfNone, OnOk, MatchOption, Contains, ◌-◌, ◌*◌, take, slice_set};
+ghost use Rattle.fr_net.specs.Links.{AreBelow, IsAcyclic, IsClosedWalk, IsCycle, Points};
 ghost use Rattle.fr_net.specs.CycleSearch.{HasRisingTails, mark_of, IsPassed, IsCycleSearch, KeepsSeen, LeadsTo, LeadsToDone, fresh_count};
 
 use std::alloc::{AllocError, Global};
@@ -169,4 +169,22 @@ pub(crate) fn find_cycle(
         }
     }
     Ok(None)
+}
+
+/// A closed walk along the links, which are in rising order of their tails, if one leads through `root`: one search, from
+/// there alone.
+pub(crate) fn find_cycle_from(
+    alloc: Global,
+    nodes: u32,
+    links: &[(u32, u32)],
+    root: u32,
+) -> Result<Option<Vec<u32>>, AllocError>
+    requires tails { HasRisingTails links.now }
+    requires below { AreBelow nodes links.now }
+    requires root { root < nodes }
+    ensures { IfOk result (λ found. MatchOption found ((vs : List ℕ) → ¬ IsClosedWalk links.now root vs) (λ walk. IsCycle links.now walk.items)) }
+{
+    let mut marks = vec![in alloc; Mark::Fresh; nodes as usize]?;
+    let mut places = vec![in alloc; 0usize; nodes as usize]?;
+    visit(alloc, links, &mut marks, &mut places, root)
 }
