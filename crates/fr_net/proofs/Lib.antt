@@ -18,6 +18,7 @@ pub mod Remaking
 pub mod CutRows
 pub mod AddedLinks
 pub mod AddedRows
+pub mod ByNode
 pub mod Cycles
 pub mod Items
 pub mod LineValues

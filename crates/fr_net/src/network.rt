@@ -61,7 +61,7 @@ impl Net {
             return Err(NetFault::SelfLink(node));
         }
         let sorted = sorted_links(alloc, links)?;
-        let halves = sorted_halves(alloc, &sorted)?;
+        let halves = sorted_halves(alloc, nodes, &sorted)?;
         if let Some((u, v)) = first_twice(&halves) {
             return Err(NetFault::Twice(u, v));
         }
