@@ -1,11 +1,10 @@
 -- The steps of the search for a closed walk keep its state.
-use Rattle.std.proofs.Common.{List, [], add-one, add-zero, add_assoc, ap, arith, cond, drop, false, get_or, inl, inr, length, length-drop, ltb, refl, set, subst, sym, take, true, ℕ, ◌++◌, ◌+◌, ◌<◌, ◌∙◌, ◌∷◌, ◌≡◌, ◌≢◌, ◌≤◌, ◌⊎◌}
-use Rattle.std.proofs.lemmas.Bool.{cases_eq, cases_lt, ltb-false, ltb-true}
+use Rattle.std.proofs.Common.{List, [], add-one, add-zero, add_assoc, ap, arith, cond, drop, false, get_or, inl, inr, length, length-drop, refl, set, subst, sym, take, true, ℕ, ◌++◌, ◌+◌, ◌<◌, ◌∙◌, ◌∷◌, ◌≡◌, ◌≢◌, ◌≤◌, ◌⊎◌}
+use Rattle.std.proofs.lemmas.Bool.{cases_eq, cases_lt}
 use Rattle.std.proofs.lemmas.List.{get_or-drop, get_or-set_other, get_or-set_same, get_or-take, get_or_append_left, get_or_default, get_or_push, length-set, length-take-le, length_push}
 use Rattle.std.proofs.lemmas.List.Elements.{Contains-append_left, Contains-push}
 use Rattle.std.proofs.lemmas.List.Sums.{sum_by-set}
-use Rattle.std.specs.List.Sorted.{IsPartitionPoint}
-use Rattle.fr_net.specs.CycleSearch.{HasRisingTails, IsCycleSearch, IsPassed, IsStart, LeadsTo, LeadsToDone, fresh_count, is_fresh, mark_of}
+use Rattle.fr_net.specs.CycleSearch.{AreTailStarts, HasRisingTails, IsCycleSearch, IsPassed, IsStart, LeadsTo, LeadsToDone, fresh_count, is_fresh, mark_of}
 use Rattle.fr_net.specs.Links.{IsClosedWalk, IsCycle, IsPath, Points, end_of}
 use Rattle.fr_net.specs.Rows.{has_link}
 use Rattle.fr_net.specs.declared.cycle.Mark.{Mark}
@@ -199,9 +198,28 @@ fewer_fresh marks x l f =
 pub no_more_fresh : (marks : List Mark) (x : ℕ) → x < length marks → fresh_count (set marks x Done) ≤ fresh_count marks
 no_more_fresh marks x l = omega (arith, fresh_count-set marks x Done l refl)
 
--- where the links of x start, by the clause of `partition_point`
-pub start_from_point : (links : List (ℕ × ℕ)) (x p : ℕ) → IsPartitionPoint (λ (y : ℕ × ℕ). ltb y.0 x ≡ true) (λ (y : ℕ × ℕ). ltb y.0 x ≡ false) links p → IsStart links x p
-start_from_point links x p h i d l = (λ b. ltb-true _ _ (h.0 i d (omega arith) b), λ b. ltb-false _ _ (h.1 i d b l))
+-- a place between links of tails below x and a link whose tail is not is where the links of x start
+pub start_found : (links : List (ℕ × ℕ)) (x p : ℕ) (e : ℕ × ℕ) → HasRisingTails links → ((k : ℕ) (d : ℕ × ℕ) → k < p → (get_or links k d).0 < x) → (p < length links → x ≤ (get_or links p e).0) → IsStart links x p
+start_found links x p e rising before stops i d l = (
+  λ b. before i d b,
+  λ b.
+      let same = ap (λ (l : ℕ × ℕ). l.0) (get_or_default links p d e (omega (arith, b, l))) in
+      omega (arith, same, stops (omega (arith, b, l)), rising p i d b l),
+)
+
+-- the starts with one more
+pub starts_more : (links : List (ℕ × ℕ)) (starts : List ℕ) (x p : ℕ) → AreTailStarts x links starts → p ≤ length links → IsStart links x p → AreTailStarts (x + 1) links (starts ++ p ∷ [])
+starts_more links starts x p are inside here = record {
+  one_each = omega (arith, length_push starts p, are.one_each);
+  inside = λ y l. elim (cases_lt y x) [
+    | inl lt ↦ rw (get_or_append_left starts (p ∷ []) 0 y (omega (arith, are.one_each))) (are.inside y lt)
+    | inr ge ↦ rw (get_or_push starts p 0 y (omega (arith, are.one_each))) inside
+  ];
+  start = λ y l. elim (cases_lt y x) [
+    | inl lt ↦ rw (get_or_append_left starts (p ∷ []) 0 y (omega (arith, are.one_each))) (are.start y lt)
+    | inr ge ↦ let e : y ≡ x = omega arith in rw (get_or_push starts p 0 y (omega (arith, are.one_each)), e) here
+  ];
+}
 
 -- once the place of x is past its links, each of them leads to a done node
 pub all_done : (n : ℕ) (links : List (ℕ × ℕ)) (marks : List Mark) (places path : List ℕ) (x place : ℕ) → IsCycleSearch n links marks places path → HasRisingTails links → mark_of marks x ≢ Fresh → place ≡ get_or places x 0 → ((d : ℕ × ℕ) → place < length links → (get_or links place d).0 ≢ x) → LeadsToDone links marks x

@@ -16,6 +16,9 @@ pub mod RowLists
 pub mod TurnedRows
 pub mod Remaking
 pub mod CutRows
+pub mod AddedLinks
+pub mod AddedRows
+pub mod ByNode
 pub mod Cycles
 pub mod Items
 pub mod LineValues

@@ -33,7 +33,7 @@ is_between_alike u v l e x =
       | inr t ↦ rw (t.0, t.1) (or_comm ((eqb x.0 v) && (eqb x.1 u)) ((eqb x.0 u) && (eqb x.1 v)))
     ]
 
-some_joined : (links : List (ℕ × ℕ)) (u v : ℕ) → 1 ≤ count_by (is_between u v) links → (k : ℕ) × (k < length links) × (is_between u v (get_or links k (u, v)) ≡ true)
+pub some_joined : (links : List (ℕ × ℕ)) (u v : ℕ) → 1 ≤ count_by (is_between u v) links → (k : ℕ) × (k < length links) × (is_between u v (get_or links k (u, v)) ≡ true)
 some_joined [] u v l = absurd (omega arith)
 some_joined (x ∷ xs) u v l =
     let weight : ℕ × ℕ → ℕ = λ y. weigh (is_between u v y) in

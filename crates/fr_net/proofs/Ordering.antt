@@ -144,7 +144,7 @@ insert_order_by : (b : Bool) (p q : ℕ × ℕ) (qs : List (ℕ × ℕ)) → is_
 insert_order_by true p q qs e order rest = order_cons p (q ∷ qs) (λ r rs f. subst (λ (y : ℕ × ℕ). IsNotAfter p y) (head_is q r qs rs f) (up_from_first p q e)) order
 insert_order_by false p q qs e order rest = order_cons q (with_in_order p qs) (insert_head p q qs (up_from_not_first p q e) order) rest
 
-insert_order : (p : ℕ × ℕ) (qs : List (ℕ × ℕ)) → AreInOrder qs → AreInOrder (with_in_order p qs)
+pub insert_order : (p : ℕ × ℕ) (qs : List (ℕ × ℕ)) → AreInOrder qs → AreInOrder (with_in_order p qs)
 insert_order p [] order = λ k d l. absurd (omega arith)
 insert_order p (q ∷ qs) order = insert_order_by (is_not_after p q) p q qs refl order (insert_order p qs (order_tail q qs order))
 
@@ -156,7 +156,7 @@ times_insert_by : (b : Bool) (p q : ℕ × ℕ) (qs : List (ℕ × ℕ)) (x : �
 times_insert_by true p q qs x h = times-cons p (q ∷ qs) x
 times_insert_by false p q qs x h = omega (arith, times-cons q (with_in_order p qs) x, times-cons q qs x, h)
 
-times-insert : (p : ℕ × ℕ) (qs : List (ℕ × ℕ)) (x : ℕ × ℕ) → times (with_in_order p qs) x ≡ weigh (is_pair x.0 x.1 p) + times qs x
+pub times-insert : (p : ℕ × ℕ) (qs : List (ℕ × ℕ)) (x : ℕ × ℕ) → times (with_in_order p qs) x ≡ weigh (is_pair x.0 x.1 p) + times qs x
 times-insert p [] x = times-cons p [] x
 times-insert p (q ∷ qs) x =
     times_insert_by (is_not_after p q) p q qs x (times-insert p qs x)

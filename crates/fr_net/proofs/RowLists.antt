@@ -11,13 +11,13 @@ use Rattle.fr_net.specs.RowLists.{AreRows, rows_below}
 use Rattle.fr_net.specs.Rows.{row}
 use Rattle.fr_net.specs.declared.rows.First.{First}
 
-abbrev length_below : {X : Type 0} → ℕ → (ℕ → List X) → ℕ
+abbrev pub length_below : {X : Type 0} → ℕ → (ℕ → List X) → ℕ
 length_below k rows = length (rows_below k rows)
 
-length_more : {X : Type 0} (k : ℕ) (rows : ℕ → List X) → length_below (suc k) rows ≡ length_below k rows + length (rows k)
+pub length_more : {X : Type 0} (k : ℕ) (rows : ℕ → List X) → length_below (suc k) rows ≡ length_below k rows + length (rows k)
 length_more k rows = length-append (rows_below k rows) (rows k)
 
-length_up : {X : Type 0} (x k : ℕ) (rows : ℕ → List X) → x ≤ k → length_below x rows ≤ length_below k rows
+pub length_up : {X : Type 0} (x k : ℕ) (rows : ℕ → List X) → x ≤ k → length_below x rows ≤ length_below k rows
 length_up zero zero rows le = omega arith
 length_up (suc x) zero rows le = absurd (omega arith)
 length_up x (suc k) rows le =

@@ -38,7 +38,10 @@ not_after (inr a) = inr (a.0, omega (arith, a.1))
 cases_le_none : (n : ℕ) → (n ≡ 0) ⊎ (1 ≤ n)
 cases_le_none n = elim (cases_lt 0 n) [ inl l ↦ inr (omega arith) | inr g ↦ inl (omega arith) ]
 
-abbrev entry : ℕ → First → ℕ × First
+pub row_entry_back : (links : List (ℕ × ℕ)) (x w : ℕ) → ¬ Points links x w → Points links w x → row_entry links x w ≡ Some (w, Inward)
+row_entry_back links x w out back = rw (not_linked links x w out, has_link_true links w x back) refl
+
+abbrev pub entry : ℕ → First → ℕ × First
 entry w f = (w, f)
 
 turned_same : (counts : List ℕ) (x w : ℕ) (f : First) → get_or counts w 0 ≡ get_or counts x 0 → turned_entry counts x (w, f) ≡ entry w f

@@ -38,6 +38,12 @@ abbrev pub IsStart : List (ℕ × ℕ) → ℕ → ℕ → Type 0
 IsStart links x p =
     (i : ℕ) (d : ℕ × ℕ) → i < length links → (i < p → (slice_index_or links i d).0 < x) × (p ≤ i → x ≤ (slice_index_or links i d).0)
 
+-- where the links of each of n tails start
+pub record AreTailStarts (n : ℕ) (links : List (ℕ × ℕ)) (starts : List ℕ) : Type 0 where
+  pub one_each : length starts ≡ n
+  pub inside : (x : ℕ) → x < n → slice_index starts x ≤ length links
+  pub start : (x : ℕ) → x < n → IsStart links x (slice_index starts x)
+
 -- the last node of the path, if there is one, points to x
 abbrev pub LeadsTo : List (ℕ × ℕ) → List ℕ → ℕ → Type 0
 LeadsTo links path x = (k : ℕ) → k + 1 ≡ length path → Points links (slice_index path k) x

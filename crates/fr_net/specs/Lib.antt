@@ -7,8 +7,8 @@ pub mod Network
 pub mod Rows
 pub mod Faults
 pub mod Edits
-pub mod Halves
 pub mod RowLists
+pub mod Halves
 pub mod CycleSearch
 pub mod Inside
 pub mod Requests

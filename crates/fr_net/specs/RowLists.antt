@@ -1,6 +1,6 @@
 -- The rows of all nodes, one after the other in one list, and what becomes of an entry when links turn or are
 -- edited. For the making of a `Net` alone.
-use Rattle.std.specs.Prelude.{◌≡◌, ℕ, zero, suc, ◌≤◌, ◌+◌, ◌++◌, ◌==◌, if◌then◌else◌, Bool, not, List, [], length, slice_index, Option, Some, None}
+use Rattle.std.specs.Prelude.{◌≡◌, ℕ, zero, suc, ◌≤◌, ◌+◌, ◌++◌, ◌==◌, if◌then◌else◌, Bool, not, nat_le, List, [], ◌∷◌, length, slice_index, Option, Some, None}
 use Rattle.std.specs.List.{filter_map}
 use Rattle.fr_net.specs.Links.{is_between}
 use Rattle.fr_net.specs.declared.rows.First.{First}
@@ -29,6 +29,18 @@ turned_entry counts x entry =
 -- whether an entry of x stays where the link between u and v is cut
 abbrev pub stays : ℕ → ℕ → ℕ → ℕ × First → Bool
 stays u v x entry = not (is_between u v (x, entry.0))
+
+-- the entries with one put before the first that has no lesser neighbour
+abbrev pub with_entry : ℕ × First → List (ℕ × First) → List (ℕ × First)
+with_entry new [] = new ∷ []
+with_entry new (entry ∷ rest) = if nat_le new.0 entry.0 then new ∷ (entry ∷ rest) else entry ∷ with_entry new rest
+
+-- the entries of x where the link from u to v is added
+abbrev pub added_row : ℕ → ℕ → ℕ → List (ℕ × First) → List (ℕ × First)
+added_row u v x entries =
+    if x == u then with_entry (v, Outward) entries
+    else if x == v then with_entry (u, Inward) entries
+    else entries
 
 -- the link from x to w, where its direction is outward
 abbrev pub link_to : ℕ → ℕ → First → Option (ℕ × ℕ)

@@ -1,9 +1,9 @@
 //! The search for a closed walk along links: depth first, with the path as a stack, so that each link is passed once and
 //! the evidence is at hand.
 
-ghost use Rattle.std.specs.Prelude.{◌≡◌, ◌≢◌, ℕ, ◌<◌, ◌≤◌, ◌+◌, ◌++◌, [], ◌∷◌, length, drop, vec_len, slice_index, slice_index_or, IfOk, IfSome, IfNone, OnOk, MatchOption, Contains, ◌-◌, ◌*◌, take, slice_set};
-ghost use Rattle.fr_net.specs.Links.{AreBelow, IsAcyclic, IsCycle, Points};
-ghost use Rattle.fr_net.specs.CycleSearch.{HasRisingTails, mark_of, IsPassed, IsCycleSearch, KeepsSeen, LeadsTo, LeadsToDone, fresh_count};
+ghost use Rattle.std.specs.Prelude.{◌≡◌, ◌≢◌, ℕ, List, ◌<◌, ◌≤◌, ◌+◌, ◌++◌, [], ◌∷◌, length, drop, vec_len, slice_index, slice_index_or, IfOk, IfSome, IfNone, OnOk, MatchOption, Contains, ◌-◌, ◌*◌, take, slice_set};
+ghost use Rattle.fr_net.specs.Links.{AreBelow, IsAcyclic, IsClosedWalk, IsCycle, Points};
+ghost use Rattle.fr_net.specs.CycleSearch.{AreTailStarts, HasRisingTails, IsStart, mark_of, IsPassed, IsCycleSearch, KeepsSeen, LeadsTo, LeadsToDone, fresh_count};
 
 use std::alloc::{AllocError, Global};
 
@@ -51,16 +51,51 @@ fn closed_at(alloc: Global, path: &[u32], node: u32) -> Result<Vec<u32>, AllocEr
     Ok(walk)
 }
 
+/// Where the links of tail `x` start, sought from the place `from` on.
+fn tail_start(links: &[(u32, u32)], x: u32, from: usize) -> usize
+    requires tails { HasRisingTails links.now }
+    requires inside { from ≤ length links.now }
+    requires before { (i : ℕ) (d : ℕ × ℕ) → i < from → (slice_index_or links.now i d).0 < x }
+    ensures inside { result ≤ length links.now }
+    ensures start { IsStart links.now x result }
+{
+    for i in from..links.len() {
+        if links[i].0 >= x {
+            return i;
+        }
+    }
+    links.len()
+}
+
+/// Where the links of each tail start, which are in rising order of their tails.
+fn tail_starts(
+    alloc: Global,
+    nodes: u32,
+    links: &[(u32, u32)],
+) -> Result<Vec<usize>, AllocError>
+    requires tails { HasRisingTails links.now }
+    ensures { IfOk result (λ starts. AreTailStarts nodes links.now starts.items) }
+{
+    let mut starts = Vec::with_capacity(alloc, nodes as usize)?;
+    let mut start = 0;
+    for x in 0..nodes {
+        start = tail_start(links, x, start);
+        starts.push(start)?;
+    }
+    Ok(starts)
+}
+
 /// Puts `node` at the end of the path.
 fn open(
     links: &[(u32, u32)],
+    starts: &[usize],
     marks: &mut [Mark],
     places: &mut [usize],
     path: &mut Vec<u32>,
     node: u32,
 ) -> Result<(), AllocError>
     requires search { IsCycleSearch (length marks.old) links.now marks.old places.old path.old.items }
-    requires tails { HasRisingTails links.now }
+    requires starts { AreTailStarts (length marks.old) links.now starts.now }
     requires below { node < length marks.old }
     requires fresh { mark_of marks.old node ≡ Mark.Fresh }
     requires leads { LeadsTo links.now path.old.items node }
@@ -70,10 +105,9 @@ fn open(
     ensures kept { OnOk result (KeepsSeen marks.old marks.new) }
     ensures fewer { OnOk result (fresh_count marks.new + 1 ≡ fresh_count marks.old) }
 {
-    let place = links.partition_point(|link| link.0 < node);
     path.push(node)?;
     marks[node as usize] = Mark::Open;
-    places[node as usize] = place;
+    places[node as usize] = starts[node as usize];
     Ok(())
 }
 
@@ -113,26 +147,30 @@ fn leave(links: &[(u32, u32)], marks: &mut [Mark], places: &[usize], path: &mut 
     marks[top as usize] = Mark::Done;
 }
 
-/// Searches from `root` for a closed walk.
+/// Searches from `root` for a closed walk, unless the search has met it.
 fn visit(
     alloc: Global,
     links: &[(u32, u32)],
+    starts: &[usize],
     marks: &mut [Mark],
     places: &mut [usize],
     root: u32,
 ) -> Result<Option<Vec<u32>>, AllocError>
     requires search { IsCycleSearch (length marks.old) links.now marks.old places.old [] }
     requires tails { HasRisingTails links.now }
+    requires starts { AreTailStarts (length marks.old) links.now starts.now }
     requires below { AreBelow (length marks.old) links.now }
     requires root { root < length marks.old }
-    requires fresh { mark_of marks.old root ≡ Mark.Fresh }
     ensures found { IfOk result (λ found. IfSome found (λ walk. IsCycle links.now walk.items)) }
     ensures search { IfOk result (λ found. IfNone found (IsCycleSearch (length marks.old) links.now marks.new places.new [])) }
     ensures seen { IfOk result (λ found. IfNone found (mark_of marks.new root ≢ Mark.Fresh)) }
     ensures kept { IfOk result (λ found. IfNone found (KeepsSeen marks.old marks.new)) }
 {
+    if !matches!(&marks[root as usize], Mark::Fresh) {
+        return Ok(None);
+    }
     let mut path = Vec::new(alloc);
-    open(links, marks, places, &mut path, root)?;
+    open(links, starts, marks, places, &mut path, root)?;
     'walk: while !path.is_empty() {
         let top = path[path.len() - 1];
         let place = advance(links, marks, places, &path, top);
@@ -140,10 +178,32 @@ fn visit(
             let next = links[place].1;
             match marks[next as usize] {
                 Mark::Open => return Ok(Some(closed_at(alloc, &path, next)?)),
-                _ => open(links, marks, places, &mut path, next)?,
+                _ => open(links, starts, marks, places, &mut path, next)?,
             }
         } else {
             leave(links, marks, places, &mut path, top);
+        }
+    }
+    Ok(None)
+}
+
+/// Searches from each node.
+fn visit_all(
+    alloc: Global,
+    nodes: u32,
+    links: &[(u32, u32)],
+    starts: &[usize],
+) -> Result<Option<Vec<u32>>, AllocError>
+    requires tails { HasRisingTails links.now }
+    requires starts { AreTailStarts nodes links.now starts.now }
+    requires below { AreBelow nodes links.now }
+    ensures { IfOk result (λ found. MatchOption found (IsAcyclic links.now) (λ walk. IsCycle links.now walk.items)) }
+{
+    let mut marks = vec![in alloc; Mark::Fresh; nodes as usize]?;
+    let mut places = vec![in alloc; 0usize; nodes as usize]?;
+    for root in 0..nodes {
+        if let Some(walk) = visit(alloc, links, starts, &mut marks, &mut places, root)? {
+            return Ok(Some(walk));
         }
     }
     Ok(None)
@@ -159,14 +219,25 @@ pub(crate) fn find_cycle(
     requires below { AreBelow nodes links.now }
     ensures { IfOk result (λ found. MatchOption found (IsAcyclic links.now) (λ walk. IsCycle links.now walk.items)) }
 {
+    let starts = tail_starts(alloc, nodes, links)?;
+    visit_all(alloc, nodes, links, &starts)
+}
+
+/// A closed walk along the links, which are in rising order of their tails, if one leads through `root`: one search, from
+/// there alone.
+pub(crate) fn find_cycle_from(
+    alloc: Global,
+    nodes: u32,
+    links: &[(u32, u32)],
+    root: u32,
+) -> Result<Option<Vec<u32>>, AllocError>
+    requires tails { HasRisingTails links.now }
+    requires below { AreBelow nodes links.now }
+    requires root { root < nodes }
+    ensures { IfOk result (λ found. MatchOption found ((vs : List ℕ) → ¬ IsClosedWalk links.now root vs) (λ walk. IsCycle links.now walk.items)) }
+{
+    let starts = tail_starts(alloc, nodes, links)?;
     let mut marks = vec![in alloc; Mark::Fresh; nodes as usize]?;
     let mut places = vec![in alloc; 0usize; nodes as usize]?;
-    for root in 0..nodes {
-        if matches!(&marks[root as usize], Mark::Fresh) {
-            if let Some(walk) = visit(alloc, links, &mut marks, &mut places, root)? {
-                return Ok(Some(walk));
-            }
-        }
-    }
-    Ok(None)
+    visit(alloc, links, &starts, &mut marks, &mut places, root)
 }

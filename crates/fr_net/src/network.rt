@@ -11,8 +11,8 @@ ghost use Rattle.fr_net.specs.Faults.{IsFaultless, IsFirstFault, IsNetworkOf};
 ghost use Rattle.fr_net.specs.Edits.{IsCutFault, without};
 
 use crate::checks::{first_outside, first_self_link};
-use crate::cycle::find_cycle;
-use crate::edits::{cut_links, joins, push_cut};
+use crate::cycle::{find_cycle, find_cycle_from};
+use crate::edits::{added_links, cut_links, joins, push_added, push_cut};
 use crate::fault::NetFault;
 use crate::limits::{MAX_LINKS, MAX_NODES};
 use crate::rows::{First, entries_of, first_twice, row_starts, sorted_halves, sorted_links};
@@ -61,7 +61,7 @@ impl Net {
             return Err(NetFault::SelfLink(node));
         }
         let sorted = sorted_links(alloc, links)?;
-        let halves = sorted_halves(alloc, &sorted)?;
+        let halves = sorted_halves(alloc, nodes, &sorted)?;
         if let Some((u, v)) = first_twice(&halves) {
             return Err(NetFault::Twice(u, v));
         }
@@ -149,15 +149,42 @@ impl Net {
     }
 
     /// The network with the link from `u` to `v` as well; or the first fault that then stands, in the order of
-    /// [`NetFault`], where a closed walk follows the links with the new one among them. `Memory` where no room could be had.
+    /// [`NetFault`], where a closed walk follows the links with the new one among them. `Memory` where no room could be had. It is
+    /// linear, and searches for a closed walk from the head of the new link alone.
     pub fn with_link(&self, alloc: Global, u: u32, v: u32) -> Result<Net, NetFault>
         ensures ok { IfOk result (IsNetworkOf self.now.nodes (self.now.links ++ (u, v) ∷ [])) }
         ensures refused { IfErr result (λ fault. fault ≢ Memory
             → IsFirstFault self.now.nodes (self.now.links ++ (u, v) ∷ []) fault) }
     {
-        let mut edited = self.links.as_slice().to_vec(alloc)?;
-        edited.push((u, v))?;
-        Net::new(alloc, self.nodes, &edited)
+        if self.links.len() >= MAX_LINKS {
+            return Err(NetFault::TooMany);
+        }
+        if let Some(x) = first_outside(self.nodes, &[(u, v)]) {
+            return Err(NetFault::Range(x));
+        }
+        if u == v {
+            return Err(NetFault::SelfLink(u));
+        }
+        if joins(&self.links, u, v) {
+            return Err(NetFault::Twice(u, v));
+        }
+        let links = added_links(alloc, &self.links, u, v)?;
+        if let Some(walk) = find_cycle_from(alloc, self.nodes, &links, v)? {
+            return Err(NetFault::Cycle(walk));
+        }
+        let mut starts = Vec::with_capacity(alloc, self.starts.len())?;
+        let mut entries = Vec::with_capacity(alloc, self.entries.len() + 2)?;
+        starts.push(0)?;
+        for x in 0..self.nodes {
+            push_added(&mut entries, x, self.row(x), u, v)?;
+            starts.push(entries.len())?;
+        }
+        Ok(Net {
+            nodes: self.nodes,
+            links,
+            starts,
+            entries,
+        })
     }
 
     /// The network of the links that the counts give, one count for each node: a link stays where its head has turned

@@ -1,4 +1,5 @@
 use Rattle.std.proofs.Common.{IsPermutation, List, ap, arith, count_by, map, ℕ, ◌≡◌, ◌≤◌}
+use Rattle.std.proofs.lemmas.List.Sorted.{length_permutation}
 use Rattle.fr_net.proofs.Building.{IsSortedOut, below_sorted, cycle_stands, faultless_listed, faultless_sorted, rows_shown, single_from_rising, twice_stands}
 use Rattle.fr_net.proofs.Ordering.{order_of_listed, tails_rise}
 use Rattle.fr_net.specs.Faults.{IsFaultless, IsInRange}
@@ -10,6 +11,15 @@ use Rattle.fr_net.proofs.network.Net.new.Goals as goal
 
 abbrev with_links : ℕ → List (ℕ × ℕ) → Network
 with_links n links = record { nodes = n; links = links }
+
+pub sorted_halves-requires-clause-below : goal.sorted_halves-requires-clause-below
+sorted_halves-requires-clause-below c =
+    let range : IsInRange c.args.nodes c.args.links.now = c.in_default.ensures.none in
+    rw c.deref.ensures.value (below_sorted c.args.nodes c.args.links.now c.in_ok-sorted.sorted.items c.in_ok-sorted.ensures.same range.below)
+
+pub sorted_halves-requires-clause-few : goal.sorted_halves-requires-clause-few
+sorted_halves-requires-clause-few c =
+    rw c.deref.ensures.value (omega (arith, length_permutation c.args.links.now c.in_ok-sorted.sorted.items c.in_ok-sorted.ensures.same))
 
 pub returns-in-Some-first_twice-clause-refused : goal.returns-in-Some-first_twice-clause-refused
 returns-in-Some-first_twice-clause-refused c _ =

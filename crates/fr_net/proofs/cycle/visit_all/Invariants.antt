@@ -1,7 +1,7 @@
 use Rattle.std.proofs.Common.{[], ℕ, ◌<◌, ◌≢◌}
 use Rattle.fr_net.specs.CycleSearch.{IsCycleSearch, mark_of}
 use Rattle.fr_net.specs.declared.cycle.Mark.TheVariants.{Fresh}
-use Rattle.fr_net.proofs.cycle.find_cycle.Given as goal
+use Rattle.fr_net.proofs.cycle.visit_all.Given as goal
 
 abbrev pub invariant-loop-root : goal.invariant-loop-root
 invariant-loop-root l = record {
