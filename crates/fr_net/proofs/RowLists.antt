@@ -11,13 +11,13 @@ use Rattle.fr_net.specs.RowLists.{AreRows, rows_below}
 use Rattle.fr_net.specs.Rows.{row}
 use Rattle.fr_net.specs.declared.rows.First.{First}
 
-abbrev length_below : {X : Type 0} → ℕ → (ℕ → List X) → ℕ
+abbrev pub length_below : {X : Type 0} → ℕ → (ℕ → List X) → ℕ
 length_below k rows = length (rows_below k rows)
 
-length_more : {X : Type 0} (k : ℕ) (rows : ℕ → List X) → length_below (suc k) rows ≡ length_below k rows + length (rows k)
+pub length_more : {X : Type 0} (k : ℕ) (rows : ℕ → List X) → length_below (suc k) rows ≡ length_below k rows + length (rows k)
 length_more k rows = length-append (rows_below k rows) (rows k)
 
-length_up : {X : Type 0} (x k : ℕ) (rows : ℕ → List X) → x ≤ k → length_below x rows ≤ length_below k rows
+pub length_up : {X : Type 0} (x k : ℕ) (rows : ℕ → List X) → x ≤ k → length_below x rows ≤ length_below k rows
 length_up zero zero rows le = omega arith
 length_up (suc x) zero rows le = absurd (omega arith)
 length_up x (suc k) rows le =
@@ -72,13 +72,6 @@ rows_more k rows starts entries more at is =
             rw (get_or_push starts (length more) 0 x (omega (arith, at.one_each)), e) (ap length joined)
       ];
     }
-
--- what stands from the start of the new row on is the row
-pub new_row : (k : ℕ) (rows : ℕ → List (ℕ × First)) (starts : List ℕ) (entries more : List (ℕ × First)) (a : ℕ) → AreRows k rows starts entries → more ≡ entries ++ rows k → a ≡ get_or starts k 0 → take (length more - a) (drop a more) ≡ rows k
-new_row k rows starts entries more a at is from =
-    let here : a ≡ length (rows_below k rows) = from ∙ at.start k (omega arith) in
-    let rest : drop a more ≡ rows k = rw (here, is, at.joined) (drop-append_seam (rows_below k rows) (rows k)) in
-    take_all (length more - a) (drop a more) (omega (arith, length-drop a more)) ∙ rest
 
 -- what the rows list, with those of one row more
 pub listed_more : {X : Type 0} (k : ℕ) (rows : ℕ → List X) (listed more : List X) → listed ≡ rows_below k rows → more ≡ listed ++ rows k → more ≡ rows_below (k + 1) rows
