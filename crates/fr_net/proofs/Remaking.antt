@@ -50,19 +50,17 @@ in_order_faultless n listed clear =
 in_order_row : (n : ℕ) (listed : List (ℕ × ℕ)) (x : ℕ) → row n listed x ≡ row n (in_order listed) x
 in_order_row n listed x = row_same n listed (in_order listed) x (λ u v. into_order listed (u, v)) (λ u v. out_of_order listed (u, v))
 
-in_order_shown : (n : ℕ) (listed : List (ℕ × ℕ)) (starts : List ℕ) (entries : List (ℕ × First)) → AreRows n (row n listed) starts entries → (x : ℕ) → x < n → ShowsRow n (in_order listed) starts entries x
-in_order_shown n listed starts entries at x lt =
-    let shown = rows_show n listed starts entries at x lt in
-    record { low = shown.low; high = shown.high; is_row = shown.is_row ∙ in_order_row n listed x }
-
-pub made_stands : (n : ℕ) (listed made : List (ℕ × ℕ)) (starts : List ℕ) (entries : List (ℕ × First)) → IsFaultless n listed → made ≡ in_order listed → AreRows n (row n listed) starts entries → IsMade n made starts entries
-made_stands n listed made starts entries clear is at =
+pub made_shown : (n : ℕ) (listed made : List (ℕ × ℕ)) (starts : List ℕ) (entries : List (ℕ × First)) → IsFaultless n listed → made ≡ in_order listed → length starts ≡ n + 1 → ((x : ℕ) → x < n → ShowsRow n listed starts entries x) → IsMade n made starts entries
+made_shown n listed made starts entries clear is one_each each =
     rw is (record {
       faultless = in_order_faultless n listed clear;
       order = in_order_order listed;
-      starts_length = at.one_each;
-      rows = in_order_shown n listed starts entries at;
+      starts_length = one_each;
+      rows = λ x lt. let shown = each x lt in record { low = shown.low; high = shown.high; is_row = shown.is_row ∙ in_order_row n listed x };
     })
+
+pub made_stands : (n : ℕ) (listed made : List (ℕ × ℕ)) (starts : List ℕ) (entries : List (ℕ × First)) → IsFaultless n listed → made ≡ in_order listed → AreRows n (row n listed) starts entries → IsMade n made starts entries
+made_stands n listed made starts entries clear is at = made_shown n listed made starts entries clear is at.one_each (rows_show n listed starts entries at)
 
 abbrev with_links : ℕ → List (ℕ × ℕ) → Network
 with_links n links = record { nodes = n; links = links }

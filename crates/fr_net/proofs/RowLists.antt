@@ -73,13 +73,6 @@ rows_more k rows starts entries more at is =
       ];
     }
 
--- what stands from the start of the new row on is the row
-pub new_row : (k : ℕ) (rows : ℕ → List (ℕ × First)) (starts : List ℕ) (entries more : List (ℕ × First)) (a : ℕ) → AreRows k rows starts entries → more ≡ entries ++ rows k → a ≡ get_or starts k 0 → take (length more - a) (drop a more) ≡ rows k
-new_row k rows starts entries more a at is from =
-    let here : a ≡ length (rows_below k rows) = from ∙ at.start k (omega arith) in
-    let rest : drop a more ≡ rows k = rw (here, is, at.joined) (drop-append_seam (rows_below k rows) (rows k)) in
-    take_all (length more - a) (drop a more) (omega (arith, length-drop a more)) ∙ rest
-
 -- what the rows list, with those of one row more
 pub listed_more : {X : Type 0} (k : ℕ) (rows : ℕ → List X) (listed more : List X) → listed ≡ rows_below k rows → more ≡ listed ++ rows k → more ≡ rows_below (k + 1) rows
 listed_more {X} k rows listed more are is =

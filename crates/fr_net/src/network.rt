@@ -16,7 +16,7 @@ use crate::edits::{added_links, cut_links, joins, push_added, push_cut};
 use crate::fault::NetFault;
 use crate::limits::{MAX_LINKS, MAX_NODES};
 use crate::rows::{First, entries_of, first_twice, row_starts, sorted_halves, sorted_links};
-use crate::turned::{push_out_links, push_turned};
+use crate::turned::{push_out_links, turn_row};
 use std::alloc::Global;
 use std::marker::Model;
 
@@ -196,20 +196,39 @@ impl Net {
         ensures ok { IfOk result (IsNetworkOf self.now.nodes (links_at self.now.links counts.now)) }
         ensures memory { IfErr result (λ fault. fault ≡ Memory) }
     {
-        let mut links = Vec::with_capacity(alloc, self.links.len())?;
-        let mut starts = Vec::with_capacity(alloc, self.starts.len())?;
-        let mut entries = Vec::with_capacity(alloc, self.entries.len())?;
-        starts.push(0)?;
-        for x in 0..self.nodes {
-            push_turned(&mut entries, x, self.row(x), counts)?;
-            push_out_links(&mut links, x, &entries[starts[x as usize]..])?;
-            starts.push(entries.len())?;
-        }
-        Ok(Net {
+        let copy = Net {
             nodes: self.nodes,
+            links: self.links.to_vec(alloc)?,
+            starts: self.starts.to_vec(alloc)?,
+            entries: self.entries.to_vec(alloc)?,
+        };
+        Ok(copy.into_turned(counts))
+    }
+
+    /// The network of the links that the counts give, as by `turned_by`, made in the place of this one: it takes no memory
+    /// and has no fault. It is linear.
+    pub fn into_turned(self, counts: &[u64]) -> Net
+        requires one_each { length counts.now ≡ self.nodes }
+        requires kept { All (IsKept counts.now) self.links }
+        ensures { IsNetworkOf self.nodes (links_at self.links counts.now) result }
+    {
+        let Net {
+            nodes,
+            mut links,
+            starts,
+            mut entries,
+        } = self;
+        links.clear();
+        for x in 0..nodes {
+            let row = &mut entries[starts[x as usize]..starts[x as usize + 1]];
+            turn_row(row, x, counts);
+            push_out_links(&mut links, x, row);
+        }
+        Net {
+            nodes,
             links,
             starts,
             entries,
-        })
+        }
     }
 }

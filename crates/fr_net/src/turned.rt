@@ -1,46 +1,37 @@
-//! Rows and links as counts turn them.
+//! Rows and links as counts turn them, each where it stands.
 
-ghost use Rattle.std.specs.Prelude.{◌≡◌, ℕ, ◌<◌, ◌++◌, length, slice_index, map, OnOk, All};
+ghost use Rattle.std.specs.Prelude.{◌≡◌, ℕ, ◌<◌, ◌≤◌, ◌+◌, ◌++◌, length, slice_index, vec_capacity, map, All};
 ghost use Rattle.fr_net.specs.RowLists.{out_links, turned_entry};
 
 use crate::rows::First;
-use std::alloc::AllocError;
 
-/// Adds the row of `x` to the entries, each link of it as the counts turn it.
-pub(crate) fn push_turned(
-    entries: &mut Vec<(u32, First)>,
-    x: u32,
-    row: &[(u32, First)],
-    counts: &[u64],
-) -> Result<(), AllocError>
+/// Turns each link of the row of `x` as the counts say.
+pub(crate) fn turn_row(row: &mut [(u32, First)], x: u32, counts: &[u64])
     requires node { x < length counts.now }
-    requires below { All (λ (e : ℕ × First). e.0 < length counts.now) row.now }
-    ensures { OnOk result (entries.new.items ≡ entries.old.items ++ map (turned_entry counts.now x) row.now) }
+    requires below { All (λ (e : ℕ × First). e.0 < length counts.now) row.old }
+    ensures { row.new ≡ map (turned_entry counts.now x) row.old }
 {
-    for (w, first) in row {
-        let now = if counts[*w as usize] == counts[x as usize] {
-            *first
+    for entry in row.iter_mut() {
+        let (w, first) = *entry;
+        let now = if counts[w as usize] == counts[x as usize] {
+            first
         } else {
             first.opposite()
         };
-        entries.push((*w, now))?;
+        *entry = (w, now);
     }
-    Ok(())
 }
 
-/// Adds the links of the row of `x` that point away from it.
-pub(crate) fn push_out_links(
-    links: &mut Vec<(u32, u32)>,
-    x: u32,
-    row: &[(u32, First)],
-) -> Result<(), AllocError>
-    ensures { OnOk result (links.new.items ≡ links.old.items ++ out_links x row.now) }
+/// Adds the links of the row of `x` that point away from it, which there has to be room for.
+pub(crate) fn push_out_links(links: &mut Vec<(u32, u32)>, x: u32, row: &[(u32, First)])
+    requires { length links.old.items + length (out_links x row.now) ≤ vec_capacity links.old }
+    ensures items { links.new.items ≡ links.old.items ++ out_links x row.now }
+    ensures room { vec_capacity links.new ≡ vec_capacity links.old }
 {
     for (w, first) in row {
         match first {
-            First::Outward => links.push((x, *w))?,
+            First::Outward => links.push_reserved((x, *w)),
             First::Inward => {}
         }
     }
-    Ok(())
 }
