@@ -1,5 +1,5 @@
 -- What a change makes, by the network that it was made on.
-use Rattle.std.proofs.Common.{[], Err, IfOk, Ok, Result, ℕ, ◌++◌, ◌∷◌, ◌≡◌}
+use Rattle.std.proofs.Common.{[], ℕ, ◌++◌, ◌∷◌}
 use Rattle.fr_net.specs.Edits.{without}
 use Rattle.fr_net.specs.Faults.{IsNetworkOf}
 use Rattle.fr_net.specs.Links.{Joins}
@@ -14,8 +14,3 @@ cut_round s u v net new joined made round = (joined, round_listed s.nodes s.dest
 
 pub add_round : (s : State) (u v : ℕ) (net : Network) (new : State) → IsNetworkOf s.nodes (s.links ++ (u, v) ∷ []) net → IsRound net.nodes s.dest net.links new → IsChanged s (Add u v) new
 add_round s u v net new made round = (made.faultless, round_listed s.nodes s.dest (s.links ++ (u, v) ∷ []) net new made round)
-
--- what holds of each answer that is Ok
-pub IfOk-map : {T E : Type 0} (r : Result T E) (P Q : T → Type 0) → ((x : T) → P x → Q x) → IfOk r P → IfOk r Q
-IfOk-map (Ok x) P Q f h = f x h
-IfOk-map (Err e) P Q f h = h

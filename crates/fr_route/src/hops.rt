@@ -58,7 +58,7 @@ fn hop_of(net: &Net, dest: u32, counts: &[u64], x: u32) -> Hop
     }
     match least_out(net, x) {
         Some(next) => Hop::To(next),
-        // No link stands at all: one would have turned.
+        // The node is alone: with a link it would have turned until one points away.
         None => Hop::CutOff,
     }
 }

@@ -150,12 +150,31 @@ const RISING: Requests = &[
     (r#"["walk",4]"#, "walk 4 3 0"),
 ];
 
+/// Sessions in which networks and changes are taken.
+const ANSWERED: &[Requests] = &[
+    CHAIN,
+    CHANGES,
+    ALONE,
+    CAPPED,
+    CAPPED_CHAIN,
+    NO_LINK,
+    TWO_WAYS,
+    AROUND,
+    RISING,
+];
+
+/// Sessions in which most requests are refused.
+const REFUSED: &[Requests] = &[REFUSED_CHANGES, REFUSED_NETWORKS, REFUSED_LINES];
+
+/// Sessions that are tried with many plans.
+const REPEATED: &[Requests] = &[RISING, CHANGES];
+
 /// A new session answers the requests as they want it, whatever the plan.
 fn check_answers<R: Threads + Wait + Abort + Sync>(
     rt: &R,
     alloc: Global,
     plan: &Plan,
-    requests: Requests,
+    requests: &[(&str, &str)],
 ) -> Result<(), AnswerFault> {
     let mut session = Session::new();
     for (line, answer) in requests {
@@ -170,17 +189,7 @@ fn check_answers<R: Threads + Wait + Abort + Sync>(
 #[test]
 fn answers_requests(rt: HostRuntime) -> Result<(), Fail> {
     let plan = Plan::new(4, 0, 1_000_000).ok_or("no plan")?;
-    for requests in [
-        CHAIN,
-        CHANGES,
-        ALONE,
-        CAPPED,
-        CAPPED_CHAIN,
-        NO_LINK,
-        TWO_WAYS,
-        AROUND,
-        RISING,
-    ] {
+    for requests in ANSWERED {
         check_answers(&rt, rt.alloc(), &plan, requests)?;
     }
     Ok(())
@@ -189,7 +198,7 @@ fn answers_requests(rt: HostRuntime) -> Result<(), Fail> {
 #[test]
 fn refuses_requests(rt: HostRuntime) -> Result<(), Fail> {
     let plan = Plan::new(2, 0, 1_000).ok_or("no plan")?;
-    for requests in [REFUSED_CHANGES, REFUSED_NETWORKS, REFUSED_LINES] {
+    for requests in REFUSED {
         check_answers(&rt, rt.alloc(), &plan, requests)?;
     }
     Ok(())
@@ -200,8 +209,9 @@ fn no_answer_depends_on_the_plan(rt: HostRuntime) -> Result<(), Fail> {
     for workers in [1, 3, 16] {
         for budget in [0, 2, 1_000] {
             let plan = Plan::new(workers, 0, budget).ok_or("no plan")?;
-            check_answers(&rt, rt.alloc(), &plan, RISING)?;
-            check_answers(&rt, rt.alloc(), &plan, CHANGES)?;
+            for requests in REPEATED {
+                check_answers(&rt, rt.alloc(), &plan, requests)?;
+            }
         }
     }
     Ok(())
@@ -235,38 +245,70 @@ fn answers_requests_that_are_read_already(rt: HostRuntime) -> Result<(), Fail> {
     Ok(())
 }
 
+/// A router on a network with destination 0.
+fn open<R: Threads + Wait + Sync>(
+    rt: &R,
+    alloc: Global,
+    nodes: u32,
+    links: &[(u32, u32)],
+) -> Result<Router, Fail> {
+    let plan = Plan::new(2, 0, 1_000).ok_or("no plan")?;
+    let net = Net::new(alloc, nodes, links)?;
+    Ok(Router::open(rt, alloc, net, 0, &plan, &OpenGate)?)
+}
+
+/// Changes the network of a router.
+fn change<R: Threads + Wait + Sync>(
+    rt: &R,
+    alloc: Global,
+    router: &mut Router,
+    change: Change,
+) -> Result<Report, RouteFault> {
+    let Some(plan) = Plan::new(2, 0, 1_000) else {
+        return Err(RouteFault::Range);
+    };
+    router.change(rt, alloc, change, &plan, &OpenGate)
+}
+
 #[test]
 fn a_router_tells_its_state(rt: HostRuntime) -> Result<(), Fail> {
-    let alloc = rt.alloc();
-    let plan = Plan::new(2, 0, 1_000).ok_or("no plan")?;
-    let net = Net::new(alloc, 5, &[(0, 1), (1, 2), (2, 3)])?;
-    let router = Router::open(&rt, alloc, net, 0, &plan, &OpenGate)?;
+    let router = open(&rt, rt.alloc(), 5, &[(0, 1), (1, 2), (2, 3)])?;
     assert_eq!(rt; router.report(), Report { turned: 6, cut: 1 });
     assert_eq!(rt; router.net().links(), [(1, 0), (2, 1), (3, 2)].as_slice());
     assert_eq!(rt; router.dest(), 0);
     assert_eq!(rt; router.counts(), [0, 1, 2, 3, 0].as_slice());
+    Ok(())
+}
+
+#[test]
+fn a_router_tells_next_hops(rt: HostRuntime) -> Result<(), Fail> {
+    let router = open(&rt, rt.alloc(), 5, &[(0, 1), (1, 2), (2, 3)])?;
     assert_eq!(rt; router.net().nodes(), 5);
     assert_eq!(rt; router.next_hop(0), Hop::Here);
     assert_eq!(rt; router.next_hop(3), Hop::To(2));
     assert_eq!(rt; router.next_hop(4), Hop::CutOff);
-    let route = [3, 2, 1, 0].to_vec(alloc)?;
-    assert_eq!(rt; router.walk(alloc, 3)?, Walked::Route(route));
-    assert_eq!(rt; router.walk(alloc, 4)?, Walked::CutOff);
+    Ok(())
+}
+
+#[test]
+fn a_router_walks(rt: HostRuntime) -> Result<(), Fail> {
+    let router = open(&rt, rt.alloc(), 5, &[(0, 1), (1, 2), (2, 3)])?;
+    assert_eq!(rt; router.net().nodes(), 5);
+    let Walked::Route(route) = router.walk(rt.alloc(), 3)? else {
+        return Err(Fail::from("no route"));
+    };
+    assert_eq!(rt; route.as_slice(), [3, 2, 1, 0].as_slice());
+    assert!(rt; matches!(router.walk(rt.alloc(), 4)?, Walked::CutOff));
     Ok(())
 }
 
 #[test]
 fn a_router_changes(rt: HostRuntime) -> Result<(), Fail> {
     let alloc = rt.alloc();
-    let plan = Plan::new(2, 0, 1_000).ok_or("no plan")?;
-    let net = Net::new(alloc, 4, &[(1, 0), (2, 1), (3, 2)])?;
-    let mut router = Router::open(&rt, alloc, net, 0, &plan, &OpenGate)?;
-    let cut = Change::Cut { u: 0, v: 1 };
-    let report = router.change(&rt, alloc, cut, &plan, &OpenGate)?;
+    let mut router = open(&rt, alloc, 4, &[(1, 0), (2, 1), (3, 2)])?;
+    let report = change(&rt, alloc, &mut router, Change::Cut { u: 0, v: 1 })?;
     assert_eq!(rt; report, Report { turned: 12, cut: 3 });
-    let again = router.change(&rt, alloc, cut, &plan, &OpenGate);
-    assert_eq!(rt; again, Err(RouteFault::Net(NetFault::NoLink)));
-    let report = router.change(&rt, alloc, Change::Add { u: 3, v: 0 }, &plan, &OpenGate)?;
+    let report = change(&rt, alloc, &mut router, Change::Add { u: 3, v: 0 })?;
     assert_eq!(rt; report, Report { turned: 3, cut: 0 });
     assert_eq!(rt; router.report(), report);
     assert_eq!(rt; router.net().links(), [(1, 2), (2, 3), (3, 0)].as_slice());
@@ -274,12 +316,23 @@ fn a_router_changes(rt: HostRuntime) -> Result<(), Fail> {
 }
 
 #[test]
-fn a_destination_has_to_be_a_node(rt: HostRuntime) -> Result<(), Fail> {
+fn a_router_stays_where_a_change_is_refused(rt: HostRuntime) -> Result<(), Fail> {
     let alloc = rt.alloc();
+    let mut router = open(&rt, alloc, 3, &[(1, 0), (2, 1)])?;
+    let cut = change(&rt, alloc, &mut router, Change::Cut { u: 0, v: 2 });
+    assert!(rt; matches!(cut, Err(RouteFault::Net(NetFault::NoLink))));
+    let added = change(&rt, alloc, &mut router, Change::Add { u: 0, v: 2 });
+    assert!(rt; matches!(added, Err(RouteFault::Net(NetFault::Cycle(_)))));
+    assert_eq!(rt; router.net().links(), [(1, 0), (2, 1)].as_slice());
+    Ok(())
+}
+
+#[test]
+fn a_destination_has_to_be_a_node(rt: HostRuntime) -> Result<(), Fail> {
     let plan = Plan::new(1, 0, 1_000).ok_or("no plan")?;
-    let net = Net::new(alloc, 2, &[(1, 0)])?;
-    let opened = Router::open(&rt, alloc, net, 2, &plan, &OpenGate);
-    assert_eq!(rt; opened.err(), Some(RouteFault::Range));
+    let net = Net::new(rt.alloc(), 2, &[(1, 0)])?;
+    let opened = Router::open(&rt, rt.alloc(), net, 2, &plan, &OpenGate);
+    assert!(rt; matches!(opened, Err(RouteFault::Range)));
     Ok(())
 }
 

@@ -3,7 +3,8 @@ use Rattle.fr_route.specs.Changes.{IsChanged}
 use Rattle.fr_route.specs.RouterInside.{state_of}
 use Rattle.fr_route.specs.States.{State}
 use Rattle.fr_route.specs.declared.change.Change.{Change}
-use Rattle.fr_route.proofs.Changing.{IfOk-map, add_round, cut_round}
+use Rattle.std.proofs.lemmas.Result.{IfOk-weaker}
+use Rattle.fr_route.proofs.Changing.{add_round, cut_round}
 use Rattle.fr_route.proofs.router.Router.changed.Goals as goal
 use Rattle.fr_route.proofs.router.Router.changed.Goals.{in-Cut+in_ok-net-in-Cut, in-Add+in_ok-net-in-Add}
 
@@ -14,9 +15,9 @@ returns-clause-changed g c =
       | in-Cut+in_ok-net-in-Cut w ↦
           let opened = rw w.net-is at c.open.ensures.opened in
           subst (λ (change : Change). IfOk c.open.result (IsChanged (state_of c.self.inside) change)) (sym w.in-Cut.is)
-          (IfOk-map c.open.result _ _ (λ router o. cut_round (state_of c.self.inside) w.in-Cut.u w.in-Cut.v w.in_ok-net-in-Cut.net router w.in_ok-net-in-Cut.ensures.joined w.in_ok-net-in-Cut.ensures.ok o.1) opened)
+          (IfOk-weaker c.open.result _ _ (λ router o. cut_round (state_of c.self.inside) w.in-Cut.u w.in-Cut.v w.in_ok-net-in-Cut.net router w.in_ok-net-in-Cut.ensures.joined w.in_ok-net-in-Cut.ensures.ok o.1) opened)
       | in-Add+in_ok-net-in-Add w ↦
           let opened = rw w.net-is at c.open.ensures.opened in
           subst (λ (change : Change). IfOk c.open.result (IsChanged (state_of c.self.inside) change)) (sym w.in-Add.is)
-          (IfOk-map c.open.result _ _ (λ router o. add_round (state_of c.self.inside) w.in-Add.u w.in-Add.v w.in_ok-net-in-Add.net router w.in_ok-net-in-Add.ensures.ok o.1) opened)
+          (IfOk-weaker c.open.result _ _ (λ router o. add_round (state_of c.self.inside) w.in-Add.u w.in-Add.v w.in_ok-net-in-Add.net router w.in_ok-net-in-Add.ensures.ok o.1) opened)
     ])
