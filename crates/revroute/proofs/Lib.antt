@@ -5,3 +5,5 @@ pub mod CutOff
 pub mod RoundEnds
 pub mod Determined
 pub mod Progress
+pub mod DrawnSteps
+pub mod OptionNumbers

@@ -5,3 +5,7 @@ pub mod Answers
 pub mod Outputs
 pub mod Rounds
 pub mod Sessions
+pub mod Commands
+pub mod Tasks
+pub mod Draws
+pub mod Plays

@@ -2,12 +2,17 @@
 #![tactic(auto)]
 
 mod answers;
+mod command;
+mod draws;
+mod entries;
 mod input;
 mod lines;
 mod output;
+mod play;
 mod round;
 mod run;
 mod session;
+mod task;
 mod texts;
 
 use run::{RunFault, run, run_end};
