@@ -7,3 +7,5 @@ pub mod Determined
 pub mod Progress
 pub mod DrawnSteps
 pub mod OptionNumbers
+pub mod PlayTargets
+pub mod OnePlay

@@ -74,10 +74,15 @@ pub record IsPlayText (draw : Draw) (n d : ℕ) (first : List (ℕ × ℕ)) (out
 abbrev pub IsRefusal : ℕ → List ℕ → ℕ → Type 0
 IsRefusal number out count = (out ≡ line_of (refusal_text number)) × (count ≡ 0)
 
--- the play of a network that is accepted
-abbrev pub IsAcceptedPlay : Draw → PlainRequest → List ℕ → ℕ → Type 0
-IsAcceptedPlay draw (new_network n d links) out count = IsFaultless n links × (d < n) × IsPlayText draw n d (in_order links) out count
-IsAcceptedPlay draw request out count = ⊥
+-- the request is a network, which is accepted and played
+pub record IsAcceptedPlay (draw : Draw) (request : PlainRequest) (out : List ℕ) (count : ℕ) : Type 0 where
+  pub nodes : ℕ
+  pub dest : ℕ
+  pub links : List (ℕ × ℕ)
+  pub network : request ≡ new_network nodes dest links
+  pub faultless : IsFaultless nodes links
+  pub destination : dest < nodes
+  pub play : IsPlayText draw nodes dest (in_order links) out count
 
 -- the play of a request: what is refused where there is no network yet is refused here, by the same number
 abbrev pub IsPlayOf : Draw → PlainRequest → List ℕ → ℕ → Type 0
