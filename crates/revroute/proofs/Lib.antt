@@ -9,3 +9,4 @@ pub mod DrawnSteps
 pub mod OptionNumbers
 pub mod PlayTargets
 pub mod OnePlay
+pub mod PlayEnds

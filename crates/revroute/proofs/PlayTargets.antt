@@ -1,10 +1,10 @@
 -- Which nodes a play turns, again and again.
-use Rattle.std.proofs.Common.{◌≡◌, ◌∙◌, ℕ, zero, suc, ◌+◌, ◌*◌, ◌-◌, ◌%◌, ◌<◌, ◌≤◌, ◌==◌, ◌&&◌, ◌||◌, ◌⊎◌, ◌↔◌, Bool, true, false, cond, not, List, [], ◌∷◌, ◌++◌, length, get_or, take, map, refl, sym, ap, subst, inl, inr, arith, ⊎_elim, length-append, append-nil, eq-eqb, eqb-true, IsTrue}
+use Rattle.std.proofs.Common.{◌≡◌, ◌∙◌, ℕ, zero, suc, ◌+◌, ◌*◌, ◌-◌, ◌%◌, ◌<◌, ◌==◌, ◌&&◌, ◌||◌, ◌⊎◌, Bool, true, false, cond, not, List, [], ◌∷◌, ◌++◌, length, get_or, take, map, refl, sym, ap, subst, inl, inr, arith, ⊎_elim, length-append, append-nil, eq-eqb, ne_eqb, eqb-true}
 use Rattle.std.specs.List.{repeat, list_any, filter, range_with_len, Contains}
-use Rattle.std.proofs.Math.Nat.{suc-mul, mod-eq_of_lt, mod-eq-sub-mod, le-mul_of_pos_right}
+use Rattle.std.proofs.Math.Nat.{zero-mul, suc-mul, mod-eq_of_lt, mod-eq-sub-mod, le-mul_of_pos_right}
 use Rattle.std.proofs.Math.ListN.{get_or-append}
-use Rattle.std.proofs.lemmas.Bool.{cases_lt, cases_eq}
-use Rattle.std.proofs.lemmas.List.{get_or-append_right, get_or_default, take_more, map-append, get_or_past}
+use Rattle.std.proofs.lemmas.Bool.{cases_lt}
+use Rattle.std.proofs.lemmas.List.{get_or-append_right, take_more, map-append}
 use Rattle.std.proofs.lemmas.List.Elements.{filter-append}
 use Rattle.fr_net.specs.Links.{IsNet, Points, Joins}
 use Rattle.fr_net.specs.Rows.{row}
@@ -14,12 +14,12 @@ use Rattle.fr_core.specs.declared.targets.Target.TheVariants.{Turn}
 use Rattle.revroute.specs.Plays.{is_linked, turnable_nodes}
 
 length-repeat : (m : ℕ) (xs : List ℕ) → length (repeat m xs) ≡ m * length xs
-length-repeat zero xs = refl
+length-repeat zero xs = sym (zero-mul (length xs))
 length-repeat (suc m) xs = length-append xs (repeat m xs) ∙ (ap (λ (k : ℕ). length xs + k) (length-repeat m xs) ∙ omega (arith, suc-mul m (length xs)))
 
 -- the element at a place, however often the list is repeated
 repeat_at : (m : ℕ) (xs : List ℕ) (i d : ℕ) → i < m * length xs → get_or (repeat m xs) i d ≡ get_or xs (i % length xs) d
-repeat_at zero xs i d low = absurd (omega arith)
+repeat_at zero xs i d low = absurd (omega (arith, zero-mul (length xs)))
 repeat_at (suc m) xs i d low =
     ⊎_elim {C = get_or (repeat (suc m) xs) i d ≡ get_or xs (i % length xs) d}
     (λ below. get_or-append xs (repeat m xs) d i below ∙ ap (λ (k : ℕ). get_or xs k d) (sym (mod-eq_of_lt below)))
@@ -30,25 +30,31 @@ repeat_at (suc m) xs i d low =
     (cases_lt i (length xs))
 
 -- one target more
-pub one_more_turn : (m : ℕ) (nodes : List ℕ) (i x : ℕ) (turns : List Target) → i < m → 0 < length nodes → x ≡ get_or nodes (i % length nodes) x → turns ≡ map Turn (take i (repeat m nodes))
-    → turns ++ Turn x ∷ [] ≡ map Turn (take (i + 1) (repeat m nodes))
-one_more_turn m nodes i x turns low some is so_far =
-    let inside : i < m * length nodes = omega (arith, le-mul_of_pos_right {length nodes} m some) in
-    let here : get_or (repeat m nodes) i x ≡ x = repeat_at m nodes i x inside ∙ sym is in
+pub one_more_turn : (m : ℕ) (nodes : List ℕ) (i : ℕ) (turns : List Target) → i < m → 0 < length nodes → turns ≡ map Turn (take i (repeat m nodes))
+    → turns ++ Turn (get_or nodes (i % length nodes) 0) ∷ [] ≡ map Turn (take (i + 1) (repeat m nodes))
+one_more_turn m nodes i turns low some so_far =
+    let x = get_or nodes (i % length nodes) 0 in
+    let inside : i < m * length nodes = omega (arith, le-mul_of_pos_right {m = length nodes} m some) in
     let more : take (i + 1) (repeat m nodes) ≡ take i (repeat m nodes) ++ x ∷ [] =
-    take_more (repeat m nodes) i x (omega (arith, length-repeat m nodes)) ∙ ap (λ (y : ℕ). take i (repeat m nodes) ++ y ∷ []) here in
+    take_more (repeat m nodes) i 0 (omega (arith, length-repeat m nodes)) ∙ ap (λ (y : ℕ). take i (repeat m nodes) ++ y ∷ []) (repeat_at m nodes i 0 inside) in
     ap (λ (ts : List Target). ts ++ Turn x ∷ []) so_far ∙ (sym (map-append Turn (take i (repeat m nodes)) (x ∷ [])) ∙ ap (map Turn) (sym more))
 
--- nothing is repeated
-pub no_turns : (m : ℕ) → map Turn (take m (repeat m [])) ≡ []
-no_turns m = ap (λ (xs : List ℕ). map Turn (take m xs)) (repeat_none m) ∙ take_none m
-  where
-    repeat_none : (k : ℕ) → repeat k [] ≡ []
-    repeat_none zero = refl
-    repeat_none (suc k) = repeat_none k
-    take_none : (k : ℕ) → map Turn (take k []) ≡ []
-    take_none zero = refl
-    take_none (suc k) = refl
+repeat_none : (m : ℕ) → repeat {A = ℕ} m [] ≡ []
+repeat_none zero = refl
+repeat_none (suc m) = repeat_none m
+
+turns_none : (m : ℕ) → map Turn (take m []) ≡ []
+turns_none zero = refl
+turns_none (suc m) = refl
+
+-- where there is no node, there is no target
+pub no_turns : (m : ℕ) (nodes : List ℕ) → true ≡ (length nodes == 0) → map Turn (take m (repeat m nodes)) ≡ []
+no_turns m [] none = ap (λ (xs : List ℕ). map Turn (take m xs)) (repeat_none m) ∙ turns_none m
+no_turns m (x ∷ xs) none = let long = eqb-true (length (x ∷ xs)) 0 (sym none) in absurd (omega arith)
+
+pub some_nodes : (nodes : List ℕ) → false ≡ (length nodes == 0) → 0 < length nodes
+some_nodes [] some = let none = eq-eqb (length {A = ℕ} []) 0 refl in cc
+some_nodes (x ∷ xs) some = omega arith
 
 or_left : (a b : Bool) → a ≡ true → (a || b) ≡ true
 or_left a b e = rw e refl
@@ -105,8 +111,31 @@ range_more a (suc n) j e =
     let longer : suc n + 1 ≡ suc (n + 1) = omega arith in
     ap (λ (m : ℕ). range_with_len a m) longer ∙ ap (λ (xs : List ℕ). a ∷ xs) (range_more (a + 1) n j (omega (arith, e)))
 
--- one node more, which a play turns or not
-pub one_node_seen : (d : ℕ) (links : List (ℕ × ℕ)) (x : ℕ) → turnable_nodes (x + 1) d links ≡ turnable_nodes x d links ++ cond (not (x == d) && is_linked links x) (x ∷ []) []
-one_node_seen d links x =
+-- one node more
+one_node_seen : (d : ℕ) (links : List (ℕ × ℕ)) (x : ℕ) (b : Bool) → (not (x == d) && is_linked links x) ≡ b → turnable_nodes (x + 1) d links ≡ turnable_nodes x d links ++ cond b (x ∷ []) []
+one_node_seen d links x b is =
     let wanted : ℕ → Bool = λ y. not (y == d) && is_linked links y in
-    ap (filter wanted) (range_more 0 x x (omega arith)) ∙ filter-append wanted (range_with_len 0 x) (x ∷ [])
+    ap (filter wanted) (range_more 0 x x (omega arith))
+    ∙ (filter-append wanted (range_with_len 0 x) (x ∷ []) ∙ ap (λ (t : Bool). turnable_nodes x d links ++ cond t (x ∷ []) []) is)
+
+-- which has links and is not the destination,
+pub wanted_node : (d : ℕ) (links : List (ℕ × ℕ)) (x : ℕ) → ¬ (x ≡ d) → is_linked links x ≡ true → turnable_nodes (x + 1) d links ≡ turnable_nodes x d links ++ x ∷ []
+wanted_node d links x other linked = one_node_seen d links x true (both (x == d) (is_linked links x) (ne_eqb x d other) linked)
+  where
+    both : (a b : Bool) → a ≡ false → b ≡ true → (not a && b) ≡ true
+    both a b e f = rw (e, f) refl
+
+-- has no link,
+pub alone_node : (d : ℕ) (links : List (ℕ × ℕ)) (x : ℕ) → is_linked links x ≡ false → turnable_nodes (x + 1) d links ≡ turnable_nodes x d links
+alone_node d links x alone = one_node_seen d links x false (second (not (x == d)) (is_linked links x) alone) ∙ append-nil (turnable_nodes x d links)
+  where
+    second : (a b : Bool) → b ≡ false → (a && b) ≡ false
+    second true b e = e
+    second false b e = refl
+
+-- or is the destination
+pub destination_node : (d : ℕ) (links : List (ℕ × ℕ)) (x : ℕ) → x ≡ d → turnable_nodes (x + 1) d links ≡ turnable_nodes x d links
+destination_node d links x here = one_node_seen d links x false (first (x == d) (is_linked links x) (eq-eqb x d here)) ∙ append-nil (turnable_nodes x d links)
+  where
+    first : (a b : Bool) → a ≡ true → (not a && b) ≡ false
+    first a b e = rw e refl

@@ -10,17 +10,22 @@ use clap::builder::ValueParser;
 use clap::{Arg, ArgMatches, Command, Error, value_parser};
 use std::alloc::{AllocError, Global};
 
-const ABOUT: &str = "Keeps a network of directed links free of loops, and turns its links by full reversal until they lead to one destination";
+const ABOUT: &str =
+    "Keeps a network of directed links free of loops, and turns its links by full reversal until they lead to one destination";
 
 const EXAMPLE: &str = "Example:\n  revroute run < requests > answers";
 
-const RUN_ABOUT: &str = "Answers requests: a line of JSON each on standard input, a line of text each on standard output";
+const RUN_ABOUT: &str =
+    "Answers requests: a line of JSON each on standard input, a line of text each on standard output";
 
-const RUN_EXAMPLE: &str = "Example:\n  echo '[\"net\",3,0,[[0,1],[1,2]]]' | revroute run --workers 2";
+const RUN_EXAMPLE: &str =
+    "Example:\n  echo '[\"net\",3,0,[[0,1],[1,2]]]' | revroute run --workers 2";
 
-const PLAY_ABOUT: &str = "Plays a drawn schedule: a line with a network on standard input, what each call came to on standard output, and then the links and the counts";
+const PLAY_ABOUT: &str =
+    "Plays a drawn schedule: a line with a network on standard input, what each call came to on standard output, and then the links and the counts";
 
-const PLAY_EXAMPLE: &str = "Example:\n  echo '[\"net\",2,0,[[0,1]]]' | revroute play --workers 1 --seed 7 --steps 6";
+const PLAY_EXAMPLE: &str =
+    "Example:\n  echo '[\"net\",2,0,[[0,1]]]' | revroute play --workers 1 --seed 7 --steps 6";
 
 const RUN_WORKERS: &str = "How many workers turn the network, 1 to 16";
 
@@ -33,10 +38,7 @@ const BUDGET: &str = "How many calls each worker makes at most in a round, 0 to 
 const STEPS: &str = "How many steps are made, 0 to 10000";
 
 /// What the words of a command line say, the program's name first.
-pub(crate) fn matches_of<'a>(
-    alloc: Global,
-    words: &'a [&'a str],
-) -> Result<ArgMatches<'a>, Error>
+pub(crate) fn matches_of<'a>(alloc: Global, words: &'a [&'a str]) -> Result<ArgMatches<'a>, Error>
     ensures { IfOk result (λ m. subcommand_rows_of m ≡ subcommand_of command (map (λ s. s.now) words.entry.now)) }
 {
     let run = run_command(alloc)?;

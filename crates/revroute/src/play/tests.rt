@@ -62,7 +62,10 @@ fn plays_small_networks(rt: HostRuntime) -> Result<(), Fail> {
         match Draw::new(numbers.0, numbers.1, numbers.2) {
             Some(draw) => {
                 let (out, count) = printed(rt.alloc(), input.as_bytes(), draw)?;
-                assert!(rt; out.as_slice() == output.as_bytes() && count == *entries, "{input}");
+                assert!(rt;
+                    out.as_slice() == output.as_bytes() && count == *entries,
+                    "{input}"
+                );
             }
             None => assert!(rt; false, "{input}"),
         }

@@ -94,7 +94,10 @@ fn helps_where_asked(rt: HostRuntime) -> Result<(), Fail> {
     for (words, example) in [
         (HELP.as_slice(), "revroute run < requests > answers"),
         (HELP_OF_RUN.as_slice(), "| revroute run --workers 2"),
-        (HELP_OF_PLAY.as_slice(), "| revroute play --workers 1 --seed 7 --steps 6"),
+        (
+            HELP_OF_PLAY.as_slice(),
+            "| revroute play --workers 1 --seed 7 --steps 6",
+        ),
     ] {
         match asked_task(rt.alloc(), words) {
             Ok(_) => assert!(rt; false, "{words:?}"),
