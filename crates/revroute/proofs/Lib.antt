@@ -10,3 +10,4 @@ pub mod OptionNumbers
 pub mod PlayTargets
 pub mod OnePlay
 pub mod PlayEnds
+pub mod Faulting

@@ -1,8 +1,8 @@
 //! The command line, as `clap` is to read it.
 
-ghost use Rattle.std.specs.Prelude.{◌≡◌, IfOk, map, codes, pos, false};
+ghost use Rattle.std.specs.Prelude.{◌≡◌, IfOk, IfErr, map, codes, pos, false};
 ghost use Rattle.clap.specs.Simple.{on_top};
-ghost use Rattle.clap.specs.Words.{app_of, new_app, rule_of, subcommand_of, subcommand_rows_of};
+ghost use Rattle.clap.specs.Words.{HasKind, app_of, fault_of, new_app, rule_of, subcommand_of, subcommand_rows_of};
 ghost use Rattle.clap.specs.declared.builder.command.Command.TheViews.{out-Command};
 ghost use Rattle.revroute.specs.Commands.{command, needs_subcommand, run_command as run_command_of, play_command as play_command_of, option as option_of};
 
@@ -39,7 +39,8 @@ const STEPS: &str = "How many steps are made, 0 to 10000";
 
 /// What the words of a command line say, the program's name first.
 pub(crate) fn matches_of<'a>(alloc: Global, words: &'a [&'a str]) -> Result<ArgMatches<'a>, Error>
-    ensures { IfOk result (λ m. subcommand_rows_of m ≡ subcommand_of command (map (λ s. s.now) words.entry.now)) }
+    ensures ok { IfOk result (λ m. subcommand_rows_of m ≡ subcommand_of command (map (λ s. s.now) words.entry.now)) }
+    ensures err { IfErr result (HasKind (fault_of command (map (λ s. s.now) words.entry.now))) }
 {
     let run = run_command(alloc)?;
     let play = play_command(alloc)?;

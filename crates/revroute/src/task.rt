@@ -1,9 +1,10 @@
 //! What the words of a command line ask for.
 
-ghost use Rattle.std.specs.Prelude.{◌≡◌, ◌≤◌, Some, IfOk, IfSome, map, codes};
+ghost use Rattle.std.specs.Prelude.{◌≡◌, ◌≤◌, Some, IfOk, IfErr, IfSome, map, codes};
+ghost use Rattle.clap.specs.Values.{kind_of};
 ghost use Rattle.clap.specs.Words.{found_of, rows_of};
 ghost use Rattle.revroute.specs.Commands.{number_of};
-ghost use Rattle.revroute.specs.Tasks.{IsTaskIn, IsTaskOf};
+ghost use Rattle.revroute.specs.Tasks.{IsTaskIn, IsTaskOf, IsUsageOf, IsFaultOf};
 
 use crate::command::matches_of;
 use crate::draws::Draw;
@@ -37,18 +38,17 @@ pub enum TaskFault {
 /// is given, any seed, or 0, and a budget of at most 1,000,000,000 calls, or 1,000,000; or `play`, with 1 to 16 workers, or
 /// 2, any seed, or 0, and at most 10,000 steps, or 100. `specs/Commands.antt` has the command line as `clap` reads it.
 pub fn task_of<'a>(alloc: Global, words: &'a [&'a str]) -> Result<Task, TaskFault>
-    ensures { IfOk result (IsTaskIn (map (λ s. s.now) words.entry.now)) }
+    ensures ok { IfOk result (IsTaskIn (map (λ s. s.now) words.entry.now)) }
+    ensures fault { IfErr result (IsFaultOf (map (λ s. s.now) words.entry.now)) }
 {
     let matches = match matches_of(alloc, words) {
         Ok(matches) => matches,
         Err(error) => return Err(usage_of(alloc, &error)),
     };
+    // `clap` takes no words without a task. Its contract does not say so, and so there is an answer for them.
     match matches.subcommand() {
-        Some((name, options)) => match task_in(name, options) {
-            Some(task) => Ok(task),
-            None => Err(no_task(alloc)),
-        },
-        None => Err(no_task(alloc)),
+        Some((name, options)) => task_in(name, options).ok_or(TaskFault::Memory),
+        None => Err(TaskFault::Memory),
     }
 }
 
@@ -88,25 +88,17 @@ fn seed_in(options: &ArgMatches) -> Option<u64>
     options.get_one::<u64>("seed")
 }
 
-/// What `clap` says of the words that it did not take.
-fn usage_of(alloc: Global, error: &Error) -> TaskFault {
-    let kind = error.kind();
-    if kind == ErrorKind::OutOfMemory {
-        return TaskFault::Memory;
-    }
+/// What `clap` says of the words that it does not take.
+fn usage_of(alloc: Global, error: &Error) -> TaskFault
+    ensures { IsUsageOf (kind_of error.now) result }
+{
+    let asked = match error.kind() {
+        ErrorKind::OutOfMemory => return TaskFault::Memory,
+        ErrorKind::DisplayHelp => true,
+        _ => false,
+    };
     match error.to_string(alloc) {
-        Ok(text) => TaskFault::Usage {
-            text,
-            asked: kind == ErrorKind::DisplayHelp,
-        },
-        Err(AllocError) => TaskFault::Memory,
-    }
-}
-
-/// What is said of words that `clap` took, though they ask for no task. It takes none such, but its contract does not say so.
-fn no_task(alloc: Global) -> TaskFault {
-    match String::from_str(alloc, "error: no task\n") {
-        Ok(text) => TaskFault::Usage { text, asked: false },
+        Ok(text) => TaskFault::Usage { text, asked },
         Err(AllocError) => TaskFault::Memory,
     }
 }
