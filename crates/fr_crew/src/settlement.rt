@@ -68,7 +68,7 @@ pub fn settle<R: Threads + Wait + Sync, G: Gate + Sync>(
         });
     }
     if plan.budget() == 0 {
-        return finished(alloc, net, dest, counts, 0);
+        return Ok(finished(net, dest, counts, 0));
     }
     settle_by_crew(rt, alloc, net, dest, plan, gate)
 }
@@ -103,7 +103,7 @@ fn settle_by_crew<R: Threads + Wait + Sync, G: Gate + Sync>(
         turned,
     } = round.close(workers);
     let by_workers = turns_of(&turned);
-    finished(alloc, net, dest, counts, by_workers)
+    Ok(finished(net, dest, counts, by_workers))
 }
 
 /// Whether some node can turn at the counts 0.
@@ -127,30 +127,20 @@ fn turns_of(turned: &[(u32, u64)]) -> u64
     turned.iter().map(|(_, turns)| turns).sum()
 }
 
-/// Finishes on one thread what the workers have left.
-fn finished(
-    alloc: Global,
-    net: Net,
-    dest: u32,
-    mut counts: Vec<u64>,
-    by_workers: u64,
-) -> Result<Settled, CrewFault>
+/// Finishes on one thread what the workers have left. It takes no memory.
+fn finished(net: Net, dest: u32, mut counts: Vec<u64>, by_workers: u64) -> Settled
     requires node { dest < net.nodes }
     requires lawful { AreLawful net.nodes dest net.links counts.items }
     requires turned { by_workers ≡ sum counts.items }
-    ensures settled { IfOk result (λ settled. IsSettlement net.nodes dest net.links settled) }
-    ensures memory { IfErr result (λ fault. fault ≡ Memory) }
+    ensures { IsSettlement net.nodes dest net.links result }
 {
     // For what `nodes` ensures: the links are those of a network.
     let _nodes = net.nodes();
     let by_finisher = finish(&net, dest, &mut counts);
-    let Ok(net) = net.turned_by(alloc, &counts) else {
-        return Err(CrewFault::Memory);
-    };
-    Ok(Settled {
-        net,
+    Settled {
+        net: net.into_turned(&counts),
         counts,
         by_workers,
         by_finisher,
-    })
+    }
 }

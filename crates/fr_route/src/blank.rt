@@ -4,7 +4,7 @@ ghost use Rattle.std.specs.Prelude.{◌≡◌};
 ghost use Rattle.fr_route.specs.Blank.{is_blank as is_blank_line};
 
 /// Whether a line has nothing but tabs, carriage returns and spaces.
-pub(crate) fn is_blank(line: &[u8]) -> bool
+pub fn is_blank(line: &[u8]) -> bool
     ensures { result ≡ is_blank_line line.now }
 {
     line.iter()

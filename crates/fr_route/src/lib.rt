@@ -4,6 +4,9 @@
 //! A [`Router`] keeps a settled network, and answers next hops and walks. [`Router::change`] cuts or adds a link, and
 //! settles what comes of it by a crew. A [`Session`] answers request after request by a router. The laws of routes and
 //! answers are in [`laws`].
+//!
+//! For those who answer lines in another way there are the parts of an answer: [`is_blank`], [`fault_number`],
+//! [`links_line`] and [`counts_line`].
 #![tactic(auto)]
 
 mod blank;
@@ -17,8 +20,10 @@ mod session;
 mod tests;
 mod texts;
 
+pub use blank::is_blank;
 pub use change::{Change, Report};
 pub use fault::{AnswerFault, RouteFault};
 pub use hops::{Hop, Walked};
 pub use router::Router;
-pub use session::Session;
+pub use session::{Session, fault_number};
+pub use texts::{counts_line, links_line};

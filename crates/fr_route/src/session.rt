@@ -199,8 +199,8 @@ fn refusal(alloc: Global, fault: &RouteFault) -> Result<String, AnswerFault>
     }
 }
 
-/// The number by which an answer names a fault of links or of an edit.
-fn fault_number(fault: &NetFault) -> u32
+/// The number by which an answer names a fault of links or of an edit, from 4 to 9. Want of memory has none, and is 0.
+pub fn fault_number(fault: &NetFault) -> u32
     ensures { result ≡ fault_number_of fault.now }
 {
     match fault {

@@ -9,7 +9,7 @@ use std::alloc::{AllocError, Global};
 use std::fmt::Write;
 
 /// `links`, and each link after a space, as `tail>head`.
-pub(crate) fn links_line(alloc: Global, links: &[(u32, u32)]) -> Result<String, AllocError>
+pub fn links_line(alloc: Global, links: &[(u32, u32)]) -> Result<String, AllocError>
     ensures { IfOk result (λ line. string_bytes line ≡ links_text links.now) }
 {
     let mut line = String::from_str(alloc, "links")?;
@@ -20,7 +20,7 @@ pub(crate) fn links_line(alloc: Global, links: &[(u32, u32)]) -> Result<String, 
 }
 
 /// `counts`, and each count after a space.
-pub(crate) fn counts_line(alloc: Global, counts: &[u64]) -> Result<String, AllocError>
+pub fn counts_line(alloc: Global, counts: &[u64]) -> Result<String, AllocError>
     ensures { IfOk result (λ line. string_bytes line ≡ counts_text counts.now) }
 {
     let mut line = String::from_str(alloc, "counts")?;

@@ -1,34 +1,47 @@
-//! The program `revroute`: reads lines of JSON from standard input, and writes an answer line for each to standard output.
+//! The program `revroute`: answers the lines of standard input on standard output, or plays full reversal step by step.
 #![tactic(auto)]
 
 mod answers;
+mod command;
+mod draws;
+mod entries;
 mod input;
 mod lines;
 mod output;
+mod play;
 mod run;
+mod task;
 
-use fr_crew::{OpenGate, Plan};
+use fr_crew::OpenGate;
+use play::play_drawn;
 use run::{RunFault, run, run_end};
+use std::alloc::Global;
 use std::io::{BufWriter, ErrorKind};
 use std::process::ExitCode;
-use std::alloc::Global;
 use std::rt::Env;
 use std::sync::Wait;
 use std::thread::Threads;
 use std::{env, io};
-
-const USAGE: &str = "usage: revroute run < requests > answers";
+use task::{Task, TaskFault, task_end, task_of};
 
 fn main(rt: HostRuntime) -> ExitCode {
-    let end = match asks_to_run(&rt) {
-        Ok(true) => answer(&rt),
-        Ok(false) => {
-            let _ = rt.eprintln(USAGE);
-            return ExitCode::from(2);
-        }
+    let task = match words_of(&rt) {
+        Ok(words) => task_in(rt.alloc(), &words),
         Err(fault) => Err(fault),
     };
-    match end {
+    let task = match task {
+        Ok(task) => task,
+        Err(fault) => {
+            let (status, text) = task_end(&fault);
+            let _ = if status == 0 {
+                rt.print(text)
+            } else {
+                rt.eprintln(text.trim_end())
+            };
+            return ExitCode::from(status);
+        }
+    };
+    match perform(&rt, task) {
         Ok(_) => ExitCode::SUCCESS,
         Err(fault) => {
             let (status, text) = run_end(&fault);
@@ -38,25 +51,42 @@ fn main(rt: HostRuntime) -> ExitCode {
     }
 }
 
-/// Whether the words of the command line are the one word `run`. A word that is no UTF-8 is another word.
-fn asks_to_run(rt: &HostRuntime) -> Result<bool, RunFault> {
-    let words = match env::args(rt) {
-        Ok(words) => words,
-        Err(error) if error.kind() == ErrorKind::InvalidData => return Ok(false),
-        Err(_) => return Err(RunFault::Memory),
-    };
-    let mut words = words.skip(1);
-    let first = words.next();
-    Ok(first.is_some_and(|word| word.as_str() == "run") && words.next().is_none())
+/// The words of the command line, the program's name first. One that is no UTF-8 is a wrong word.
+fn words_of<R: Env + Alloc<A = Global>>(rt: &R) -> Result<Vec<String>, TaskFault> {
+    match env::args(rt) {
+        Ok(words) => words.collect(rt.alloc()).map_err(|_| TaskFault::Memory),
+        Err(error) if error.kind() == ErrorKind::InvalidData => {
+            match String::from_str(rt.alloc(), "error: a word is no UTF-8") {
+                Ok(text) => Err(TaskFault::Usage { text, asked: false }),
+                Err(_) => Err(TaskFault::Memory),
+            }
+        }
+        Err(_) => Err(TaskFault::Memory),
+    }
 }
 
-/// Answers the lines of standard input on standard output.
-fn answer<R: Threads + Wait + Sync + Alloc<A = Global> + Input + Print>(rt: &R) -> Result<u64, RunFault> {
-    let Ok(mut out) = BufWriter::new(rt.alloc(), io::writer(rt)) else {
+/// The task that the words ask for.
+fn task_in(alloc: Global, words: &[String]) -> Result<Task, TaskFault> {
+    let mut texts = Vec::new(alloc);
+    for word in words {
+        if texts.push(word.as_str()).is_err() {
+            return Err(TaskFault::Memory);
+        }
+    }
+    task_of(alloc, &texts)
+}
+
+/// Does the task, from standard input to standard output.
+fn perform<R: Threads + Wait + Sync + Alloc<A = Global> + Input + Print>(
+    rt: &R,
+    task: Task,
+) -> Result<u64, RunFault> {
+    let alloc = rt.alloc();
+    let Ok(mut out) = BufWriter::new(alloc, io::writer(rt)) else {
         return Err(RunFault::Memory);
     };
-    let Some(plan) = Plan::new(4, 0, 1_000_000) else {
-        return Err(RunFault::Memory);
-    };
-    run(rt, rt.alloc(), &mut rt.reader(), &mut out, &plan, &OpenGate)
+    match task {
+        Task::Run(plan) => run(rt, alloc, &mut rt.reader(), &mut out, &plan, &OpenGate),
+        Task::Play(draw) => play_drawn(alloc, &mut rt.reader(), &mut out, draw),
+    }
 }

@@ -1,0 +1,40 @@
+-- What a command line asks for.
+use Rattle.std.specs.Prelude.{◌≡◌, ◌≢◌, ◌≤◌, ◌↔◌, ⊤, IsTrue, List, Some, codes}
+use Rattle.clap.specs.Walk.{Row, Text}
+use Rattle.clap.specs.Simple.{subcommand_of}
+use Rattle.clap.specs.Faults.{fault_of}
+use Rattle.clap.specs.Kinds.{IsAmong}
+use Rattle.clap.specs.declared.error.kind.ErrorKind.{ErrorKind}
+use Rattle.clap.specs.declared.error.kind.ErrorKind.TheVariants.{DisplayHelp, OutOfMemory}
+use Rattle.revroute.specs.Commands.{command, number_of}
+use Rattle.revroute.specs.declared.task.Task.{Task}
+use Rattle.revroute.specs.declared.task.Task.TheVariants.{Run, Play}
+use Rattle.revroute.specs.declared.task.TaskFault.{TaskFault}
+use Rattle.revroute.specs.declared.task.TaskFault.TheVariants.{Usage, Memory}
+
+-- the task is that of the subcommand of this name, with the numbers of its options, each in its range
+abbrev pub IsTaskOf : Text → List Row → Task → Type 0
+IsTaskOf name rows (Run plan) =
+    (name ≡ codes "run")
+    × (number_of (codes "workers") rows ≡ Some plan.workers) × (1 ≤ plan.workers) × (plan.workers ≤ 16)
+    × (number_of (codes "seed") rows ≡ Some plan.seed)
+    × (number_of (codes "budget") rows ≡ Some plan.budget) × (plan.budget ≤ 1000000000)
+IsTaskOf name rows (Play draw) =
+    (name ≡ codes "play")
+    × (number_of (codes "workers") rows ≡ Some draw.workers) × (1 ≤ draw.workers) × (draw.workers ≤ 16)
+    × (number_of (codes "seed") rows ≡ Some draw.seed)
+    × (number_of (codes "steps") rows ≡ Some draw.steps) × (draw.steps ≤ 10000)
+
+-- the task is that of the words, as `clap` reads them: where an option is not given, its number is the default
+abbrev pub IsTaskIn : List Text → Task → Type 0
+IsTaskIn words task = (name : Text) × (rows : List Row) × (subcommand_of command words ≡ Some (name, rows)) × IsTaskOf name rows task
+
+-- what is said of an error of this kind: that help was asked for, where it was
+abbrev pub IsUsageOf : ErrorKind → TaskFault → Type 0
+IsUsageOf kind (Usage text asked) = (kind ≢ OutOfMemory) × (IsTrue asked ↔ (kind ≡ DisplayHelp))
+IsUsageOf kind Memory = ⊤
+
+-- the words are not those of the command, by one of the kinds of error that `clap` has for them; want of memory may come at all words
+abbrev pub IsFaultOf : List Text → TaskFault → Type 0
+IsFaultOf words (Usage text asked) = (kind : ErrorKind) × IsAmong kind (fault_of command words) × (IsTrue asked ↔ (kind ≡ DisplayHelp))
+IsFaultOf words Memory = ⊤
