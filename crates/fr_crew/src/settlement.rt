@@ -137,8 +137,9 @@ fn finished(net: Net, dest: u32, mut counts: Vec<u64>, by_workers: u64) -> Settl
     // For what `nodes` ensures: the links are those of a network.
     let _nodes = net.nodes();
     let by_finisher = finish(&net, dest, &mut counts);
+    let net = net.into_turned(&counts);
     Settled {
-        net: net.into_turned(&counts),
+        net,
         counts,
         by_workers,
         by_finisher,

@@ -14,7 +14,7 @@ use Rattle.fr_route.specs.Answers.{IsRefused}
 use Rattle.fr_route.specs.Texts.{refusal_text}
 use Rattle.revroute.specs.Plays.{line_of, end_text, first_asking, IsPlayText, IsRefusal, IsAcceptedPlay, IsPlayOf, IsPlayOfReading, IsPlayOutput}
 use Rattle.revroute.specs.declared.draws.Draw.{Draw}
-use Rattle.revroute.proofs.Determined.{answer_unique}
+use Rattle.fr_route.proofs.Determined.{answer_unique}
 
 -- the same entries lead to the same counts
 same_counts : (n d : ℕ) (first : List (ℕ × ℕ)) (entries : List Entry) (a b : List ℕ) → IsRunTo n d first entries a → IsRunTo n d first entries b → a ≡ b
