@@ -1,5 +1,5 @@
 -- The rows of links as counts turn them, and the links that rows show.
-use Rattle.std.proofs.Common.{Bool, Contains, IsPermutation, List, None, Option, Some, [], All, ap, arith, cond, count_by, eq-eqb, eqb, false, get_or, inl, inr, length, map, ne_eqb, option_map, option_to_list, refl, subst, suc, sym, take, true, zero, ℕ, ⊎_elim, ◌&&◌, ◌++◌, ◌+◌, ◌<◌, ◌||◌, ◌∙◌, ◌∷◌, ◌≡◌, ◌≤◌, ◌⊎◌}
+use Rattle.std.proofs.Common.{Bool, Contains, List, None, Option, Some, [], All, ap, arith, count_by, eq-eqb, eqb, false, get_or, inl, inr, length, map, ne_eqb, option_map, option_to_list, refl, subst, suc, sym, take, true, zero, ℕ, ⊎_elim, ◌&&◌, ◌++◌, ◌+◌, ◌<◌, ◌||◌, ◌∙◌, ◌∷◌, ◌≡◌, ◌≤◌, ◌⊎◌}
 use Rattle.std.proofs.lemmas.Bool.{cases_Bool, cases_lt, cond-false, cond-true}
 use Rattle.std.proofs.lemmas.List.{append-nil, map-append, take_more}
 use Rattle.std.proofs.lemmas.List.Elements.{All-contains, filter_map-append}
