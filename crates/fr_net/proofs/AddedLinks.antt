@@ -1,5 +1,5 @@
 -- The links of a network with one added.
-use Rattle.std.proofs.Common.{Bool, Contains, List, [], ap, arith, count_by, drop, eq-eqb, false, get_or, inl, inr, length, ne_eqb, refl, subst, suc, sym, take, true, zero, ℕ, ⊎_elim, ◌&&◌, ◌++◌, ◌+◌, ◌<◌, ◌||◌, ◌∙◌, ◌∷◌, ◌≡◌, ◌≢◌, ◌≤◌, ◌⊎◌}
+use Rattle.std.proofs.Common.{List, [], ap, arith, count_by, drop, eq-eqb, false, get_or, inl, inr, length, ne_eqb, refl, subst, suc, sym, take, true, zero, ℕ, ⊎_elim, ◌++◌, ◌+◌, ◌<◌, ◌∙◌, ◌∷◌, ◌≡◌, ◌≢◌, ◌≤◌, ◌⊎◌}
 use Rattle.std.proofs.lemmas.Bool.{and_from, and_left, and_right, cases_Bool, cases_lt, le-leb, le-ltb, lt-leb, lt-ltb, or_from, or_left, or_right}
 use Rattle.std.proofs.lemmas.List.{length_push}
 use Rattle.std.proofs.lemmas.List.Elements.{All-push, Contains-append_left, Contains-push, Contains-push_cases}
@@ -7,11 +7,11 @@ use Rattle.std.proofs.lemmas.List.Sums.{sum_by_push}
 use Rattle.fr_net.proofs.Counting.{one_passes, weigh}
 use Rattle.fr_net.proofs.Cycles.{points_at}
 use Rattle.fr_net.proofs.Linking.{is_between_itself, joined_from, not_twice, some_joined, walk_carries}
-use Rattle.fr_net.proofs.Ordering.{in_order_order, insert_order, into_order, is_pair, same_order, times, times-in_order, times-insert}
+use Rattle.fr_net.proofs.Ordering.{in_order_order, insert_order, into_order, is_pair, same_order, times-in_order, times-insert}
 use Rattle.fr_net.specs.Faults.{IsFaultless, IsInRange}
 use Rattle.fr_net.specs.Halves.{IsBefore}
 use Rattle.fr_net.specs.Limits.{IsWithinLimits, most_links}
-use Rattle.fr_net.specs.Links.{AreBelow, AreSingle, HasNoSelfLink, HasPath, IsAcyclic, IsClosedWalk, IsNet, IsPath, Joins, Points, end_of, is_between}
+use Rattle.fr_net.specs.Links.{AreBelow, AreSingle, HasNoSelfLink, HasPath, IsAcyclic, IsClosedWalk, IsPath, Joins, Points, end_of, is_between}
 use Rattle.fr_net.specs.Order.{AreInOrder, IsNotAfter, in_order, is_not_after, with_in_order}
 
 abbrev pub added : List (ℕ × ℕ) → ℕ → ℕ → List (ℕ × ℕ)

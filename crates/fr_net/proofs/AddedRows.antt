@@ -1,7 +1,7 @@
 -- The rows of a network with one link added.
 use Rattle.std.proofs.Common.{Bool, Contains, List, None, Option, Some, [], ap, arith, cond, drop, eq-eqb, false, get_or, inl, inr, length, ne_eqb, option_to_list, refl, suc, sym, take, true, zero, ℕ, ◌++◌, ◌<◌, ◌∙◌, ◌∷◌, ◌≡◌, ◌≢◌, ◌≤◌, ◌⊎◌}
 use Rattle.std.specs.Prelude.{nat_le}
-use Rattle.std.proofs.lemmas.Bool.{cases_eq, cases_lt, cond-false, cond-true, le-leb, lt-leb}
+use Rattle.std.proofs.lemmas.Bool.{cases_eq, cond-false, cond-true, le-leb, lt-leb}
 use Rattle.std.proofs.lemmas.List.{append-nil}
 use Rattle.std.proofs.lemmas.List.Elements.{Contains-append_left, Contains-push, Contains-push_cases}
 use Rattle.fr_net.proofs.AddedLinks.{added}
@@ -66,8 +66,8 @@ row_gains (suc w) links u v x other f lt none some same =
     elim (cases_eq w other) [
       | inl e ↦
           rw (e, none, some, append-nil (row other links x)) (
-            ap (λ (es : List (ℕ × First)). es ++ entry other f ∷ []) (row_alike other links u v x (λ z l. same z (λ is. omega (arith, is, l))))
-            ∙ sym (put_last (other, f) (row other links x) (λ g h. (row_holds other links x g h).0))
+          ap (λ (es : List (ℕ × First)). es ++ entry other f ∷ []) (row_alike other links u v x (λ z l. same z (λ is. omega (arith, is, l))))
+          ∙ sym (put_last (other, f) (row other links x) (λ g h. (row_holds other links x g h).0))
           )
       | inr ne ↦
           rw (row_gains w links u v x other f (omega (arith, ne)) none some same, same w ne)

@@ -1,8 +1,7 @@
 -- The links and rows of a network with one link cut.
-use Rattle.std.proofs.Common.{Bool, Contains, IsPermutation, List, None, Option, Some, [], ap, arith, cond, eqb, false, get_or, inl, inr, length, ne_eqb, option_to_list, refl, subst, suc, sym, true, zero, ℕ, ⊎_elim, ◌&&◌, ◌++◌, ◌+◌, ◌<◌, ◌||◌, ◌∙◌, ◌∷◌, ◌≡◌, ◌≢◌, ◌⊎◌}
+use Rattle.std.proofs.Common.{Bool, Contains, List, None, Option, Some, [], ap, arith, cond, eqb, false, inl, inr, ne_eqb, option_to_list, refl, subst, suc, sym, true, zero, ℕ, ⊎_elim, ◌+◌, ◌∙◌, ◌∷◌, ◌≡◌, ◌≢◌, ◌⊎◌}
 use Rattle.std.specs.Prelude.{not}
 use Rattle.std.specs.List.{filter}
-use Rattle.std.proofs.lemmas.Bool.{cases_Bool}
 use Rattle.std.proofs.lemmas.List.Elements.{filter-append}
 use Rattle.std.proofs.lemmas.List.Sorted.{IsPermutation-refl}
 use Rattle.fr_net.proofs.Booleans.{flip}
@@ -88,7 +87,7 @@ entry_cut_by true links u v x w e =
 entry_cut_by false links u v x w e =
     rw (
       row_entry_same (without u v links) links x w (from_filter (λ (l : ℕ × ℕ). not (is_between u v l)) links (x, w)) (still_linked links u v x w e)
-      (from_filter (λ (l : ℕ × ℕ). not (is_between u v l)) links (w, x)) (still_linked links u v w x (between_back u v x w ∙ e)),
+          (from_filter (λ (l : ℕ × ℕ). not (is_between u v l)) links (w, x)) (still_linked links u v w x (between_back u v x w ∙ e)),
       filter-option true (stays u v x) (row_entry links x w) (λ entry is. let node = row_entry_node links x w entry is in rw (node, e) refl),
     ) refl
 

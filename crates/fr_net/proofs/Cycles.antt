@@ -1,5 +1,5 @@
 -- The steps of the search for a closed walk keep its state.
-use Rattle.std.proofs.Common.{List, [], add-one, add-zero, add_assoc, ap, arith, cond, drop, false, get_or, inl, inr, length, length-drop, refl, set, subst, sym, take, true, ℕ, ◌++◌, ◌+◌, ◌<◌, ◌∙◌, ◌∷◌, ◌≡◌, ◌≢◌, ◌≤◌, ◌⊎◌}
+use Rattle.std.proofs.Common.{List, [], add-one, add-zero, add_assoc, ap, arith, cond, drop, false, get_or, inl, inr, length, length-drop, refl, set, subst, sym, take, ℕ, ◌++◌, ◌+◌, ◌<◌, ◌∙◌, ◌∷◌, ◌≡◌, ◌≢◌, ◌≤◌, ◌⊎◌}
 use Rattle.std.proofs.lemmas.Bool.{cases_eq, cases_lt}
 use Rattle.std.proofs.lemmas.List.{get_or-drop, get_or-set_other, get_or-set_same, get_or-take, get_or_append_left, get_or_default, get_or_push, length-set, length-take-le, length_push}
 use Rattle.std.proofs.lemmas.List.Elements.{Contains-append_left, Contains-push}

@@ -1,5 +1,5 @@
 -- Links with one cut are those of a network again.
-use Rattle.std.proofs.Common.{Bool, Contains, List, [], arith, cond, count_by, false, get_or, inl, inr, length, subst, true, ℕ, ◌<◌, ◌∷◌, ◌≡◌, ◌≤◌}
+use Rattle.std.proofs.Common.{Bool, Contains, List, [], arith, cond, count_by, false, get_or, inl, inr, subst, true, ℕ, ◌<◌, ◌∷◌, ◌≡◌, ◌≤◌}
 use Rattle.std.specs.Prelude.{not}
 use Rattle.std.specs.List.{filter}
 use Rattle.std.proofs.lemmas.List.Elements.{All-filter}

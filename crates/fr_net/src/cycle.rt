@@ -68,11 +68,7 @@ fn tail_start(links: &[(u32, u32)], x: u32, from: usize) -> usize
 }
 
 /// Where the links of each tail start, which are in rising order of their tails.
-fn tail_starts(
-    alloc: Global,
-    nodes: u32,
-    links: &[(u32, u32)],
-) -> Result<Vec<usize>, AllocError>
+fn tail_starts(alloc: Global, nodes: u32, links: &[(u32, u32)]) -> Result<Vec<usize>, AllocError>
     requires tails { HasRisingTails links.now }
     ensures { IfOk result (λ starts. AreTailStarts nodes links.now starts.items) }
 {

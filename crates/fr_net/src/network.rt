@@ -46,7 +46,7 @@ impl Model for Net {
 impl Net {
     /// The network with nodes 0 to `nodes - 1` and these links, each from its tail to its head, in whatever order they
     /// are listed; or the first fault that stands, tested over the whole list in the order of [`NetFault`]. `Memory` where no
-    /// room could be had. It sorts the links and their ends; all else is linear, with a binary search for each node.
+    /// room could be had. It sorts the links unless they stand in order; all else is linear.
     pub fn new(alloc: Global, nodes: u32, links: &[(u32, u32)]) -> Result<Net, NetFault>
         ensures ok { IfOk result (IsNetworkOf nodes links.now) }
         ensures refused { IfErr result (λ fault. fault ≢ Memory → IsFirstFault nodes links.now fault) }

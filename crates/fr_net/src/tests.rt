@@ -242,7 +242,11 @@ fn refuses_to_cut_where_no_link_is(rt: HostRuntime) -> Result<(), Fail> {
     let alloc = rt.alloc();
     let net = Net::new(alloc, 3, &[(1, 0), (2, 1)])?;
     for (u, v) in [(0, 2), (2, 0), (1, 1), (0, 3), (3, 0), (4294967295, 7)] {
-        assert_eq!(rt; net.with_cut(alloc, u, v).err(), Some(NetFault::NoLink), "{u} and {v}");
+        assert_eq!(rt;
+            net.with_cut(alloc, u, v).err(),
+            Some(NetFault::NoLink),
+            "{u} and {v}"
+        );
     }
     let cut = net.with_cut(alloc, 0, 1)?;
     assert_eq!(rt; cut.with_cut(alloc, 1, 0).err(), Some(NetFault::NoLink));
@@ -279,7 +283,11 @@ fn names_the_first_fault_of_an_added_link(rt: HostRuntime) -> Result<(), Fail> {
         (3, 3, NetFault::Range(3)),
         (2, 2, NetFault::SelfLink(2)),
     ] {
-        assert_eq!(rt; net.with_link(alloc, u, v).err(), Some(fault), "{u} and {v}");
+        assert_eq!(rt;
+            net.with_link(alloc, u, v).err(),
+            Some(fault),
+            "{u} and {v}"
+        );
     }
     for (u, v) in [(0, 1), (1, 0)] {
         let Err(NetFault::Twice(x, y)) = net.with_link(alloc, u, v) else {
@@ -299,7 +307,11 @@ fn names_the_first_fault_of_an_added_link(rt: HostRuntime) -> Result<(), Fail> {
 
     let full = Net::new(alloc, 1024, &links_down(alloc, 8192)?)?;
     for (u, v) in [(1023, 0), (2000, 1), (1, 1), (1, 0), (0, 1)] {
-        assert_eq!(rt; full.with_link(alloc, u, v).err(), Some(NetFault::TooMany), "{u} and {v}");
+        assert_eq!(rt;
+            full.with_link(alloc, u, v).err(),
+            Some(NetFault::TooMany),
+            "{u} and {v}"
+        );
     }
     Ok(())
 }

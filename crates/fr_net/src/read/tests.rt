@@ -50,7 +50,15 @@ fn reads_edits_and_walks(rt: HostRuntime) -> Result<(), Fail> {
     let cut = read_line(alloc, br#"["cut",1,0]"#)?;
     assert!(rt; matches!(cut, Request::Cut { u: 1, v: 0 }));
     let add = read_line(alloc, br#" [ "add" , 3 , 4294967295 ] "#)?;
-    assert!(rt; matches!(add, Request::Add { u: 3, v: 4294967295 }));
+    assert!(rt;
+        matches!(
+            add,
+            Request::Add {
+                u: 3,
+                v: 4294967295
+            }
+        )
+    );
     let walk = read_line(alloc, br#"["walk",9]"#)?;
     assert!(rt; matches!(walk, Request::Walk { x: 9 }));
     Ok(())

@@ -1,6 +1,5 @@
 use Rattle.std.proofs.Common.{List, [], ap, append_assoc, arith, drop, length, length-drop, sym, take, take_all, ℕ, ◌++◌, ◌-◌, ◌∙◌, ◌∷◌, ◌≡◌}
 use Rattle.fr_net.proofs.AddedLinks.{put_at_place}
-use Rattle.fr_net.specs.Order.{with_in_order}
 use Rattle.fr_net.proofs.edits.added_links.Goals as goal
 
 pub returns : goal.returns

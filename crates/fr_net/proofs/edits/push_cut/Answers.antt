@@ -1,4 +1,4 @@
-use Rattle.std.proofs.Common.{List, ap, sym, ℕ, ◌++◌, ◌∙◌, ◌≡◌}
+use Rattle.std.proofs.Common.{List, ap, sym, ℕ, ◌++◌, ◌∙◌}
 use Rattle.fr_net.proofs.CutRows.{row_stays}
 use Rattle.fr_net.specs.declared.rows.First.{First}
 use Rattle.fr_net.proofs.edits.push_cut.Goals as goal

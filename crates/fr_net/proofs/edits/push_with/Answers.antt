@@ -1,6 +1,5 @@
 use Rattle.std.proofs.Common.{List, [], ap, append_assoc, arith, drop, length, length-drop, sym, take, take_all, ℕ, ◌++◌, ◌-◌, ◌∙◌, ◌∷◌, ◌≡◌}
 use Rattle.fr_net.proofs.AddedRows.{put_in_row}
-use Rattle.fr_net.specs.RowLists.{with_entry}
 use Rattle.fr_net.specs.declared.rows.First.{First}
 use Rattle.fr_net.proofs.edits.push_with.Goals as goal
 

@@ -1,14 +1,13 @@
-use Rattle.std.proofs.Common.{IsPermutation, List, [], ap, arith, length, refl, subst, sym, ℕ, ◌++◌, ◌<◌, ◌∙◌, ◌∷◌, ◌≡◌, ◌≢◌}
+use Rattle.std.proofs.Common.{List, [], ap, arith, length, subst, sym, ℕ, ◌++◌, ◌<◌, ◌∙◌, ◌∷◌, ◌≡◌}
 use Rattle.fr_net.proofs.AddedLinks.{added, added_in_order, faultless_added, in_range, no_self, single_added, within_limits}
 use Rattle.fr_net.proofs.AddedRows.{row_added}
 use Rattle.fr_net.proofs.Building.{below_sorted, cycle_stands}
 use Rattle.fr_net.proofs.Ordering.{in_order_order, in_order_permutes, tails_rise}
 use Rattle.fr_net.proofs.Remaking.{made_of, made_stands}
 use Rattle.fr_net.proofs.RowLists.{rows_more}
-use Rattle.fr_net.specs.CycleSearch.{HasRisingTails}
 use Rattle.fr_net.specs.Faults.{IsFaultless}
 use Rattle.fr_net.specs.Limits.{most_links}
-use Rattle.fr_net.specs.Links.{AreBelow, IsClosedWalk, IsCycle, Joins}
+use Rattle.fr_net.specs.Links.{IsClosedWalk, IsCycle, Joins}
 use Rattle.fr_net.specs.Network.{Network}
 use Rattle.fr_net.specs.Order.{AreInOrder, in_order, with_in_order}
 use Rattle.fr_net.specs.RowLists.{AreRows, added_row}
@@ -54,8 +53,7 @@ returns-in-Some-2-clause-refused c _ =
     let ends : (u < n) × (v < n) = rw same at (c.in_default.ensures.none.below 0 (u, v) (omega arith)) in
     let few : length links < most_links = omega (arith, c.if-len-ge-MAX_LINKS.false, c.len.ensures, c.self.inside.links.ok.0, ap length same_links) in
     let free : ¬ Joins links u v = λ h. absurd (cc (c.if-joins.ensures.1 (rw (c.deref.ensures.value, same_links) h))) in
-    let found : IsCycle (in_order (added links u v)) c.in-Some-2.walk.items = rw (made, c.in-Some-2.is) at c.in_ok-walk.ensures in
-    (
+    let found : IsCycle (in_order (added links u v)) c.in-Some-2.walk.items = rw (made, c.in-Some-2.is) at c.in_ok-walk.ensures in (
       within_limits n links u v clear.limits few,
       in_range n links u v clear.is_net.in_range ends.0 ends.1,
       no_self links u v clear.is_net.no_self c.if-u-v.false,
