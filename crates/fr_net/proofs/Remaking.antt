@@ -1,5 +1,5 @@
 -- A network from links in order and the rows of its nodes.
-use Rattle.std.proofs.Common.{Bool, Contains, IsPermutation, List, [], ap, arith, false, inl, inr, length, refl, subst, suc, sym, true, zero, ℕ, ◌++◌, ◌+◌, ◌<◌, ◌∙◌, ◌∷◌, ◌≡◌}
+use Rattle.std.proofs.Common.{List, ap, inl, inr, length, refl, suc, sym, zero, ℕ, ◌+◌, ◌<◌, ◌∙◌, ◌≡◌}
 use Rattle.std.proofs.lemmas.Bool.{cases_Bool}
 use Rattle.std.proofs.lemmas.List.Sorted.{IsPermutation-sym}
 use Rattle.fr_net.proofs.Building.{acyclic_listed, faultless_sorted}

@@ -1,5 +1,5 @@
 -- The rows of all nodes, one after the other in one list.
-use Rattle.std.proofs.Common.{Contains, List, [], add-one, ap, arith, drop, get_or, inl, inr, length, length-append, refl, slice_range, subst, suc, sym, take, take_all, zero, ℕ, ⊎_elim, ◌++◌, ◌+◌, ◌-◌, ◌<◌, ◌∙◌, ◌∷◌, ◌≡◌, ◌≤◌}
+use Rattle.std.proofs.Common.{Contains, List, [], add-one, ap, arith, drop, get_or, inl, inr, length, length-append, refl, slice_range, subst, suc, take, take_all, zero, ℕ, ◌++◌, ◌+◌, ◌-◌, ◌<◌, ◌∙◌, ◌∷◌, ◌≡◌, ◌≤◌}
 use Rattle.std.proofs.lemmas.Bool.{cases_eq, cases_lt}
 use Rattle.std.proofs.lemmas.List.{drop-append-le, get_or_append_left, get_or_push, length-drop, length_push, take-append-le}
 use Rattle.std.proofs.lemmas.List.Elements.{Contains-append_cases, Contains-append_left, Contains-append_right}
