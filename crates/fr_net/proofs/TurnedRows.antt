@@ -1,5 +1,5 @@
 -- The rows of links as counts turn them, and the links that rows show.
-use Rattle.std.proofs.Common.{Bool, Contains, IsPermutation, List, None, Option, Some, [], All, ap, arith, cond, count_by, drop, eq-eqb, eqb, false, get_or, inl, inr, length, length-append, map, ne_eqb, option_map, option_to_list, refl, subst, suc, sym, take, true, zero, ℕ, ⊎_elim, ◌&&◌, ◌++◌, ◌+◌, ◌<◌, ◌||◌, ◌∙◌, ◌∷◌, ◌≡◌, ◌≤◌, ◌⊎◌}
+use Rattle.std.proofs.Common.{Bool, Contains, List, None, Option, Some, [], All, ap, arith, count_by, drop, eq-eqb, eqb, false, get_or, inl, inr, length, length-append, map, ne_eqb, option_map, option_to_list, refl, subst, suc, sym, take, true, zero, ℕ, ⊎_elim, ◌&&◌, ◌++◌, ◌+◌, ◌<◌, ◌||◌, ◌∙◌, ◌∷◌, ◌≡◌, ◌≤◌, ◌⊎◌}
 use Rattle.std.proofs.lemmas.Bool.{cases_Bool, cases_lt, cond-false, cond-true}
 use Rattle.std.proofs.lemmas.List.{append-nil, map-append, take-append-drop, take_more}
 use Rattle.std.proofs.lemmas.List.Elements.{All-contains, filter_map-append}
@@ -45,10 +45,10 @@ row_entry_back links x w out back = rw (not_linked links x w out, has_link_true 
 abbrev pub entry : ℕ → First → ℕ × First
 entry w f = (w, f)
 
-pub turned_same : (counts : List ℕ) (x w : ℕ) (f : First) → get_or counts w 0 ≡ get_or counts x 0 → turned_entry counts x (w, f) ≡ entry w f
+turned_same : (counts : List ℕ) (x w : ℕ) (f : First) → get_or counts w 0 ≡ get_or counts x 0 → turned_entry counts x (w, f) ≡ entry w f
 turned_same counts x w f e = cond-true _ _ _ (eq-eqb _ _ e)
 
-pub turned_other : (counts : List ℕ) (x w : ℕ) (f : First) → ¬ (get_or counts w 0 ≡ get_or counts x 0) → turned_entry counts x (w, f) ≡ entry w (opposite f)
+turned_other : (counts : List ℕ) (x w : ℕ) (f : First) → ¬ (get_or counts w 0 ≡ get_or counts x 0) → turned_entry counts x (w, f) ≡ entry w (opposite f)
 turned_other counts x w f e = cond-false _ _ _ (ne_eqb _ _ e)
 
 turned_out : (n : ℕ) (links : List (ℕ × ℕ)) (c : List ℕ) (x w : ℕ) → IsNet n (links_at links c) → Points links x w → IsKept c (x, w) → row_entry (links_at links c) x w ≡ Some (turned_entry c x (w, Outward))

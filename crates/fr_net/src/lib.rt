@@ -2,7 +2,8 @@
 //! ask for them.
 //!
 //! A [`Net`] is made by [`Net::new`] alone, which names the first fault of links that make no network. Layers above
-//! read it by `nodes`, `links`, `degree`, `neighbour` and `row`, and make the network of turned links by `turned_by`.
+//! read it by `nodes`, `links`, `degree`, `neighbour` and `row`, and make the network of turned links by `turned_by`, or in
+//! its place by `into_turned`.
 //! [`read_line`] reads a request.
 #![tactic(auto)]
 

@@ -5,7 +5,7 @@ use super::*;
 use std::alloc::{AllocError, Global};
 use std::test::Fail;
 
-/// Whether each link stays or is reversed at these counts, as `turned_by` requires.
+/// Whether each link stays or is reversed at these counts, as `turned_by` and `into_turned` require.
 fn are_kept(links: &[(u32, u32)], counts: &[u64]) -> bool
     ensures { IsTrue result → All (IsKept counts.now) links.now }
 {
@@ -215,7 +215,30 @@ fn turns_links_by_counts(rt: HostRuntime) -> Result<(), Fail> {
         let after = first.turned_by(alloc, counts)?;
         assert_eq!(rt; after.nodes(), nodes, "{what}");
         assert_eq!(rt; after.links(), turned, "{what}");
+        let in_place = first.into_turned(counts);
+        assert_eq!(rt; in_place.nodes(), nodes, "{what}");
+        assert_eq!(rt; in_place.links(), turned, "{what}");
     }
+    Ok(())
+}
+
+#[test]
+fn turns_rows_in_place(rt: HostRuntime) -> Result<(), Fail> {
+    let alloc = rt.alloc();
+    let first = Net::new(alloc, 5, &[(0, 1), (1, 2), (0, 3), (2, 3), (3, 4)])?;
+    let counts = [0, 1, 1, 1, 2].as_slice();
+    assert_eq!(rt; counts.len(), first.nodes() as usize);
+    assert!(rt; are_kept(first.links(), counts));
+    let after = first.into_turned(counts);
+    assert_eq!(rt; after.nodes(), 5);
+    assert_eq!(rt;
+        after.row(0),
+        [(1, First::Inward), (3, First::Inward)].as_slice()
+    );
+    assert_eq!(rt;
+        after.row(3),
+        [(0, First::Outward), (2, First::Inward), (4, First::Inward)].as_slice()
+    );
     Ok(())
 }
 

@@ -5,6 +5,20 @@ ghost use Rattle.fr_net.specs.RowLists.{out_links, turned_entry};
 
 use crate::rows::First;
 
+/// An entry of the row of `x`, with its link as the counts turn it.
+fn turned_at(entry: (u32, First), x: u32, counts: &[u64]) -> (u32, First)
+    requires node { x < length counts.now }
+    requires neighbour { entry.0 < length counts.now }
+    ensures { result ≡ turned_entry counts.now x entry }
+{
+    let (w, first) = entry;
+    if counts[w as usize] == counts[x as usize] {
+        entry
+    } else {
+        (w, first.opposite())
+    }
+}
+
 /// Turns each link of the row of `x` as the counts say.
 pub(crate) fn turn_row(row: &mut [(u32, First)], x: u32, counts: &[u64])
     requires node { x < length counts.now }
@@ -12,13 +26,7 @@ pub(crate) fn turn_row(row: &mut [(u32, First)], x: u32, counts: &[u64])
     ensures { row.new ≡ map (turned_entry counts.now x) row.old }
 {
     for entry in row.iter_mut() {
-        let (w, first) = *entry;
-        let now = if counts[w as usize] == counts[x as usize] {
-            first
-        } else {
-            first.opposite()
-        };
-        *entry = (w, now);
+        *entry = turned_at(*entry, x, counts);
     }
 }
 

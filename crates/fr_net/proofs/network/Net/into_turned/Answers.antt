@@ -1,4 +1,4 @@
-use Rattle.std.proofs.Common.{List, ap, arith, drop, get_or, length, map, refl, subst, sym, take, vec_capacity, ℕ, ◌++◌, ◌+◌, ◌-◌, ◌<◌, ◌∙◌, ◌≡◌, ◌≤◌}
+use Rattle.std.proofs.Common.{List, ap, arith, drop, get_or, length, map, refl, subst, sym, take, ℕ, ◌++◌, ◌+◌, ◌-◌, ◌<◌, ◌∙◌, ◌≡◌}
 use Rattle.std.proofs.lemmas.List.{get_or_read, length-map, take_at}
 use Rattle.std.proofs.lemmas.List.Elements.{Contains-get_or}
 use Rattle.std.proofs.lemmas.List.Edits.{length-between}
@@ -6,7 +6,7 @@ use borrow.Rule.Slice.PartMut.{put_mid}
 use Rattle.fr_net.proofs.Neighbours.{row_holds}
 use Rattle.fr_net.proofs.Remaking.{made_of, made_shown}
 use Rattle.fr_net.proofs.RowLists.{listed_more}
-use Rattle.fr_net.proofs.RowsInPlace.{ArePartTurned, length_put, part_turned_more}
+use Rattle.fr_net.proofs.RowsInPlace.{length_put, part_turned_more}
 use Rattle.fr_net.proofs.TurnedLinks.{length-links_at, net_turned, turned_faultless}
 use Rattle.fr_net.proofs.TurnedRows.{links_of_rows, out_rows, out_rows_room, row_turned}
 use Rattle.fr_net.specs.Counts.{links_at}
