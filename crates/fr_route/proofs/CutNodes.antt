@@ -1,5 +1,5 @@
 -- How many nodes are cut off, by their hops.
-use Rattle.std.proofs.Common.{Bool, List, [], ◌∷◌, ap, arith, cond, false, get_or, length, map, nat_lt, refl, sym, suc, true, zero, ℕ, ◌+◌, ◌<◌, ◌↔◌, ◌∙◌, ◌≡◌, IsTrue}
+use Rattle.std.proofs.Common.{Bool, List, [], ◌∷◌, ap, arith, cond, false, get_or, map, refl, sym, suc, true, zero, ℕ, ◌+◌, ◌<◌, ◌↔◌, ◌∙◌, ◌≡◌, IsTrue}
 use Rattle.std.specs.List.{count_by, range_with_len}
 use Rattle.std.proofs.lemmas.Bool.{false≢true}
 use Rattle.std.proofs.lemmas.List.FromFn.{fill_by_all}

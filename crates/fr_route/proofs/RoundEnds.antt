@@ -1,7 +1,7 @@
 -- What the end of a round is: which networks lead to it, and what its links and routes are.
-use Rattle.std.proofs.Common.{◌≡◌, ◌∙◌, ℕ, ◌<◌, ◌↔◌, List, [], ◌∷◌, ap, inl, inr, subst, sym, slice_index, ⊎_elim, IsPermutation}
+use Rattle.std.proofs.Common.{◌≡◌, ◌∙◌, ℕ, ◌<◌, ◌↔◌, List, ◌∷◌, ap, inl, inr, subst, sym, slice_index, IsPermutation}
 use Rattle.std.proofs.lemmas.List.Sorted.{IsPermutation-sym}
-use Rattle.fr_net.specs.Links.{IsAcyclic, IsNet, HaveSameLinks, Joins, Points}
+use Rattle.fr_net.specs.Links.{IsAcyclic, IsNet, HaveSameLinks, Points}
 use Rattle.fr_net.specs.Order.{in_order}
 use Rattle.fr_net.specs.Counts.{AreLawful, links_at}
 use Rattle.fr_net.specs.Network.{Network, net_of}
@@ -14,9 +14,9 @@ use Rattle.fr_core.specs.Settled.{AreSettled}
 use Rattle.fr_core.proofs.Joining.{joined_at, joins_at}
 use Rattle.fr_core.proofs.SameLinks.{same_acyclic, same_from_permutation, same_settled, same_joined, same_sym}
 use Rattle.fr_core.proofs.Unique.{IsLinkedCount, not_joined_from_cap, of_linked, settled_lawful, settled_unique}
-use Rattle.fr_route.specs.States.{State, IsRound, IsAfterRound, IsCutOff, state_with}
+use Rattle.fr_route.specs.States.{State, IsRound, IsCutOff, state_with}
 use Rattle.fr_route.specs.Routes.{IsNextHop, IsRoute}
-use Rattle.fr_route.proofs.Routing.{joined_next, out_of_joined, route, route_joined, same_hop, same_route}
+use Rattle.fr_route.proofs.Routing.{joined_next, out_of_joined, route, same_route}
 
 pub round_end : (n d : ℕ) (first : List (ℕ × ℕ)) (counts : List ℕ) (net : Network) → AreSettled n d first counts → net ≡ net_of n (links_at first counts) → IsRound n d first (state_with net d counts)
 round_end n d first counts net settled is = record {

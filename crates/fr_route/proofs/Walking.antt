@@ -1,8 +1,8 @@
 -- How far a walk along the route has come.
-use Rattle.std.proofs.Common.{List, [], append-nil, append_assoc, ap, arith, length, refl, subst, sym, ℕ, ◌++◌, ◌+◌, ◌<◌, ◌∙◌, ◌∷◌, ◌≡◌, ◌≤◌}
+use Rattle.std.proofs.Common.{List, [], append-nil, append_assoc, ap, arith, length, refl, subst, sym, ℕ, ◌++◌, ◌<◌, ◌∙◌, ◌∷◌, ◌≡◌, ◌≤◌}
 use Rattle.std.proofs.lemmas.List.Elements.{All-contains}
 use Rattle.std.proofs.lemmas.List.{length-append}
-use Rattle.fr_net.specs.Links.{IsNet, Points}
+use Rattle.fr_net.specs.Links.{IsNet}
 use Rattle.fr_core.proofs.Following.{path_short}
 use Rattle.fr_route.specs.States.{State}
 use Rattle.fr_route.specs.Routes.{IsHop, IsRoute}

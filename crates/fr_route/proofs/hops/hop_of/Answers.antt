@@ -1,4 +1,4 @@
-use Rattle.std.proofs.Common.{◌∙◌, ◌≡◌, slice_index, arith}
+use Rattle.std.proofs.Common.{◌≡◌, slice_index, arith}
 use Rattle.fr_route.specs.States.{state_with}
 use Rattle.fr_route.proofs.RoundEnds.{capped_cut_off, hop_leads_on, still_cut_off}
 use Rattle.fr_route.proofs.hops.hop_of.Goals as goal

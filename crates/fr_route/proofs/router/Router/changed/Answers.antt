@@ -1,4 +1,4 @@
-use Rattle.std.proofs.Common.{◌≡◌, IfOk, subst, sym}
+use Rattle.std.proofs.Common.{IfOk, subst, sym}
 use Rattle.fr_route.specs.Changes.{IsChanged}
 use Rattle.fr_route.specs.RouterInside.{state_of}
 use Rattle.fr_route.specs.States.{State}

@@ -1,4 +1,4 @@
-use Rattle.std.proofs.Common.{◌≡◌, ◌<◌, ℕ, ap, inr, subst}
+use Rattle.std.proofs.Common.{◌<◌, ℕ, ap, inr, subst}
 use Rattle.fr_net.specs.Faults.{IsNetworkOf}
 use Rattle.fr_net.specs.Network.{Network}
 use Rattle.std.proofs.lemmas.Result.{IfOk-weaker}
