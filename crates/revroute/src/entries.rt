@@ -1,6 +1,6 @@
 //! What a play is to try, and the text of what it came to.
 
-ghost use Rattle.std.specs.Prelude.{◌≡◌, ◌++◌, ℕ, List, string_bytes, take, map, replicate, IfOk, OnOk, IsTrue, ◌↔◌};
+ghost use Rattle.std.specs.Prelude.{◌≡◌, ◌++◌, ℕ, List, string_bytes, take, map, replicate, IfOk, OnOk};
 ghost use Rattle.std.specs.List.{repeat};
 ghost use Rattle.fr_core.specs.Targets.{lists_of};
 ghost use Rattle.fr_core.specs.Runs.{IsRunTo};

@@ -115,6 +115,7 @@ fn play_links(
 
 /// The play on a network.
 fn play_net(alloc: Global, net: &Net, dest: u32, draw: Draw) -> Result<(String, u64), AllocError>
+    requires { dest < net.now.nodes }
     ensures { IfOk result (λ made. IsPlayText draw net.now.nodes dest net.now.links (string_bytes made.0) made.1) }
 {
     let targets = targets_of(alloc, net, dest, draw)?;
