@@ -344,7 +344,13 @@ fn settles_the_longest_chain(rt: HostRuntime) -> Result<(), Fail> {
         let (first, _) = written(&rt, rt.alloc(), input.as_bytes(), &plan(1, 0)?, &OpenGate)?;
         assert!(rt; first.starts_with(answer), "from {start}");
         for workers in [1, 2, 8] {
-            let (out, _) = written(&rt, rt.alloc(), input.as_bytes(), &plan(workers, 20_000)?, &OpenGate)?;
+            let (out, _) = written(
+                &rt,
+                rt.alloc(),
+                input.as_bytes(),
+                &plan(workers, 20_000)?,
+                &OpenGate,
+            )?;
             assert!(rt; out == first, "from {start} by {workers}");
         }
     }
@@ -405,7 +411,14 @@ fn stops_where_a_read_fails(rt: HostRuntime) -> Result<(), Fail> {
             good,
         };
         let mut out = Vec::new(rt.alloc());
-        match run(&rt, rt.alloc(), &mut reader, &mut out, &plan(1, 0)?, &OpenGate) {
+        match run(
+            &rt,
+            rt.alloc(),
+            &mut reader,
+            &mut out,
+            &plan(1, 0)?,
+            &OpenGate,
+        ) {
             Ok(count) => assert!(rt; good == reads && count == 7 && out.as_slice() == ANSWERS),
             Err(fault) => assert!(rt; good < reads && fault == RunFault::Read && out.is_empty()),
         }
@@ -455,7 +468,14 @@ fn stops_where_a_write_fails(rt: HostRuntime) -> Result<(), Fail> {
                 good,
                 fails,
             };
-            match run(&rt, rt.alloc(), &mut reader, &mut writer, &plan(1, 0)?, &OpenGate) {
+            match run(
+                &rt,
+                rt.alloc(),
+                &mut reader,
+                &mut writer,
+                &plan(1, 0)?,
+                &OpenGate,
+            ) {
                 Ok(count) => assert!(rt; count == 7 && writer.out.as_slice() == ANSWERS),
                 Err(fault) => assert!(rt;
                     fault == RunFault::Write && ANSWERS.starts_with(writer.out.as_slice())
