@@ -64,13 +64,16 @@ impl Candidates {
         self.list.lock(rt).take()
     }
 
-    /// Node `x` again.
-    pub fn put<R: Wait>(&self, rt: &R, x: u32) {
-        self.list.lock(rt).put(x);
+    /// The same, after node `x` was put at the end again.
+    pub fn take_after<R: Wait>(&self, rt: &R, x: u32) -> Option<u32> {
+        let mut list = self.list.lock(rt);
+        list.put(x);
+        list.take()
     }
 
-    /// All neighbours of node `x` but the destination: each may be a sink now that `x` has turned.
-    pub fn put_neighbours<R: Wait>(&self, rt: &R, net: &Net, dest: u32, x: u32)
+    /// The same, after all neighbours of node `x` but the destination were put at the end: each may be a sink now that `x`
+    /// has turned.
+    pub fn take_after_turn<R: Wait>(&self, rt: &R, net: &Net, dest: u32, x: u32) -> Option<u32>
         requires { x < net.now.nodes }
     {
         let mut list = self.list.lock(rt);
@@ -79,5 +82,6 @@ impl Candidates {
                 list.put(*neighbour);
             }
         }
+        list.take()
     }
 }

@@ -54,21 +54,22 @@ fn work<R: Wait, G: Gate>(rt: &R, job: &Job, gate: &G, mut worker: Worker) -> Wo
         budget,
     } = job;
     let number = worker.number();
+    let mut next = candidates.take(rt);
     for made in 0..*budget {
-        let Some(x) = candidates.take(rt) else {
+        let Some(x) = next else {
             break;
         };
         gate.before(number, made + 1);
         let reply = round.try_turn(&mut worker, x);
         gate.after(number, made + 1);
-        match reply {
+        next = match reply {
             Ok(Reply::Turned { .. }) => {
-                candidates.put_neighbours(rt, round.net(), round.dest(), x);
+                candidates.take_after_turn(rt, round.net(), round.dest(), x)
             }
-            Ok(Reply::Moved { .. }) => candidates.put(rt, x),
+            Ok(Reply::Moved { .. }) => candidates.take_after(rt, x),
             // Whoever turns the neighbour that held it makes it a candidate again.
-            Ok(Reply::Held { .. }) | Ok(Reply::Cut) | Err(_) => {}
-        }
+            Ok(Reply::Held { .. }) | Ok(Reply::Cut) | Err(_) => candidates.take(rt),
+        };
     }
     worker
 }
