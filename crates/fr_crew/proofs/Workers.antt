@@ -1,5 +1,5 @@
 -- The workers of a crew are those of its round.
-use Rattle.std.proofs.Common.{◌≡◌, ◌∙◌, ℕ, zero, suc, ◌∷◌, [], List, length, ap, refl, arith, length-append}
+use Rattle.std.proofs.Common.{◌≡◌, ◌∙◌, ◌++◌, ℕ, zero, suc, ◌∷◌, [], List, length, ap, refl, arith, length-append}
 use Rattle.std.specs.List.{AllByRecursion as Each}
 use Rattle.fr_round.specs.Knowledge.{Knowledge, OpenRound, IsOwn, new_worker, new_workers}
 use Rattle.fr_round.proofs.Keeping.{each_snoc}
@@ -18,6 +18,11 @@ new_workers_own round (suc k) = each_snoc (IsOwn round) (new_workers round.table
 new_workers_length : (round : OpenRound) (k : ℕ) → length (new_workers round.table round.setup k) ≡ k
 new_workers_length round zero = refl
 new_workers_length round (suc k) = omega (arith, length-append (new_workers round.table round.setup k) (new_worker round.table round.setup k ∷ []), new_workers_length round k)
+
+-- what holds of each holds of the last
+pub each_last : {X : Type 0} (P : X → Type 0) (xs : List X) (x : X) → Each P (xs ++ x ∷ []) → P x
+each_last P [] x each = each.0
+each_last P (y ∷ xs) x each = each_last P xs x each.1
 
 -- as many came back as there were opened
 pub all_came_back : (round : OpenRound) (k : ℕ) (workers back : List Knowledge) → round.setup.workers ≡ k → workers ≡ new_workers round.table round.setup k → length back ≡ length workers → length back ≡ round.setup.workers

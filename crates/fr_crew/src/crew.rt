@@ -107,6 +107,7 @@ fn join_each<R: Threads>(rt: &R, threads: Vec<Thread>, mut workers: Vec<Worker>)
     requires { (vec_len workers ≡ 0) × (vec_len threads ≤ vec_capacity workers) }
     ensures own { (round : OpenRound) → Each (IsOwnThread round) threads.items → Each (IsOwn round) result.items }
     ensures len { vec_len result ≡ vec_len threads }
+    ensures room { vec_capacity result ≡ vec_capacity workers }
 {
     for thread in threads {
         workers.push_reserved(thread.join(rt));
@@ -114,14 +115,15 @@ fn join_each<R: Threads>(rt: &R, threads: Vec<Thread>, mut workers: Vec<Worker>)
     workers
 }
 
-/// The whole life of the threads. The room for all of them is taken before the first is started.
+/// The whole life of the threads. The room for all of them is taken before the first is started. The last worker works on
+/// the thread that called, which would only wait for the others.
 fn run_each<'s, 'e, R: Threads + Wait + Sync, G: Gate + Sync>(
     scope: &'s Scope<'s, &'e ()>,
     rt: &'e R,
     alloc: Global,
     job: &'e Job,
     gate: &'e G,
-    workers: Vec<Worker>,
+    mut workers: Vec<Worker>,
 ) -> Result<Vec<Worker>, CrewFault>
     requires { Each (IsOwn job.now.round) workers.items }
     ensures own { IfOk result (λ back. Each (IsOwn job.now.round) back.items) }
@@ -130,13 +132,22 @@ fn run_each<'s, 'e, R: Threads + Wait + Sync, G: Gate + Sync>(
 {
     let back = Vec::with_capacity(alloc, workers.len())?;
     let threads = Vec::with_capacity(alloc, workers.len())?;
+    let Some(last) = workers.pop() else {
+        return Ok(back);
+    };
     let Started { threads, all } = start_each(scope, rt, job, gate, threads, workers);
-    let back = join_each(rt, threads, back);
-    if all { Ok(back) } else { Err(CrewFault::Start) }
+    if !all {
+        join_each(rt, threads, back);
+        return Err(CrewFault::Start);
+    }
+    let last = work(rt, job, gate, last);
+    let mut back = join_each(rt, threads, back);
+    back.push_reserved(last);
+    Ok(back)
 }
 
-/// Lets all workers work at once, each in a thread of its own, and gives them back in their order. Where a thread cannot be
-/// started, those that were started are joined first.
+/// Lets all workers work at once, each in a thread of its own but for the last, which works on this one, and gives them back
+/// in their order. Where a thread cannot be started, those that were started are joined first, and the last does nothing.
 pub(crate) fn run_crew<R: Threads + Wait + Sync, G: Gate + Sync>(
     rt: &R,
     alloc: Global,

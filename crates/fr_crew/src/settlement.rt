@@ -1,9 +1,10 @@
 //! Settling a network.
 
-ghost use Rattle.std.specs.Prelude.{◌≡◌, ◌≢◌, ℕ, ◌<◌, ◌≤◌, ◌^◌, ◌↔◌, false, IfOk, IfErr, replicate, sum, sum_by};
+ghost use Rattle.std.specs.Prelude.{◌≡◌, ◌≢◌, ℕ, ◌<◌, ◌≤◌, ◌+◌, ◌^◌, ◌↔◌, false, IfOk, IfErr, sum, sum_by};
 ghost use Rattle.fr_net.specs.Counts.{AreLawful};
 ghost use Rattle.fr_core.specs.History.{moment_of};
 ghost use Rattle.fr_core.specs.Legal.{NoneCanTurn};
+ghost use Rattle.fr_core.specs.Settled.{AreSettled};
 ghost use Rattle.fr_crew.specs.Settlements.{IsSettlement};
 ghost use Rattle.fr_crew.specs.declared.fault.CrewFault.TheVariants.{Range, Memory};
 
@@ -33,8 +34,9 @@ pub struct Settled {
 }
 
 /// Turns a network until no node can turn: full reversal (E. Gafni and D. Bertsekas, 1981) by the workers of the plan, each
-/// in a thread of its own, and what they leave by [`finish`](fr_core::finish) on one thread. Whatever the plan, the gate and
-/// the schedule, the answer is the same but for who made how many turns.
+/// in a thread of its own but for the last, which works on the thread that calls, and what they leave by
+/// [`finish`](fr_core::finish) on one thread. Whatever the plan, the gate and the schedule, the answer is the same but for who
+/// made how many turns.
 ///
 /// A worker takes a candidate, tries to turn it, and makes candidates of all its neighbours where it did, and of the node
 /// itself where another worker was faster. It ends as soon as it finds no candidate, or its budget is spent. At first all
@@ -106,17 +108,34 @@ fn settle_by_crew<R: Threads + Wait + Sync, G: Gate + Sync>(
     Ok(finished(net, dest, counts, by_workers))
 }
 
-/// Whether some node can turn at the counts 0.
+/// Whether some node can turn at these counts: a sink other than the destination, whose count is below the cap.
 fn can_any_turn(net: &Net, dest: u32, counts: &[u64]) -> bool
-    requires { counts.now ≡ replicate net.now.nodes 0 }
+    requires { AreLawful net.now.nodes dest net.now.links counts.now }
     ensures { result ≡ false → NoneCanTurn net.now.nodes dest (moment_of net.now.links counts.now) }
 {
-    for x in 0..net.nodes() {
-        if x != dest && is_sink(net, counts, x) {
+    let nodes = net.nodes();
+    for x in 0..nodes {
+        if x != dest && counts[x as usize] < u64::from(nodes) && is_sink(net, counts, x) {
             return true;
         }
     }
     false
+}
+
+/// Settles the counts, and answers how many turns that takes. Where no node can turn it makes no search.
+fn finish_rest(net: &Net, dest: u32, counts: &mut [u64]) -> u64
+    requires node { dest < net.now.nodes }
+    requires lawful { AreLawful net.now.nodes dest net.now.links counts.old }
+    ensures settled { AreSettled net.now.nodes dest net.now.links counts.new }
+    ensures adds { sum counts.new ≡ sum counts.old + result }
+{
+    // For what `nodes` ensures: the links are those of a network.
+    let _nodes = net.nodes();
+    if can_any_turn(net, dest, counts) {
+        finish(net, dest, counts)
+    } else {
+        0
+    }
 }
 
 /// How many turns the workers made together, each told with its number.
@@ -136,7 +155,7 @@ fn finished(net: Net, dest: u32, mut counts: Vec<u64>, by_workers: u64) -> Settl
 {
     // For what `nodes` ensures: the links are those of a network.
     let _nodes = net.nodes();
-    let by_finisher = finish(&net, dest, &mut counts);
+    let by_finisher = finish_rest(&net, dest, &mut counts);
     let net = net.into_turned(&counts);
     Settled {
         net,

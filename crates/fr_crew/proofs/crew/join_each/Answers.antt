@@ -12,6 +12,7 @@ loop-thread-preserved g c =
     let next = c.in-Some.ensures.steps.0 in record {
       count = search rules;
       room = search rules;
+      same_room = search rules;
       own = λ round each.
           let here = subst (Each (IsOwnThread round)) next (was.rest round each) in
           rw c.push_reserved.ensures.items (each_snoc (IsOwn round) _ _ (was.own round each) (own_again round _ _ here.0 c.join.ensures));

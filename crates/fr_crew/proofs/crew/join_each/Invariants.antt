@@ -9,6 +9,7 @@ abbrev pub invariant-loop-thread : goal.invariant-loop-thread
 invariant-loop-thread g l = record {
   count : vec_len l.workers + into_iter_len l.thread-iterator ≡ vec_len l.fn.threads;
   room : vec_len l.fn.threads ≤ vec_capacity l.workers;
+  same_room : vec_capacity l.workers ≡ vec_capacity l.fn.workers;
   own : (round : OpenRound) → Each (IsOwnThread round) l.fn.threads.items → Each (IsOwn round) l.workers.items;
   rest : (round : OpenRound) → Each (IsOwnThread round) l.fn.threads.items → Each (IsOwnThread round) (into_iter_items l.thread-iterator);
 }

@@ -12,6 +12,12 @@ use Rattle.fr_core.proofs.Runs.{lawful_sum}
 use Rattle.fr_core.proofs.Settling.{settled_from_none}
 use Rattle.fr_crew.proofs.settlement.settle.Goals as goal
 
+pub can_any_turn-requires : goal.can_any_turn-requires
+can_any_turn-requires g c =
+    let n = c.args.net.nodes in
+    let zeros : c.in_ok-counts.counts.items ≡ replicate n 0 = c.in_ok-counts.ensures.items_if_clones_equal (λ y e. e) ∙ ap (λ (k : ℕ). replicate {A = ℕ} k 0) c.nodes-2.ensures.value in
+    rw (c.deref.ensures.value, zeros) (zeros_lawful n c.args.dest c.args.net.links)
+
 pub returns-then-not-can_any_turn-clause-settled : goal.returns-then-not-can_any_turn-clause-settled
 returns-then-not-can_any_turn-clause-settled g c =
     let n = c.args.net.nodes in
