@@ -8,11 +8,24 @@ use crate::hops::Hop;
 use std::alloc::{AllocError, Global};
 use std::fmt::Write;
 
+/// The bytes of a space and a number below 10,000, as nodes and counts are.
+const NUMBER_ROOM: usize = 5;
+
+/// A line that begins with this word, and has room for so many numbers and a line end behind it.
+fn begun(alloc: Global, word: &str, numbers: usize) -> Result<String, AllocError>
+    ensures { IfOk result (λ line. string_bytes line ≡ word.now) }
+{
+    let room = numbers.saturating_mul(NUMBER_ROOM).saturating_add(8);
+    let mut line = String::with_capacity(alloc, room)?;
+    line.push_str(word)?;
+    Ok(line)
+}
+
 /// `links`, and each link after a space, as `tail>head`.
 pub fn links_line(alloc: Global, links: &[(u32, u32)]) -> Result<String, AllocError>
     ensures { IfOk result (λ line. string_bytes line ≡ links_text links.now) }
 {
-    let mut line = String::from_str(alloc, "links")?;
+    let mut line = begun(alloc, "links", links.len().saturating_mul(2))?;
     for (tail, head) in links {
         write!(line, " {tail}>{head}")?;
     }
@@ -23,7 +36,7 @@ pub fn links_line(alloc: Global, links: &[(u32, u32)]) -> Result<String, AllocEr
 pub fn counts_line(alloc: Global, counts: &[u64]) -> Result<String, AllocError>
     ensures { IfOk result (λ line. string_bytes line ≡ counts_text counts.now) }
 {
-    let mut line = String::from_str(alloc, "counts")?;
+    let mut line = begun(alloc, "counts", counts.len())?;
     for count in counts {
         write!(line, " {count}")?;
     }
@@ -45,7 +58,7 @@ fn push_hop(line: &mut String, hop: Hop) -> Result<(), AllocError>
 pub(crate) fn hops_line(alloc: Global, hops: &[Hop]) -> Result<String, AllocError>
     ensures { IfOk result (λ line. string_bytes line ≡ hops_text hops.now) }
 {
-    let mut line = String::from_str(alloc, "hops")?;
+    let mut line = begun(alloc, "hops", hops.len())?;
     for hop in hops {
         push_hop(&mut line, *hop)?;
     }
@@ -56,7 +69,7 @@ pub(crate) fn hops_line(alloc: Global, hops: &[Hop]) -> Result<String, AllocErro
 pub(crate) fn walk_line(alloc: Global, nodes: &[u32]) -> Result<String, AllocError>
     ensures { IfOk result (λ line. string_bytes line ≡ walk_text nodes.now) }
 {
-    let mut line = String::from_str(alloc, "walk")?;
+    let mut line = begun(alloc, "walk", nodes.len())?;
     for node in nodes {
         write!(line, " {node}")?;
     }
@@ -75,12 +88,16 @@ pub(crate) fn report_line(alloc: Global, report: Report) -> Result<String, Alloc
     ensures { IfOk result (λ line. string_bytes line ≡ report_text report.turned report.cut) }
 {
     let Report { turned, cut } = report;
-    format!(in alloc; "turned {turned} cut {cut}")
+    let mut line = begun(alloc, "turned ", 4)?;
+    write!(line, "{turned} cut {cut}")?;
+    Ok(line)
 }
 
 /// The answer to a line that is refused by this number.
 pub(crate) fn refusal_line(alloc: Global, number: u32) -> Result<String, AllocError>
     ensures { IfOk result (λ line. string_bytes line ≡ refusal_text number) }
 {
-    format!(in alloc; "refused {number}")
+    let mut line = begun(alloc, "refused ", 1)?;
+    write!(line, "{number}")?;
+    Ok(line)
 }
