@@ -9,7 +9,7 @@ use Rattle.fr_net.proofs.Counting.{weigh}
 use Rattle.fr_net.proofs.Ordering.{same_order, in_order_order, is_pair, times-in_order}
 
 -- whether there is a link, and it passes
-passes : (ℕ × ℕ → Bool) → Option (ℕ × ℕ) → Bool
+pub passes : (ℕ × ℕ → Bool) → Option (ℕ × ℕ) → Bool
 passes p None = false
 passes p (Some l) = p l
 
@@ -18,10 +18,10 @@ unfolding passes
 count-cons_option p None xs = omega arith
 count-cons_option p (Some l) xs = let weight : ℕ × ℕ → ℕ = λ y. weigh (p y) in sum_by-cons weight l xs
 
-count-filter_map : (p : ℕ × ℕ → Bool) (f : ℕ × ℕ → Option (ℕ × ℕ)) (xs : List (ℕ × ℕ)) → count_by p (filter_map f xs) ≡ count_by (λ x. passes p (f x)) xs
+pub count-filter_map : {X : Type 0} (p : ℕ × ℕ → Bool) (f : X → Option (ℕ × ℕ)) (xs : List X) → count_by p (filter_map f xs) ≡ count_by (λ x. passes p (f x)) xs
 count-filter_map p f [] = refl
-count-filter_map p f (x ∷ xs) =
-    let weight : ℕ × ℕ → ℕ = λ y. weigh (passes p (f y)) in
+count-filter_map {X} p f (x ∷ xs) =
+    let weight : X → ℕ = λ y. weigh (passes p (f y)) in
     omega (arith, count-cons_option p (f x) (filter_map f xs), sum_by-cons weight x xs, count-filter_map p f xs)
 
 pub in_order-links_at : (first other : List (ℕ × ℕ)) (counts : List ℕ) → IsPermutation first other → in_order (links_at first counts) ≡ in_order (links_at other counts)
