@@ -15,7 +15,7 @@ use crate::cycle::{find_cycle, find_cycle_from};
 use crate::edits::{added_links, cut_links, joins, push_added, push_cut};
 use crate::fault::NetFault;
 use crate::limits::{MAX_LINKS, MAX_NODES};
-use crate::rows::{First, entries_of, first_twice, outward_links, row_starts, sorted_halves};
+use crate::rows::{First, entries_of, first_twice, outward_links, sorted_halves};
 use crate::turned::{push_out_links, turn_row};
 use std::alloc::Global;
 use std::marker::Model;
@@ -60,7 +60,7 @@ impl Net {
         if let Some(node) = first_self_link(links) {
             return Err(NetFault::SelfLink(node));
         }
-        let halves = sorted_halves(alloc, nodes, links)?;
+        let (halves, starts) = sorted_halves(alloc, nodes, links)?;
         if let Some((u, v)) = first_twice(&halves) {
             return Err(NetFault::Twice(u, v));
         }
@@ -68,7 +68,6 @@ impl Net {
         if let Some(walk) = find_cycle(alloc, nodes, &sorted)? {
             return Err(NetFault::Cycle(walk));
         }
-        let starts = row_starts(alloc, nodes, &halves)?;
         let entries = entries_of(alloc, &halves)?;
         Ok(Net {
             nodes,

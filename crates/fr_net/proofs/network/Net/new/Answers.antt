@@ -9,11 +9,6 @@ use Rattle.fr_net.specs.Links.{HasNoSelfLink, IsAcyclic, IsCycle}
 use Rattle.fr_net.specs.Order.{in_order}
 use Rattle.fr_net.proofs.network.Net.new.Goals as goal
 
-pub sorted_halves-requires-clause-below : goal.sorted_halves-requires-clause-below
-sorted_halves-requires-clause-below c =
-    let range : IsInRange c.args.nodes c.args.links.now = c.in_default.ensures.none in
-    range.below
-
 pub returns-in-Some-first_twice-clause-refused : goal.returns-in-Some-first_twice-clause-refused
 returns-in-Some-first_twice-clause-refused c _ =
     let listed = c.args.links.now in
@@ -67,11 +62,11 @@ invariant_of-result c =
     let made : c.in_ok-sorted.sorted.items ≡ in_order listed = c.in_ok-sorted.ensures listed (rw c.deref-2.ensures.value both) in
     let acyclic : IsAcyclic (in_order listed) = rw (c.deref-3.ensures.value, made, c.in_default-2.is) at c.in_ok-walk.ensures in
     let faultless : IsFaultless n listed = faultless_listed n listed (in_order listed) halves limits range clear both rising (in_order_permutes listed) acyclic in
-    let starts : AreStarts n halves c.in_ok-starts.starts.items = rw c.deref-4.ensures.value at c.in_ok-starts.ensures in
-    let entries : c.in_ok-entries.entries.items ≡ map entry_of halves = rw c.deref-5.ensures.value at c.in_ok-entries.ensures in
+    let starts : AreStarts n halves c.in_ok-halves.starts.items = c.in_ok-halves.ensures.starts in
+    let entries : c.in_ok-entries.entries.items ≡ map entry_of halves = rw c.deref-4.ensures.value at c.in_ok-entries.ensures in
     let shown =
-    made_shown n listed c.in_ok-sorted.sorted.items c.in_ok-starts.starts.items (map entry_of halves) faultless made starts.one_each
-    (rows_shown n listed halves c.in_ok-starts.starts.items faultless.is_net both rising starts) in
+    made_shown n listed c.in_ok-sorted.sorted.items c.in_ok-halves.starts.items (map entry_of halves) faultless made starts.one_each
+    (rows_shown n listed halves c.in_ok-halves.starts.items faultless.is_net both rising starts) in
     record {
       faultless = shown.faultless;
       sorted = shown.order;
