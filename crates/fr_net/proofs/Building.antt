@@ -55,32 +55,24 @@ rising_once halves u v rising = at_most_one (is_at u v) halves (λ i j d lt l e 
     let q = at_place u v (get_or halves j d) f in
     not_below_itself (rising_pair halves rising i j d lt l) (p.0 ∙ sym q.0) (p.1 ∙ sym q.1))
 
-count_same : (listed sorted : List (ℕ × ℕ)) (halves : List HalfLink) (u v : ℕ) → IsPermutation listed sorted → IsPermutation (halves_of sorted) halves → HasNoSelfLink sorted → count_by (is_at u v) halves ≡ count_by (is_between u v) listed
-count_same listed sorted halves u v same both bar =
+count_same : (listed : List (ℕ × ℕ)) (halves : List HalfLink) (u v : ℕ) → IsPermutation (halves_of listed) halves → HasNoSelfLink listed → count_by (is_at u v) halves ≡ count_by (is_between u v) listed
+count_same listed halves u v both bar =
     let f : HalfLink → ℕ = λ h. weigh (is_at u v h) in
-    let g : ℕ × ℕ → ℕ = λ l. weigh (is_between u v l) in
-    let a : count_by (is_at u v) halves ≡ count_by (is_at u v) (halves_of sorted) = sum_by-IsPermutation f (halves_of sorted) halves both in
-    let b : count_by (is_between u v) sorted ≡ count_by (is_between u v) listed = sum_by-IsPermutation g listed sorted same in
-    a ∙ count_halves sorted u v bar ∙ b
-
--- what the halves say of the listed links
-pub record IsSortedOut (listed sorted : List (ℕ × ℕ)) (halves : List HalfLink) : Type 0 where
-  pub same : IsPermutation listed sorted
-  pub both : IsPermutation (halves_of sorted) halves
-  pub no_self : HasNoSelfLink listed
+    sum_by-IsPermutation f (halves_of listed) halves both ∙ count_halves listed u v bar
 
 no_self_sorted : (listed sorted : List (ℕ × ℕ)) → IsPermutation listed sorted → HasNoSelfLink listed → HasNoSelfLink sorted
 no_self_sorted listed sorted same bar = All-permutation (λ (l : ℕ × ℕ). ¬ (l.0 ≡ l.1)) listed sorted same bar
 
-pub twice_stands : (listed sorted : List (ℕ × ℕ)) (halves : List HalfLink) (u v : ℕ) → IsSortedOut listed sorted halves → 2 ≤ count_by (is_at u v) halves → 2 ≤ count_by (is_between u v) listed
-twice_stands listed sorted halves u v s h = omega (arith, count_same listed sorted halves u v s.same s.both (no_self_sorted listed sorted s.same s.no_self))
+-- what the halves in order say of the listed links
+pub twice_stands : (listed : List (ℕ × ℕ)) (halves : List HalfLink) (u v : ℕ) → IsPermutation (halves_of listed) halves → HasNoSelfLink listed → 2 ≤ count_by (is_at u v) halves → 2 ≤ count_by (is_between u v) listed
+twice_stands listed halves u v both bar h = omega (arith, count_same listed halves u v both bar, h)
 
-pub single_from_rising : (listed sorted : List (ℕ × ℕ)) (halves : List HalfLink) → IsSortedOut listed sorted halves → AreHalvesRising halves → AreSingle listed
-single_from_rising listed sorted halves s rising k d l =
+pub single_from_rising : (listed : List (ℕ × ℕ)) (halves : List HalfLink) → IsPermutation (halves_of listed) halves → HasNoSelfLink listed → AreHalvesRising halves → AreSingle listed
+single_from_rising listed halves both bar rising k d l =
     let link = get_or listed k d in
     omega (
       arith,
-      count_same listed sorted halves link.0 link.1 s.same s.both (no_self_sorted listed sorted s.same s.no_self),
+      count_same listed halves link.0 link.1 both bar,
       rising_once halves link.0 link.1 rising,
       one_passes (is_between link.0 link.1) listed k d l (is_between_itself link),
     )
@@ -105,15 +97,6 @@ acyclic_listed listed sorted same a u vs p =
 pub below_sorted : (n : ℕ) (listed sorted : List (ℕ × ℕ)) → IsPermutation listed sorted → AreBelow n listed → AreBelow n sorted
 below_sorted n listed sorted same below = All-permutation (λ (l : ℕ × ℕ). (l.0 < n) × (l.1 < n)) listed sorted same below
 
--- the network of links without a fault
-pub net_listed : (n : ℕ) (listed sorted : List (ℕ × ℕ)) (halves : List HalfLink) → IsSortedOut listed sorted halves → IsInRange n listed → AreHalvesRising halves → IsAcyclic sorted → IsNet n listed
-net_listed n listed sorted halves s range rising a = record {
-  in_range = range.below;
-  no_self = s.no_self;
-  single = single_from_rising listed sorted halves s rising;
-  acyclic = acyclic_listed listed sorted s.same a;
-}
-
 pub net_sorted : (n : ℕ) (listed sorted : List (ℕ × ℕ)) → IsPermutation listed sorted → IsAcyclic sorted → IsNet n listed → IsNet n sorted
 net_sorted n listed sorted same a net = record {
   in_range = below_sorted n listed sorted same net.in_range;
@@ -122,11 +105,17 @@ net_sorted n listed sorted same a net = record {
   acyclic = a;
 }
 
-pub faultless_listed : (n : ℕ) (listed sorted : List (ℕ × ℕ)) (halves : List HalfLink) → IsSortedOut listed sorted halves → IsWithinLimits n listed → IsInRange n listed → AreHalvesRising halves → IsAcyclic sorted → IsFaultless n listed
-faultless_listed n listed sorted halves s limits range rising a = record {
+-- links in range and no self link among them have no fault where their halves rise and no closed walk follows them in order
+pub faultless_listed : (n : ℕ) (listed sorted : List (ℕ × ℕ)) (halves : List HalfLink) → IsWithinLimits n listed → IsInRange n listed → HasNoSelfLink listed → IsPermutation (halves_of listed) halves → AreHalvesRising halves → IsPermutation listed sorted → IsAcyclic sorted → IsFaultless n listed
+faultless_listed n listed sorted halves limits range bar both rising same a = record {
   limits = limits;
   some = range.some;
-  is_net = net_listed n listed sorted halves s range rising a;
+  is_net = record {
+    in_range = range.below;
+    no_self = bar;
+    single = single_from_rising listed halves both bar rising;
+    acyclic = acyclic_listed listed sorted same a;
+  };
 }
 
 pub faultless_sorted : (n : ℕ) (listed sorted : List (ℕ × ℕ)) → IsPermutation listed sorted → IsAcyclic sorted → IsFaultless n listed → IsFaultless n sorted
@@ -136,9 +125,9 @@ faultless_sorted n listed sorted same a f = record {
   is_net = net_sorted n listed sorted same a f.is_net;
 }
 
-pub rows_shown : (n : ℕ) (sorted : List (ℕ × ℕ)) (halves : List HalfLink) (starts : List ℕ) → IsNet n sorted → IsPermutation (halves_of sorted) halves → AreHalvesRising halves → AreStarts n halves starts → (x : ℕ) → x < n → ShowsRow n sorted starts (map entry_of halves) x
-rows_shown n sorted halves starts net both rising at x lt =
-    shows_row n sorted halves starts x lt (one_way sorted net.no_self net.single)
+pub rows_shown : (n : ℕ) (listed : List (ℕ × ℕ)) (halves : List HalfLink) (starts : List ℕ) → IsNet n listed → IsPermutation (halves_of listed) halves → AreHalvesRising halves → AreStarts n halves starts → (x : ℕ) → x < n → ShowsRow n listed starts (map entry_of halves) x
+rows_shown n listed halves starts net both rising at x lt =
+    shows_row n listed halves starts x lt (one_way listed net.no_self net.single)
     (λ u v p.
     let b = net.in_range p.0 (u, v) p.1 in
     let f = ap (λ (l : ℕ × ℕ). l.0) p.2 in

@@ -1,5 +1,6 @@
 -- How many elements of a list pass a test.
-use Rattle.std.proofs.Common.{Bool, List, [], ap, arith, cond, count_by, false, get_or, inl, inr, length, refl, suc, true, zero, ℕ, ◌<◌, ◌∷◌, ◌≡◌, ◌≤◌, ◌⊎◌}
+use Rattle.std.proofs.Common.{Bool, List, None, Option, Some, [], ap, arith, cond, count_by, false, get_or, inl, inr, length, refl, suc, true, zero, ℕ, ◌+◌, ◌<◌, ◌∷◌, ◌≡◌, ◌≤◌, ◌⊎◌}
+use Rattle.std.specs.List.{cons_option, filter_map}
 use Rattle.std.proofs.lemmas.Bool.{cases_Bool, cases_lt}
 use Rattle.std.proofs.lemmas.List.Sums.{get_or-le-sum_by, sum_by-cons}
 
@@ -58,3 +59,19 @@ count_agrees p q (x ∷ xs) same =
 
 pub cases_le_one : (n : ℕ) → (n ≤ 1) ⊎ (2 ≤ n)
 cases_le_one n = elim (cases_lt 1 n) [ inl l ↦ inr (omega arith) | inr g ↦ inl g ]
+
+-- what a function gives of the elements passes as often as they pass by it
+pub passes : {Y : Type 0} → (Y → Bool) → Option Y → Bool
+passes p None = false
+passes p (Some y) = p y
+
+count-cons_option : {Y : Type 0} (p : Y → Bool) (o : Option Y) (ys : List Y) → count_by p (cons_option o ys) ≡ weigh (passes p o) + count_by p ys
+unfolding passes
+count-cons_option p None ys = omega arith
+count-cons_option {Y} p (Some y) ys = let weight : Y → ℕ = λ z. weigh (p z) in sum_by-cons weight y ys
+
+pub count-filter_map : {X Y : Type 0} (p : Y → Bool) (f : X → Option Y) (xs : List X) → count_by p (filter_map f xs) ≡ count_by (λ x. passes p (f x)) xs
+count-filter_map p f [] = refl
+count-filter_map {X} p f (x ∷ xs) =
+    let weight : X → ℕ = λ y. weigh (passes p (f y)) in
+    omega (arith, count-cons_option p (f x) (filter_map f xs), sum_by-cons weight x xs, count-filter_map p f xs)

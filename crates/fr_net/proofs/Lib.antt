@@ -24,3 +24,4 @@ pub mod Cycles
 pub mod Items
 pub mod LineValues
 pub mod Reordering
+pub mod Outward

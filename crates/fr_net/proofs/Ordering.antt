@@ -10,7 +10,7 @@ use Rattle.fr_net.specs.CycleSearch.{HasRisingTails}
 use Rattle.fr_net.specs.Order.{AreInOrder, IsNotAfter, in_order, is_not_after, with_in_order}
 
 -- the first parts of pairs in order never fall
-pub up_first : {p q : ℕ × ℕ} → IsNotAfter p q → p.0 ≤ q.0
+up_first : {p q : ℕ × ℕ} → IsNotAfter p q → p.0 ≤ q.0
 up_first (inl l) = omega arith
 up_first (inr e) = omega arith
 

@@ -119,7 +119,7 @@ rising_once (l ∷ ls) x s =
       | inr e ↦ let none : weigh (is_pair x.0 x.1 l) ≡ 0 = rw e refl in omega (arith, times-cons l ls x, none, rising_once ls x s.1)
     ]
 
-rising_in_order : (links : List (ℕ × ℕ)) → IsSorted IsBefore links → AreInOrder links
+pub rising_in_order : (links : List (ℕ × ℕ)) → IsSorted IsBefore links → AreInOrder links
 rising_in_order links s k d l = not_after (sorted_at IsBefore links s k (k + 1) d (omega arith) l)
 
 -- the links of a network stand once each

@@ -15,7 +15,7 @@ use crate::cycle::{find_cycle, find_cycle_from};
 use crate::edits::{added_links, cut_links, joins, push_added, push_cut};
 use crate::fault::NetFault;
 use crate::limits::{MAX_LINKS, MAX_NODES};
-use crate::rows::{First, entries_of, first_twice, row_starts, sorted_halves, sorted_links};
+use crate::rows::{First, entries_of, first_twice, outward_links, sorted_halves};
 use crate::turned::{push_out_links, turn_row};
 use std::alloc::Global;
 use std::marker::Model;
@@ -46,7 +46,7 @@ impl Model for Net {
 impl Net {
     /// The network with nodes 0 to `nodes - 1` and these links, each from its tail to its head, in whatever order they
     /// are listed; or the first fault that stands, tested over the whole list in the order of [`NetFault`]. `Memory` where no
-    /// room could be had. It sorts the links unless they stand in order; all else is linear.
+    /// room could be had. It is linear.
     pub fn new(alloc: Global, nodes: u32, links: &[(u32, u32)]) -> Result<Net, NetFault>
         ensures ok { IfOk result (IsNetworkOf nodes links.now) }
         ensures refused { IfErr result (λ fault. fault ≢ Memory → IsFirstFault nodes links.now fault) }
@@ -60,15 +60,14 @@ impl Net {
         if let Some(node) = first_self_link(links) {
             return Err(NetFault::SelfLink(node));
         }
-        let sorted = sorted_links(alloc, links)?;
-        let halves = sorted_halves(alloc, nodes, &sorted)?;
+        let (halves, starts) = sorted_halves(alloc, nodes, links)?;
         if let Some((u, v)) = first_twice(&halves) {
             return Err(NetFault::Twice(u, v));
         }
+        let sorted = outward_links(alloc, &halves)?;
         if let Some(walk) = find_cycle(alloc, nodes, &sorted)? {
             return Err(NetFault::Cycle(walk));
         }
-        let starts = row_starts(alloc, nodes, &halves)?;
         let entries = entries_of(alloc, &halves)?;
         Ok(Net {
             nodes,
