@@ -91,11 +91,23 @@ static HELP_OF_PLAY: [&str; 3] = ["revroute", "help", "play"];
 
 #[test]
 fn helps_where_asked(rt: HostRuntime) -> Result<(), Fail> {
-    for (words, example) in [
-        (HELP.as_slice(), "revroute run < requests > answers"),
-        (HELP_OF_RUN.as_slice(), "| revroute run --workers 2"),
+    for (words, about, option, example) in [
+        (
+            HELP.as_slice(),
+            "Keeps a network of directed links free of loops",
+            "Print help",
+            "revroute run < requests > answers",
+        ),
+        (
+            HELP_OF_RUN.as_slice(),
+            "Answers requests",
+            "How many workers turn the network, 1 to 16 [default: 4]",
+            "| revroute run --workers 2",
+        ),
         (
             HELP_OF_PLAY.as_slice(),
+            "Plays a drawn schedule",
+            "How many steps are made, 0 to 10000 [default: 100]",
             "| revroute play --workers 1 --seed 7 --steps 6",
         ),
     ] {
@@ -103,7 +115,9 @@ fn helps_where_asked(rt: HostRuntime) -> Result<(), Fail> {
             Ok(_) => assert!(rt; false, "{words:?}"),
             Err(fault) => {
                 let (status, text) = task_end(&fault);
-                assert!(rt; status == 0 && text.contains(example), "{words:?}");
+                assert!(rt; status == 0 && text.starts_with(about), "{words:?}");
+                assert!(rt; text.contains(option), "{words:?}");
+                assert!(rt; text.trim_end().ends_with(example), "{words:?}");
             }
         }
     }
