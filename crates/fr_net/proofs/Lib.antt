@@ -17,6 +17,7 @@ pub mod TurnedRows
 pub mod RowsInPlace
 pub mod Remaking
 pub mod CutRows
+pub mod Places
 pub mod AddedLinks
 pub mod AddedRows
 pub mod ByNode

@@ -1,8 +1,8 @@
 //! Networks.
 
-ghost use Rattle.std.specs.Prelude.{◌≡◌, ◌≢◌, ℕ, ◌<◌, ◌+◌, ◌++◌, [], ◌∷◌, length, slice_get, slice_index, Some, IfOk, IfErr, OnOk, All};
+ghost use Rattle.std.specs.Prelude.{◌≡◌, ◌≢◌, ℕ, ◌<◌, ◌+◌, ◌++◌, [], ◌∷◌, length, slice_get, slice_index, Some, IfOk, IfErr, IfSome, IfNone, OnOk, All, ◌⊎◌};
 ghost use Rattle.std.specs.List.{HoldsAt};
-ghost use Rattle.fr_net.specs.Links.{Joins};
+ghost use Rattle.fr_net.specs.Links.{Joins, Points};
 ghost use Rattle.fr_net.specs.Order.{AreInOrder};
 ghost use Rattle.fr_net.specs.Counts.{IsKept, links_at};
 ghost use Rattle.fr_net.specs.Rows.{row};
@@ -12,7 +12,7 @@ ghost use Rattle.fr_net.specs.Edits.{IsCutFault, without};
 
 use crate::checks::{first_outside, first_self_link};
 use crate::cycle::{find_cycle, find_cycle_from};
-use crate::edits::{added_links, cut_links, joins, push_added, push_cut};
+use crate::edits::{added_links, cut_links, place_in_row, push_added, push_cut};
 use crate::fault::NetFault;
 use crate::limits::{MAX_LINKS, MAX_NODES};
 use crate::rows::{First, entries_of, first_twice, row_starts, sorted_halves, sorted_links};
@@ -122,6 +122,26 @@ impl Net {
         &self.entries[self.starts[x as usize]..self.starts[x as usize + 1]]
     }
 
+    /// The link that joins `u` and `v`, from its tail to its head, if there is one.
+    fn link_between(&self, u: u32, v: u32) -> Option<(u32, u32)>
+        ensures stands { IfSome result (λ link. Points self.now.links link.0 link.1) }
+        ensures ends { IfSome result (λ link. (link ≡ (u, v)) ⊎ (link ≡ (v, u))) }
+        ensures none { IfNone result (¬ Joins self.now.links u v) }
+    {
+        if u >= self.nodes {
+            return None;
+        }
+        let row = self.row(u);
+        let (w, first) = *row.get(place_in_row(row, v))?;
+        if w != v {
+            return None;
+        }
+        match first {
+            First::Outward => Some((u, v)),
+            First::Inward => Some((v, u)),
+        }
+    }
+
     /// The network without the link between `u` and `v`, whichever way it points. `NoLink` exactly where there is none, as
     /// where one of them is no node or both are the same; `Memory` where no room could be had. It is linear.
     pub fn with_cut(&self, alloc: Global, u: u32, v: u32) -> Result<Net, NetFault>
@@ -129,10 +149,10 @@ impl Net {
         ensures ok { IfOk result (IsNetworkOf self.now.nodes (without u v self.now.links)) }
         ensures refused { IfErr result (λ fault. fault ≢ Memory → IsCutFault self.now.links u v fault) }
     {
-        if !joins(&self.links, u, v) {
+        let Some((tail, head)) = self.link_between(u, v) else {
             return Err(NetFault::NoLink);
-        }
-        let links = cut_links(alloc, &self.links, u, v)?;
+        };
+        let links = cut_links(alloc, &self.links, tail, head)?;
         let mut starts = Vec::with_capacity(alloc, self.starts.len())?;
         let mut entries = Vec::with_capacity(alloc, self.entries.len())?;
         starts.push(0)?;
@@ -165,7 +185,7 @@ impl Net {
         if u == v {
             return Err(NetFault::SelfLink(u));
         }
-        if joins(&self.links, u, v) {
+        if self.link_between(u, v).is_some() {
             return Err(NetFault::Twice(u, v));
         }
         let links = added_links(alloc, &self.links, u, v)?;

@@ -16,4 +16,4 @@ returns c =
     let third : c.extend_from_slice-2.new.self.items ≡ ((old ++ take place row) ++ e ∷ []) ++ drop place row =
     c.in_ok-extend_from_slice-2.ensures.items ∙ ap (λ (es : List (ℕ × First)). es ++ take (length row - place) (drop place row)) second ∙ ap (λ (es : List (ℕ × First)). ((old ++ take place row) ++ e ∷ []) ++ es) rest in
     third ∙ append_assoc (old ++ take place row) (e ∷ []) (drop place row) ∙ append_assoc old (take place row) (e ∷ drop place row)
-    ∙ ap (λ (es : List (ℕ × First)). old ++ es) (sym (put_in_row e row place found.inside found.before found.stops))
+    ∙ ap (λ (es : List (ℕ × First)). old ++ es) (sym (put_in_row e row place found.inside found.before (λ d l. found.stops place d (omega arith) l)))

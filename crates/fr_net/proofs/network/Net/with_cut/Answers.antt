@@ -1,18 +1,23 @@
-use Rattle.std.proofs.Common.{List, [], ap, arith, length, refl, subst, sym, ℕ, ◌++◌, ◌∙◌, ◌∷◌, ◌≡◌}
+use Rattle.std.proofs.Common.{List, [], ap, arith, length, subst, sym, ℕ, ◌++◌, ◌∙◌, ◌∷◌, ◌≡◌}
 use Rattle.std.specs.List.{filter}
 use Rattle.fr_net.proofs.CutRows.{cut_in_order, row_cut}
 use Rattle.fr_net.proofs.Editing.{faultless_cut}
+use Rattle.fr_net.proofs.Places.{joins_ends, without_ends}
 use Rattle.fr_net.proofs.Remaking.{made_of, made_stands}
 use Rattle.fr_net.proofs.RowLists.{rows_more}
 use Rattle.fr_net.specs.Edits.{without}
 use Rattle.fr_net.specs.Faults.{IsFaultless}
-use Rattle.fr_net.specs.Links.{Joins}
 use Rattle.fr_net.specs.Network.{Network}
 use Rattle.fr_net.specs.Order.{AreInOrder, in_order}
 use Rattle.fr_net.specs.RowLists.{AreRows, stays}
 use Rattle.fr_net.specs.Rows.{row}
 use Rattle.fr_net.specs.declared.rows.First.{First}
 use Rattle.fr_net.proofs.network.Net.with_cut.Goals as goal
+
+pub cut_links-requires-clause-single : goal.cut_links-requires-clause-single
+cut_links-requires-clause-single c =
+    let same_links : c.self.inside.links.items ≡ c.args.self.now.links = ap (λ (m : Network). m.links) c.self.view_is in
+    rw c.deref.ensures.value c.self.invariant.faultless.is_net.single
 
 pub loop-x-preserved : goal.loop-x-preserved
 loop-x-preserved c =
@@ -40,7 +45,7 @@ invariant_of-result c =
     let clear : IsFaultless n links = subst (λ (m : Network). IsFaultless m.nodes m.links) c.self.view_is c.self.invariant.faultless in
     let all : c.loop-x.x ≡ n = omega (arith, same) in
     let rows : AreRows n (row n after) c.loop-x.starts.items c.loop-x.entries.items = subst (λ (k : ℕ). AreRows k (row n after) c.loop-x.starts.items c.loop-x.entries.items) all c.loop-x.invariant in
-    let kept : c.in_ok-links.links.items ≡ after = c.in_ok-links.ensures ∙ ap (without c.args.u c.args.v) (c.deref-2.ensures.value ∙ same_links) in
+    let kept : c.in_ok-links.links.items ≡ after = c.in_ok-links.ensures ∙ ap (without c.in-Some.tail c.in-Some.head) (c.deref.ensures.value ∙ same_links) ∙ without_ends c.args.u c.args.v (c.in-Some.tail, c.in-Some.head) links (rw c.in-Some.is at c.link_between.ensures.ends) in
     let order : AreInOrder links = rw same_links at c.self.invariant.sorted in
     let listed : c.in_ok-links.links.items ≡ in_order after = kept ∙ cut_in_order links c.args.u c.args.v order in
     let made = made_stands n after c.in_ok-links.links.items c.loop-x.starts.items c.loop-x.entries.items (faultless_cut n links c.args.u c.args.v clear) listed rows in
@@ -53,9 +58,7 @@ invariant_of-result c =
 
 pub returns-clause-joined : goal.returns-clause-joined
 returns-clause-joined c =
-    let same : c.self.inside.links.items ≡ c.args.self.now.links = ap (λ (v : Network). v.links) c.self.view_is in
-    let here : Joins c.deref.result.now c.args.u c.args.v = c.if-not-joins.ensures.0 refl in
-    rw (c.deref.ensures.value, same) at here
+    joins_ends c.args.u c.args.v (c.in-Some.tail, c.in-Some.head) c.args.self.now.links (rw c.in-Some.is at c.link_between.ensures.ends) (rw c.in-Some.is at c.link_between.ensures.stands)
 
 pub returns-clause-ok : goal.returns-clause-ok
 returns-clause-ok c =
@@ -65,6 +68,6 @@ returns-clause-ok c =
     let same : c.self.inside.nodes ≡ n = ap (λ (m : Network). m.nodes) c.self.view_is in
     let same_links : c.self.inside.links.items ≡ links = ap (λ (m : Network). m.links) c.self.view_is in
     let clear : IsFaultless n links = subst (λ (m : Network). IsFaultless m.nodes m.links) c.self.view_is c.self.invariant.faultless in
-    let kept : c.in_ok-links.links.items ≡ after = c.in_ok-links.ensures ∙ ap (without c.args.u c.args.v) (c.deref-2.ensures.value ∙ same_links) in
+    let kept : c.in_ok-links.links.items ≡ after = c.in_ok-links.ensures ∙ ap (without c.in-Some.tail c.in-Some.head) (c.deref.ensures.value ∙ same_links) ∙ without_ends c.args.u c.args.v (c.in-Some.tail, c.in-Some.head) links (rw c.in-Some.is at c.link_between.ensures.ends) in
     let order : AreInOrder links = rw same_links at c.self.invariant.sorted in
     rw same (made_of n after c.in_ok-links.links.items (faultless_cut n links c.args.u c.args.v clear) (kept ∙ cut_in_order links c.args.u c.args.v order))

@@ -2,7 +2,9 @@ use Rattle.std.proofs.Common.{List, [], ap, arith, length, subst, sym, ℕ, ◌+
 use Rattle.fr_net.proofs.AddedLinks.{added, added_in_order, faultless_added, in_range, no_self, single_added, within_limits}
 use Rattle.fr_net.proofs.AddedRows.{row_added}
 use Rattle.fr_net.proofs.Building.{below_sorted, cycle_stands}
+use Rattle.fr_net.proofs.Neighbours.{row_rises}
 use Rattle.fr_net.proofs.Ordering.{in_order_order, in_order_permutes, tails_rise}
+use Rattle.fr_net.proofs.Places.{from_none, rises_by}
 use Rattle.fr_net.proofs.Remaking.{made_of, made_stands}
 use Rattle.fr_net.proofs.RowLists.{rows_more}
 use Rattle.fr_net.specs.Faults.{IsFaultless}
@@ -22,7 +24,7 @@ find_cycle_from-requires-clause-tails c =
     let v = c.args.v in
     let same_links : c.self.inside.links.items ≡ links = ap (λ (m : Network). m.links) c.self.view_is in
     let order : AreInOrder links = rw same_links at c.self.invariant.sorted in
-    let made : c.deref-3.result.now ≡ in_order (added links u v) = c.deref-3.ensures.value ∙ c.in_ok-links.ensures ∙ ap (with_in_order (u, v)) (c.deref-2.ensures.value ∙ same_links) ∙ added_in_order links u v order in
+    let made : c.deref-2.result.now ≡ in_order (added links u v) = c.deref-2.ensures.value ∙ c.in_ok-links.ensures ∙ ap (with_in_order (u, v)) (c.deref.ensures.value ∙ same_links) ∙ added_in_order links u v order in
     rw made (tails_rise (in_order (added links u v)) (in_order_order (added links u v)))
 
 pub find_cycle_from-requires-clause-below : goal.find_cycle_from-requires-clause-below
@@ -35,7 +37,7 @@ find_cycle_from-requires-clause-below c =
     let same_links : c.self.inside.links.items ≡ links = ap (λ (m : Network). m.links) c.self.view_is in
     let clear : IsFaultless n links = subst (λ (m : Network). IsFaultless m.nodes m.links) c.self.view_is c.self.invariant.faultless in
     let order : AreInOrder links = rw same_links at c.self.invariant.sorted in
-    let made : c.deref-3.result.now ≡ in_order (added links u v) = c.deref-3.ensures.value ∙ c.in_ok-links.ensures ∙ ap (with_in_order (u, v)) (c.deref-2.ensures.value ∙ same_links) ∙ added_in_order links u v order in
+    let made : c.deref-2.result.now ≡ in_order (added links u v) = c.deref-2.ensures.value ∙ c.in_ok-links.ensures ∙ ap (with_in_order (u, v)) (c.deref.ensures.value ∙ same_links) ∙ added_in_order links u v order in
     let ends : (u < n) × (v < n) = rw same at (c.in_default.ensures.none.below 0 (u, v) (omega arith)) in
     rw (made, same) (below_sorted n (added links u v) (in_order (added links u v)) (in_order_permutes (added links u v)) (in_range n links u v clear.is_net.in_range ends.0 ends.1).below)
 
@@ -49,10 +51,10 @@ returns-in-Some-2-clause-refused c _ =
     let same_links : c.self.inside.links.items ≡ links = ap (λ (m : Network). m.links) c.self.view_is in
     let clear : IsFaultless n links = subst (λ (m : Network). IsFaultless m.nodes m.links) c.self.view_is c.self.invariant.faultless in
     let order : AreInOrder links = rw same_links at c.self.invariant.sorted in
-    let made : c.deref-3.result.now ≡ in_order (added links u v) = c.deref-3.ensures.value ∙ c.in_ok-links.ensures ∙ ap (with_in_order (u, v)) (c.deref-2.ensures.value ∙ same_links) ∙ added_in_order links u v order in
+    let made : c.deref-2.result.now ≡ in_order (added links u v) = c.deref-2.ensures.value ∙ c.in_ok-links.ensures ∙ ap (with_in_order (u, v)) (c.deref.ensures.value ∙ same_links) ∙ added_in_order links u v order in
     let ends : (u < n) × (v < n) = rw same at (c.in_default.ensures.none.below 0 (u, v) (omega arith)) in
     let few : length links < most_links = omega (arith, c.if-len-ge-MAX_LINKS.false, c.len.ensures, c.self.inside.links.ok.0, ap length same_links) in
-    let free : ¬ Joins links u v = λ h. absurd (cc (c.if-joins.ensures.1 (rw (c.deref.ensures.value, same_links) h))) in
+    let free : ¬ Joins links u v = from_none _ c.link_between.result c.if-is_some.ensures c.link_between.ensures.none in
     let found : IsCycle (in_order (added links u v)) c.in-Some-2.walk.items = rw (made, c.in-Some-2.is) at c.in_ok-walk.ensures in (
       within_limits n links u v clear.limits few,
       in_range n links u v clear.is_net.in_range ends.0 ends.1,
@@ -60,6 +62,11 @@ returns-in-Some-2-clause-refused c _ =
       single_added links u v clear.is_net.single free,
       cycle_stands (added links u v) (in_order (added links u v)) c.in-Some-2.walk.items (in_order_permutes (added links u v)) found,
     )
+
+pub push_added-requires : goal.push_added-requires
+push_added-requires c =
+    let n = c.args.self.now.nodes in
+    rw c.row.ensures (rises_by (row n c.args.self.now.links c.loop-x.x) (row_rises n c.args.self.now.links c.loop-x.x))
 
 pub loop-x-preserved : goal.loop-x-preserved
 loop-x-preserved c =
@@ -70,7 +77,7 @@ loop-x-preserved c =
     let same : c.self.inside.nodes ≡ n = ap (λ (m : Network). m.nodes) c.self.view_is in
     let same_links : c.self.inside.links.items ≡ links = ap (λ (m : Network). m.links) c.self.view_is in
     let ends : (u < n) × (v < n) = rw same at (c.in_default.ensures.none.below 0 (u, v) (omega arith)) in
-    let free : ¬ Joins links u v = λ h. absurd (cc (c.if-joins.ensures.1 (rw (c.deref.ensures.value, same_links) h))) in
+    let free : ¬ Joins links u v = from_none _ c.link_between.result c.if-is_some.ensures c.link_between.ensures.none in
     let x = c.loop-x.x in
     let rows : ℕ → List (ℕ × First) = row n (added links u v) in
     let old = c.loop-x.entries.items in
@@ -91,11 +98,11 @@ invariant_of-result c =
     let same_links : c.self.inside.links.items ≡ links = ap (λ (m : Network). m.links) c.self.view_is in
     let clear : IsFaultless n links = subst (λ (m : Network). IsFaultless m.nodes m.links) c.self.view_is c.self.invariant.faultless in
     let order : AreInOrder links = rw same_links at c.self.invariant.sorted in
-    let made : c.in_ok-links.links.items ≡ in_order (added links u v) = c.in_ok-links.ensures ∙ ap (with_in_order (u, v)) (c.deref-2.ensures.value ∙ same_links) ∙ added_in_order links u v order in
+    let made : c.in_ok-links.links.items ≡ in_order (added links u v) = c.in_ok-links.ensures ∙ ap (with_in_order (u, v)) (c.deref.ensures.value ∙ same_links) ∙ added_in_order links u v order in
     let ends : (u < n) × (v < n) = rw same at (c.in_default.ensures.none.below 0 (u, v) (omega arith)) in
     let few : length links < most_links = omega (arith, c.if-len-ge-MAX_LINKS.false, c.len.ensures, c.self.inside.links.ok.0, ap length same_links) in
-    let free : ¬ Joins links u v = λ h. absurd (cc (c.if-joins.ensures.1 (rw (c.deref.ensures.value, same_links) h))) in
-    let whole : c.deref-3.result.now ≡ in_order (added links u v) = c.deref-3.ensures.value ∙ made in
+    let free : ¬ Joins links u v = from_none _ c.link_between.result c.if-is_some.ensures c.link_between.ensures.none in
+    let whole : c.deref-2.result.now ≡ in_order (added links u v) = c.deref-2.ensures.value ∙ made in
     let none : (vs : List ℕ) → ¬ IsClosedWalk (in_order (added links u v)) v vs = rw (whole, c.in_default-2.is) at c.in_ok-walk.ensures in
     let after : IsFaultless n (added links u v) = faultless_added n links u v clear few ends.0 ends.1 c.if-u-v.false free none in
     let all : c.loop-x.x ≡ n = omega (arith, same) in
@@ -118,11 +125,11 @@ returns-clause-ok c =
     let same_links : c.self.inside.links.items ≡ links = ap (λ (m : Network). m.links) c.self.view_is in
     let clear : IsFaultless n links = subst (λ (m : Network). IsFaultless m.nodes m.links) c.self.view_is c.self.invariant.faultless in
     let order : AreInOrder links = rw same_links at c.self.invariant.sorted in
-    let made : c.in_ok-links.links.items ≡ in_order (added links u v) = c.in_ok-links.ensures ∙ ap (with_in_order (u, v)) (c.deref-2.ensures.value ∙ same_links) ∙ added_in_order links u v order in
+    let made : c.in_ok-links.links.items ≡ in_order (added links u v) = c.in_ok-links.ensures ∙ ap (with_in_order (u, v)) (c.deref.ensures.value ∙ same_links) ∙ added_in_order links u v order in
     let ends : (u < n) × (v < n) = rw same at (c.in_default.ensures.none.below 0 (u, v) (omega arith)) in
     let few : length links < most_links = omega (arith, c.if-len-ge-MAX_LINKS.false, c.len.ensures, c.self.inside.links.ok.0, ap length same_links) in
-    let free : ¬ Joins links u v = λ h. absurd (cc (c.if-joins.ensures.1 (rw (c.deref.ensures.value, same_links) h))) in
-    let whole : c.deref-3.result.now ≡ in_order (added links u v) = c.deref-3.ensures.value ∙ made in
+    let free : ¬ Joins links u v = from_none _ c.link_between.result c.if-is_some.ensures c.link_between.ensures.none in
+    let whole : c.deref-2.result.now ≡ in_order (added links u v) = c.deref-2.ensures.value ∙ made in
     let none : (vs : List ℕ) → ¬ IsClosedWalk (in_order (added links u v)) v vs = rw (whole, c.in_default-2.is) at c.in_ok-walk.ensures in
     let after : IsFaultless n (added links u v) = faultless_added n links u v clear few ends.0 ends.1 c.if-u-v.false free none in
     rw same (made_of n (added links u v) c.in_ok-links.links.items after made)
