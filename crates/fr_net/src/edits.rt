@@ -1,13 +1,13 @@
 //! The links and rows of a network with one link taken out or added.
 
-ghost use Rattle.std.specs.Prelude.{◌≡◌, ℕ, ◌<◌, ◌≤◌, ◌++◌, length, slice_index_or, IfOk, OnOk};
-ghost use Rattle.std.specs.List.{filter};
+ghost use Rattle.std.specs.Prelude.{◌≡◌, ℕ, ◌<◌, ◌≤◌, ◌+◌, ◌-◌, ◌^◌, ◌==◌, if◌then◌else◌, length, map, slice_index_or, All, IfOk};
+ghost use Rattle.std.specs.List.{insert, remove};
 ghost use Rattle.std.specs.List.Sorted.{IsNonDecreasingBy};
 ghost use Rattle.fr_net.specs.Links.{AreSingle, Points};
 ghost use Rattle.fr_net.specs.Edits.{without};
 ghost use Rattle.fr_net.specs.Halves.{IsBefore};
 ghost use Rattle.fr_net.specs.Order.{AreInOrder, IsNotAfter, with_in_order};
-ghost use Rattle.fr_net.specs.RowLists.{added_row, stays, with_entry};
+ghost use Rattle.fr_net.specs.declared.rows.First.TheVariants.{Outward, Inward};
 
 use crate::rows::First;
 use std::alloc::{AllocError, Global};
@@ -41,29 +41,6 @@ pub(crate) fn cut_links(
     Ok(kept)
 }
 
-/// Adds the row of `x` to the entries, but for the link between `u` and `v`.
-pub(crate) fn push_cut(
-    entries: &mut Vec<(u32, First)>,
-    x: u32,
-    row: &[(u32, First)],
-    u: u32,
-    v: u32,
-) -> Result<(), AllocError>
-    ensures { OnOk result (entries.new.items ≡ entries.old.items ++ filter (stays u v x) row.now) }
-{
-    if x != u && x != v {
-        entries.extend_from_slice(row)?;
-        return Ok(());
-    }
-    for (w, first) in row {
-        let joined = (x == u && *w == v) || (x == v && *w == u);
-        if !joined {
-            entries.push((*w, *first))?;
-        }
-    }
-    Ok(())
-}
-
 /// The links, which are in order, and at its place among them the one from `u` to `v`.
 pub(crate) fn added_links(
     alloc: Global,
@@ -92,39 +69,73 @@ pub(crate) fn place_in_row(row: &[(u32, First)], w: u32) -> usize
     row.partition_point(|entry| entry.0 < w)
 }
 
-/// Adds the row to the entries, with an entry at its place in it.
-fn push_with(
-    entries: &mut Vec<(u32, First)>,
-    row: &[(u32, First)],
-    entry: (u32, First),
-) -> Result<(), AllocError>
-    requires { IsNonDecreasingBy (λ (e : ℕ × First). e.0) row.now }
-    ensures { OnOk result (entries.new.items ≡ entries.old.items ++ with_entry entry row.now) }
+/// The entries but for those at two places.
+pub(crate) fn cut_entries(
+    alloc: Global,
+    entries: &[(u32, First)],
+    low: usize,
+    high: usize,
+) -> Result<Vec<(u32, First)>, AllocError>
+    requires order { low < high }
+    requires inside { high < length entries.now }
+    ensures { IfOk result (λ kept. kept.items ≡ remove (remove entries.now high) low) }
 {
-    let place = place_in_row(row, entry.0);
-    entries.extend_from_slice(&row[..place])?;
-    entries.push(entry)?;
-    entries.extend_from_slice(&row[place..])?;
-    Ok(())
+    let mut kept = Vec::with_capacity(alloc, entries.len() - 2)?;
+    kept.extend_from_slice(&entries[..low])?;
+    kept.extend_from_slice(&entries[low + 1..high])?;
+    kept.extend_from_slice(&entries[high + 1..])?;
+    Ok(kept)
 }
 
-/// Adds the row of `x` to the entries, with the link from `u` to `v` where `x` is an end of it.
-pub(crate) fn push_added(
-    entries: &mut Vec<(u32, First)>,
-    x: u32,
-    row: &[(u32, First)],
-    u: u32,
-    v: u32,
-) -> Result<(), AllocError>
-    requires { IsNonDecreasingBy (λ (e : ℕ × First). e.0) row.now }
-    ensures { OnOk result (entries.new.items ≡ entries.old.items ++ added_row u v x row.now) }
+/// The entries with two more, `first` before what stands at `low` and `second` before what stands at `high`.
+pub(crate) fn added_entries(
+    alloc: Global,
+    entries: &[(u32, First)],
+    low: usize,
+    first: (u32, First),
+    high: usize,
+    second: (u32, First),
+) -> Result<Vec<(u32, First)>, AllocError>
+    requires order { low ≤ high }
+    requires inside { high ≤ length entries.now }
+    ensures { IfOk result (λ added. added.items ≡ insert (insert entries.now high second) low first) }
 {
-    if x == u {
-        push_with(entries, row, (v, First::Outward))?;
-    } else if x == v {
-        push_with(entries, row, (u, First::Inward))?;
+    let mut added = Vec::with_capacity(alloc, entries.len() + 2)?;
+    added.extend_from_slice(&entries[..low])?;
+    added.push(first)?;
+    added.extend_from_slice(&entries[low..high])?;
+    added.push(second)?;
+    added.extend_from_slice(&entries[high..])?;
+    Ok(added)
+}
+
+/// The direction of a link with this tail as seen from `x`, which is one of its ends.
+pub(crate) fn seen_from(x: u32, tail: u32) -> First
+    ensures { result ≡ (if x == tail then Outward else Inward) }
+{
+    if x == tail {
+        First::Outward
     } else {
-        entries.extend_from_slice(row)?;
+        First::Inward
     }
-    Ok(())
+}
+
+/// Moves each of these starts one place up.
+pub(crate) fn move_up(starts: &mut [usize])
+    requires { All (λ (start : ℕ). start + 1 < 2 ^ 64) starts.old }
+    ensures { starts.new ≡ map (λ (start : ℕ). start + 1) starts.old }
+{
+    for start in starts.iter_mut() {
+        *start += 1;
+    }
+}
+
+/// Moves each of these starts one place down.
+pub(crate) fn move_down(starts: &mut [usize])
+    requires { All (λ (start : ℕ). 0 < start) starts.old }
+    ensures { starts.new ≡ map (λ (start : ℕ). start - 1) starts.old }
+{
+    for start in starts.iter_mut() {
+        *start -= 1;
+    }
 }

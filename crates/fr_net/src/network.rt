@@ -12,7 +12,9 @@ ghost use Rattle.fr_net.specs.Edits.{IsCutFault, without};
 
 use crate::checks::{first_outside, first_self_link};
 use crate::cycle::{find_cycle, find_cycle_from};
-use crate::edits::{added_links, cut_links, place_in_row, push_added, push_cut};
+use crate::edits::{
+    added_entries, added_links, cut_entries, cut_links, move_down, move_up, place_in_row, seen_from,
+};
 use crate::fault::NetFault;
 use crate::limits::{MAX_LINKS, MAX_NODES};
 use crate::rows::{First, entries_of, first_twice, row_starts, sorted_halves, sorted_links};
@@ -153,13 +155,14 @@ impl Net {
             return Err(NetFault::NoLink);
         };
         let links = cut_links(alloc, &self.links, tail, head)?;
-        let mut starts = Vec::with_capacity(alloc, self.starts.len())?;
-        let mut entries = Vec::with_capacity(alloc, self.entries.len())?;
-        starts.push(0)?;
-        for x in 0..self.nodes {
-            push_cut(&mut entries, x, self.row(x), u, v)?;
-            starts.push(entries.len())?;
-        }
+        let low = u.min(v);
+        let high = u.max(v);
+        let first = self.starts[low as usize] + place_in_row(self.row(low), high);
+        let second = self.starts[high as usize] + place_in_row(self.row(high), low);
+        let entries = cut_entries(alloc, &self.entries, first, second)?;
+        let mut starts = self.starts.to_vec(alloc)?;
+        move_down(&mut starts[high as usize + 1..]);
+        move_down(&mut starts[low as usize + 1..]);
         Ok(Net {
             nodes: self.nodes,
             links,
@@ -192,13 +195,15 @@ impl Net {
         if let Some(walk) = find_cycle_from(alloc, self.nodes, &links, v)? {
             return Err(NetFault::Cycle(walk));
         }
-        let mut starts = Vec::with_capacity(alloc, self.starts.len())?;
-        let mut entries = Vec::with_capacity(alloc, self.entries.len() + 2)?;
-        starts.push(0)?;
-        for x in 0..self.nodes {
-            push_added(&mut entries, x, self.row(x), u, v)?;
-            starts.push(entries.len())?;
-        }
+        let low = u.min(v);
+        let high = u.max(v);
+        let first = self.starts[low as usize] + place_in_row(self.row(low), high);
+        let second = self.starts[high as usize] + place_in_row(self.row(high), low);
+        let (at_low, at_high) = ((high, seen_from(low, u)), (low, seen_from(high, u)));
+        let entries = added_entries(alloc, &self.entries, first, at_low, second, at_high)?;
+        let mut starts = self.starts.to_vec(alloc)?;
+        move_up(&mut starts[high as usize + 1..]);
+        move_up(&mut starts[low as usize + 1..]);
         Ok(Net {
             nodes: self.nodes,
             links,
