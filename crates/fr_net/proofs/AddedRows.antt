@@ -1,5 +1,5 @@
 -- The rows of a network with one link added.
-use Rattle.std.proofs.Common.{Bool, Contains, List, None, Option, Some, [], ap, arith, cond, drop, eq-eqb, false, get_or, inl, inr, length, ne_eqb, option_to_list, refl, suc, sym, take, true, zero, ℕ, ◌++◌, ◌<◌, ◌∙◌, ◌∷◌, ◌≡◌, ◌≢◌, ◌≤◌, ◌⊎◌}
+use Rattle.std.proofs.Common.{Bool, Contains, List, None, Option, Some, [], ap, arith, cond, drop, eq-eqb, eqb, false, get_or, inl, inr, length, ne_eqb, option_to_list, refl, suc, sym, take, true, zero, ℕ, ◌++◌, ◌<◌, ◌∙◌, ◌∷◌, ◌≡◌, ◌≢◌, ◌≤◌, ◌⊎◌}
 use Rattle.std.specs.Prelude.{nat_le}
 use Rattle.std.proofs.lemmas.Bool.{cases_eq, cond-false, cond-true, le-leb, lt-leb}
 use Rattle.std.proofs.lemmas.List.{append-nil}
@@ -10,10 +10,18 @@ use Rattle.fr_net.proofs.Neighbours.{row_entry_node, row_entry_out, row_holds}
 use Rattle.fr_net.proofs.Remaking.{row_entry_same}
 use Rattle.fr_net.proofs.TurnedRows.{entry, row_entry_back, row_entry_none}
 use Rattle.fr_net.specs.Links.{Joins, Points}
-use Rattle.fr_net.specs.RowLists.{added_row, with_entry}
 use Rattle.fr_net.specs.Rows.{row, row_entry}
 use Rattle.fr_net.specs.declared.rows.First.{First}
 use Rattle.fr_net.specs.declared.rows.First.TheVariants.{Inward, Outward}
+
+-- the entries with one put before the first that has no lesser neighbour
+abbrev pub with_entry : ℕ × First → List (ℕ × First) → List (ℕ × First)
+with_entry new [] = new ∷ []
+with_entry new (entry ∷ rest) = cond (nat_le new.0 entry.0) (new ∷ (entry ∷ rest)) (entry ∷ with_entry new rest)
+
+-- the entries of x where the link from u to v is added
+abbrev pub added_row : ℕ → ℕ → ℕ → List (ℕ × First) → List (ℕ × First)
+added_row u v x entries = cond (eqb x u) (with_entry (v, Outward) entries) (cond (eqb x v) (with_entry (u, Inward) entries) entries)
 
 pub put_in_row : (e : ℕ × First) (es : List (ℕ × First)) (k : ℕ) → k ≤ length es → ((i : ℕ) (d : ℕ × First) → i < k → (get_or es i d).0 < e.0) → ((d : ℕ × First) → k < length es → e.0 ≤ (get_or es k d).0) → with_entry e es ≡ take k es ++ e ∷ drop k es
 put_in_row e [] zero le before stops = refl

@@ -15,9 +15,12 @@ use Rattle.fr_net.proofs.TurnedRows.{row_entry_none}
 use Rattle.fr_net.specs.Edits.{without}
 use Rattle.fr_net.specs.Links.{Points, is_between}
 use Rattle.fr_net.specs.Order.{AreInOrder, IsNotAfter, in_order}
-use Rattle.fr_net.specs.RowLists.{stays}
 use Rattle.fr_net.specs.Rows.{row, row_entry}
 use Rattle.fr_net.specs.declared.rows.First.{First}
+
+-- whether an entry of x stays where the link between u and v is cut
+abbrev pub stays : ℕ → ℕ → ℕ → ℕ × First → Bool
+stays u v x entry = not (is_between u v (x, entry.0))
 
 -- links in order are sorted, and a part of them is
 pub sorted_from_order : (links : List (ℕ × ℕ)) → AreInOrder links → IsSorted IsNotAfter links

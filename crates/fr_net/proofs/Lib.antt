@@ -17,8 +17,11 @@ pub mod TurnedRows
 pub mod RowsInPlace
 pub mod Remaking
 pub mod CutRows
+pub mod Places
+pub mod EditedRows
 pub mod AddedLinks
 pub mod AddedRows
+pub mod EditedNets
 pub mod ByNode
 pub mod Cycles
 pub mod Items

@@ -35,7 +35,7 @@ second_same (inl a) (inr b) = omega arith
 second_same (inr a) (inl b) = omega arith
 second_same (inr a) (inr b) = omega arith
 
-up_both : (p q : ℕ × ℕ) → IsNotAfter p q → IsNotAfter q p → p ≡ q
+pub up_both : (p q : ℕ × ℕ) → IsNotAfter p q → IsNotAfter q p → p ≡ q
 up_both (a, b) (c, d) h g = let e : a ≡ c = first_same h g in let f : b ≡ d = second_same h g in cc
 
 shift_at : (q : ℕ × ℕ) (qs : List (ℕ × ℕ)) (k : ℕ) (d : ℕ × ℕ) → get_or (q ∷ qs) (k + 1) d ≡ get_or qs k d

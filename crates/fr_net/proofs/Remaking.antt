@@ -5,13 +5,11 @@ use Rattle.std.proofs.lemmas.List.Sorted.{IsPermutation-sym}
 use Rattle.fr_net.proofs.Building.{acyclic_listed, faultless_sorted}
 use Rattle.fr_net.proofs.Neighbours.{Points-has_link, has_link_true}
 use Rattle.fr_net.proofs.Ordering.{in_order_order, in_order_permutes, into_order, out_of_order}
-use Rattle.fr_net.proofs.RowLists.{rows_show}
 use Rattle.fr_net.specs.Faults.{IsFaultless, IsNetworkOf}
 use Rattle.fr_net.specs.Halves.{ShowsRow}
 use Rattle.fr_net.specs.Links.{Points}
 use Rattle.fr_net.specs.Network.{Network}
 use Rattle.fr_net.specs.Order.{AreInOrder, in_order}
-use Rattle.fr_net.specs.RowLists.{AreRows}
 use Rattle.fr_net.specs.Rows.{has_link, row, row_entry}
 use Rattle.fr_net.specs.declared.rows.First.{First}
 
@@ -58,9 +56,6 @@ made_shown n listed made starts entries clear is one_each each =
       starts_length = one_each;
       rows = λ x lt. let shown = each x lt in record { low = shown.low; high = shown.high; is_row = shown.is_row ∙ in_order_row n listed x };
     })
-
-pub made_stands : (n : ℕ) (listed made : List (ℕ × ℕ)) (starts : List ℕ) (entries : List (ℕ × First)) → IsFaultless n listed → made ≡ in_order listed → AreRows n (row n listed) starts entries → IsMade n made starts entries
-made_stands n listed made starts entries clear is at = made_shown n listed made starts entries clear is at.one_each (rows_show n listed starts entries at)
 
 abbrev with_links : ℕ → List (ℕ × ℕ) → Network
 with_links n links = record { nodes = n; links = links }

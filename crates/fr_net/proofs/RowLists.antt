@@ -1,15 +1,12 @@
 -- The rows of all nodes, one after the other in one list.
-use Rattle.std.proofs.Common.{Contains, List, [], add-one, ap, arith, drop, get_or, inl, inr, length, length-append, refl, slice_range, subst, suc, take, take_all, zero, ℕ, ◌++◌, ◌+◌, ◌-◌, ◌<◌, ◌∙◌, ◌∷◌, ◌≡◌, ◌≤◌}
+use Rattle.std.proofs.Common.{Contains, List, add-one, ap, arith, drop, inl, inr, length, length-append, slice_range, subst, suc, take, take_all, zero, ℕ, ◌++◌, ◌+◌, ◌-◌, ◌<◌, ◌∙◌, ◌≡◌, ◌≤◌}
 use Rattle.std.proofs.lemmas.Bool.{cases_eq, cases_lt}
-use Rattle.std.proofs.lemmas.List.{drop-append-le, get_or_append_left, get_or_push, length-drop, length_push, take-append-le}
+use Rattle.std.proofs.lemmas.List.{drop-append-le, length-drop, take-append-le}
 use Rattle.std.proofs.lemmas.List.Elements.{Contains-append_cases, Contains-append_left, Contains-append_right}
 use Rattle.std.proofs.Math.Seq.{drop-append_seam}
 use Rattle.fr_net.proofs.Members.{Contains-none}
 use Rattle.fr_net.proofs.Sorting.{IsSorted, sorted-append}
-use Rattle.fr_net.specs.Halves.{ShowsRow}
-use Rattle.fr_net.specs.RowLists.{AreRows, rows_below}
-use Rattle.fr_net.specs.Rows.{row}
-use Rattle.fr_net.specs.declared.rows.First.{First}
+use Rattle.fr_net.specs.RowLists.{rows_below}
 
 abbrev pub length_below : {X : Type 0} → ℕ → (ℕ → List X) → ℕ
 length_below k rows = length (rows_below k rows)
@@ -45,47 +42,11 @@ part_is_row (suc k) x rows lt =
           ap (take (b - a)) dropped ∙ taken ∙ part_is_row k x rows lt'
     ]
 
--- rows in one list show the row of each node
-pub rows_show : (n : ℕ) (links : List (ℕ × ℕ)) (starts : List ℕ) (entries : List (ℕ × First)) → AreRows n (row n links) starts entries → (x : ℕ) → x < n → ShowsRow n links starts entries x
-rows_show n links starts entries at x lt =
-    let here = at.start x (omega arith) in
-    let more : x + 1 ≡ suc x = omega arith in
-    let next : get_or starts (x + 1) 0 ≡ length_below (suc x) (row n links) = at.start (x + 1) (omega arith) ∙ ap (λ (k : ℕ). length_below k (row n links)) more in
-    let all : length entries ≡ length_below n (row n links) = ap length at.joined in
-    record {
-      low = omega (arith, here, next, length_up x (suc x) (row n links) (omega arith));
-      high = omega (arith, next, all, length_up (suc x) n (row n links) (omega arith));
-      is_row = rw (here, next, at.joined) (part_is_row n x (row n links) lt);
-    }
-
--- one row more
-pub rows_more : (k : ℕ) (rows : ℕ → List (ℕ × First)) (starts : List ℕ) (entries more : List (ℕ × First)) → AreRows k rows starts entries → more ≡ entries ++ rows k → AreRows (k + 1) rows (starts ++ length more ∷ []) more
-rows_more k rows starts entries more at is =
-    let joined : more ≡ rows_below (suc k) rows = is ∙ ap (λ (es : List (ℕ × First)). es ++ rows k) at.joined in
-    record {
-      one_each = omega (arith, length_push starts (length more), at.one_each);
-      joined = rw add-one joined;
-      start = λ x le. elim (cases_lt x (k + 1)) [
-        | inl lt ↦ rw (get_or_append_left starts (length more ∷ []) 0 x (omega (arith, at.one_each))) (at.start x (omega arith))
-        | inr ge ↦
-            let e : x ≡ suc k = omega arith in
-            rw (get_or_push starts (length more) 0 x (omega (arith, at.one_each)), e) (ap length joined)
-      ];
-    }
-
 -- what the rows list, with those of one row more
 pub listed_more : {X : Type 0} (k : ℕ) (rows : ℕ → List X) (listed more : List X) → listed ≡ rows_below k rows → more ≡ listed ++ rows k → more ≡ rows_below (k + 1) rows
 listed_more {X} k rows listed more are is =
     let joined : more ≡ rows_below (suc k) rows = is ∙ ap (λ (es : List X). es ++ rows k) are in
     rw add-one joined
-
--- no row yet
-pub rows_none : (rows : ℕ → List (ℕ × First)) → AreRows 0 rows (0 ∷ []) []
-rows_none rows = record {
-  one_each = omega arith;
-  joined = refl;
-  start = λ x le. let e : x ≡ 0 = omega arith in rw e refl;
-}
 
 -- an element of the rows stands in one of them
 pub from_rows : {X : Type 0} (k : ℕ) (rows : ℕ → List X) (y : X) → Contains (rows_below k rows) y → (x : ℕ) × (x < k) × Contains (rows x) y

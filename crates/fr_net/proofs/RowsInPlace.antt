@@ -9,15 +9,15 @@ use Rattle.fr_net.specs.Halves.{ShowsRow}
 use Rattle.fr_net.specs.Rows.{row}
 use Rattle.fr_net.specs.declared.rows.First.{First}
 
-starts_up : (starts : List ℕ) (n : ℕ) → ((y : ℕ) → y < n → get_or starts y 0 ≤ get_or starts (y + 1) 0) → (x k : ℕ) → x ≤ k → k ≤ n → get_or starts x 0 ≤ get_or starts k 0
-starts_up starts n up x zero le high = let e : x ≡ 0 = omega arith in rw e (omega arith)
-starts_up starts n up x (suc k) le high =
+pub starts_up : (start : ℕ → ℕ) (n : ℕ) → ((y : ℕ) → y < n → start y ≤ start (y + 1)) → (x k : ℕ) → x ≤ k → k ≤ n → start x ≤ start k
+starts_up start n up x zero le high = let e : x ≡ 0 = omega arith in rw e (omega arith)
+starts_up start n up x (suc k) le high =
     elim (cases_eq x (suc k)) [
       | inl e ↦ rw e (omega arith)
       | inr ne ↦
           let more : k + 1 ≡ suc k = omega arith in
-          let step : get_or starts k 0 ≤ get_or starts (suc k) 0 = rw more at (up k (omega arith)) in
-          omega (arith, step, starts_up starts n up x k (omega (arith, ne)) (omega arith))
+          let step : start k ≤ start (suc k) = rw more at (up k (omega arith)) in
+          omega (arith, step, starts_up start n up x k (omega (arith, ne)) (omega arith))
     ]
 
 -- a part written anew keeps how long the list is
@@ -61,7 +61,7 @@ part_turned_more n k links after starts old now new lt at is same put =
             record {
               low = t.low;
               high = omega (arith, t.high, size);
-              is_row = before (get_or starts y 0) (get_or starts (y + 1) 0) (starts_up starts n up (y + 1) k (omega arith) (omega arith)) ∙ t.is_row;
+              is_row = before (get_or starts y 0) (get_or starts (y + 1) 0) (starts_up (λ (z : ℕ). get_or starts z 0) n up (y + 1) k (omega arith) (omega arith)) ∙ t.is_row;
             }
         | inr g ↦
             let e : y ≡ k = omega (arith, g, less) in
@@ -72,6 +72,6 @@ part_turned_more n k links after starts old now new lt at is same put =
           record {
             low = t.low;
             high = omega (arith, t.high, size);
-            is_row = after_it (get_or starts y 0) (get_or starts (y + 1) 0) (starts_up starts n up (k + 1) y ge (omega arith)) ∙ t.is_row;
+            is_row = after_it (get_or starts y 0) (get_or starts (y + 1) 0) (starts_up (λ (z : ℕ). get_or starts z 0) n up (k + 1) y ge (omega arith)) ∙ t.is_row;
           };
     }

@@ -1,83 +1,44 @@
 //! The links and rows of a network with one link taken out or added.
 
-ghost use Rattle.std.specs.Prelude.{◌≡◌, ℕ, ◌<◌, ◌≤◌, ◌↔◌, ◌++◌, length, slice_index_or, IsTrue, IfOk, OnOk};
-ghost use Rattle.std.specs.List.{filter};
-ghost use Rattle.fr_net.specs.Links.{Joins};
+ghost use Rattle.std.specs.Prelude.{◌≡◌, ℕ, ◌<◌, ◌≤◌, ◌+◌, ◌-◌, ◌^◌, ◌==◌, if◌then◌else◌, length, map, slice_index_or, All, IfOk};
+ghost use Rattle.std.specs.List.{insert, remove};
+ghost use Rattle.std.specs.List.Sorted.{IsNonDecreasingBy};
+ghost use Rattle.fr_net.specs.Links.{AreSingle, Points};
 ghost use Rattle.fr_net.specs.Edits.{without};
 ghost use Rattle.fr_net.specs.Halves.{IsBefore};
-ghost use Rattle.fr_net.specs.Order.{IsNotAfter, with_in_order};
-ghost use Rattle.fr_net.specs.RowLists.{added_row, stays, with_entry};
+ghost use Rattle.fr_net.specs.Order.{AreInOrder, IsNotAfter, with_in_order};
+ghost use Rattle.fr_net.specs.declared.rows.First.TheVariants.{Outward, Inward};
 
 use crate::rows::First;
 use std::alloc::{AllocError, Global};
 
-/// Whether a link joins `u` and `v`, whichever way it points.
-pub(crate) fn joins(links: &[(u32, u32)], u: u32, v: u32) -> bool
-    ensures { IsTrue result ↔ Joins links.now u v }
+/// The first place among the links, which are in order, whose link is not before the one from `u` to `v`.
+fn place_of_link(links: &[(u32, u32)], u: u32, v: u32) -> usize
+    requires { AreInOrder links.now }
+    ensures inside { result ≤ length links.now }
+    ensures before { (k : ℕ) (d : ℕ × ℕ) → k < result → IsBefore (slice_index_or links.now k d) (u, v) }
+    ensures stops { (k : ℕ) (d : ℕ × ℕ) → result ≤ k → k < length links.now → IsNotAfter (u, v) (slice_index_or links.now k d) }
 {
-    for (tail, head) in links {
-        if (*tail == u && *head == v) || (*tail == v && *head == u) {
-            return true;
-        }
-    }
-    false
+    links.partition_point(|(tail, head)| *tail < u || (*tail == u && *head < v))
 }
 
-/// The links but those that join `u` and `v`, in their order.
+/// The links, which are in order, but for the one from `u` to `v`.
 pub(crate) fn cut_links(
     alloc: Global,
     links: &[(u32, u32)],
     u: u32,
     v: u32,
 ) -> Result<Vec<(u32, u32)>, AllocError>
+    requires order { AreInOrder links.now }
+    requires single { AreSingle links.now }
+    requires stands { Points links.now u v }
     ensures { IfOk result (λ kept. kept.items ≡ without u v links.now) }
 {
-    let mut kept = Vec::with_capacity(alloc, links.len())?;
-    for (tail, head) in links {
-        let joined = (*tail == u && *head == v) || (*tail == v && *head == u);
-        if !joined {
-            kept.push((*tail, *head))?;
-        }
-    }
+    let place = place_of_link(links, u, v);
+    let mut kept = Vec::with_capacity(alloc, links.len() - 1)?;
+    kept.extend_from_slice(&links[..place])?;
+    kept.extend_from_slice(&links[place + 1..])?;
     Ok(kept)
-}
-
-/// Adds the row of `x` to the entries, but for the link between `u` and `v`.
-pub(crate) fn push_cut(
-    entries: &mut Vec<(u32, First)>,
-    x: u32,
-    row: &[(u32, First)],
-    u: u32,
-    v: u32,
-) -> Result<(), AllocError>
-    ensures { OnOk result (entries.new.items ≡ entries.old.items ++ filter (stays u v x) row.now) }
-{
-    if x != u && x != v {
-        entries.extend_from_slice(row)?;
-        return Ok(());
-    }
-    for (w, first) in row {
-        let joined = (x == u && *w == v) || (x == v && *w == u);
-        if !joined {
-            entries.push((*w, *first))?;
-        }
-    }
-    Ok(())
-}
-
-/// The first place among the links whose link is not before the one from `u` to `v`.
-fn place_of_link(links: &[(u32, u32)], u: u32, v: u32) -> usize
-    ensures inside { result ≤ length links.now }
-    ensures before { (k : ℕ) (d : ℕ × ℕ) → k < result → IsBefore (slice_index_or links.now k d) (u, v) }
-    ensures stops { (d : ℕ × ℕ) → result < length links.now → IsNotAfter (u, v) (slice_index_or links.now result d) }
-{
-    for i in 0..links.len() {
-        let (tail, head) = links[i];
-        if u < tail || (u == tail && v <= head) {
-            return i;
-        }
-    }
-    links.len()
 }
 
 /// The links, which are in order, and at its place among them the one from `u` to `v`.
@@ -87,6 +48,7 @@ pub(crate) fn added_links(
     u: u32,
     v: u32,
 ) -> Result<Vec<(u32, u32)>, AllocError>
+    requires { AreInOrder links.now }
     ensures { IfOk result (λ added. added.items ≡ with_in_order (u, v) links.now) }
 {
     let place = place_of_link(links, u, v);
@@ -97,51 +59,83 @@ pub(crate) fn added_links(
     Ok(added)
 }
 
-/// The first place in the row whose neighbour is not below `w`.
-fn place_in_row(row: &[(u32, First)], w: u32) -> usize
+/// The first place in the row, which is in rising order of the neighbour, whose neighbour is not below `w`.
+pub(crate) fn place_in_row(row: &[(u32, First)], w: u32) -> usize
+    requires { IsNonDecreasingBy (λ (e : ℕ × First). e.0) row.now }
     ensures inside { result ≤ length row.now }
     ensures before { (k : ℕ) (d : ℕ × First) → k < result → (slice_index_or row.now k d).0 < w }
-    ensures stops { (d : ℕ × First) → result < length row.now → w ≤ (slice_index_or row.now result d).0 }
+    ensures stops { (k : ℕ) (d : ℕ × First) → result ≤ k → k < length row.now → w ≤ (slice_index_or row.now k d).0 }
 {
-    for i in 0..row.len() {
-        if row[i].0 >= w {
-            return i;
-        }
-    }
-    row.len()
+    row.partition_point(|entry| entry.0 < w)
 }
 
-/// Adds the row to the entries, with an entry at its place in it.
-fn push_with(
-    entries: &mut Vec<(u32, First)>,
-    row: &[(u32, First)],
-    entry: (u32, First),
-) -> Result<(), AllocError>
-    ensures { OnOk result (entries.new.items ≡ entries.old.items ++ with_entry entry row.now) }
+/// The entries but for those at two places.
+pub(crate) fn cut_entries(
+    alloc: Global,
+    entries: &[(u32, First)],
+    low: usize,
+    high: usize,
+) -> Result<Vec<(u32, First)>, AllocError>
+    requires order { low < high }
+    requires inside { high < length entries.now }
+    ensures { IfOk result (λ kept. kept.items ≡ remove (remove entries.now high) low) }
 {
-    let place = place_in_row(row, entry.0);
-    entries.extend_from_slice(&row[..place])?;
-    entries.push(entry)?;
-    entries.extend_from_slice(&row[place..])?;
-    Ok(())
+    let mut kept = Vec::with_capacity(alloc, entries.len() - 2)?;
+    kept.extend_from_slice(&entries[..low])?;
+    kept.extend_from_slice(&entries[low + 1..high])?;
+    kept.extend_from_slice(&entries[high + 1..])?;
+    Ok(kept)
 }
 
-/// Adds the row of `x` to the entries, with the link from `u` to `v` where `x` is an end of it.
-pub(crate) fn push_added(
-    entries: &mut Vec<(u32, First)>,
-    x: u32,
-    row: &[(u32, First)],
-    u: u32,
-    v: u32,
-) -> Result<(), AllocError>
-    ensures { OnOk result (entries.new.items ≡ entries.old.items ++ added_row u v x row.now) }
+/// The entries with two more, `first` before what stands at `low` and `second` before what stands at `high`.
+pub(crate) fn added_entries(
+    alloc: Global,
+    entries: &[(u32, First)],
+    low: usize,
+    first: (u32, First),
+    high: usize,
+    second: (u32, First),
+) -> Result<Vec<(u32, First)>, AllocError>
+    requires order { low ≤ high }
+    requires inside { high ≤ length entries.now }
+    ensures { IfOk result (λ added. added.items ≡ insert (insert entries.now high second) low first) }
 {
-    if x == u {
-        push_with(entries, row, (v, First::Outward))?;
-    } else if x == v {
-        push_with(entries, row, (u, First::Inward))?;
+    let mut added = Vec::with_capacity(alloc, entries.len() + 2)?;
+    added.extend_from_slice(&entries[..low])?;
+    added.push(first)?;
+    added.extend_from_slice(&entries[low..high])?;
+    added.push(second)?;
+    added.extend_from_slice(&entries[high..])?;
+    Ok(added)
+}
+
+/// The direction of a link with this tail as seen from `x`, which is one of its ends.
+pub(crate) fn seen_from(x: u32, tail: u32) -> First
+    ensures { result ≡ (if x == tail then Outward else Inward) }
+{
+    if x == tail {
+        First::Outward
     } else {
-        entries.extend_from_slice(row)?;
+        First::Inward
     }
-    Ok(())
+}
+
+/// Moves each of these starts one place up.
+pub(crate) fn move_up(starts: &mut [usize])
+    requires { All (λ (start : ℕ). start + 1 < 2 ^ 64) starts.old }
+    ensures { starts.new ≡ map (λ (start : ℕ). start + 1) starts.old }
+{
+    for start in starts.iter_mut() {
+        *start += 1;
+    }
+}
+
+/// Moves each of these starts one place down.
+pub(crate) fn move_down(starts: &mut [usize])
+    requires { All (λ (start : ℕ). 0 < start) starts.old }
+    ensures { starts.new ≡ map (λ (start : ℕ). start - 1) starts.old }
+{
+    for start in starts.iter_mut() {
+        *start -= 1;
+    }
 }

@@ -1,8 +1,8 @@
 //! Networks.
 
-ghost use Rattle.std.specs.Prelude.{◌≡◌, ◌≢◌, ℕ, ◌<◌, ◌+◌, ◌++◌, [], ◌∷◌, length, slice_get, slice_index, Some, IfOk, IfErr, OnOk, All};
+ghost use Rattle.std.specs.Prelude.{◌≡◌, ◌≢◌, ℕ, ◌<◌, ◌+◌, ◌++◌, [], ◌∷◌, length, slice_get, slice_index, Some, IfOk, IfErr, IfSome, IfNone, OnOk, All, ◌⊎◌};
 ghost use Rattle.std.specs.List.{HoldsAt};
-ghost use Rattle.fr_net.specs.Links.{Joins};
+ghost use Rattle.fr_net.specs.Links.{Joins, Points};
 ghost use Rattle.fr_net.specs.Order.{AreInOrder};
 ghost use Rattle.fr_net.specs.Counts.{IsKept, links_at};
 ghost use Rattle.fr_net.specs.Rows.{row};
@@ -12,7 +12,9 @@ ghost use Rattle.fr_net.specs.Edits.{IsCutFault, without};
 
 use crate::checks::{first_outside, first_self_link};
 use crate::cycle::{find_cycle, find_cycle_from};
-use crate::edits::{added_links, cut_links, joins, push_added, push_cut};
+use crate::edits::{
+    added_entries, added_links, cut_entries, cut_links, move_down, move_up, place_in_row, seen_from,
+};
 use crate::fault::NetFault;
 use crate::limits::{MAX_LINKS, MAX_NODES};
 use crate::rows::{First, entries_of, first_twice, outward_links, sorted_halves};
@@ -121,6 +123,26 @@ impl Net {
         &self.entries[self.starts[x as usize]..self.starts[x as usize + 1]]
     }
 
+    /// The link that joins `u` and `v`, from its tail to its head, if there is one.
+    fn link_between(&self, u: u32, v: u32) -> Option<(u32, u32)>
+        ensures stands { IfSome result (λ link. Points self.now.links link.0 link.1) }
+        ensures ends { IfSome result (λ link. (link ≡ (u, v)) ⊎ (link ≡ (v, u))) }
+        ensures none { IfNone result (¬ Joins self.now.links u v) }
+    {
+        if u >= self.nodes {
+            return None;
+        }
+        let row = self.row(u);
+        let (w, first) = *row.get(place_in_row(row, v))?;
+        if w != v {
+            return None;
+        }
+        match first {
+            First::Outward => Some((u, v)),
+            First::Inward => Some((v, u)),
+        }
+    }
+
     /// The network without the link between `u` and `v`, whichever way it points. `NoLink` exactly where there is none, as
     /// where one of them is no node or both are the same; `Memory` where no room could be had. It is linear.
     pub fn with_cut(&self, alloc: Global, u: u32, v: u32) -> Result<Net, NetFault>
@@ -128,17 +150,18 @@ impl Net {
         ensures ok { IfOk result (IsNetworkOf self.now.nodes (without u v self.now.links)) }
         ensures refused { IfErr result (λ fault. fault ≢ Memory → IsCutFault self.now.links u v fault) }
     {
-        if !joins(&self.links, u, v) {
+        let Some((tail, head)) = self.link_between(u, v) else {
             return Err(NetFault::NoLink);
-        }
-        let links = cut_links(alloc, &self.links, u, v)?;
-        let mut starts = Vec::with_capacity(alloc, self.starts.len())?;
-        let mut entries = Vec::with_capacity(alloc, self.entries.len())?;
-        starts.push(0)?;
-        for x in 0..self.nodes {
-            push_cut(&mut entries, x, self.row(x), u, v)?;
-            starts.push(entries.len())?;
-        }
+        };
+        let links = cut_links(alloc, &self.links, tail, head)?;
+        let low = u.min(v);
+        let high = u.max(v);
+        let first = self.starts[low as usize] + place_in_row(self.row(low), high);
+        let second = self.starts[high as usize] + place_in_row(self.row(high), low);
+        let entries = cut_entries(alloc, &self.entries, first, second)?;
+        let mut starts = self.starts.to_vec(alloc)?;
+        move_down(&mut starts[high as usize + 1..]);
+        move_down(&mut starts[low as usize + 1..]);
         Ok(Net {
             nodes: self.nodes,
             links,
@@ -164,20 +187,22 @@ impl Net {
         if u == v {
             return Err(NetFault::SelfLink(u));
         }
-        if joins(&self.links, u, v) {
+        if self.link_between(u, v).is_some() {
             return Err(NetFault::Twice(u, v));
         }
         let links = added_links(alloc, &self.links, u, v)?;
         if let Some(walk) = find_cycle_from(alloc, self.nodes, &links, v)? {
             return Err(NetFault::Cycle(walk));
         }
-        let mut starts = Vec::with_capacity(alloc, self.starts.len())?;
-        let mut entries = Vec::with_capacity(alloc, self.entries.len() + 2)?;
-        starts.push(0)?;
-        for x in 0..self.nodes {
-            push_added(&mut entries, x, self.row(x), u, v)?;
-            starts.push(entries.len())?;
-        }
+        let low = u.min(v);
+        let high = u.max(v);
+        let first = self.starts[low as usize] + place_in_row(self.row(low), high);
+        let second = self.starts[high as usize] + place_in_row(self.row(high), low);
+        let (at_low, at_high) = ((high, seen_from(low, u)), (low, seen_from(high, u)));
+        let entries = added_entries(alloc, &self.entries, first, at_low, second, at_high)?;
+        let mut starts = self.starts.to_vec(alloc)?;
+        move_up(&mut starts[high as usize + 1..]);
+        move_up(&mut starts[low as usize + 1..]);
         Ok(Net {
             nodes: self.nodes,
             links,

@@ -13,4 +13,4 @@ returns c =
     let second : c.push.new.self.items ≡ take place links ++ p ∷ [] = c.in_ok-push.ensures.items ∙ ap (λ (ls : List (ℕ × ℕ)). ls ++ p ∷ []) first in
     let third : c.extend_from_slice-2.new.self.items ≡ (take place links ++ p ∷ []) ++ drop place links =
     c.in_ok-extend_from_slice-2.ensures.items ∙ ap (λ (ls : List (ℕ × ℕ)). ls ++ take (length links - place) (drop place links)) second ∙ ap (λ (ls : List (ℕ × ℕ)). (take place links ++ p ∷ []) ++ ls) rest in
-    third ∙ append_assoc (take place links) (p ∷ []) (drop place links) ∙ sym (put_at_place p links place found.inside found.before found.stops)
+    third ∙ append_assoc (take place links) (p ∷ []) (drop place links) ∙ sym (put_at_place p links place found.inside found.before (λ d l. found.stops place d (omega arith) l))
