@@ -1,5 +1,5 @@
 -- The links and rows of a network with one link cut.
-use Rattle.std.proofs.Common.{Bool, Contains, List, None, Option, Some, [], ap, arith, cond, eqb, false, inl, inr, ne_eqb, option_to_list, refl, subst, suc, sym, true, zero, ℕ, ⊎_elim, ◌+◌, ◌∙◌, ◌∷◌, ◌≡◌, ◌≢◌, ◌⊎◌}
+use Rattle.std.proofs.Common.{Bool, Contains, List, None, Option, Some, [], ap, arith, cond, eqb, false, get_or, inl, inr, length, ne_eqb, option_to_list, refl, subst, suc, sym, true, zero, ℕ, ⊎_elim, ◌+◌, ◌<◌, ◌∙◌, ◌∷◌, ◌≡◌, ◌≢◌, ◌⊎◌}
 use Rattle.std.specs.Prelude.{not}
 use Rattle.std.specs.List.{filter}
 use Rattle.std.proofs.lemmas.List.Elements.{filter-append}
@@ -108,9 +108,9 @@ row_cut (suc w) links u v x =
 not_between : (u v x w : ℕ) → x ≢ u → x ≢ v → is_between u v (x, w) ≡ false
 not_between u v x w a b = rw (ne_eqb x u a, ne_eqb x v b) refl
 
-filter_all : {X : Type 0} (p : X → Bool) (xs : List X) → ((x : X) → p x ≡ true) → filter p xs ≡ xs
-filter_all p [] all = refl
-filter_all p (x ∷ xs) all = rw (all x, filter_all p xs all) refl
+pub filter_kept : {X : Type 0} (t : X → Bool) (xs : List X) → ((i : ℕ) (d : X) → i < length xs → t (get_or xs i d) ≡ true) → filter t xs ≡ xs
+filter_kept t [] kept = refl
+filter_kept t (x ∷ xs) kept = rw (kept 0 x (omega arith), filter_kept t xs (λ i d l. kept (suc i) d (omega (arith, l)))) refl
 
 pub row_stays : (u v x : ℕ) (entries : List (ℕ × First)) → x ≢ u → x ≢ v → filter (stays u v x) entries ≡ entries
-row_stays u v x entries a b = filter_all (stays u v x) entries (λ e. rw (not_between u v x e.0 a b) refl)
+row_stays u v x entries a b = filter_kept (stays u v x) entries (λ i d l. rw (not_between u v x (get_or entries i d).0 a b) refl)

@@ -7,7 +7,7 @@ use Rattle.std.proofs.lemmas.Bool.{and_from, cases_Bool, cases_eq, cases_lt, lt-
 use Rattle.std.proofs.lemmas.List.{get_or_default}
 use Rattle.fr_net.proofs.Booleans.{and_cases, and_false, or_cases, or_comm, or_false}
 use Rattle.fr_net.proofs.Counting.{two_pass}
-use Rattle.fr_net.proofs.CutRows.{sorted_from_order}
+use Rattle.fr_net.proofs.CutRows.{filter_kept, sorted_from_order}
 use Rattle.fr_net.proofs.Linking.{is_between_itself, not_twice}
 use Rattle.fr_net.proofs.Neighbours.{Rises, in_of_row, out_of_row, row_of_in, row_of_out, row_rises}
 use Rattle.fr_net.proofs.Ordering.{up_both}
@@ -77,10 +77,6 @@ stands_at links p k order (i, l, e) before stops =
     ]
 
 -- a test that all elements pass but one
-filter_kept : {X : Type 0} (t : X → Bool) (xs : List X) → ((i : ℕ) (d : X) → i < length xs → t (get_or xs i d) ≡ true) → filter t xs ≡ xs
-filter_kept t [] kept = refl
-filter_kept t (x ∷ xs) kept = rw (kept 0 x (omega arith), filter_kept t xs (λ i d l. kept (suc i) d (omega (arith, l)))) refl
-
 pub filter_one : {X : Type 0} (t : X → Bool) (xs : List X) (k : ℕ) (d : X) → k < length xs → t (get_or xs k d) ≡ false → ((i : ℕ) (e : X) → i < length xs → i ≢ k → t (get_or xs i e) ≡ true) → filter t xs ≡ remove xs k
 filter_one t [] k d l out kept = absurd (omega (arith, l))
 filter_one t (x ∷ xs) zero d l out kept = rw (out, filter_kept t xs (λ i e m. kept (suc i) e (omega (arith, m)) (λ z. omega (arith, z)))) refl

@@ -1,9 +1,7 @@
 -- The rows of all nodes, one after the other in one list.
-use Rattle.std.proofs.Common.{Contains, List, add-one, ap, arith, drop, inl, inr, length, length-append, slice_range, subst, suc, take, take_all, zero, ℕ, ◌++◌, ◌+◌, ◌-◌, ◌<◌, ◌∙◌, ◌≡◌, ◌≤◌}
+use Rattle.std.proofs.Common.{Contains, List, add-one, ap, arith, inl, inr, length, length-append, subst, suc, zero, ℕ, ◌++◌, ◌+◌, ◌<◌, ◌∙◌, ◌≡◌, ◌≤◌}
 use Rattle.std.proofs.lemmas.Bool.{cases_eq, cases_lt}
-use Rattle.std.proofs.lemmas.List.{drop-append-le, length-drop, take-append-le}
 use Rattle.std.proofs.lemmas.List.Elements.{Contains-append_cases, Contains-append_left, Contains-append_right}
-use Rattle.std.proofs.Math.Seq.{drop-append_seam}
 use Rattle.fr_net.proofs.Members.{Contains-none}
 use Rattle.fr_net.proofs.Sorting.{IsSorted, sorted-append}
 use Rattle.fr_net.specs.RowLists.{rows_below}
@@ -21,25 +19,6 @@ length_up x (suc k) rows le =
     elim (cases_eq x (suc k)) [
       | inl e ↦ rw e (omega arith)
       | inr ne ↦ omega (arith, length_more k rows, length_up x k rows (omega (arith, ne)))
-    ]
-
--- the part between two starts is the row
-pub part_is_row : {X : Type 0} (k x : ℕ) (rows : ℕ → List X) → x < k → slice_range (rows_below k rows) (length_below x rows) (length_below (suc x) rows) ≡ rows x
-part_is_row zero x rows lt = absurd (omega arith)
-part_is_row (suc k) x rows lt =
-    elim (cases_eq x k) [
-      | inl e ↦
-          let whole : length_below (suc k) rows - length_below k rows ≡ length (rows k) = omega (arith, length_more k rows) in
-          rw (e, whole, drop-append_seam (rows_below k rows) (rows k)) (take_all (length (rows k)) (rows k) (omega arith))
-      | inr ne ↦
-          let lt' : x < k = omega (arith, ne) in
-          let a = length_below x rows in
-          let b = length_below (suc x) rows in
-          let low : a ≤ length (rows_below k rows) = length_up x k rows (omega (arith, lt')) in
-          let high : b ≤ length (rows_below k rows) = length_up (suc x) k rows (omega (arith, lt')) in
-          let dropped : drop a (rows_below k rows ++ rows k) ≡ drop a (rows_below k rows) ++ rows k = drop-append-le a (rows_below k rows) (rows k) low in
-          let taken = take-append-le (b - a) (drop a (rows_below k rows)) (rows k) (omega (arith, length-drop a (rows_below k rows), high)) in
-          ap (take (b - a)) dropped ∙ taken ∙ part_is_row k x rows lt'
     ]
 
 -- what the rows list, with those of one row more

@@ -1,4 +1,5 @@
--- The rows of all nodes, one after the other in one list, and what becomes of an entry when links turn. For the making of a `Net` alone.
+-- The rows of all nodes, one after the other in one list, and what becomes of an entry when links turn.
+-- For the making of a `Net` alone.
 use Rattle.std.specs.Prelude.{ℕ, zero, suc, ◌++◌, ◌==◌, if◌then◌else◌, List, [], slice_index, Option, Some, None}
 use Rattle.std.specs.List.{filter_map}
 use Rattle.fr_net.specs.declared.rows.First.{First}
