@@ -1,10 +1,2 @@
-pub mod Pieces
-pub mod Cutting
-pub mod Determined
-pub mod Progress
-pub mod DrawnSteps
 pub mod OptionNumbers
-pub mod PlayTargets
-pub mod OnePlay
-pub mod PlayEnds
 pub mod Faulting

@@ -1,20 +1,12 @@
 //! The program `revroute`: answers the lines of standard input on standard output, or plays full reversal step by step.
 #![tactic(auto)]
 
-mod answers;
 mod command;
-mod draws;
-mod entries;
-mod input;
-mod lines;
-mod output;
-mod play;
-mod run;
 mod task;
 
 use fr_crew::OpenGate;
-use play::play_drawn;
-use run::{RunFault, run, run_end};
+use fr_play::play_drawn;
+use fr_run::{RunFault, run, run_end};
 use std::alloc::Global;
 use std::io::{BufWriter, ErrorKind};
 use std::process::ExitCode;

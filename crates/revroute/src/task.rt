@@ -7,10 +7,10 @@ ghost use Rattle.revroute.specs.Commands.{number_of};
 ghost use Rattle.revroute.specs.Tasks.{IsTaskIn, IsTaskOf, IsUsageOf, IsFaultOf};
 
 use crate::command::matches_of;
-use crate::draws::Draw;
 use clap::error::ErrorKind;
 use clap::{ArgMatches, Error};
 use fr_crew::Plan;
+use fr_play::Draw;
 use std::alloc::{AllocError, Global};
 use thiserror::Error as FaultError;
 

@@ -1,0 +1,4 @@
+pub mod DrawnSteps
+pub mod PlayTargets
+pub mod OnePlay
+pub mod PlayEnds

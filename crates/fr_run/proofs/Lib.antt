@@ -1,0 +1,4 @@
+pub mod Pieces
+pub mod Cutting
+pub mod Determined
+pub mod Progress

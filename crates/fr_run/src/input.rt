@@ -1,0 +1,44 @@
+//! Reading the whole input.
+
+ghost use Rattle.fr_run.specs.declared.input.TheConstants.{MAX_BYTES};
+ghost use Rattle.std.specs.Prelude.{◌≡◌, ◌≢◌, IfOk};
+ghost use Rattle.fr_run.specs.Outputs.{ReadsInput, ReadsOneTooMany, ReadsAtMostOneTooMany};
+
+use crate::fault::RunFault;
+use std::alloc::Global;
+use std::io::Read;
+
+/// The most bytes of an input.
+pub const MAX_BYTES: usize = 16_777_216;
+
+/// How many bytes are asked for at once.
+const PIECE: usize = 65_536;
+
+/// All that the reader has, if that is at most [`MAX_BYTES`]; whatever the result, at most one byte more is read. `Read` where a
+/// read failed, `TooLong` where the reader has more, `Memory` where no room could be had; never `Write` or `Start`.
+pub fn read_input<R: Read>(alloc: Global, reader: &mut R) -> Result<Vec<u8>, RunFault>
+    ensures ok { IfOk result (λ input. ReadsInput (R.remaining reader.old) (R.remaining reader.new) input.items) }
+    ensures limit { ReadsAtMostOneTooMany (R.remaining reader.old) (R.remaining reader.new) }
+    ensures too_long { result ≡ Err RunFault.TooLong → ReadsOneTooMany (R.remaining reader.old) (R.remaining reader.new) }
+    ensures no_write { result ≢ Err RunFault.Write }
+    ensures no_start { result ≢ Err RunFault.Start }
+{
+    let mut input = Vec::new(alloc);
+    let mut piece = [0u8; PIECE];
+    'reads: loop {
+        let room = PIECE.min(MAX_BYTES + 1 - input.len());
+        let count = match reader.read(&mut piece[..room]) {
+            Ok(count) => count,
+            Err(_) => return Err(RunFault::Read),
+        };
+        if count == 0 {
+            return Ok(input);
+        }
+        if input.extend_from_slice(&piece[..count]).is_err() {
+            return Err(RunFault::Memory);
+        }
+        if input.len() > MAX_BYTES {
+            return Err(RunFault::TooLong);
+        }
+    }
+}
