@@ -12,8 +12,6 @@ ghost use Rattle.fr_core.specs.declared.check.fault.Why.TheVariants.{NotHeld, No
 ghost use Rattle.fr_core.specs.declared.entry.Reply.TheVariants.{Turned};
 
 mod fault;
-#[cfg(test)]
-mod tests;
 
 use crate::counts::{is_sink, sense};
 use crate::directions::Sense;

@@ -15,14 +15,10 @@ mod finisher;
 pub mod laws;
 mod levels;
 mod machine;
-#[cfg(test)]
-mod plain;
 mod play_fault;
 mod queue;
 mod schedules;
 mod targets;
-#[cfg(test)]
-mod tests;
 mod worker;
 
 pub use check::{CheckFault, Why, check_run};

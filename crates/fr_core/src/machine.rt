@@ -8,9 +8,6 @@ ghost use Rattle.fr_core.specs.Played.{started};
 ghost use Rattle.fr_core.specs.Targets.{IsMachineFault, AreAllAccepted, lists_of};
 ghost use Rattle.fr_core.specs.declared.play_fault.PlayFault.TheVariants.{Memory};
 
-#[cfg(test)]
-mod tests;
-
 use crate::entry::Entry;
 use crate::play_fault::PlayFault;
 use crate::targets::{Target, first_bad};

@@ -11,8 +11,6 @@ mod fault;
 mod gate;
 mod plan;
 mod settlement;
-#[cfg(test)]
-mod tests;
 
 pub use fault::CrewFault;
 pub use gate::{Gate, OpenGate};

@@ -24,6 +24,3 @@ pub use network::Net;
 pub use read::read_line;
 pub use requests::{LineFault, Question, Request};
 pub use rows::First;
-
-#[cfg(test)]
-mod tests;

@@ -164,6 +164,3 @@ fn number(value: &Value) -> Option<u32>
 {
     u32::try_from(value.as_u64()?).ok()
 }
-
-#[cfg(test)]
-mod tests;

@@ -126,6 +126,3 @@ fn play_net(alloc: Global, net: &Net, dest: u32, draw: Draw) -> Result<(String, 
     let text = end_text(alloc, net, dest, &entries)?;
     Ok((text, entries.len() as u64))
 }
-
-#[cfg(test)]
-mod tests;

@@ -15,8 +15,6 @@ mod round;
 mod rule;
 mod steps;
 mod terms;
-#[cfg(test)]
-mod tests;
 mod view;
 mod worker;
 

@@ -16,8 +16,6 @@ mod hops;
 pub mod laws;
 mod router;
 mod session;
-#[cfg(test)]
-mod tests;
 mod texts;
 
 pub use blank::is_blank;

@@ -53,6 +53,3 @@ pub fn run<T: Threads + Wait + Sync, R: Read, W: Write, G: Gate + Sync>(
         Err(_) => Err(RunFault::Write),
     }
 }
-
-#[cfg(test)]
-mod tests;

@@ -1,5 +1,5 @@
 -- What a command line asks for.
-use Rattle.std.specs.Prelude.{◌≡◌, ◌≢◌, ◌≤◌, ◌↔◌, ⊤, IsTrue, List, Some, codes}
+use Rattle.std.specs.Prelude.{◌≡◌, ◌≢◌, ◌≤◌, ◌↔◌, ⊤, IsTrue, List, [], Some, codes}
 use Rattle.clap.specs.Walk.{Row, Text}
 use Rattle.clap.specs.Simple.{subcommand_of}
 use Rattle.clap.specs.Faults.{fault_of}
@@ -25,9 +25,12 @@ IsTaskOf name rows (Play draw) =
     × (number_of (codes "seed") rows ≡ Some draw.seed)
     × (number_of (codes "steps") rows ≡ Some draw.steps) × (draw.steps ≤ 10000)
 
--- the task is that of the words, as `clap` reads them: where an option is not given, its number is the default
+-- the task is that of the words, in which `clap` finds no fault, as it reads them: where an option is not given, its number is
+-- the default
 abbrev pub IsTaskIn : List Text → Task → Type 0
-IsTaskIn words task = (name : Text) × (rows : List Row) × (subcommand_of command words ≡ Some (name, rows)) × IsTaskOf name rows task
+IsTaskIn words task =
+    (fault_of command words ≡ [])
+    × ((name : Text) × (rows : List Row) × (subcommand_of command words ≡ Some (name, rows)) × IsTaskOf name rows task)
 
 -- what is said of an error of this kind: that help was asked for, where it was
 abbrev pub IsUsageOf : ErrorKind → TaskFault → Type 0

@@ -1,6 +1,6 @@
 //! The command line, as `clap` is to read it.
 
-ghost use Rattle.std.specs.Prelude.{◌≡◌, IfOk, IfErr, map, codes, pos, false};
+ghost use Rattle.std.specs.Prelude.{◌≡◌, [], IfOk, IfErr, map, codes, pos, false};
 ghost use Rattle.clap.specs.Simple.{on_top};
 ghost use Rattle.clap.specs.Words.{HasKind, app_of, fault_of, new_app, rule_of, subcommand_of, subcommand_rows_of};
 ghost use Rattle.clap.specs.declared.builder.command.Command.TheViews.{out-Command};
@@ -39,6 +39,7 @@ const STEPS: &str = "How many steps are made, 0 to 10000";
 
 /// What the words of a command line say, the program's name first.
 pub(crate) fn matches_of<'a>(alloc: Global, words: &'a [&'a str]) -> Result<ArgMatches<'a>, Error>
+    ensures taken { IfOk result (λ _. fault_of command (map (λ s. s.now) words.entry.now) ≡ []) }
     ensures ok { IfOk result (λ m. subcommand_rows_of m ≡ subcommand_of command (map (λ s. s.now) words.entry.now)) }
     ensures err { IfErr result (HasKind (fault_of command (map (λ s. s.now) words.entry.now))) }
 {

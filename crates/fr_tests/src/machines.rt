@@ -1,6 +1,6 @@
 //! What no clause says: values from outside, for the machine step by step and under schedules.
 
-use crate::{Entry, Machine, PlayFault, Reply, Target, play};
+use fr_core::{Entry, Machine, PlayFault, Reply, Target, play};
 use fr_net::Net;
 use std::alloc::{AllocError, Global};
 use std::test::Fail;

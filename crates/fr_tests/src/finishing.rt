@@ -1,7 +1,7 @@
 //! What no clause says: values from outside, and the plain program's answers.
 
 use crate::plain::turn_all;
-use crate::{Sense, finish, is_sink, lawful, sense};
+use fr_core::{Sense, finish, is_sink, lawful, sense};
 use fr_net::{First, Net};
 use rand_core::SeedableRng;
 use rand_core::utils::NextWord;

@@ -1,5 +1,5 @@
-use super::*;
-use std::alloc::AllocError;
+use fr_net::{LineFault, Question, Request, read_line};
+use std::alloc::{AllocError, Global};
 use std::test::Fail;
 
 fn is_network(

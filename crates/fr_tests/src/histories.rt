@@ -1,8 +1,9 @@
 //! Small histories, with what is known of each from the meaning of replies.
 
-use super::*;
-use crate::entry::Reply::{Cut, Held, Moved, Turned};
-use std::alloc::AllocError;
+use fr_core::Reply::{Cut, Held, Moved, Turned};
+use fr_core::{CheckFault, Entry, Reply, Why, check_run};
+use fr_net::Net;
+use std::alloc::{AllocError, Global};
 use std::test::Fail;
 
 /// Worker, node and reply of an entry.

@@ -1,12 +1,15 @@
 //! What a run writes for worked examples, that its networks are settled by threads under the gate, and what no clause says:
 //! readers and writers that fail.
 
-use super::*;
-use fr_crew::OpenGate;
-use std::alloc::AllocError;
+use fr_crew::{Gate, OpenGate, Plan};
+use fr_run::{RunFault, run, run_end};
+use std::alloc::{AllocError, Global};
 use std::io;
+use std::io::{Read, Write};
+use std::sync::Wait;
 use std::sync::atomic::{AtomicBool, AtomicU64, Ordering};
 use std::test::Fail;
+use std::thread::Threads;
 
 fn plan(workers: u32, budget: u64) -> Result<Plan, Fail> {
     Ok(Plan::new(workers, 0, budget).ok_or("no such plan")?)
@@ -432,6 +435,7 @@ struct NarrowWriter {
     out: Vec<u8>,
     good: u32,
     fails: bool,
+    flushed: bool,
 }
 
 impl Write for NarrowWriter {
@@ -451,10 +455,10 @@ impl Write for NarrowWriter {
 
     fn flush(&mut self) -> io::Result<()> {
         if self.good == 0 && self.fails {
-            Err(io::Error::from(io::ErrorKind::Other))
-        } else {
-            Ok(())
+            return Err(io::Error::from(io::ErrorKind::Other));
         }
+        self.flushed = true;
+        Ok(())
     }
 }
 
@@ -467,6 +471,7 @@ fn stops_where_a_write_fails(rt: HostRuntime) -> Result<(), Fail> {
                 out: Vec::new(rt.alloc()),
                 good,
                 fails,
+                flushed: false,
             };
             match run(
                 &rt,
@@ -476,9 +481,12 @@ fn stops_where_a_write_fails(rt: HostRuntime) -> Result<(), Fail> {
                 &plan(1, 0)?,
                 &OpenGate,
             ) {
-                Ok(count) => assert!(rt; count == 7 && writer.out.as_slice() == ANSWERS),
+                Ok(count) => assert!(rt;
+                    count == 7 && writer.flushed && writer.out.as_slice() == ANSWERS
+                ),
                 Err(fault) => assert!(rt;
-                    fault == RunFault::Write && ANSWERS.starts_with(writer.out.as_slice())
+                    !writer.flushed
+                        && fault == RunFault::Write && ANSWERS.starts_with(writer.out.as_slice())
                 ),
             }
             let done = writer.out.as_slice() == ANSWERS;

@@ -2,9 +2,9 @@
 
 ghost use Rattle.fr_round.specs.Knowledge.{IsOwn};
 
-use crate::{OpenWhy, Refusal, Round, Worker};
 use fr_core::Reply;
 use fr_net::Net;
+use fr_round::{OpenWhy, Refusal, Round, Worker};
 use std::test::*;
 use std::thread::{Threads, join};
 

@@ -1,7 +1,7 @@
 ghost use Rattle.std.specs.Prelude.{◌≡◌, All, IsTrue};
 ghost use Rattle.fr_net.specs.Counts.{IsKept};
 
-use super::*;
+use fr_net::{First, LineFault, MAX_NODES, Net, NetFault};
 use std::alloc::{AllocError, Global};
 use std::test::Fail;
 

@@ -1,10 +1,14 @@
-use super::*;
-use fr_core::{Entry, Reply, Target, check_run};
+use fr_core::{Entry, Reply, Target, check_run, play};
+use fr_net::Net;
+use fr_play::{Draw, play_drawn};
+use fr_run::RunFault;
 use rand_core::SeedableRng;
 use rand_core::utils::NextWord;
 use rand_pcg::Lcg64Xsh32;
+use std::alloc::{AllocError, Global};
 use std::fmt::Write as FmtWrite;
 use std::io;
+use std::io::{Read, Write};
 use std::test::Fail;
 
 /// What a play prints for an input, and how many entries it has.
@@ -178,6 +182,7 @@ fn stops_where_a_read_fails(rt: HostRuntime) -> Result<(), Fail> {
 struct BrokenWriter {
     out: Vec<u8>,
     good: u32,
+    flushed: bool,
 }
 
 impl Write for BrokenWriter {
@@ -193,10 +198,10 @@ impl Write for BrokenWriter {
 
     fn flush(&mut self) -> io::Result<()> {
         if self.good == 0 {
-            Err(io::Error::from(io::ErrorKind::Other))
-        } else {
-            Ok(())
+            return Err(io::Error::from(io::ErrorKind::Other));
         }
+        self.flushed = true;
+        Ok(())
     }
 }
 
@@ -210,10 +215,11 @@ fn stops_where_a_write_or_the_flush_fails(rt: HostRuntime) -> Result<(), Fail> {
         let mut writer = BrokenWriter {
             out: Vec::new(rt.alloc()),
             good,
+            flushed: false,
         };
         match play_drawn(rt.alloc(), &mut reader, &mut writer, draw) {
             Ok(count) => assert!(rt;
-                good > 15 && count == 2 && writer.out.as_slice() == SMALL_TEXT
+                good > 15 && count == 2 && writer.flushed && writer.out.as_slice() == SMALL_TEXT
             ),
             Err(fault) => assert!(rt;
                 good <= 15

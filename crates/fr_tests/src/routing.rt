@@ -1,8 +1,8 @@
 //! Requests with their answers, and each public call on its happy path.
 
-use crate::{AnswerFault, Change, Hop, Report, RouteFault, Router, Session, Walked};
 use fr_crew::{OpenGate, Plan};
 use fr_net::{Net, NetFault, Question, Request};
+use fr_route::{AnswerFault, Change, Hop, Report, RouteFault, Router, Session, Walked};
 use std::alloc::Global;
 use std::process::Abort;
 use std::sync::Wait;

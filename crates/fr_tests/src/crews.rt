@@ -1,7 +1,7 @@
 //! The answers of worked examples under many plans and gates, and what no clause says: that two threads really run, that
 //! the gate is called, and how the turns are split.
 
-use crate::{CrewFault, Gate, OpenGate, Plan, Settled, settle};
+use fr_crew::{CrewFault, Gate, OpenGate, Plan, Settled, settle};
 use fr_net::Net;
 use std::alloc::Global;
 use std::rt::HostRuntime;
