@@ -9,10 +9,9 @@ use Rattle.fr_net.proofs.Cycles.{points_at}
 use Rattle.fr_net.proofs.Linking.{is_between_itself, joined_from, not_twice, some_joined, walk_carries}
 use Rattle.fr_net.proofs.Ordering.{in_order_order, insert_order, into_order, is_pair, same_order, times-in_order, times-insert}
 use Rattle.fr_net.specs.Faults.{IsFaultless, IsInRange}
-use Rattle.fr_net.specs.Halves.{IsBefore}
 use Rattle.fr_net.specs.Limits.{IsWithinLimits, most_links}
 use Rattle.fr_net.specs.Links.{AreBelow, AreSingle, HasNoSelfLink, HasPath, IsAcyclic, IsClosedWalk, IsPath, Joins, Points, end_of, is_between}
-use Rattle.fr_net.specs.Order.{AreInOrder, IsNotAfter, in_order, is_not_after, with_in_order}
+use Rattle.fr_net.specs.Order.{AreInOrder, IsBefore, IsNotAfter, in_order, is_not_after, with_in_order}
 
 abbrev pub added : List (ℕ × ℕ) → ℕ → ℕ → List (ℕ × ℕ)
 added links u v = links ++ (u, v) ∷ []

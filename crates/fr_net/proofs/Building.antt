@@ -7,9 +7,10 @@ use Rattle.fr_net.proofs.Counting.{at_most_one, one_passes, weigh}
 use Rattle.fr_net.proofs.HalfLinks.{rising_pair, shows_row}
 use Rattle.fr_net.proofs.Linking.{is_between_itself, one_way, walk_carries}
 use Rattle.fr_net.specs.Faults.{IsFaultless, IsInRange}
-use Rattle.fr_net.specs.Halves.{AreHalvesRising, AreStarts, IsBefore, ShowsRow, entry_of, halves_of, is_at}
+use Rattle.fr_net.specs.Halves.{AreHalvesRising, AreStarts, ShowsRow, entry_of, halves_of, is_at}
 use Rattle.fr_net.specs.Limits.{IsWithinLimits}
 use Rattle.fr_net.specs.Links.{AreBelow, AreSingle, HasNoSelfLink, IsAcyclic, IsCycle, IsNet, is_between}
+use Rattle.fr_net.specs.Order.{IsBefore}
 use Rattle.fr_net.specs.declared.rows.First.TheVariants.{Inward, Outward}
 use Rattle.fr_net.specs.declared.rows.HalfLink.{HalfLink}
 

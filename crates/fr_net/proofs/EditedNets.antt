@@ -10,7 +10,7 @@ use Rattle.fr_net.proofs.AddedLinks.{added}
 use Rattle.fr_net.proofs.AddedRows.{put_in_row, row_added}
 use Rattle.fr_net.proofs.CutRows.{row_cut, row_stays, stays}
 use Rattle.fr_net.proofs.EditedRows.{AreShown, cut_at, length-moved, moved, moved_below, moved_inside, moved_positive, put_at, row_at, row_beside, row_length, start_in, with_row}
-use Rattle.fr_net.proofs.Linking.{is_between_itself, link_below}
+use Rattle.fr_net.proofs.Linking.{is_between_itself, joined_below}
 use Rattle.fr_net.proofs.Neighbours.{row_of_in, row_of_out, row_rises}
 use Rattle.fr_net.proofs.RowsInPlace.{starts_up}
 use Rattle.fr_net.proofs.Places.{filter_one, neighbour_at, without_back}
@@ -133,10 +133,6 @@ without_sorted links n u v low high ends =
       | inl t ↦ rw (t.0, t.1) refl
       | inr t ↦ rw (t.0, t.1) (without_back u v links)
     ]
-
-joined_below : (n : ℕ) (links : List (ℕ × ℕ)) (u v : ℕ) → IsNet n links → Joins links u v → (u < n) × (v < n)
-joined_below n links u v net (inl p) = link_below n links u v net p
-joined_below n links u v net (inr p) = let t = link_below n links v u net p in (t.1, t.0)
 
 joined_apart : (n : ℕ) (links : List (ℕ × ℕ)) (u v : ℕ) → IsNet n links → Joins links u v → u ≢ v
 joined_apart n links u v net (inl (k, l, e)) = subst (λ (p : ℕ × ℕ). p.0 ≢ p.1) e (net.no_self k (u, v) l)

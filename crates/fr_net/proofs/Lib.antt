@@ -14,6 +14,7 @@ pub mod Editing
 pub mod Sorting
 pub mod RowLists
 pub mod TurnedRows
+pub mod Rising
 pub mod RowsInPlace
 pub mod Remaking
 pub mod CutRows

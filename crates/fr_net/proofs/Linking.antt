@@ -5,13 +5,17 @@ use Rattle.std.proofs.lemmas.List.{get_or_default}
 use Rattle.std.proofs.lemmas.List.Sums.{sum_by-cons}
 use Rattle.fr_net.proofs.Booleans.{or_both, or_comm, or_true}
 use Rattle.fr_net.proofs.Counting.{cases_le_one, count_agrees, two_pass, weigh}
-use Rattle.fr_net.specs.Links.{AreSingle, HasNoSelfLink, IsClosedWalk, IsNet, IsPath, Points, is_between}
+use Rattle.fr_net.specs.Links.{AreSingle, HasNoSelfLink, IsClosedWalk, IsNet, IsPath, Joins, Points, is_between}
 
--- a link is_between nodes of the network
+-- a link joins nodes of the network
 pub link_below : (n : ℕ) (links : List (ℕ × ℕ)) (u v : ℕ) → IsNet n links → Points links u v → (u < n) × (v < n)
 link_below n links u v net p =
     let b = net.in_range p.0 (u, v) p.1 in
     (omega (arith, b.0, ap (λ (l : ℕ × ℕ). l.0) p.2), omega (arith, b.1, ap (λ (l : ℕ × ℕ). l.1) p.2))
+
+pub joined_below : (n : ℕ) (links : List (ℕ × ℕ)) (u v : ℕ) → IsNet n links → Joins links u v → (u < n) × (v < n)
+joined_below n links u v net (inl p) = link_below n links u v net p
+joined_below n links u v net (inr p) = let t = link_below n links v u net p in (t.1, t.0)
 
 pub is_between_itself : (l : ℕ × ℕ) → is_between l.0 l.1 l ≡ true
 is_between_itself l = rw (eq-eqb l.0 l.0 refl, eq-eqb l.1 l.1 refl) refl

@@ -1,7 +1,8 @@
 -- What the row of a node says of the links.
-use Rattle.std.proofs.Common.{Bool, Contains, List, None, Option, Some, [], ap, arith, cond, eq-eqb, eqb, eqb-true, false, get_or, inl, inr, length, option_to_list, refl, subst, suc, sym, true, zero, ℕ, ◌&&◌, ◌++◌, ◌<◌, ◌∙◌, ◌∷◌, ◌≡◌, ◌≤◌, ◌⊎◌}
+use Rattle.std.proofs.Common.{Bool, Contains, List, None, Option, Some, [], ap, arith, cond, eq-eqb, eqb, eqb-true, false, get_or, inl, inr, length, map, option_to_list, refl, subst, suc, sym, true, zero, ℕ, ◌&&◌, ◌++◌, ◌+◌, ◌<◌, ◌∙◌, ◌∷◌, ◌≡◌, ◌≤◌, ◌⊎◌}
 use Rattle.std.proofs.lemmas.Bool.{cases_Bool, cases_lt}
-use Rattle.std.proofs.lemmas.List.{append-nil, get_or_append_left, get_or_default, get_or_push, length-append, length_push}
+use Rattle.std.specs.List.Sorted.{IsStrictlyIncreasing}
+use Rattle.std.proofs.lemmas.List.{append-nil, get_or_append_left, get_or_default, get_or_push, get_or-map, length-append, length-map, length_push}
 use Rattle.std.proofs.lemmas.List.Elements.{Contains-append_cases, Contains-append_left, Contains-append_right, Contains-get_or}
 use Rattle.std.proofs.lemmas.List.Folds.{Any-from_list_any, list_any_at}
 use Rattle.fr_net.proofs.Booleans.{and_cases}
@@ -175,3 +176,12 @@ row_linked n links x some =
 pub row_alone : (n : ℕ) (links : List (ℕ × ℕ)) (x : ℕ) → IsNet n links → length (row n links x) ≡ 0 → IsAlone links x
 row_alone n links x net none w (inl h) = omega (arith, none, (row_of_out n links x w net h).1)
 row_alone n links x net none w (inr h) = omega (arith, none, (row_of_in n links x w net h).1)
+
+-- so the neighbours of a row stand in rising order, none twice
+pub neighbours_rise : (n : ℕ) (links : List (ℕ × ℕ)) (x : ℕ) → IsStrictlyIncreasing (map (λ (e : ℕ × First). e.0) (row n links x))
+neighbours_rise n links x k l =
+    let xs = row n links x in
+    let node : ℕ × First → ℕ = λ e. e.0 in
+    let long : length (map node xs) ≡ length xs = length-map xs node in
+    let d : ℕ × First = (0, Outward) in
+    rw (get_or-map node xs k d 0 (omega (arith, l, long)), get_or-map node xs (k + 1) d 0 (omega (arith, l, long))) (row_rises n links x k (k + 1) d (omega arith) (omega (arith, l, long)))

@@ -71,7 +71,7 @@ is_pair u v l = (eqb l.0 u) && (eqb l.1 v)
 abbrev pub times : List (ℕ × ℕ) → ℕ × ℕ → ℕ
 times xs x = count_by (is_pair x.0 x.1) xs
 
-itself : (x : ℕ × ℕ) → is_pair x.0 x.1 x ≡ true
+pub itself : (x : ℕ × ℕ) → is_pair x.0 x.1 x ≡ true
 itself x = rw (eq-eqb x.0 x.0 refl, eq-eqb x.1 x.1 refl) refl
 
 pub pair_from : (x y : ℕ × ℕ) → is_pair x.0 x.1 y ≡ true → y ≡ x

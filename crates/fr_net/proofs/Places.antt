@@ -13,9 +13,8 @@ use Rattle.fr_net.proofs.Neighbours.{Rises, in_of_row, out_of_row, row_of_in, ro
 use Rattle.fr_net.proofs.Ordering.{up_both}
 use Rattle.fr_net.proofs.Sorting.{sorted_at}
 use Rattle.fr_net.specs.Edits.{without}
-use Rattle.fr_net.specs.Halves.{IsBefore}
 use Rattle.fr_net.specs.Links.{AreSingle, IsNet, Joins, Points, is_between}
-use Rattle.fr_net.specs.Order.{AreInOrder, IsNotAfter}
+use Rattle.fr_net.specs.Order.{AreInOrder, IsBefore, IsNotAfter}
 use Rattle.fr_net.specs.Rows.{row}
 use Rattle.fr_net.specs.declared.rows.First.{First}
 use Rattle.fr_net.specs.declared.rows.First.TheVariants.{Inward, Outward}

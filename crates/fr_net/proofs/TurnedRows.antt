@@ -14,9 +14,8 @@ use Rattle.fr_net.proofs.RowLists.{from_rows, into_rows, length_more, length_up,
 use Rattle.fr_net.proofs.Sorting.{IsSorted, sorted-filter_map, sorted_at}
 use Rattle.fr_net.proofs.TurnedLinks.{net_turned}
 use Rattle.fr_net.specs.Counts.{IsKept, links_at}
-use Rattle.fr_net.specs.Halves.{IsBefore}
 use Rattle.fr_net.specs.Links.{AreSingle, IsNet, Points, is_between}
-use Rattle.fr_net.specs.Order.{AreInOrder, IsNotAfter, in_order}
+use Rattle.fr_net.specs.Order.{AreInOrder, IsBefore, IsNotAfter, in_order}
 use Rattle.fr_net.specs.RowLists.{link_to, opposite, out_links, rows_below, turned_entry}
 use Rattle.fr_net.specs.Rows.{has_link, row, row_entry}
 use Rattle.fr_net.specs.declared.rows.First.{First}
@@ -134,7 +133,7 @@ times-le-between (l ∷ ls) x =
     let weight : ℕ × ℕ → ℕ = λ y. weigh (is_between x.0 x.1 y) in
     omega (arith, times-cons l ls x, sum_by-cons weight l ls, times-le-between ls x, weigh_or (is_pair x.0 x.1 l) ((eqb l.0 x.1) && (eqb l.1 x.0)))
 
-single_once : (links : List (ℕ × ℕ)) (x : ℕ × ℕ) → AreSingle links → times links x ≤ 1
+pub single_once : (links : List (ℕ × ℕ)) (x : ℕ × ℕ) → AreSingle links → times links x ≤ 1
 single_once links x single = omega (arith, times-le-between links x, not_twice links x.0 x.1 single)
 
 same_times : (a b : List (ℕ × ℕ)) (x : ℕ × ℕ) → times a x ≤ 1 → times b x ≤ 1 → (Contains a x → Contains b x) → (Contains b x → Contains a x) → times a x ≡ times b x

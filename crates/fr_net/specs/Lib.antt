@@ -12,3 +12,4 @@ pub mod Halves
 pub mod CycleSearch
 pub mod Inside
 pub mod Requests
+pub mod Laws

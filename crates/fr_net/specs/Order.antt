@@ -1,6 +1,14 @@
 -- Links in rising order of tail, then head.
 use Rattle.std.specs.Prelude.{◌≡◌, ℕ, ◌<◌, ◌≤◌, ◌+◌, ◌⊎◌, ◌==◌, ◌&&◌, ◌||◌, Bool, nat_lt, nat_le, if◌then◌else◌, List, [], ◌∷◌, length, slice_index_or}
 
+-- p is before q in the order
+abbrev pub IsBefore : ℕ × ℕ → ℕ × ℕ → Type 0
+IsBefore p q = (p.0 < q.0) ⊎ ((p.0 ≡ q.0) × (p.1 < q.1))
+
+-- each link is before the next one of the list
+abbrev pub AreRising : List (ℕ × ℕ) → Type 0
+AreRising links = (k : ℕ) (d : ℕ × ℕ) → k + 1 < length links → IsBefore (slice_index_or links k d) (slice_index_or links (k + 1) d)
+
 -- p is before q in the order, or at its place
 abbrev pub IsNotAfter : ℕ × ℕ → ℕ × ℕ → Type 0
 IsNotAfter p q = (p.0 < q.0) ⊎ ((p.0 ≡ q.0) × (p.1 ≤ q.1))

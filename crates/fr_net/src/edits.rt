@@ -5,8 +5,7 @@ ghost use Rattle.std.specs.List.{insert, remove};
 ghost use Rattle.std.specs.List.Sorted.{IsNonDecreasingBy};
 ghost use Rattle.fr_net.specs.Links.{AreSingle, Points};
 ghost use Rattle.fr_net.specs.Edits.{without};
-ghost use Rattle.fr_net.specs.Halves.{IsBefore};
-ghost use Rattle.fr_net.specs.Order.{AreInOrder, IsNotAfter, with_in_order};
+ghost use Rattle.fr_net.specs.Order.{AreInOrder, IsBefore, IsNotAfter, with_in_order};
 ghost use Rattle.fr_net.specs.declared.rows.First.TheVariants.{Outward, Inward};
 
 use crate::rows::First;

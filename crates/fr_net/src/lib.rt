@@ -3,7 +3,7 @@
 //!
 //! A [`Net`] is made by [`Net::new`] alone, which names the first fault of links that make no network. Layers above
 //! read it by `nodes`, `links`, `degree`, `neighbour` and `row`, and make the network of turned links by `turned_by`, or in
-//! its place by `into_turned`.
+//! its place by `into_turned`. What its rows show is the law [`rows_law`](laws::rows_law).
 //! [`read_line`] reads a request.
 #![tactic(auto)]
 
@@ -11,6 +11,7 @@ mod checks;
 mod cycle;
 mod edits;
 mod fault;
+pub mod laws;
 mod limits;
 mod network;
 mod read;

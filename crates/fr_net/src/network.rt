@@ -3,7 +3,7 @@
 ghost use Rattle.std.specs.Prelude.{◌≡◌, ◌≢◌, ℕ, ◌<◌, ◌+◌, ◌++◌, [], ◌∷◌, length, slice_get, slice_index, Some, IfOk, IfErr, IfSome, IfNone, OnOk, All, ◌⊎◌};
 ghost use Rattle.std.specs.List.{HoldsAt};
 ghost use Rattle.fr_net.specs.Links.{Joins, Points};
-ghost use Rattle.fr_net.specs.Order.{AreInOrder};
+ghost use Rattle.fr_net.specs.Order.{AreRising};
 ghost use Rattle.fr_net.specs.Counts.{IsKept, links_at};
 ghost use Rattle.fr_net.specs.Rows.{row};
 ghost use Rattle.fr_net.specs.declared.fault.NetFault.TheVariants.{Memory};
@@ -87,10 +87,19 @@ impl Net {
         self.nodes
     }
 
-    /// The links in rising order of tail, then head.
+    /// The law of a network: none of the faults of [`NetFault`] stands among its links. It does nothing; a function whose proof
+    /// needs the law calls it.
+    pub fn network_law(&self)
+        ensures { IsFaultless self.now.nodes self.now.links }
+    {
+        // A field has to be read, since only then the proof sees the invariant.
+        let _nodes = self.nodes;
+    }
+
+    /// The links in rising order of tail, then head, none twice.
     pub fn links(&self) -> &[(u32, u32)]
         ensures value { result.now ≡ self.now.links }
-        ensures order { AreInOrder self.now.links }
+        ensures rising { AreRising self.now.links }
     {
         &self.links
     }

@@ -184,6 +184,26 @@ fn shows_links_and_rows_in_rising_order(rt: HostRuntime) -> Result<(), Fail> {
 }
 
 #[test]
+fn shows_each_link_from_both_its_ends(rt: HostRuntime) -> Result<(), Fail> {
+    let alloc = rt.alloc();
+    laws::rows_law();
+    let net = Net::new(alloc, 5, &[(4, 0), (1, 0), (2, 1), (4, 2)])?;
+    net.network_law();
+    let (inward, outward) = (First::Inward, First::Outward);
+    for (x, row) in [
+        (0, [(1, inward), (4, inward)].as_slice()),
+        (1, &[(0, outward), (2, inward)]),
+        (2, &[(1, outward), (4, inward)]),
+        (3, &[]),
+        (4, &[(0, outward), (2, outward)]),
+    ] {
+        assert!(rt; x < net.nodes());
+        assert_eq!(rt; net.row(x), row, "node {x}");
+    }
+    Ok(())
+}
+
+#[test]
 fn turns_links_by_counts(rt: HostRuntime) -> Result<(), Fail> {
     let alloc = rt.alloc();
     for (what, nodes, links, counts, turned) in [
