@@ -14,6 +14,7 @@ mod entry;
 mod finisher;
 pub mod laws;
 mod levels;
+mod limits;
 mod machine;
 #[cfg(test)]
 mod plain;
@@ -30,6 +31,7 @@ pub use counts::{is_sink, lawful, sense};
 pub use directions::Sense;
 pub use entry::{Entry, Reply};
 pub use finisher::finish;
+pub use limits::MAX_WORKERS;
 pub use machine::Machine;
 pub use play_fault::PlayFault;
 pub use schedules::play;
