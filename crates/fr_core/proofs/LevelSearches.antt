@@ -5,11 +5,11 @@ use Rattle.std.proofs.lemmas.List.Elements.{All-contains}
 use Rattle.fr_core.proofs.Joining.{walk_linked}
 use Rattle.fr_core.proofs.Reaching.{queued_more}
 use Rattle.fr_core.proofs.Settling.{cases_linked, walk_against, walk_along}
-use Rattle.fr_core.proofs.Turning.{joined_below}
 use Rattle.fr_core.specs.LevelSearch.{IsLevelSearch, IsSeen}
 use Rattle.fr_core.specs.Reaching.{IsNeighbour, IsQueued, IsReached, ReachesOnly}
 use Rattle.fr_core.specs.Settled.{AreSettled, IsSettledCount}
 use Rattle.fr_core.specs.Walks.{HasWalk, IsWalk}
+use Rattle.fr_net.proofs.Linking.{joined_below}
 use Rattle.fr_net.proofs.Neighbours.{in_of_row, out_of_row, row_of_in, row_of_out}
 use Rattle.fr_net.specs.Links.{IsAlone, IsNet, Joins, Points}
 use Rattle.fr_net.specs.Rows.{row}
@@ -79,7 +79,7 @@ module _ (n d : ℕ) (first : List (ℕ × ℕ)) (c q : List ℕ) (closed opened
     closes l m all w h =
         let x : ℕ = slice_index q closed in
         let ne : ¬ (slice_index c w ≡ n) = All-contains (IsReached n c Inward) (row n first x) (w, Inward) all (row_of_in n first x w net h) refl in
-        let f = queued_neighbour x w (inl h) (s.seen w (joined_below n first net w x (inl h))) ne in
+        let f = queued_neighbour x w (inl h) (s.seen w (joined_below n first w x net (inl h)).0) ne in
         (f, omega (arith, s.most f.0 f.1, ap (slice_index c) f.2, s.here closed m l))
 
     pub close_one : closed < length q → start ≤ closed → All (IsReached n c Inward) (row n first (slice_index q closed))
@@ -118,7 +118,7 @@ module _ (n d : ℕ) (first : List (ℕ × ℕ)) (c q : List ℕ) (closed opened
     opens l all w h =
         let x : ℕ = slice_index q opened in
         let ne : ¬ (slice_index c w ≡ n) = All-contains (IsReached n c Outward) (row n first x) (w, Outward) all (row_of_out n first x w net h) refl in
-        let f = queued_neighbour x w (inr h) (s.seen w (joined_below n first net w x (inr h))) ne in
+        let f = queued_neighbour x w (inr h) (s.seen w (joined_below n first w x net (inr h)).0) ne in
         (f, omega (arith, s.most f.0 f.1, ap (slice_index c) f.2, s.before opened (omega arith) l))
 
     pub open_one : opened < start → All (IsReached n c Outward) (row n first (slice_index q opened))
@@ -160,7 +160,7 @@ module _ (n d : ℕ) (first : List (ℕ × ℕ)) (net : IsNet n first) (c q : Li
       let leads : (x : ℕ) → IsNeighbour (row n first u) Inward x → (x < n) × HasWalk first d x level = λ x h.
       let p : Points first x u = in_of_row n first u x h in
       let w : HasWalk first d u level = subst (HasWalk first d u) (s.here closed m l) (s.walks closed l) in
-      (joined_below n first net x u (inl p), (w.0 ++ x ∷ [], walk_against first d w.0 level u x w.1 p)) in
+      ((joined_below n first x u net (inl p)).0, (w.0 ++ x ∷ [], walk_against first d w.0 level u x w.1 p)) in
       let t = search_more n d first c q closed opened start level s (IsNeighbour (row n first u) Inward) e r g leads one_each in
       close_one n d first e r closed opened start level t net (omega (arith, g.longer)) m (subst (λ (z : ℕ). All (IsReached n e Inward) (row n first z)) (sym (g.kept closed l)) all)
 
@@ -172,7 +172,7 @@ module _ (n d : ℕ) (first : List (ℕ × ℕ)) (net : IsNet n first) (c q : Li
       let leads : (x : ℕ) → IsNeighbour (row n first u) Outward x → (x < n) × HasWalk first d x level = λ x h.
       let p : Points first u x = out_of_row n first u x h in
       let w : HasWalk first d u (slice_index c u) = s.walks opened queued in
-      (joined_below n first net x u (inr p), subst (HasWalk first d x) (s.before opened (omega arith) l) (w.0 ++ x ∷ [], walk_along first d w.0 (slice_index c u) u x w.1 p)) in
+      ((joined_below n first x u net (inr p)).0, subst (HasWalk first d x) (s.before opened (omega arith) l) (w.0 ++ x ∷ [], walk_along first d w.0 (slice_index c u) u x w.1 p)) in
       let t = search_more n d first c q closed opened start level s (IsNeighbour (row n first u) Outward) e r g leads one_each in
       open_one n d first e r closed opened start level t net l (subst (λ (z : ℕ). All (IsReached n e Outward) (row n first z)) (sym (g.kept opened queued)) all)
 

@@ -23,6 +23,7 @@ pub mod Loads
 pub mod MachineSteps
 pub mod MachineRuns
 pub mod MachineParts
+pub mod Stepping
 pub mod SmallPlays
 pub mod PointsByRow
 pub mod Checking

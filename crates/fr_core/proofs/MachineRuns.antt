@@ -13,8 +13,8 @@ use Rattle.fr_core.specs.History.{Moment, after_all, moment_of}
 use Rattle.fr_core.specs.Legal.{IsRun}
 use Rattle.fr_core.specs.Machine.{Outcome, MachineState, WorkerState, entries_of, entry_of, fresh, outcome, outcome_of, start, state_after, step, worker_of}
 use Rattle.fr_core.specs.Runs.{IsRunTo}
-use Rattle.fr_core.specs.Sound.{CanStep, IsFit, IsOnNode, IsPhaseInside, IsSound, IsSoundMachine, IsSoundPhase, IsSoundWorker, IsTurnable, outcome_with, view_of}
-use Rattle.fr_core.specs.Targets.{AreAllAccepted, AreAccepted, IsUnturnable, IsTargetRefused}
+use Rattle.fr_core.specs.Sound.{CanStep, IsFit, IsOnNode, IsPhaseInside, IsSound, IsSoundMachine, IsSoundPhase, IsSoundWorker, outcome_with, view_of}
+use Rattle.fr_core.specs.Targets.{AreAllAccepted, AreAccepted, IsTurnable, IsUnturnable, IsTargetRefused}
 use Rattle.fr_core.specs.declared.entry.Entry.{Entry}
 use Rattle.fr_core.specs.declared.entry.Reply.{Reply}
 use Rattle.fr_core.specs.declared.targets.Target.{Target}

@@ -14,7 +14,8 @@ use Rattle.fr_core.proofs.Turning.{raised-here, raised-other, turn-links_at, tur
 use Rattle.fr_core.specs.History.{after_all, moment_of}
 use Rattle.fr_core.specs.Legal.{CanTurn, IsRun}
 use Rattle.fr_core.specs.Machine.{Outcome, all_but_first, begin_call, decides, entry_of, exchange, goes_on, bound_of, load_neighbour, load_own, neighbour_at, outcome, step_idle}
-use Rattle.fr_core.specs.Sound.{IsFit, IsSoundPhase, IsTurnable, IsUnderWay}
+use Rattle.fr_core.specs.Sound.{IsFit, IsSoundPhase, IsUnderWay}
+use Rattle.fr_core.specs.Targets.{IsTurnable}
 use Rattle.fr_core.specs.declared.entry.Reply.TheVariants.{Cut, Held, Moved, Turned}
 use Rattle.fr_core.specs.declared.targets.Target.{Target}
 use Rattle.fr_core.specs.declared.targets.Target.TheVariants.{Turn}

@@ -5,13 +5,13 @@ use Rattle.fr_core.proofs.Away.{Climbs, climbs_from_meets, lawful_at_most}
 use Rattle.fr_core.proofs.Following.{path_short}
 use Rattle.fr_core.proofs.Pigeons.{too_many_counts}
 use Rattle.fr_core.proofs.Sinks.{links_at_keeps}
-use Rattle.fr_core.proofs.Turning.{joined_below}
 use Rattle.fr_core.specs.History.{moment_of}
 use Rattle.fr_core.specs.Legal.{NoneCanTurn}
 use Rattle.fr_core.specs.Settled.{AreSettled, IsSettledCount}
 use Rattle.fr_core.specs.Walks.{HasWalk, IsJoined, IsWalk}
 use Rattle.fr_net.proofs.Acyclic.{links_at_acyclic}
 use Rattle.fr_net.proofs.Giving.{ComesFrom, Points-links_at_from}
+use Rattle.fr_net.proofs.Linking.{joined_below}
 use Rattle.fr_net.proofs.Members.{cases_some}
 use Rattle.fr_net.specs.Counts.{AreLawful, links_at}
 use Rattle.fr_net.specs.Links.{IsAlone, IsNet, IsPath, Joins, Points}
@@ -96,7 +96,7 @@ module _ (n d : ℕ) (first : List (ℕ × ℕ)) (net : IsNet n first) (in_range
 
     reached : (x w : ℕ) → Joins first x w → slice_index c x < n → HasWalk first d x (slice_index c x)
     reached x w linked below = ⊎_elim (λ r. r)
-        (λ p. absurd (omega (arith, p.1, path_short (links_at first c) n (links_at_acyclic first c net.acyclic) (λ u v h. joined_below n first net v u (linked_back u v (Points-links_at_from first c u v h))) x p.0 (joined_below n first net x w linked) p.2)))
+        (λ p. absurd (omega (arith, p.1, path_short (links_at first c) n (links_at_acyclic first c net.acyclic) (λ u v h. (joined_below n first v u net (linked_back u v (Points-links_at_from first c u v h))).0) x p.0 (joined_below n first x w net linked).0 p.2)))
         (follow n x w linked below)
 
     settled_count : (x : ℕ) → x < n → IsSettledCount n d first x (slice_index c x)
@@ -105,7 +105,7 @@ module _ (n d : ℕ) (first : List (ℕ × ℕ)) (net : IsNet n first) (in_range
         (λ below. inr (inl (λ alone. alone linked.0 linked.1, record { reached = reached x linked.0 linked.1 below; least = lawful_at_most n d first c lawful x })))
         (λ high. inr (inr (
           λ alone. alone linked.0 linked.1,
-          (λ joined. omega (arith, no_walk_to_n n first (joined_below n first net) c (climbs_from_meets first c lawful.kept) d in_range lawful.destination x joined)),
+          (λ joined. omega (arith, no_walk_to_n n first (λ x w h. (joined_below n first x w net h).0) c (climbs_from_meets first c lawful.kept) d in_range lawful.destination x joined)),
           omega (arith, lawful.capped x),
         )))
         (cases_lt (slice_index c x) n))

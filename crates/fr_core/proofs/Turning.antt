@@ -10,6 +10,7 @@ use Rattle.fr_core.specs.declared.entry.Entry.{Entry}
 use Rattle.fr_core.specs.declared.entry.Reply.{Reply}
 use Rattle.fr_core.specs.declared.entry.Reply.TheVariants.{Cut, Held, Moved, Turned}
 use Rattle.fr_net.proofs.Giving.{Points-links_at_from, filter_map-Contains, link_at-kept, link_at-same, link_at-turned}
+use Rattle.fr_net.proofs.Linking.{joined_below}
 use Rattle.fr_net.proofs.Members.{Contains-head, Contains-tail}
 use Rattle.fr_net.specs.Counts.{AreLawful, IsKept, link_at, links_at}
 use Rattle.fr_net.specs.Links.{IsNet, Joins}
@@ -83,16 +84,12 @@ pub record IsLawfulAt (n d : ℕ) (first : List (ℕ × ℕ)) (m : Moment) : Typ
 pub sink_linked : (first : List (ℕ × ℕ)) (c : List ℕ) (x : ℕ) → IsSink (links_at first c) x → (w : ℕ) × Joins first x w
 sink_linked first c x sink = (sink.0.0, ⊎_elim (λ h. inr h.0) (λ h. inl h.0) (Points-links_at_from first c sink.0.0 x sink.0.1))
 
-pub joined_below : (n : ℕ) (first : List (ℕ × ℕ)) → IsNet n first → (x w : ℕ) → Joins first x w → x < n
-joined_below n first net x w (inl h) = (All-contains (λ (l : ℕ × ℕ). (l.0 < n) × (l.1 < n)) first (x, w) net.in_range h).0
-joined_below n first net x w (inr h) = (All-contains (λ (l : ℕ × ℕ). (l.0 < n) × (l.1 < n)) first (w, x) net.in_range h).1
-
 pub All-from_Contains : (P : ℕ × ℕ → Type 0) (xs : List (ℕ × ℕ)) → ((l : ℕ × ℕ) → Contains xs l → P l) → All P xs
 All-from_Contains P xs each = All-from_get_or P xs (0, 0) (λ i l. each _ (Contains-get_or xs i (0, 0) l))
 
 module _ (n d : ℕ) (first : List (ℕ × ℕ)) (net : IsNet n first) (c : List ℕ) (lawful : AreLawful n d first c) (x : ℕ) (can : CanTurn n d (record { links = links_at first c; counts = c }) x) where
   here : x < length c
-  here = let s = sink_linked first c x can.sink in omega (arith, joined_below n first net x s.0 s.1, lawful.one_each)
+  here = let s = sink_linked first c x can.sink in omega (arith, (joined_below n first x s.0 net s.1).0, lawful.one_each)
 
   each_turns : (l : ℕ × ℕ) → Contains first l → TurnsAlike c x l
   each_turns l h = turns_alike c x l.0 l.1 here (All-contains (λ (l : ℕ × ℕ). ¬ (l.0 ≡ l.1)) first l net.no_self h) (All-contains (IsKept c) first l lawful.kept h)

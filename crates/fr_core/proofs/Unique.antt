@@ -4,12 +4,13 @@ use Rattle.std.proofs.lemmas.Bool.{cases_eq, cases_lt}
 use Rattle.std.proofs.lemmas.List.{ext_get_or, get_or_past}
 use Rattle.fr_core.proofs.Away.{Climbs, lawful_at_most}
 use Rattle.fr_core.proofs.Settling.{no_walk_to_n, walk_against, walk_along}
-use Rattle.fr_core.proofs.Turning.{All-from_Contains, joined_below, sink_linked}
+use Rattle.fr_core.proofs.Turning.{All-from_Contains, sink_linked}
 use Rattle.fr_core.specs.History.{moment_of}
 use Rattle.fr_core.specs.Legal.{NoneCanTurn}
 use Rattle.fr_core.specs.Settled.{AreSettled, IsSettledCount}
 use Rattle.fr_core.specs.Walks.{IsJoined, IsLeastAway, IsWalk}
 use Rattle.fr_net.proofs.Giving.{Points-links_at_same, Points-links_at_turned}
+use Rattle.fr_net.proofs.Linking.{joined_below}
 use Rattle.fr_net.specs.Counts.{AreLawful, IsKept, links_at}
 use Rattle.fr_net.specs.Links.{IsAlone, IsNet, Joins, Points}
 
@@ -50,7 +51,7 @@ lawful_le_settled n d links b c lawful settled x l = go (settled.settled x l)
 
 module _ (n d : ℕ) (first : List (ℕ × ℕ)) (net : IsNet n first) (in_range : d < n) (c : List ℕ) (settled : AreSettled n d first c) where
   pub of_linked : (x w : ℕ) → Joins first x w → IsLinkedCount n d first x (slice_index c x)
-  of_linked x w h = linked_count n d first x (slice_index c x) (settled.settled x (joined_below n first net x w h)) (λ alone. alone w h)
+  of_linked x w h = linked_count n d first x (slice_index c x) (settled.settled x (joined_below n first x w net h).0) (λ alone. alone w h)
 
   pub joined_along : (u v : ℕ) → Points first u v → IsJoined first d u → IsJoined first d v
   joined_along u v h (k, (vs, w)) = (k + 1, (vs ++ v ∷ [], walk_along first d vs k u v w h))
@@ -85,7 +86,7 @@ module _ (n d : ℕ) (first : List (ℕ × ℕ)) (net : IsNet n first) (in_range
       go (inr (inr h)) = absurd (h.1 (0, ([], (refl, refl))))
 
   pub joined_count_below : (x : ℕ) → IsJoined first d x → slice_index c x < n
-  joined_count_below x joined = no_walk_to_n n first (joined_below n first net) c settled_climbs d in_range settled_destination x joined
+  joined_count_below x joined = no_walk_to_n n first (λ y w h. (joined_below n first y w net h).0) c settled_climbs d in_range settled_destination x joined
 
   settled_capped : (x : ℕ) → slice_index c x ≤ n
   settled_capped x = ⊎_elim (λ l. go (settled.settled x l)) (λ h. omega (arith, get_or_past c x 0 (omega (arith, settled.one_each)))) (cases_lt x n)

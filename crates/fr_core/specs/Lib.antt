@@ -10,6 +10,7 @@ pub mod NodeCounts
 pub mod Reaching
 pub mod LevelSearch
 pub mod Runs
+pub mod Limits
 pub mod Machine
 pub mod Targets
 pub mod Played

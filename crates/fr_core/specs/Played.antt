@@ -41,3 +41,9 @@ pub record IsPlay (n d : ℕ) (first : List (ℕ × ℕ)) (targets : List (List 
   pub run : IsRunTo n d first entries (state_after n first (start n targets) schedule).counts
   -- and each worker's part of them is its replies
   pub parts : (k : ℕ) → HasPart n first targets schedule entries k
+
+-- the machine has come from its start with these targets to where it is by the steps of some schedule, which decided these entries
+pub record HasCome (m : MachineView) (targets : List (List Target)) (entries : List Entry) : Type 0 where
+  pub schedule : List ℕ
+  pub play : IsPlay m.nodes m.dest m.links targets schedule entries
+  pub state : m.state ≡ state_after m.nodes m.links (start m.nodes targets) schedule

@@ -2,23 +2,17 @@
 use Rattle.std.specs.Prelude.{◌≡◌, ℕ, ◌<◌, ◌≤◌, List, ◌++◌, length, slice_get, slice_index, Option, Some}
 use Rattle.std.specs.List.{All}
 use Rattle.fr_net.specs.Counts.{AreLawful}
-use Rattle.fr_net.specs.Links.{IsNet, Joins}
+use Rattle.fr_net.specs.Links.{IsNet}
 use Rattle.fr_net.specs.Rows.{row}
 use Rattle.fr_core.specs.Machine.{WorkerState, MachineState, Outcome, neighbour_at, bound_of, entries_of}
 use Rattle.fr_core.specs.Played.{MachineView}
-use Rattle.fr_core.specs.Targets.{IsTargetRefused}
+use Rattle.fr_core.specs.Targets.{IsTargetRefused, IsTurnable}
 use Rattle.fr_core.specs.declared.entry.Entry.{Entry}
 use Rattle.fr_core.specs.declared.entry.Reply.{Reply}
 use Rattle.fr_core.specs.declared.targets.Target.{Target}
 use Rattle.fr_core.specs.declared.targets.Target.TheVariants.{Turn}
 use Rattle.fr_core.specs.declared.worker.Phase.{Phase}
 use Rattle.fr_core.specs.declared.worker.Phase.TheVariants.{Idle, Looking, Swapping}
-
--- a turn of the node is not refused
-pub record IsTurnable (n d : ℕ) (first : List (ℕ × ℕ)) (x : ℕ) : Type 0 where
-  pub inside : x < n
-  pub not_destination : ¬ (x ≡ d)
-  pub linked : (w : ℕ) × Joins first x w
 
 abbrev pub IsFit : ℕ → ℕ → List (ℕ × ℕ) → Target → Type 0
 IsFit n d first (Turn x) = IsTurnable n d first x

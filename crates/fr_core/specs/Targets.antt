@@ -1,7 +1,7 @@
--- Which targets and schedules a machine takes.
+-- Which turns are refused, and which targets and schedules a machine takes.
 use Rattle.std.specs.Prelude.{◌≡◌, ℕ, ◌<◌, ◌≤◌, ◌⊎◌, List, length, map, Some, slice_get, Vec}
 use Rattle.std.specs.List.{All, Any}
-use Rattle.fr_net.specs.Links.{IsAlone}
+use Rattle.fr_net.specs.Links.{IsAlone, Joins}
 use Rattle.fr_core.specs.declared.play_fault.PlayFault.{PlayFault}
 use Rattle.fr_core.specs.declared.play_fault.PlayFault.TheVariants.{Range, BadTarget, Memory}
 use Rattle.fr_core.specs.declared.targets.Target.{Target}
@@ -15,6 +15,12 @@ module _ {A Z : Type 0} where
 -- a turn of x would be refused: it is no node, the destination, or alone
 abbrev pub IsUnturnable : ℕ → ℕ → List (ℕ × ℕ) → ℕ → Type 0
 IsUnturnable n d links x = (n ≤ x) ⊎ (x ≡ d) ⊎ IsAlone links x
+
+-- a turn of x would not be refused
+pub record IsTurnable (n d : ℕ) (links : List (ℕ × ℕ)) (x : ℕ) : Type 0 where
+  pub inside : x < n
+  pub not_destination : ¬ (x ≡ d)
+  pub linked : (w : ℕ) × Joins links x w
 
 abbrev pub IsTargetRefused : ℕ → ℕ → List (ℕ × ℕ) → Target → Type 0
 IsTargetRefused n d links (Turn x) = IsUnturnable n d links x

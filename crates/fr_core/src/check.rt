@@ -26,8 +26,8 @@ fn points(net: &Net, counts: &[u64], x: u32, w: u32) -> bool
     requires node { x < net.now.nodes }
     ensures { IsTrue result ↔ Points (links_at net.now.links counts.now) x w }
 {
-    // For what `nodes` ensures: the links are those of a network, so the row has each link of `x`.
-    let _nodes = net.nodes();
+    // By the law the row has each link of `x`.
+    net.network_law();
     let row = net.row(x);
     for (neighbour, first) in row {
         if *neighbour == w {

@@ -55,8 +55,8 @@ fn fits_links(net: &Net, counts: &[u64]) -> bool
     requires { length counts.now ≡ net.now.nodes }
     ensures { IsTrue result ↔ All (IsKept counts.now) net.now.links }
 {
-    // For what the call says: the links join nodes of the network.
-    let _nodes = net.nodes();
+    // By the law the links join nodes, which have counts.
+    net.network_law();
     let links = net.links();
     for (tail, head) in links {
         let now = sense(
@@ -91,8 +91,8 @@ pub fn is_sink(net: &Net, counts: &[u64], x: u32) -> bool
     requires node { x < net.now.nodes }
     ensures { IsTrue result ↔ IsSink (links_at net.now.links counts.now) x }
 {
-    // For what `nodes` ensures: the links are those of a network, so the row has each link of `x`.
-    let _nodes = net.nodes();
+    // By the law the row has each link of `x`.
+    net.network_law();
     let row = net.row(x);
     for (w, first) in row {
         match sense(*first, counts[x as usize], counts[*w as usize]) {

@@ -1,24 +1,12 @@
 //! Where every schedule ends, found on one thread.
 
-ghost use Rattle.std.specs.Prelude.{◌≡◌, ℕ, ◌<◌, ◌^◌, sum};
+ghost use Rattle.std.specs.Prelude.{◌≡◌, ℕ, ◌<◌};
 ghost use Rattle.fr_net.specs.Counts.{AreLawful};
 ghost use Rattle.fr_core.specs.Finish.{IsFinish};
 ghost use Rattle.fr_core.specs.Settled.{AreSettled};
 
 use crate::levels::settle;
 use fr_net::Net;
-
-/// The sum of the counts.
-fn total(counts: &[u64]) -> u64
-    requires { sum counts.now < 2 ^ 64 }
-    ensures { result ≡ sum counts.now }
-{
-    let mut total = 0;
-    for count in counts {
-        total += *count;
-    }
-    total
-}
 
 /// Goes from lawful counts straight to those at which turning node by node ends, and answers how many turns lie between.
 /// No node is turned: a search writes the settled counts, linear in nodes and links, and takes no memory. That turning
@@ -32,9 +20,10 @@ pub fn finish(net: &Net, dest: u32, counts: &mut [u64]) -> u64
     ensures settled { AreSettled net.now.nodes dest net.now.links counts.new }
     ensures run { IsFinish net.now.nodes dest net.now.links counts.old counts.new result }
 {
-    // For what `nodes` ensures: how many nodes there are at most, and that the links are those of a network.
-    let _nodes = net.nodes();
-    let before = total(counts);
+    // By the law there are few nodes, so the sums fit.
+    net.network_law();
+    let before: u64 = counts.iter().sum();
     settle(net, dest, counts);
-    total(counts) - before
+    let after: u64 = counts.iter().sum();
+    after - before
 }

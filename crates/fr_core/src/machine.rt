@@ -1,11 +1,14 @@
 //! Workers that turn the nodes of a network by single loads and exchanges, one step at a time.
 
-ghost use Rattle.std.specs.Prelude.{◌≡◌, ◌≢◌, ◌<◌, All, length, option_to_list, IfOk, IfErr};
+ghost use Rattle.std.specs.Prelude.{◌≡◌, ◌≢◌, ◌<◌, ◌++◌, [], List, All, length, option_to_list, IfOk, IfErr};
 ghost use Rattle.fr_net.specs.Counts.{AreLawful, links_at};
 ghost use Rattle.fr_net.specs.Links.{IsAcyclic};
 ghost use Rattle.fr_core.specs.Machine.{step, outcome_of, entry_of, entries_of};
-ghost use Rattle.fr_core.specs.Played.{started};
+ghost use Rattle.fr_core.specs.Played.{HasCome, started};
+ghost use Rattle.fr_core.specs.Runs.{IsRunTo};
 ghost use Rattle.fr_core.specs.Targets.{IsMachineFault, AreAllAccepted, lists_of};
+ghost use Rattle.fr_core.specs.declared.entry.Entry.{Entry};
+ghost use Rattle.fr_core.specs.declared.targets.Target.{Target};
 ghost use Rattle.fr_core.specs.declared.play_fault.PlayFault.TheVariants.{Memory};
 
 use crate::entry::Entry;
@@ -18,8 +21,9 @@ use std::marker::Model;
 
 /// Workers at the counts of a network, each with its targets. A step is the atomic load or the compare and exchange of one
 /// count, and who steps next is the caller's choice, so a caller can go through any interleaving. Whatever it is, the
-/// decided calls are a run: each reply is the one that full reversal on one thread gives at that point, which is the clause
-/// `run` of [`machine_law`](crate::laws::machine_law). A step takes no memory.
+/// decided calls are a run: each reply is the one that full reversal on one thread gives at that point. So whoever keeps the
+/// entries that the steps answer holds a run to the counts: `HasCome` says of a machine which entries brought it where it is,
+/// and the clauses `come` of `new` and of `step` and `run` of `counts` carry it. A step takes no memory.
 #[derive(Debug, Drop)]
 pub struct Machine<'a> {
     net: &'a Net,
@@ -54,6 +58,7 @@ impl<'a> Machine<'a> {
     ) -> Result<Machine<'a>, PlayFault>
         ensures ok { IfOk result (λ m. m ≡ started net.now.nodes dest net.now.links (lists_of targets.items)) }
         ensures destination { IfOk result (λ _. dest < net.now.nodes) }
+        ensures come { IfOk result (λ m. HasCome m (lists_of targets.items) []) }
         ensures accepted { IfOk result (λ _. AreAllAccepted net.now.nodes dest net.now.links (lists_of targets.items)) }
         ensures refused { IfErr result
             (λ fault. fault ≢ Memory → IsMachineFault net.now.nodes dest net.now.links (lists_of targets.items) fault) }
@@ -102,6 +107,8 @@ impl<'a> Machine<'a> {
         ensures value { result.now ≡ self.now.state.counts }
         ensures lawful { AreLawful self.now.nodes self.now.dest self.now.links self.now.state.counts }
         ensures acyclic { IsAcyclic (links_at self.now.links self.now.state.counts) }
+        ensures run { (targets : List (List Target)) (entries : List Entry) → HasCome self.now targets entries
+            → IsRunTo self.now.nodes self.now.dest self.now.links entries self.now.state.counts }
     {
         &self.counts
     }
@@ -113,6 +120,8 @@ impl<'a> Machine<'a> {
         ensures next { self.new ≡ record self.old { state = step self.old.nodes self.old.links self.old.state worker } }
         ensures entry { option_to_list result
             ≡ entry_of worker (outcome_of self.old.nodes self.old.links self.old.state worker).decided }
+        ensures come { (targets : List (List Target)) (entries : List Entry) → HasCome self.old targets entries
+            → HasCome self.new targets (entries ++ option_to_list result) }
     {
         let (node, reply) = self.workers[worker as usize].step(self.net, &mut self.counts)?;
         Some(Entry {

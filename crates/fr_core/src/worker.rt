@@ -122,8 +122,8 @@ impl Worker {
         ensures { outcome_with counts.now self.new result
             ≡ load_neighbour (row net.now.nodes net.now.links node) counts.now self.old.left node count place }
     {
-        // For what `nodes` ensures: there are few nodes, so few neighbours.
-        let _nodes = net.nodes();
+        // By the law there are few nodes, so few neighbours.
+        net.network_law();
         let degree = net.degree(node);
         let (neighbour, first) = net.neighbour(node, place);
         if counts[neighbour as usize] < bound_of(first, count) {

@@ -13,7 +13,7 @@ use Rattle.fr_net.specs.Counts.{links_at}
 use Rattle.fr_net.specs.Links.{Points, Joins}
 use Rattle.fr_core.specs.History.{Moment, after, count_at, part}
 use Rattle.fr_core.specs.Legal.{CanTurn, IsLegal}
-use Rattle.fr_core.specs.Sound.{IsTurnable}
+use Rattle.fr_core.specs.Targets.{IsTurnable}
 use Rattle.fr_core.specs.declared.entry.Entry.{Entry}
 use Rattle.fr_core.specs.declared.entry.Reply.{Reply}
 use Rattle.fr_core.specs.declared.entry.Reply.TheVariants.{Turned, Held, Moved, Cut}

@@ -2,7 +2,7 @@
 
 ghost use Rattle.std.specs.Prelude.{◌≡◌, ◌≤◌, ◌<◌, ℕ, MatchResult, IfOk, IfErr, length, slice_index};
 ghost use Rattle.std.specs.List.{AllByRecursion as Each};
-ghost use Rattle.fr_core.specs.Sound.{IsTurnable};
+ghost use Rattle.fr_core.specs.Targets.{IsTurnable};
 ghost use Rattle.fr_round.specs.Histories.{entry};
 ghost use Rattle.fr_round.specs.Steps.{Extends};
 ghost use Rattle.fr_round.specs.Calls.{ShowsCount, IsReplyToTurn};

@@ -4,7 +4,7 @@ ghost use Rattle.std.specs.Prelude.{◌≡◌, ◌+◌, ◌<◌, ◌≤◌, ◌^
 ghost use Rattle.std.specs.List.{Contains};
 ghost use Rattle.fr_net.specs.Rows.{row};
 ghost use Rattle.fr_core.specs.Machine.{bound_of};
-ghost use Rattle.fr_core.specs.Sound.{IsTurnable};
+ghost use Rattle.fr_core.specs.Targets.{IsTurnable};
 ghost use Rattle.fr_core.specs.declared.entry.Reply.TheVariants.{Held};
 ghost use Rattle.fr_round.specs.Setups.{setup_of};
 ghost use Rattle.fr_round.specs.Steps.{noted, EndsCall};

@@ -2,7 +2,7 @@
 
 ghost use Rattle.std.specs.Prelude.{◌≡◌, ◌<◌, ◌≤◌, ℕ, [], true, slice_index};
 ghost use Rattle.fr_core.specs.History.{part, turn_count};
-ghost use Rattle.fr_core.specs.Sound.{IsTurnable};
+ghost use Rattle.fr_core.specs.Targets.{IsTurnable};
 ghost use Rattle.fr_round.specs.Setups.{setup_of};
 ghost use Rattle.fr_round.specs.Histories.{entry};
 ghost use Rattle.fr_round.specs.Steps.{Extends};

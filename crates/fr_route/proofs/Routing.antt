@@ -5,6 +5,7 @@ use Rattle.std.proofs.lemmas.Bool.{cases_Bool, cases_eq, false≢true}
 use Rattle.std.specs.List.{IsDistinct}
 use Rattle.fr_net.proofs.Acyclic.{links_at_acyclic}
 use Rattle.fr_net.proofs.Giving.{ComesFrom, Points-links_at_from}
+use Rattle.fr_net.proofs.Linking.{joined_below}
 use Rattle.fr_net.proofs.Neighbours.{Points-has_link, has_link_true}
 use Rattle.fr_net.specs.Counts.{links_at}
 use Rattle.fr_net.specs.Links.{HaveSameLinks, IsAcyclic, IsNet, IsPath, Joins, Points, end_of}
@@ -13,7 +14,6 @@ use Rattle.fr_core.proofs.Following.{path_distinct, path_short}
 use Rattle.fr_core.proofs.Joining.{walk_linked}
 use Rattle.fr_core.proofs.Paths.{walk_from_path}
 use Rattle.fr_core.proofs.Searching.{cases_below}
-use Rattle.fr_core.proofs.Turning.{joined_below}
 use Rattle.fr_core.proofs.Unique.{IsLinkedCount, joined_against, joined_along, of_linked, settled_out}
 use Rattle.fr_core.specs.Settled.{AreSettled}
 use Rattle.fr_core.specs.Walks.{IsJoined, IsLeastAway}
@@ -69,8 +69,8 @@ module _ (n d : ℕ) (first : List (ℕ × ℕ)) (net : IsNet n first) (in_range
   now_below x y h = go (Points-links_at_from first c x y h)
     where
       go : ComesFrom first c x y → y < n
-      go (inl h) = joined_below n first net y x (inr h.0)
-      go (inr h) = joined_below n first net y x (inl h.0)
+      go (inl h) = (joined_below n first y x net (inr h.0)).0
+      go (inr h) = (joined_below n first y x net (inl h.0)).0
 
   pub joined_next : (x y : ℕ) → Points (links_at first c) x y → IsJoined first d x → IsJoined first d y
   joined_next x y h joined = go (Points-links_at_from first c x y h)
@@ -104,7 +104,7 @@ module _ (n d : ℕ) (first : List (ℕ × ℕ)) (net : IsNet n first) (in_range
       (cases_eq x d)
 
   joined_in_range : (x : ℕ) → IsJoined first d x → x < n
-  joined_in_range x joined = ⊎_elim (λ e. omega (arith, e)) (λ h. joined_below n first net x h.0 h.1) (walk_linked first d joined.1.0 joined.0 x joined.1.1)
+  joined_in_range x joined = ⊎_elim (λ e. omega (arith, e)) (λ h. (joined_below n first x h.0 net h.1).0) (walk_linked first d joined.1.0 joined.0 x joined.1.1)
 
   pub route : (x : ℕ) → IsJoined first d x → (ys : List ℕ) × IsRoute (links_at first c) d x ys
   route x joined = ⊎_elim (λ r. r)

@@ -1,6 +1,9 @@
 //! What no clause says: values from outside, for the machine step by step and under schedules.
 
-use fr_core::{Entry, Machine, PlayFault, Reply, Target, play};
+ghost use Rattle.std.specs.Prelude.{IfOk};
+ghost use Rattle.fr_core.specs.Runs.{IsRunTo};
+
+use fr_core::{Entry, Machine, PlayFault, Reply, Target, check_run, play};
 use fr_net::Net;
 use std::alloc::{AllocError, Global};
 use std::test::Fail;
@@ -24,6 +27,48 @@ fn entry(worker: u32, node: u32, reply: Reply) -> Entry {
         node,
         reply,
     }
+}
+
+/// Steps a machine by hand: each number is the worker of the next step, and one that is no worker is passed over. The entries
+/// that came, and the counts that they are a run to.
+fn step_by_hand(
+    alloc: Global,
+    net: &Net,
+    dest: u32,
+    targets: Vec<Vec<Target>>,
+    order: &[u32],
+) -> Result<(Vec<Entry>, Vec<u64>), PlayFault>
+    ensures { IfOk result (λ r. IsRunTo net.now.nodes dest net.now.links r.0.items r.1.items) }
+{
+    let mut machine = Machine::new(alloc, net, dest, targets)?;
+    let mut entries = Vec::new(alloc);
+    for worker in order {
+        if *worker as usize >= machine.workers() {
+            continue;
+        }
+        if let Some(entry) = machine.step(*worker) {
+            entries.push(entry)?;
+        }
+    }
+    let counts = machine.counts().to_vec(alloc)?;
+    Ok((entries, counts))
+}
+
+#[test]
+fn stepped_by_hand_it_makes_a_run(rt: HostRuntime) -> Result<(), Fail> {
+    let alloc = rt.alloc();
+    let net = Net::new(alloc, 3, &[(0, 1), (1, 2)])?;
+    let lists: &[&[u32]] = &[&[2], &[1]];
+    let order = [0, 0, 2, 0, 1, 1, 7, 1, 1];
+    let (entries, counts) = step_by_hand(alloc, &net, 0, turns(alloc, lists)?, &order)?;
+    assert_eq!(rt; counts, [0, 1, 1].to_vec(alloc)?);
+    assert_eq!(rt; check_run(alloc, &net, 0, &entries)?, counts);
+    let schedule = [0, 0, 0, 1, 1, 1, 1];
+    assert_eq!(rt;
+        entries,
+        play(alloc, &net, 0, turns(alloc, lists)?, &schedule)?
+    );
+    Ok(())
 }
 
 #[test]

@@ -46,6 +46,6 @@ returns c =
     let whole : All (PointsBy c.args.counts.now c.args.x Inward) c.row-row.result.now = subst (All (PointsBy c.args.counts.now c.args.x Inward)) (take_all c.loop-w.w-index c.row-row.result.now c.loop-w-test.false) c.loop-w.invariant in
     let length_same : length c.row-row.result.now ≡ length (row net.nodes net.links c.args.x) = ap length c.row-row.ensures in (
       λ some. (let filled : 0 < length c.row-row.result.now = grind (arith, nat_tests) in
-          sink_from_row net.nodes net.links c.args.counts.now c.args.x c.nodes-nodes.ensures.faultless.is_net (omega arith) (rw c.row-row.ensures at whole)),
-      λ sink. (let filled = row_of_sink net.nodes net.links c.args.counts.now c.args.x c.nodes-nodes.ensures.faultless.is_net sink in grind (arith, nat_tests)),
+          sink_from_row net.nodes net.links c.args.counts.now c.args.x c.network_law.ensures.is_net (omega arith) (rw c.row-row.ensures at whole)),
+      λ sink. (let filled = row_of_sink net.nodes net.links c.args.counts.now c.args.x c.network_law.ensures.is_net sink in grind (arith, nat_tests)),
     )

@@ -1,5 +1,8 @@
 use Rattle.std.proofs.Common.{List, ap, arith, drop, length, slice_set, subst, sym, take, ℕ, ◌++◌, ◌<◌, ◌∙◌}
+use Rattle.std.proofs.lemmas.Grind.{common_steps}
+use Rattle.fr_net.specs.Links.{IsNet}
 use Rattle.fr_core.proofs.MachineRuns.{keeps_sound, written}
+use Rattle.fr_core.proofs.Stepping.{come_on}
 use Rattle.fr_core.specs.Machine.{outcome}
 use Rattle.fr_core.specs.Played.{MachineView}
 use Rattle.fr_core.specs.Sound.{IsSoundMachine, view_of}
@@ -22,3 +25,25 @@ invariant_of-self c = stays_sound (goal.at.invariant_of-self c).After-step
 
 pub invariant_of-self-2 : goal.invariant_of-self-2
 invariant_of-self-2 c = stays_sound (goal.at.invariant_of-self-2 c).After-step
+
+pub returns-in_err-node-clause-next : goal.returns-in_err-node-clause-next
+returns-in_err-node-clause-next c = grind (arith, common_steps)
+
+pub returns-in_err-node-clause-entry : goal.returns-in_err-node-clause-entry
+returns-in_err-node-clause-entry c = grind (arith, common_steps)
+
+pub returns-in_err-node-clause-come : goal.returns-in_err-node-clause-come
+returns-in_err-node-clause-come c = λ targets entries come.
+    come_on c.args.self.now _ targets entries _ c.args.worker (subst (λ (m : MachineView). IsNet m.nodes m.links) c.self.view_is c.self.invariant.net) c.requires
+    (returns-in_err-node-clause-next c) (returns-in_err-node-clause-entry c) come
+
+pub returns-clause-next : goal.returns-clause-next
+returns-clause-next c = grind (arith, common_steps)
+
+pub returns-clause-entry : goal.returns-clause-entry
+returns-clause-entry c = grind (arith, common_steps)
+
+pub returns-clause-come : goal.returns-clause-come
+returns-clause-come c = λ targets entries come.
+    come_on c.args.self.now _ targets entries _ c.args.worker (subst (λ (m : MachineView). IsNet m.nodes m.links) c.self.view_is c.self.invariant.net) c.requires
+    (returns-clause-next c) (returns-clause-entry c) come
