@@ -2,7 +2,7 @@
 
 ghost use Rattle.std.specs.Prelude.{◌≡◌, ◌≤◌, ◌<◌, ◌⊎◌, ◌↔◌, IsNone, IfSome};
 
-/// How many workers turn a network, from which seed they draw, and how many calls each of them may make.
+/// How many workers turn a network, a seed for their draws, and how many calls each of them may make.
 #[derive(Clone, Copy, Debug, PartialEq, Eq)]
 pub struct Plan {
     workers: u32,
@@ -13,7 +13,7 @@ pub struct Plan {
 
 impl Plan {
     /// The plan with 1 to 16 workers, each of which makes at most `budget` calls; with another number of workers there is
-    /// none. What a worker draws from the seed decides where it looks for work, and so who turns what, but no answer.
+    /// none. The seed is for workers that draw where they look for work, which none does yet; no answer depends on it.
     pub fn new(workers: u32, seed: u64, budget: u64) -> Option<Plan>
         ensures none { IsNone result ↔ ((workers ≡ 0) ⊎ (16 < workers)) }
         ensures some { IfSome result (λ plan. (plan.workers ≡ workers) × (plan.seed ≡ seed) × (plan.budget ≡ budget)) }
@@ -35,7 +35,7 @@ impl Plan {
         self.workers
     }
 
-    /// The seed from which the workers draw.
+    /// The seed that it was made with.
     pub fn seed(&self) -> u64
         ensures { result ≡ self.now.seed }
     {

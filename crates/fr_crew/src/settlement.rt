@@ -129,8 +129,7 @@ fn finish_rest(net: &Net, dest: u32, counts: &mut [u64]) -> u64
     ensures settled { AreSettled net.now.nodes dest net.now.links counts.new }
     ensures adds { sum counts.new ≡ sum counts.old + result }
 {
-    // For what `nodes` ensures: the links are those of a network.
-    let _nodes = net.nodes();
+    net.network_law();
     if can_any_turn(net, dest, counts) {
         finish(net, dest, counts)
     } else {
@@ -153,8 +152,7 @@ fn finished(net: Net, dest: u32, mut counts: Vec<u64>, by_workers: u64) -> Settl
     requires turned { by_workers ≡ sum counts.items }
     ensures { IsSettlement net.nodes dest net.links result }
 {
-    // For what `nodes` ensures: the links are those of a network.
-    let _nodes = net.nodes();
+    net.network_law();
     let by_finisher = finish_rest(&net, dest, &mut counts);
     let net = net.into_turned(&counts);
     Settled {

@@ -8,7 +8,7 @@ ghost use Rattle.fr_net.specs.CycleSearch.{AreTailStarts, HasRisingTails, IsStar
 use std::alloc::{AllocError, Global};
 
 /// How far the search has come with a node: not met, on the path, or left with no closed walk from it.
-#[derive(Debug, Drop, Clone, Copy, PartialEq, Eq)]
+#[derive(Drop, Clone, Copy)]
 enum Mark {
     Fresh,
     Open,
@@ -183,6 +183,16 @@ fn visit(
     Ok(None)
 }
 
+/// The marks and the places of a search that has met no node.
+fn fresh_search(alloc: Global, nodes: u32) -> Result<(Vec<Mark>, Vec<usize>), AllocError>
+    ensures marks { IfOk result (λ search. vec_len search.0 ≡ nodes) }
+    ensures search { IfOk result (λ search. (links : List (ℕ × ℕ)) → IsCycleSearch nodes links search.0.items search.1.items []) }
+{
+    let marks = vec![in alloc; Mark::Fresh; nodes as usize]?;
+    let places = vec![in alloc; 0usize; nodes as usize]?;
+    Ok((marks, places))
+}
+
 /// Searches from each node.
 fn visit_all(
     alloc: Global,
@@ -195,8 +205,7 @@ fn visit_all(
     requires below { AreBelow nodes links.now }
     ensures { IfOk result (λ found. MatchOption found (IsAcyclic links.now) (λ walk. IsCycle links.now walk.items)) }
 {
-    let mut marks = vec![in alloc; Mark::Fresh; nodes as usize]?;
-    let mut places = vec![in alloc; 0usize; nodes as usize]?;
+    let (mut marks, mut places) = fresh_search(alloc, nodes)?;
     for root in 0..nodes {
         if let Some(walk) = visit(alloc, links, starts, &mut marks, &mut places, root)? {
             return Ok(Some(walk));
@@ -233,7 +242,6 @@ pub(crate) fn find_cycle_from(
     ensures { IfOk result (λ found. MatchOption found ((vs : List ℕ) → ¬ IsClosedWalk links.now root vs) (λ walk. IsCycle links.now walk.items)) }
 {
     let starts = tail_starts(alloc, nodes, links)?;
-    let mut marks = vec![in alloc; Mark::Fresh; nodes as usize]?;
-    let mut places = vec![in alloc; 0usize; nodes as usize]?;
+    let (mut marks, mut places) = fresh_search(alloc, nodes)?;
     visit(alloc, links, &starts, &mut marks, &mut places, root)
 }

@@ -33,8 +33,7 @@ fn least_out(net: &Net, x: u32) -> Option<u32>
     requires { x < net.now.nodes }
     ensures { MatchOption result ((w : ℕ) → ¬ Points net.now.links x w) (IsNextHop net.now.links x) }
 {
-    // For what `nodes` ensures: the links are those of a network, so the row has each link of `x`.
-    let _nodes = net.nodes();
+    net.network_law();
     let row = net.row(x);
     for (w, first) in row {
         if *first == First::Outward {

@@ -54,8 +54,7 @@ impl Router {
         ensures opened { IfOk result (λ router. (dest < net.nodes) × IsRound net.nodes dest net.links router) }
         ensures fault { IfErr result (IsOpenFault net.nodes dest) }
     {
-        // For what `nodes` ensures: the links are those of a network.
-        let _nodes = net.nodes();
+        net.network_law();
         let Settled {
             net,
             counts,
@@ -169,8 +168,7 @@ impl Router {
         ensures walked { IfOk result (IsWalked self.now x) }
         ensures memory { IfErr result (λ fault. fault ≡ Memory) }
     {
-        // For what `nodes` ensures: no closed walk follows the links.
-        let _nodes = self.net.nodes();
+        self.net.network_law();
         if self.next_hop(x) == Hop::CutOff {
             return Ok(Walked::CutOff);
         }

@@ -1,6 +1,7 @@
 ghost use Rattle.std.specs.Prelude.{◌≡◌, All, IsTrue};
 ghost use Rattle.fr_net.specs.Counts.{IsKept};
 
+use fr_net::laws::rows_law;
 use fr_net::{First, LineFault, MAX_NODES, Net, NetFault};
 use std::alloc::{AllocError, Global};
 use std::test::Fail;
@@ -186,7 +187,7 @@ fn shows_links_and_rows_in_rising_order(rt: HostRuntime) -> Result<(), Fail> {
 #[test]
 fn shows_each_link_from_both_its_ends(rt: HostRuntime) -> Result<(), Fail> {
     let alloc = rt.alloc();
-    laws::rows_law();
+    rows_law();
     let net = Net::new(alloc, 5, &[(4, 0), (1, 0), (2, 1), (4, 2)])?;
     net.network_law();
     let (inward, outward) = (First::Inward, First::Outward);

@@ -31,9 +31,13 @@ const RUN_WORKERS: &str = "How many workers turn the network, 1 to 16";
 
 const PLAY_WORKERS: &str = "How many workers make the steps, 1 to 16";
 
-const SEED: &str = "The seed of what is drawn, 0 to 18446744073709551615";
+const RUN_SEED: &str =
+    "A seed for where workers look for work, 0 to 18446744073709551615; nothing draws from it yet";
 
-const BUDGET: &str = "How many calls each worker makes at most in a round, 0 to 1000000000";
+const PLAY_SEED: &str = "The seed of the schedule, 0 to 18446744073709551615";
+
+const BUDGET: &str =
+    "How many calls each worker makes at most in a round, 0 to 1000000000; 0 is fastest for answers alone";
 
 const STEPS: &str = "How many steps are made, 0 to 10000";
 
@@ -63,7 +67,7 @@ fn run_command<'a>(alloc: Global) -> Result<Command<'a>, AllocError>
 {
     described(alloc, "run", RUN_ABOUT, RUN_EXAMPLE)
         .arg(option(alloc, "workers", "4", worker_numbers(), RUN_WORKERS))?
-        .arg(option(alloc, "seed", "0", value_parser!(u64), SEED))?
+        .arg(option(alloc, "seed", "0", value_parser!(u64), RUN_SEED))?
         .arg(option(alloc, "budget", "1000000", budget_numbers(), BUDGET))
 }
 
@@ -73,7 +77,7 @@ fn play_command<'a>(alloc: Global) -> Result<Command<'a>, AllocError>
 {
     described(alloc, "play", PLAY_ABOUT, PLAY_EXAMPLE)
         .arg(option(alloc, "workers", "2", worker_numbers(), PLAY_WORKERS))?
-        .arg(option(alloc, "seed", "0", value_parser!(u64), SEED))?
+        .arg(option(alloc, "seed", "0", value_parser!(u64), PLAY_SEED))?
         .arg(option(alloc, "steps", "100", step_numbers(), STEPS))
 }
 

@@ -12,7 +12,7 @@ pub into_turned-net-requires-clause-kept : goal.into_turned-net-requires-clause-
 into_turned-net-requires-clause-kept c =
     let settled : AreSettled c.args.net.nodes c.args.dest c.args.net.links c.finish_rest-by_finisher.new.counts = c.finish_rest-by_finisher.ensures.settled in
     let same : c.deref.result.now ≡ c.finish_rest-by_finisher.new.counts = c.deref.ensures.value ∙ with_items_is c.args.counts c.finish_rest-by_finisher.new.counts (omega (arith, settled.one_each, c.requires.lawful.one_each)) in
-    rw same (settled_lawful c.args.net.nodes c.args.dest c.args.net.links c.nodes-nodes.ensures.faultless.is_net c.requires.node c.finish_rest-by_finisher.new.counts settled).kept
+    rw same (settled_lawful c.args.net.nodes c.args.dest c.args.net.links c.network_law.ensures.is_net c.requires.node c.finish_rest-by_finisher.new.counts settled).kept
 
 pub returns : goal.returns
 returns c =
@@ -29,5 +29,5 @@ returns c =
       counts = rw items settled;
       links = rw items net.is;
       turns = rw items (omega (arith, c.requires.turned, sums, ap sum c.deref_mut.ensures.value));
-      most = rw items (lawful_sum n d first counts (settled_lawful n d first c.nodes-nodes.ensures.faultless.is_net c.requires.node counts settled));
+      most = rw items (lawful_sum n d first counts (settled_lawful n d first c.network_law.ensures.is_net c.requires.node counts settled));
     }

@@ -14,13 +14,13 @@ hops-init c =
 
 pub next_hop-requires-in-hops : goal.next_hop-requires-in-hops
 next_hop-requires-in-hops c =
-    let net : IsNet c.args.self.now.nodes c.args.self.now.links = subst (λ (s : State). IsNet s.nodes s.links) c.self.view_is c.nodes-nodes.ensures.faultless.is_net in
+    let net : IsNet c.args.self.now.nodes c.args.self.now.links = subst (λ (s : State). IsNet s.nodes s.links) c.self.view_is c.network_law.ensures.is_net in
     let below : c.args.self.now.dest < c.args.self.now.nodes = subst (λ (s : State). s.dest < s.nodes) c.self.view_is c.self.invariant.dest in
     walk_in_range c.args.self.now c.args.x c.hops.at c.hops.route.items net below c.hops.invariant
 
 pub hops-smaller : goal.hops-smaller
 hops-smaller c =
-    let net : IsNet c.args.self.now.nodes c.args.self.now.links = subst (λ (s : State). IsNet s.nodes s.links) c.self.view_is c.nodes-nodes.ensures.faultless.is_net in
+    let net : IsNet c.args.self.now.nodes c.args.self.now.links = subst (λ (s : State). IsNet s.nodes s.links) c.self.view_is c.network_law.ensures.is_net in
     let below : c.args.self.now.dest < c.args.self.now.nodes = subst (λ (s : State). s.dest < s.nodes) c.self.view_is c.self.invariant.dest in
     let items : c.push-in-To.new.self.items ≡ c.hops.route.items ++ c.in-To.next ∷ [] = c.in_ok-push-2.ensures.items in
     let short = walk_short c.args.self.now c.args.x c.in-To.next (c.hops.route.items ++ c.in-To.next ∷ []) net below (walks_on c.args.self.now c.args.x c.hops.at c.in-To.next c.hops.route.items c.hops.invariant c.in-To.ensures) in
