@@ -1,6 +1,9 @@
 //! How a crew is to work.
 
 ghost use Rattle.std.specs.Prelude.{◌≡◌, ◌≤◌, ◌<◌, ◌⊎◌, ◌↔◌, IsNone, IfSome};
+ghost use Rattle.fr_core.specs.Limits.{most_workers};
+
+use fr_core::MAX_WORKERS;
 
 /// How many workers turn a network, a seed for their draws, and how many calls each of them may make.
 #[derive(Clone, Copy, Debug, PartialEq, Eq)]
@@ -8,17 +11,17 @@ pub struct Plan {
     workers: u32,
     seed: u64,
     budget: u64,
-    ghost in_range: { (1 ≤ workers) × (workers ≤ 16) },
+    ghost in_range: { (1 ≤ workers) × (workers ≤ most_workers) },
 }
 
 impl Plan {
-    /// The plan with 1 to 16 workers, each of which makes at most `budget` calls; with another number of workers there is
+    /// The plan with 1 to [`MAX_WORKERS`] workers, each of which makes at most `budget` calls; with another number of workers there is
     /// none. The seed is for workers that draw where they look for work, which none does yet; no answer depends on it.
     pub fn new(workers: u32, seed: u64, budget: u64) -> Option<Plan>
-        ensures none { IsNone result ↔ ((workers ≡ 0) ⊎ (16 < workers)) }
+        ensures none { IsNone result ↔ ((workers ≡ 0) ⊎ (most_workers < workers)) }
         ensures some { IfSome result (λ plan. (plan.workers ≡ workers) × (plan.seed ≡ seed) × (plan.budget ≡ budget)) }
     {
-        if workers == 0 || workers > 16 {
+        if workers == 0 || workers > MAX_WORKERS {
             return None;
         }
         Some(Plan {
@@ -28,7 +31,7 @@ impl Plan {
         })
     }
 
-    /// How many workers there are, 1 to 16.
+    /// How many workers there are, 1 to [`MAX_WORKERS`].
     pub fn workers(&self) -> u32
         ensures { result ≡ self.now.workers }
     {

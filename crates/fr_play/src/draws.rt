@@ -1,12 +1,17 @@
 //! Drawn schedules.
 
 ghost use Rattle.std.specs.Prelude.{◌≡◌, ◌≤◌, ◌<◌, ◌⊎◌, ◌↔◌, IsNone, IfSome, IfOk};
-ghost use Rattle.fr_play.specs.Draws.{drawn};
+ghost use Rattle.fr_core.specs.Limits.{most_workers};
+ghost use Rattle.fr_play.specs.Draws.{drawn, most_steps};
 
+use fr_core::MAX_WORKERS;
 use rand_core::SeedableRng;
 use rand_core::utils::NextWord;
 use rand_pcg::Lcg64Xsh32;
 use std::alloc::{AllocError, Global};
+
+/// The most steps of a play.
+pub const MAX_STEPS: u32 = 10_000;
 
 /// Which schedule a play draws: so many steps of so many workers, from a seed.
 #[derive(Clone, Copy, Debug, PartialEq, Eq)]
@@ -15,17 +20,17 @@ pub struct Draw {
     seed: u64,
     steps: u32,
     ghost some_workers: { 1 ≤ workers },
-    ghost few_workers: { workers ≤ 16 },
-    ghost few_steps: { steps ≤ 10000 },
+    ghost few_workers: { workers ≤ most_workers },
+    ghost few_steps: { steps ≤ most_steps },
 }
 
 impl Draw {
-    /// The draw with 1 to 16 workers and at most 10,000 steps; with other numbers there is none.
+    /// The draw with 1 to [`MAX_WORKERS`] workers and at most [`MAX_STEPS`] steps; with other numbers there is none.
     pub fn new(workers: u32, seed: u64, steps: u32) -> Option<Draw>
-        ensures none { IsNone result ↔ ((workers ≡ 0) ⊎ (16 < workers) ⊎ (10000 < steps)) }
+        ensures none { IsNone result ↔ ((workers ≡ 0) ⊎ (most_workers < workers) ⊎ (most_steps < steps)) }
         ensures some { IfSome result (λ draw. (draw.workers ≡ workers) × (draw.seed ≡ seed) × (draw.steps ≡ steps)) }
     {
-        if workers == 0 || workers > 16 || steps > 10_000 {
+        if workers == 0 || workers > MAX_WORKERS || steps > MAX_STEPS {
             return None;
         }
         Some(Draw {
@@ -35,14 +40,14 @@ impl Draw {
         })
     }
 
-    /// How many workers there are, 1 to 16.
+    /// How many workers there are, 1 to [`MAX_WORKERS`].
     pub fn workers(&self) -> u32
         ensures { result ≡ self.now.workers }
     {
         self.workers
     }
 
-    /// How many steps they make, at most 10,000.
+    /// How many steps they make, at most [`MAX_STEPS`].
     pub fn steps(&self) -> u32
         ensures { result ≡ self.now.steps }
     {

@@ -7,5 +7,5 @@ mod draws;
 mod entries;
 mod play;
 
-pub use draws::Draw;
+pub use draws::{Draw, MAX_STEPS};
 pub use play::play_drawn;

@@ -3,6 +3,7 @@ use Rattle.std.specs.Prelude.{◌≡◌, ◌≢◌, ◌⊎◌, ℕ, zero, suc, �
 use Rattle.atomic_table.specs.Seated.{TableId}
 use Rattle.fr_net.specs.Links.{IsAlone}
 use Rattle.fr_core.specs.History.{turn_count_of}
+use Rattle.fr_core.specs.Limits.{most_workers}
 use Rattle.fr_core.specs.declared.entry.Entry.{Entry}
 use Rattle.fr_round.specs.declared.view.Setup.{Setup}
 use Rattle.fr_round.specs.declared.faults.Refusal.{Refusal}
@@ -50,13 +51,13 @@ abbrev pub new_workers : TableId → Setup → ℕ → List Knowledge
 new_workers t b zero = []
 new_workers t b (suc k) = new_workers t b k ++ new_worker t b k ∷ []
 
--- the destination is a node, and there are 1 to 16 workers
+-- the destination is a node, and there is a worker and no more than there may be
 pub record IsOpenable (nodes dest workers : ℕ) : Type 0 where
   pub destination : dest < nodes
   pub some : 1 ≤ workers
-  pub few : workers ≤ 16
+  pub few : workers ≤ most_workers
 
 -- why no round was opened
 abbrev pub IsWhyNotOpened : ℕ → ℕ → ℕ → OpenWhy → Type 0
-IsWhyNotOpened nodes dest workers Range = (nodes ≤ dest) ⊎ (workers ≡ 0) ⊎ (16 < workers)
+IsWhyNotOpened nodes dest workers Range = (nodes ≤ dest) ⊎ (workers ≡ 0) ⊎ (most_workers < workers)
 IsWhyNotOpened nodes dest workers Memory = IsOpenable nodes dest workers

@@ -20,8 +20,8 @@ pub enum Refusal {
 /// Why a round cannot be opened. The variants stand in the order in which they are tested.
 #[derive(Debug, Drop, Clone, Copy, Error, PartialEq, Eq)]
 pub enum OpenWhy {
-    /// The destination is no node, or the number of workers is not 1 to 16.
-    #[error("the destination is no node, or the number of workers is not 1 to 16")]
+    /// The destination is no node, or there is no worker or more than `MAX_WORKERS`.
+    #[error("the destination is no node, or the number of workers is out of range")]
     Range,
     /// An allocation was refused.
     #[error("no memory")]

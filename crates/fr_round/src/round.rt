@@ -15,7 +15,7 @@ use crate::opening::{Prepared, RoundTable, prepare};
 use crate::rule::BeginClosing;
 use crate::terms::Terms;
 use crate::worker::Worker;
-use fr_core::Reply;
+use fr_core::{MAX_WORKERS, Reply};
 use fr_net::Net;
 use std::alloc::Global;
 use std::marker::Model;
@@ -47,7 +47,7 @@ impl Round {
     /// Opens a round on a network that no node has turned yet: all counts are 0. It answers the round and its workers,
     /// whose numbers are 0, 1 and so on.
     ///
-    /// The destination has to be a node of the network, and `workers` 1 to 16; otherwise, or where there is no memory, the
+    /// The destination has to be a node of the network, and `workers` 1 to [`MAX_WORKERS`]; otherwise, or where there is no memory, the
     /// fault hands the network back. All memory that the round needs up to its end is taken here.
     pub fn open(
         alloc: Global,
@@ -62,7 +62,7 @@ impl Round {
         ensures handed_back { IfErr result (λ fault. fault.net ≡ net) }
         ensures why { IfErr result (λ fault. IsWhyNotOpened net.nodes dest workers fault.why) }
     {
-        if dest >= net.nodes() || workers == 0 || workers > 16 {
+        if dest >= net.nodes() || workers == 0 || workers > MAX_WORKERS {
             return Err(OpenFault {
                 net,
                 why: OpenWhy::Range,

@@ -7,15 +7,17 @@ use Rattle.clap.specs.Walk.{Row, Rule, Text, one_of}
 use Rattle.clap.specs.Simple.{App, Shape, new_app, new_rule, on_top, with_rule, with_subcommand}
 use Rattle.clap.specs.declared.builder.value_parser.ValueParser.{ValueParser}
 use Rattle.clap.specs.declared.builder.value_parser.ValueParser.TheVariants.{Signed, Unsigned}
+use Rattle.fr_core.specs.Limits.{most_workers}
+use Rattle.fr_play.specs.Draws.{most_steps}
 
 -- an option of this name with one number of these, and the text that stands for it where it is not given
 abbrev pub option : Text → Text → ValueParser → Rule
 option name default numbers =
     record (new_rule name) { long = Some name; value_names = 1; defaults = default ∷ []; parser = Some numbers }
 
--- 1 to 16
+-- 1 to as many workers as there may be
 abbrev pub workers_option : Text → Rule
-workers_option default = option (codes "workers") default (Signed (pos 1) (pos 16))
+workers_option default = option (codes "workers") default (Signed (pos 1) (pos most_workers))
 
 -- 0 to 18,446,744,073,709,551,615
 abbrev pub seed_option : Rule
@@ -25,7 +27,7 @@ abbrev pub budget_option : Rule
 budget_option = option (codes "budget") (codes "1000000") (Signed (pos 0) (pos 1000000000))
 
 abbrev pub steps_option : Rule
-steps_option = option (codes "steps") (codes "100") (Signed (pos 0) (pos 10000))
+steps_option = option (codes "steps") (codes "100") (Signed (pos 0) (pos most_steps))
 
 abbrev pub run_command : App
 run_command = with_rule (with_rule (with_rule (new_app (codes "run")) (workers_option (codes "4"))) seed_option) budget_option

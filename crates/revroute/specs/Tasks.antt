@@ -6,6 +6,8 @@ use Rattle.clap.specs.Faults.{fault_of}
 use Rattle.clap.specs.Kinds.{IsAmong}
 use Rattle.clap.specs.declared.error.kind.ErrorKind.{ErrorKind}
 use Rattle.clap.specs.declared.error.kind.ErrorKind.TheVariants.{DisplayHelp, OutOfMemory}
+use Rattle.fr_core.specs.Limits.{most_workers}
+use Rattle.fr_play.specs.Draws.{most_steps}
 use Rattle.revroute.specs.Commands.{command, number_of}
 use Rattle.revroute.specs.declared.task.Task.{Task}
 use Rattle.revroute.specs.declared.task.Task.TheVariants.{Run, Play}
@@ -16,14 +18,14 @@ use Rattle.revroute.specs.declared.task.TaskFault.TheVariants.{Usage, Memory}
 abbrev pub IsTaskOf : Text → List Row → Task → Type 0
 IsTaskOf name rows (Run plan) =
     (name ≡ codes "run")
-    × (number_of (codes "workers") rows ≡ Some plan.workers) × (1 ≤ plan.workers) × (plan.workers ≤ 16)
+    × (number_of (codes "workers") rows ≡ Some plan.workers) × (1 ≤ plan.workers) × (plan.workers ≤ most_workers)
     × (number_of (codes "seed") rows ≡ Some plan.seed)
     × (number_of (codes "budget") rows ≡ Some plan.budget) × (plan.budget ≤ 1000000000)
 IsTaskOf name rows (Play draw) =
     (name ≡ codes "play")
-    × (number_of (codes "workers") rows ≡ Some draw.workers) × (1 ≤ draw.workers) × (draw.workers ≤ 16)
+    × (number_of (codes "workers") rows ≡ Some draw.workers) × (1 ≤ draw.workers) × (draw.workers ≤ most_workers)
     × (number_of (codes "seed") rows ≡ Some draw.seed)
-    × (number_of (codes "steps") rows ≡ Some draw.steps) × (draw.steps ≤ 10000)
+    × (number_of (codes "steps") rows ≡ Some draw.steps) × (draw.steps ≤ most_steps)
 
 -- the task is that of the words, in which `clap` finds no fault, as it reads them: where an option is not given, its number is
 -- the default

@@ -4,10 +4,14 @@ ghost use Rattle.std.specs.Prelude.{◌≡◌, [], IfOk, IfErr, map, codes, pos,
 ghost use Rattle.clap.specs.Simple.{on_top};
 ghost use Rattle.clap.specs.Words.{HasKind, app_of, fault_of, new_app, rule_of, subcommand_of, subcommand_rows_of};
 ghost use Rattle.clap.specs.declared.builder.command.Command.TheViews.{out-Command};
+ghost use Rattle.fr_core.specs.Limits.{most_workers};
+ghost use Rattle.fr_play.specs.Draws.{most_steps};
 ghost use Rattle.revroute.specs.Commands.{command, needs_subcommand, run_command as run_command_of, play_command as play_command_of, option as option_of};
 
 use clap::builder::ValueParser;
 use clap::{Arg, ArgMatches, Command, Error, value_parser};
+use fr_core::MAX_WORKERS;
+use fr_play::MAX_STEPS;
 use std::alloc::{AllocError, Global};
 
 const ABOUT: &str =
@@ -109,9 +113,9 @@ fn option<'a>(
 }
 
 fn worker_numbers<'a>() -> ValueParser<'a>
-    ensures { result ≡ ValueParser.Signed (pos 1) (pos 16) }
+    ensures { result ≡ ValueParser.Signed (pos 1) (pos most_workers) }
 {
-    value_parser!(u32).range(1..=16)
+    value_parser!(u32).range(1..=i64::from(MAX_WORKERS))
 }
 
 fn budget_numbers<'a>() -> ValueParser<'a>
@@ -121,7 +125,7 @@ fn budget_numbers<'a>() -> ValueParser<'a>
 }
 
 fn step_numbers<'a>() -> ValueParser<'a>
-    ensures { result ≡ ValueParser.Signed (pos 0) (pos 10000) }
+    ensures { result ≡ ValueParser.Signed (pos 0) (pos most_steps) }
 {
-    value_parser!(u32).range(0..=10_000)
+    value_parser!(u32).range(0..=i64::from(MAX_STEPS))
 }

@@ -9,8 +9,9 @@ ghost use Rattle.revroute.specs.Tasks.{IsTaskIn, IsTaskOf, IsUsageOf, IsFaultOf}
 use crate::command::matches_of;
 use clap::error::ErrorKind;
 use clap::{ArgMatches, Error};
+use fr_core::MAX_WORKERS;
 use fr_crew::Plan;
-use fr_play::Draw;
+use fr_play::{Draw, MAX_STEPS};
 use std::alloc::{AllocError, Global};
 use thiserror::Error as FaultError;
 
@@ -57,7 +58,7 @@ pub fn task_of<'a>(alloc: Global, words: &'a [&'a str]) -> Result<Task, TaskFaul
 fn task_in(name: &str, options: &ArgMatches) -> Option<Task>
     ensures { IfSome result (IsTaskOf name.now (rows_of (found_of options.now))) }
 {
-    let workers = number_in(options, "workers", 16)?;
+    let workers = number_in(options, "workers", MAX_WORKERS)?;
     let seed = seed_in(options)?;
     match name {
         "run" => {
@@ -65,7 +66,7 @@ fn task_in(name: &str, options: &ArgMatches) -> Option<Task>
             Some(Task::Run(Plan::new(workers, seed, u64::from(budget))?))
         }
         "play" => {
-            let steps = number_in(options, "steps", 10_000)?;
+            let steps = number_in(options, "steps", MAX_STEPS)?;
             Some(Task::Play(Draw::new(workers, seed, steps)?))
         }
         _ => None,

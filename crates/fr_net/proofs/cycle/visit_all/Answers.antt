@@ -1,5 +1,10 @@
-use Rattle.std.proofs.Common.{◌≡◌, ◌≢◌, ◌∙◌, ℕ, ◌+◌, ◌<◌, [], length, arith, subst, sym}
+use Rattle.std.proofs.Common.{◌≡◌, ◌≢◌, ℕ, ◌+◌, ◌<◌, [], length, arith, subst, rules}
 use Rattle.std.proofs.lemmas.List.{with_items_is}
+use Rattle.std.specs.Vec.{with_items}
+use Rattle.fr_net.specs.CycleSearch.{IsCycleSearch, KeepsSeen, mark_of}
+use Rattle.fr_net.specs.declared.cycle.Mark.{Mark}
+use Rattle.fr_net.specs.declared.cycle.Mark.TheVariants.{Fresh}
+use borrow.Author.Count.{below_more}
 use Rattle.fr_net.proofs.cycle.visit_all.Goals as goal
 
 pub loop-root-init : goal.loop-root-init
@@ -7,10 +12,15 @@ loop-root-init c = record { search = c.in_ok-marks.ensures.search c.args.links.n
 
 pub loop-root-preserved : goal.loop-root-preserved
 loop-root-preserved c =
-    let a = c.deref_mut.ensures.value in
-    let b = c.deref_mut-in-loop-root.ensures.value in
-    let d = c.visit.auto.marks in
-    let e = c.visit.auto.places in
-    let f = c.in_default.is in
-    let g = c.in_ok-walk.ensures.search in
-    ?
+    let n = c.args.nodes in
+    let links = c.args.links.now in
+    let before = c.loop-root.invariant in
+    let found = rw c.in_default.is at c.in_ok-walk.ensures.search in
+    let kept : KeepsSeen c.deref_mut.result.now c.visit.new.marks = rw c.in_default.is at c.in_ok-walk.ensures.kept in
+    let met : mark_of c.visit.new.marks c.loop-root.root ≢ Fresh = rw c.in_default.is at c.in_ok-walk.ensures.seen in
+    let one_each : length c.deref_mut.result.now ≡ n = rw c.deref_mut.ensures.value before.search.marks_length in
+    let state : IsCycleSearch n links c.visit.new.marks c.visit.new.places [] = subst (λ (k : ℕ). IsCycleSearch k links c.visit.new.marks c.visit.new.places []) one_each found in
+    let seen : (x : ℕ) → x < c.loop-root.root → mark_of c.visit.new.marks x ≢ Fresh = λ x below. kept x (rw c.deref_mut.ensures.value (before.seen x below)) in
+    let marks : (with_items c.loop-root.marks c.visit.new.marks).items ≡ c.visit.new.marks = with_items_is c.loop-root.marks c.visit.new.marks (search rules) in
+    let places : (with_items c.loop-root.places c.visit.new.places).items ≡ c.visit.new.places = with_items_is c.loop-root.places c.visit.new.places (search rules) in
+    rw (marks, places) record { search = state; seen = below_more (λ (x : ℕ). mark_of c.visit.new.marks x ≢ Fresh) c.loop-root.root seen met }
