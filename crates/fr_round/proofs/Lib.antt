@@ -6,4 +6,5 @@ pub mod Totals
 pub mod Calling
 pub mod SoundCalls
 pub mod Gathering
+pub mod Standing
 pub mod SameSteps

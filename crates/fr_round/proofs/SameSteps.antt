@@ -1,48 +1,88 @@
 -- Each step of a worker on the words is a step of the machine.
-use Rattle.std.proofs.Common.{Bool, ap, arith, eqb, eqb-true, false, length, ltb, ltb-false, ltb-true, refl, slice_index, slice_set, subst, sym, true, ℕ, ◌+◌, ◌∙◌, ◌∷◌, ◌≡◌}
-use Rattle.std.specs.Prelude.{if◌then◌else◌}
+use Rattle.std.proofs.Common.{Bool, List, ap, arith, eqb, eqb-true, false, length, ltb, ltb-false, ltb-true, refl, slice_index, slice_set, subst, sym, true, ℕ, ◌+◌, ◌∙◌, ◌∷◌, ◌≡◌}
+use Rattle.std.specs.Prelude.{IsSome, if◌then◌else◌}
 use Rattle.std.proofs.lemmas.Bool.{eqb-false}
 use Rattle.fr_net.specs.Rows.{row}
 use Rattle.fr_net.specs.declared.rows.First.{First}
 use Rattle.fr_net.specs.declared.rows.First.TheVariants.{Inward, Outward}
 use Rattle.fr_core.specs.Machine.{Outcome, bound_of, decides, goes_on}
 use Rattle.fr_core.specs.declared.entry.Reply.TheVariants.{Cut, Held, Moved, Turned}
+use Rattle.fr_core.specs.declared.targets.Target.{Target}
 use Rattle.fr_core.specs.declared.targets.Target.TheVariants.{Turn}
-use Rattle.fr_core.specs.declared.worker.Phase.TheVariants.{Looking, Swapping}
+use Rattle.fr_core.specs.declared.worker.Phase.{Phase}
+use Rattle.fr_core.specs.declared.worker.Phase.TheVariants.{Idle, Looking, Swapping}
 use Rattle.fr_round.specs.declared.view.View.{View}
-use Rattle.fr_round.specs.Laws.{ExchangeIsTheMachines, IsDecidedAs, NeighbourLoadIsTheMachines, OwnLoadIsTheMachines, more_of}
+use Rattle.fr_round.specs.Histories.{entry}
+use Rattle.fr_round.specs.Laws.{ComesToTheSame, ExchangeIsTheMachines, NeighbourLoadIsTheMachines, OwnLoadIsTheMachines, more_of, phase_past}
+use Rattle.fr_round.specs.Steps.{Extends}
+use Rattle.fr_round.proofs.Entries.{set_same_value}
 
-by_test : (v w : View) (b : Bool) (one other : Outcome) → (b ≡ true → IsDecidedAs v w one.decided) → (b ≡ false → IsDecidedAs v w other.decided) → IsDecidedAs v w (if b then one else other).decided
-by_test v w true one other passed failed = passed refl
-by_test v w false one other passed failed = failed refl
+by_test : (P : Outcome → Type 0) (b : Bool) (one other : Outcome) → (b ≡ true → P one) → (b ≡ false → P other) → P (if b then one else other)
+by_test P true one other passed failed = passed refl
+by_test P false one other passed failed = failed refl
 
 pub own_load_same : OwnLoadIsTheMachines
 own_load_same s me me' found first words rest at (up, low, goes, ends, same) =
     let n = me.0.setup.nodes in
-    by_test me.0 me'.0 (eqb (slice_index words s.word) n) (decides words (Turn s.word ∷ rest) s.word Cut) (goes_on words (Turn s.word ∷ rest) (Looking s.word (slice_index words s.word) 0))
-    (λ e. let d = ends (sym at ∙ eqb-true (slice_index words s.word) n e) in d.extends)
-    (λ e. ap (λ (v : View). v.known) (goes (λ is. eqb-false (slice_index words s.word) n e (at ∙ is))))
+    let targets = Turn s.word ∷ rest in
+    by_test (ComesToTheSame me.0 me'.0 words targets (Looking me'.0.node me'.0.count 0)) (eqb (slice_index words s.word) n)
+    (decides words targets s.word Cut) (goes_on words targets (Looking s.word (slice_index words s.word) 0))
+    (λ e. let d = ends (sym at ∙ eqb-true (slice_index words s.word) n e) in record { counts = refl; decided = d.extends; worker = refl })
+    (λ e.
+    let begun = goes (λ is. eqb-false (slice_index words s.word) n e (at ∙ is)) in
+    let count : slice_index words s.word ≡ me'.0.count = at ∙ sym (ap (λ (v : View). v.count) begun) in
+    record {
+      counts = refl;
+      decided = ap (λ (v : View). v.known) begun;
+      worker = λ i. record { left = targets; phase = Looking ((sym begun i).node) (count i) 0 };
+    })
 
 -- the test of the machine's load is that of the bound
 bound_is : (f : First) (c : ℕ) → bound_of f c ≡ c + more_of f
 bound_is Outward c = refl
 bound_is Inward c = omega arith
 
+-- a step that decides nothing goes on in one phase or in another
+goes_past : (v w : View) (words : List ℕ) (targets : List Target) (b : Bool) (one other : Phase) → w.known ≡ v.known
+    → ComesToTheSame v w words targets (if b then one else other) (if b then goes_on words targets one else goes_on words targets other)
+goes_past v w words targets true one other stays = record { counts = refl; decided = stays; worker = refl }
+goes_past v w words targets false one other stays = record { counts = refl; decided = stays; worker = refl }
+
 pub neighbour_load_same : NeighbourLoadIsTheMachines
 neighbour_load_same s me me' found j f first words targets at here (up, meets, misses, same) =
     let v = me.0 in
     let c = v.count in
     let neighbours = row v.setup.nodes first v.node in
-    let goes_past = if (eqb (j + 1) (length neighbours)) then goes_on words targets (Swapping v.node c) else goes_on words targets (Looking v.node c (j + 1)) in
-    subst (λ (p : ℕ × First). IsDecidedAs v me'.0 (if (ltb (slice_index words p.0) (bound_of p.1 c)) then decides words targets v.node (Held p.0) else goes_past).decided) (sym here)
-    (by_test v me'.0 (ltb (slice_index words s.word) (bound_of f c)) (decides words targets v.node (Held s.word)) goes_past
-    (λ e. let d = misses (omega (arith, ltb-true (slice_index words s.word) (bound_of f c) e, at, bound_is f c)) in d.extends)
+    let last = eqb (j + 1) (length neighbours) in
+    let past : Outcome = if last then goes_on words targets (Swapping v.node c) else goes_on words targets (Looking v.node c (j + 1)) in
+    let P : Outcome → Type 0 = ComesToTheSame v me'.0 words targets (phase_past neighbours me'.0.node me'.0.count j) in
+    subst (λ (p : ℕ × First). P (if (ltb (slice_index words p.0) (bound_of p.1 c)) then decides words targets v.node (Held p.0) else past)) (sym here)
+    (by_test P (ltb (slice_index words s.word) (bound_of f c)) (decides words targets v.node (Held s.word)) past
+    (λ e. let d = misses (omega (arith, ltb-true (slice_index words s.word) (bound_of f c) e, at, bound_is f c)) in record { counts = refl; decided = d.extends; worker = refl })
     (λ e.
-    let stays = ap (λ (w : View). w.known) (meets (omega (arith, ltb-false (slice_index words s.word) (bound_of f c) e, at, bound_is f c))) in
-    by_test v me'.0 (eqb (j + 1) (length neighbours)) (goes_on words targets (Swapping v.node c)) (goes_on words targets (Looking v.node c (j + 1))) (λ _. stays) (λ _. stays)))
+    let noted = meets (omega (arith, ltb-false (slice_index words s.word) (bound_of f c) e, at, bound_is f c)) in
+    subst (λ (w : View). ComesToTheSame v me'.0 words targets (phase_past neighbours w.node w.count j) past) (sym noted)
+    (goes_past v me'.0 words targets last (Swapping v.node c) (Looking v.node c (j + 1)) (ap (λ (w : View). w.known) noted))))
 
 pub exchange_same : ExchangeIsTheMachines
-exchange_same s me me' found first words targets at (up, wins, loses, same) =
-    by_test me.0 me'.0 (eqb (slice_index words s.word) s.first) (decides (slice_set words s.word (s.first + 1)) targets s.word (Turned (s.first + 1))) (decides words targets s.word (Moved s.first (slice_index words s.word)))
-    (λ e. let d = wins (sym at ∙ eqb-true (slice_index words s.word) s.first e) in d.extends)
-    (λ e. let d = loses (λ is. eqb-false (slice_index words s.word) s.first e (at ∙ is)) in subst (λ (k : ℕ). IsDecidedAs me.0 me'.0 (decides words targets s.word (Moved s.first k)).decided) (sym at) d.extends)
+exchange_same s me me' found first words targets at next (up, wins, loses, same) =
+    let x = s.word in
+    let c = s.first in
+    let word = slice_index words x in
+    let becomes : Bool → ℕ = (λ (b : Bool). if b then s.second else found) in
+    let turned = decides (slice_set words x (c + 1)) targets x (Turned (c + 1)) in
+    let moved = decides words targets x (Moved c word) in
+    let tested : (b : Bool) → eqb word c ≡ b → becomes b ≡ becomes (eqb found c) = (λ b e. ap becomes (sym e ∙ ap (λ (k : ℕ). eqb k c) at)) in (
+      by_test (ComesToTheSame me.0 me'.0 (slice_set words x (becomes (eqb found c))) targets Idle) (eqb word c) turned moved
+          (λ e. let d = wins (sym at ∙ eqb-true word c e) in record {
+            counts = ap (λ (k : ℕ). slice_set words x k) (sym next ∙ tested true e);
+            decided = d.extends;
+            worker = refl;
+          })
+          (λ e. let d = loses (λ is. eqb-false word c e (at ∙ is)) in record {
+            counts = sym (set_same_value words x) ∙ ap (λ (k : ℕ). slice_set words x k) (at ∙ tested false e);
+            decided = subst (λ (k : ℕ). Extends me.0.setup me.0.number me.0.known (entry me.0.number x (Moved c k)) me'.0.known) (sym at) d.extends;
+            worker = refl;
+          }),
+      by_test (λ (o : Outcome). IsSome o.decided) (eqb word c) turned moved (λ _. refl) (λ _. refl),
+    )

@@ -51,7 +51,7 @@ apart_more : (ks : List ℕ) (k : ℕ) → AreApart ks → Each (λ (j : ℕ). j
 apart_more [] k a other = (tt, tt)
 apart_more (j ∷ js) k a other = (each_snoc (λ (i : ℕ). i ≢ j) js k a.0 (λ e. other.0 (sym e)), apart_more js k a.1 other.1)
 
-each_number : (P : ℕ × List Entry → Type 0) (Q : ℕ → Type 0) → ((t : ℕ × List Entry) → P t → Q t.0) → (ts : List (ℕ × List Entry)) → Each P ts → Each Q (map (λ (t : ℕ × List Entry). t.0) ts)
+pub each_number : (P : ℕ × List Entry → Type 0) (Q : ℕ → Type 0) → ((t : ℕ × List Entry) → P t → Q t.0) → (ts : List (ℕ × List Entry)) → Each P ts → Each Q (map (λ (t : ℕ × List Entry). t.0) ts)
 each_number P Q f [] a = tt
 each_number P Q f (t ∷ ts) a = (f t a.0, each_number P Q f ts a.1)
 

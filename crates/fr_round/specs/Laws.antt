@@ -1,31 +1,65 @@
--- The law of a round: what holds at each moment, whatever the threads did.
-use Rattle.std.specs.Prelude.{◌≡◌, ℕ, List, [], ◌∷◌, replicate, slice_index, Option, Some, None}
+-- The laws of a round: what holds at each moment, whatever the threads did, and that each step is the machine's.
+use Rattle.std.specs.Prelude.{◌≡◌, ℕ, ◌+◌, ◌<◌, ◌==◌, if◌then◌else◌, List, [], ◌∷◌, ◌++◌, map, length, replicate, slice_index, slice_set, Option, Some, None, IsSome}
+use Rattle.std.specs.List.{AllByRecursion as Each, flat_map}
 use Rattle.atomic_table.specs.Table.{State, Step, Me, opening}
 use Rattle.fr_net.specs.Links.{IsNet}
 use Rattle.fr_net.specs.Rows.{row}
 use Rattle.fr_net.specs.declared.rows.First.{First}
 use Rattle.fr_net.specs.declared.rows.First.TheVariants.{Outward, Inward}
-use Rattle.fr_core.specs.Machine.{outcome, neighbour_at}
+use Rattle.fr_core.specs.History.{part}
+use Rattle.fr_core.specs.Machine.{Outcome, WorkerState, all_but_first, outcome, neighbour_at}
 use Rattle.fr_core.specs.Runs.{IsRunTo}
 use Rattle.fr_core.specs.declared.entry.Entry.{Entry}
 use Rattle.fr_core.specs.declared.entry.Reply.{Reply}
 use Rattle.fr_core.specs.declared.targets.Target.{Target}
 use Rattle.fr_core.specs.declared.targets.Target.TheVariants.{Turn}
+use Rattle.fr_core.specs.declared.worker.Phase.{Phase}
 use Rattle.fr_core.specs.declared.worker.Phase.TheVariants.{Idle, Looking, Swapping}
 use Rattle.fr_round.specs.declared.view.Setup.{Setup}
 use Rattle.fr_round.specs.declared.view.View.{View}
-use Rattle.fr_round.specs.Histories.{entry}
+use Rattle.fr_round.specs.Histories.{StartsWith, AreApart, entry}
 use Rattle.fr_round.specs.Rule.{KeepsRule, opening_view}
 use Rattle.fr_round.specs.Steps.{Extends, own_loaded, neighbour_loaded, exchange_made}
 
--- behind the words of every state that the rule allows stands a run of full reversal by one thread: it leads to the words as
--- counts and to the links that they give, and no closed walk stands among these
-abbrev pub SomeRunStandsBehindTheWords : Type 0
-SomeRunStandsBehindTheWords = (b : Setup) (s : State (Unit {0}) View) → KeepsRule b s → (history : List Entry) × IsRunTo b.nodes b.dest b.links history s.words
+-- One history behind all
 
--- and the rule allows the state in which a round is opened: the words are 0, and the opening seat is the only one
+-- the workers at a seat: the one that works there, and those taken back there; each is a number with the history that it knows
+abbrev pub workers_at : View → List (ℕ × List Entry)
+workers_at v = (if v.works then (v.number, v.known) ∷ [] else []) ++ (if v.closes then v.taken else [])
+
+-- the workers at all seats
+abbrev pub workers_of : List View → List (ℕ × List Entry)
+workers_of views = flat_map workers_at views
+
+-- what a worker knows is a beginning of the history, in which its own calls are those that it made
+pub record KnowsPartOf (history : List Entry) (w : ℕ × List Entry) : Type 0 where
+  pub begins : StartsWith history w.1
+  pub own : part w.0 history ≡ part w.0 w.1
+
+-- a history stands behind the words and behind what the workers know:
+pub record StandsBehind (b : Setup) (s : State (Unit {0}) View) (history : List Entry) : Type 0 where
+  -- it is a run of full reversal by one thread, from the first links to the words as counts and to the links that these give,
+  -- and no closed walk stands among those links,
+  pub run : IsRunTo b.nodes b.dest b.links history s.words
+  -- each of its entries is of a worker with which the round was opened,
+  pub opened : Each (λ (e : Entry). e.worker < b.workers) history
+  -- what each worker knows is a part of it,
+  pub parts : Each (KnowsPartOf history) (workers_of s.views)
+  -- and the workers have different numbers, below the number of workers opened
+  pub apart : AreApart (map (λ (w : ℕ × List Entry). w.0) (workers_of s.views))
+  pub numbered : Each (λ (w : ℕ × List Entry). w.0 < b.workers) (workers_of s.views)
+
+-- behind the words and the workers of every state that the rule allows stands one history
+abbrev pub OneHistoryStandsBehindAll : Type 0
+OneHistoryStandsBehindAll = (b : Setup) (s : State (Unit {0}) View) → KeepsRule b s → (history : List Entry) × StandsBehind b s history
+
+-- the state in which a round is opened: the words are 0, and the opening seat is the only one
+abbrev pub first_state : Setup → State (Unit {0}) View
+first_state b = opening (replicate b.nodes 0) [] (opening_view b)
+
+-- the rule allows it, and the history with no call stands behind it
 abbrev pub RuleHoldsAtFirst : Type 0
-RuleHoldsAtFirst = (b : Setup) → IsNet b.nodes b.links → KeepsRule b (opening {S = Unit {0}} (replicate b.nodes 0) [] (opening_view b))
+RuleHoldsAtFirst = (b : Setup) → IsNet b.nodes b.links → KeepsRule b (first_state b) × StandsBehind b (first_state b) []
 
 -- Each step is the machine's
 
@@ -34,23 +68,47 @@ abbrev pub IsDecidedAs : View → View → Option (ℕ × Reply) → Type 0
 IsDecidedAs v w None = w.known ≡ v.known
 IsDecidedAs v w (Some d) = Extends v.setup v.number v.known (entry v.number d.0 d.1) w.known
 
--- the load of a node's own count decides what the first step of the machine's call decides, at the same words,
+-- the machine's worker after a step: in this phase where the step decides nothing, and else idle, with its first target used up
+abbrev pub worker_after : List Target → Phase → Option (ℕ × Reply) → WorkerState
+worker_after targets phase None = record { left = targets; phase = phase }
+worker_after targets phase (Some d) = record { left = all_but_first targets; phase = Idle }
+
+-- a step that takes a worker's view from v to w comes to what the machine's step comes to:
+pub record ComesToTheSame (v w : View) (words : List ℕ) (targets : List Target) (phase : Phase) (o : Outcome) : Type 0 where
+  -- the machine's counts are the words after it,
+  pub counts : o.counts ≡ words
+  -- what the machine decides, the worker's known history gains,
+  pub decided : IsDecidedAs v w o.decided
+  -- and where it decides nothing the machine's worker goes on in this phase
+  pub worker : o.worker ≡ worker_after targets phase o.decided
+
+-- the load of a node's own count is the first step of the machine's call, at the same words: these stay, and where nothing is
+-- decided the machine looks at neighbour 0 next, with the node and the count of the view
 abbrev pub OwnLoadIsTheMachines : Type 0
 OwnLoadIsTheMachines = (s : Step (Unit {0})) (me me' : Me (Unit {0}) View) (found : ℕ) (first : List (ℕ × ℕ)) (words : List ℕ) (rest : List Target) → slice_index words s.word ≡ found
-    → own_loaded s me found me' → IsDecidedAs me.0 me'.0 (outcome me.0.setup.nodes first words (Turn s.word ∷ rest) Idle).decided
+    → own_loaded s me found me'
+    → ComesToTheSame me.0 me'.0 words (Turn s.word ∷ rest) (Looking me'.0.node me'.0.count 0) (outcome me.0.setup.nodes first words (Turn s.word ∷ rest) Idle)
 
 -- how far the bound of a neighbour is above the own count
 abbrev pub more_of : First → ℕ
 more_of Outward = 1
 more_of Inward = 0
 
--- the load of the count of a neighbour what the machine's load of it decides,
+-- the phase once neighbour j of a row met its bound: the next neighbour, and after the last one the exchange
+abbrev pub phase_past : List (ℕ × First) → ℕ → ℕ → ℕ → Phase
+phase_past neighbours x c j = if j + 1 == length neighbours then Swapping x c else Looking x c (j + 1)
+
+-- the load of a neighbour's count is the machine's load of it: the words stay, and where nothing is decided the machine goes
+-- past this neighbour, with the node and the count of the view
 abbrev pub NeighbourLoadIsTheMachines : Type 0
 NeighbourLoadIsTheMachines = (s : Step (Unit {0})) (me me' : Me (Unit {0}) View) (found j : ℕ) (f : First) (first : List (ℕ × ℕ)) (words : List ℕ) (targets : List Target) → slice_index words s.word ≡ found
     → neighbour_at (row me.0.setup.nodes first me.0.node) j ≡ (s.word, f) → neighbour_loaded (more_of f) s me found me'
-    → IsDecidedAs me.0 me'.0 (outcome me.0.setup.nodes first words targets (Looking me.0.node me.0.count j)).decided
+    → ComesToTheSame me.0 me'.0 words targets (phase_past (row me.0.setup.nodes first me.0.node) me'.0.node me'.0.count j) (outcome me.0.setup.nodes first words targets (Looking me.0.node me.0.count j))
 
--- and the exchange what the machine's exchange decides
+-- the exchange of a count for the next one is the machine's exchange: the word becomes what the atomic exchange makes of it, and
+-- the call is decided
 abbrev pub ExchangeIsTheMachines : Type 0
 ExchangeIsTheMachines = (s : Step (Unit {0})) (me me' : Me (Unit {0}) View) (found : ℕ) (first : List (ℕ × ℕ)) (words : List ℕ) (targets : List Target) → slice_index words s.word ≡ found
-    → exchange_made s me found me' → IsDecidedAs me.0 me'.0 (outcome me.0.setup.nodes first words targets (Swapping s.word s.first)).decided
+    → s.second ≡ s.first + 1 → exchange_made s me found me'
+    → ComesToTheSame me.0 me'.0 (slice_set words s.word (if found == s.first then s.second else found)) targets Idle (outcome me.0.setup.nodes first words targets (Swapping s.word s.first))
+    × IsSome (outcome me.0.setup.nodes first words targets (Swapping s.word s.first)).decided

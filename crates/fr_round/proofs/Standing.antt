@@ -1,0 +1,104 @@
+-- One history stands behind the words and behind what all workers know.
+use Rattle.std.proofs.Common.{◌≡◌, ◌≢◌, ℕ, suc, ◌+◌, ◌<◌, ◌≤◌, Bool, true, false, List, [], ◌∷◌, ◌++◌, map, replicate, refl, sym, ap, subst, arith, true≢false}
+use Rattle.std.specs.Prelude.{if◌then◌else◌}
+use Rattle.std.specs.List.{AllByRecursion as Each}
+use mathlib.Core.List.{map-append}
+use mathlib.Core.Option.{some}
+use lib.ListN.{get_elem?}
+use Rattle.fr_core.proofs.Finishing.{zeros_lawful}
+use Rattle.fr_core.proofs.Runs.{run_to}
+use Rattle.fr_core.specs.declared.entry.Entry.{Entry}
+use Rattle.fr_round.specs.declared.view.Setup.{Setup}
+use Rattle.fr_round.specs.declared.view.View.{View}
+use Rattle.fr_round.specs.Histories.{AreApart}
+use Rattle.fr_round.specs.Laws.{KnowsPartOf, OneHistoryStandsBehindAll, RuleHoldsAtFirst, workers_at, workers_of}
+use Rattle.fr_round.specs.Rule.{IsTaken, ViewFits}
+use Rattle.fr_round.proofs.Gathering.{some_run}
+use Rattle.fr_round.proofs.Keeping.{each_weaker}
+use Rattle.fr_round.proofs.Seating.{each_number, first_keeps}
+
+each_append : {X : Type 0} (P : X → Type 0) (xs ys : List X) → Each P xs → Each P ys → Each P (xs ++ ys)
+each_append P [] ys a c = c
+each_append P (x ∷ xs) ys a c = (a.0, each_append P xs ys a.1 c)
+
+apart_append : (ks js : List ℕ) → AreApart ks → AreApart js → Each (λ (k : ℕ). Each (λ (j : ℕ). j ≢ k) js) ks → AreApart (ks ++ js)
+apart_append [] js a c other = c
+apart_append (k ∷ ks) js a c other = (each_append (λ (j : ℕ). j ≢ k) ks js a.0 other.0, apart_append ks js a.1 c other.1)
+
+abbrev numbers : List (ℕ × List Entry) → List ℕ
+numbers ws = map (λ (w : ℕ × List Entry). w.0) ws
+
+each_of_view : (P : ℕ × List Entry → Type 0) (works closes : Bool) (w : ℕ × List Entry) (taken : List (ℕ × List Entry)) → (works ≡ true → P w) → (closes ≡ true → Each P taken)
+    → Each P ((if works then w ∷ [] else []) ++ (if closes then taken else []))
+each_of_view P true true w taken own others = (own refl, others refl)
+each_of_view P true false w taken own others = (own refl, tt)
+each_of_view P false true w taken own others = others refl
+each_of_view P false false w taken own others = tt
+
+apart_of_view : (works closes : Bool) (w : ℕ × List Entry) (taken : List (ℕ × List Entry)) → (works ≡ true → closes ≡ false) → (closes ≡ true → AreApart (numbers taken))
+    → AreApart (numbers ((if works then w ∷ [] else []) ++ (if closes then taken else [])))
+apart_of_view true true w taken one apart = absurd (true≢false (one refl))
+apart_of_view true false w taken one apart = (tt, tt)
+apart_of_view false true w taken one apart = apart refl
+apart_of_view false false w taken one apart = tt
+
+-- a worker that the rule allows at seat i or behind it
+record IsSeatedFrom (next : ℕ) (seat_of : ℕ → ℕ) (h : List Entry) (i : ℕ) (w : ℕ × List Entry) : Type 0 where
+  knows : KnowsPartOf h w
+  numbered : w.0 < next
+  placed : i ≤ seat_of w.0
+
+module _ (b : Setup) (next : ℕ) (seat_of : ℕ → ℕ) (at : ℕ) (h : List Entry) (words : List ℕ) where
+  -- the workers at one seat
+  here : (j : ℕ) (v : View) → ViewFits b next seat_of at h words j v → Each (IsTaken next seat_of j h) (workers_at v) × AreApart (numbers (workers_at v))
+  here j v f = (
+    each_of_view (IsTaken next seat_of j h) v.works v.closes (v.number, v.known) v.taken
+        (λ works. let w = f.worker works in record { begins = w.begins; own = w.own; placed = w.placed; numbered = w.numbered })
+        (λ closes. (f.closing closes).taken),
+    apart_of_view v.works v.closes (v.number, v.known) v.taken (λ works. (f.worker works).not_closing) (λ closes. (f.closing closes).apart),
+  )
+
+  -- the workers at the seats from seat i on
+  from : (views : List View) (i : ℕ) → ((j : ℕ) (v : View) → get_elem? views j ≡ some v → ViewFits b next seat_of at h words (i + j) v)
+      → Each (IsSeatedFrom next seat_of h i) (workers_of views) × AreApart (numbers (workers_of views))
+  from [] i fits = (tt, tt)
+  from (v ∷ vs) i fits =
+      let one = here (i + 0) v (fits 0 v refl) in
+      let others = from vs (i + 1) (λ j u e. let same : i + suc j ≡ (i + 1) + j = omega arith in subst (λ (k : ℕ). ViewFits b next seat_of at h words k u) same (fits (suc j) u e)) in (
+        each_append (IsSeatedFrom next seat_of h i) (workers_at v) (workers_of vs)
+            (each_weaker (IsTaken next seat_of (i + 0) h) (IsSeatedFrom next seat_of h i)
+            (λ w t. record { knows = record { begins = t.begins; own = t.own }; numbered = t.numbered; placed = let p = t.placed in omega arith }) (workers_at v) one.0)
+            (each_weaker (IsSeatedFrom next seat_of h (i + 1)) (IsSeatedFrom next seat_of h i)
+            (λ w t. record { knows = t.knows; numbered = t.numbered; placed = let p = t.placed in omega arith }) (workers_of vs) others.0),
+        subst AreApart (sym (map-append (λ (w : ℕ × List Entry). w.0) (workers_at v) (workers_of vs)))
+            (apart_append (numbers (workers_at v)) (numbers (workers_of vs)) one.1 others.1
+            (each_number (IsTaken next seat_of (i + 0) h) (λ (k : ℕ). Each (λ (j : ℕ). j ≢ k) (numbers (workers_of vs)))
+            (λ w t. each_number (IsSeatedFrom next seat_of h (i + 1)) (λ (j : ℕ). j ≢ w.0)
+            (λ u q is. let same : seat_of u.0 ≡ seat_of w.0 = ap seat_of is in let p = t.placed in let past = q.placed in absurd (omega arith)) (workers_of vs) others.0)
+            (workers_at v) one.0)),
+      )
+
+pub one_history : OneHistoryStandsBehindAll
+one_history b s r =
+    let all = from b r.next r.seat_of r.at r.history s.words s.views 0 (λ j v e. subst (λ (k : ℕ). ViewFits b r.next r.seat_of r.at r.history s.words k v) (omega arith) (r.views j v e)) in (
+      r.history,
+      record {
+        run = some_run b s r;
+        opened = each_weaker (λ (e : Entry). e.worker < r.next) (λ (e : Entry). e.worker < b.workers) (λ e lt. let m = r.most in omega arith) r.history r.given_out;
+        parts = each_weaker (IsSeatedFrom r.next r.seat_of r.history 0) (KnowsPartOf r.history) (λ w t. t.knows) (workers_of s.views) all.0;
+        apart = all.1;
+        numbered = each_weaker (IsSeatedFrom r.next r.seat_of r.history 0) (λ (w : ℕ × List Entry). w.0 < b.workers) (λ w t. let m = r.most in let lt = t.numbered in omega arith) (workers_of s.views) all.0;
+      },
+    )
+
+pub first_holds : RuleHoldsAtFirst
+first_holds b net = (
+  first_keeps b [] net,
+  record {
+    run = run_to b.nodes b.dest b.links net [] (replicate b.nodes 0) tt refl (zeros_lawful b.nodes b.dest b.links);
+    opened = tt;
+    parts = tt;
+    apart = tt;
+    numbered = tt;
+  },
+)
