@@ -65,17 +65,17 @@ neighbour_load_same s me me' found j f first words targets at here (up, meets, m
     (goes_past v me'.0 words targets last (Swapping v.node c) (Looking v.node c (j + 1)) (ap (λ (w : View). w.known) noted))))
 
 pub exchange_same : ExchangeIsTheMachines
-exchange_same s me me' found first words targets at next (up, wins, loses, same) =
+exchange_same s me me' found first words targets at (up, wins, loses, same) =
     let x = s.word in
     let c = s.first in
     let word = slice_index words x in
-    let becomes : Bool → ℕ = (λ (b : Bool). if b then s.second else found) in
+    let becomes : Bool → ℕ = (λ (b : Bool). if b then c + 1 else found) in
     let turned = decides (slice_set words x (c + 1)) targets x (Turned (c + 1)) in
     let moved = decides words targets x (Moved c word) in
     let tested : (b : Bool) → eqb word c ≡ b → becomes b ≡ becomes (eqb found c) = (λ b e. ap becomes (sym e ∙ ap (λ (k : ℕ). eqb k c) at)) in (
       by_test (ComesToTheSame me.0 me'.0 (slice_set words x (becomes (eqb found c))) targets Idle) (eqb word c) turned moved
           (λ e. let d = wins (sym at ∙ eqb-true word c e) in record {
-            counts = ap (λ (k : ℕ). slice_set words x k) (sym next ∙ tested true e);
+            counts = ap (λ (k : ℕ). slice_set words x k) (tested true e);
             decided = d.extends;
             worker = refl;
           })

@@ -105,10 +105,10 @@ NeighbourLoadIsTheMachines = (s : Step (Unit {0})) (me me' : Me (Unit {0}) View)
     → neighbour_at (row me.0.setup.nodes first me.0.node) j ≡ (s.word, f) → neighbour_loaded (more_of f) s me found me'
     → ComesToTheSame me.0 me'.0 words targets (phase_past (row me.0.setup.nodes first me.0.node) me'.0.node me'.0.count j) (outcome me.0.setup.nodes first words targets (Looking me.0.node me.0.count j))
 
--- the exchange of a count for the next one is the machine's exchange: the word becomes what the atomic exchange makes of it, and
--- the call is decided
+-- the exchange of a count for the next one is the machine's exchange: where the word was that count it becomes the next one, and
+-- else it stays; and the call is decided
 abbrev pub ExchangeIsTheMachines : Type 0
 ExchangeIsTheMachines = (s : Step (Unit {0})) (me me' : Me (Unit {0}) View) (found : ℕ) (first : List (ℕ × ℕ)) (words : List ℕ) (targets : List Target) → slice_index words s.word ≡ found
-    → s.second ≡ s.first + 1 → exchange_made s me found me'
-    → ComesToTheSame me.0 me'.0 (slice_set words s.word (if found == s.first then s.second else found)) targets Idle (outcome me.0.setup.nodes first words targets (Swapping s.word s.first))
+    → exchange_made s me found me'
+    → ComesToTheSame me.0 me'.0 (slice_set words s.word (if found == s.first then s.first + 1 else found)) targets Idle (outcome me.0.setup.nodes first words targets (Swapping s.word s.first))
     × IsSome (outcome me.0.setup.nodes first words targets (Swapping s.word s.first)).decided
