@@ -5,6 +5,7 @@ use Rattle.std.proofs.lemmas.Bool.{cases_Bool, cases_lt}
 use Rattle.std.proofs.lemmas.List.Sums.{count_by_more_no, count_by_more_yes, sum_by-append, sum_by_more_le}
 use mathlib.Core.Logic.{dite}
 use native.Mathlib.Decide.{ℕ_discrete}
+use Rattle.fr_net.proofs.Counting.{one_passes}
 use Rattle.fr_net.proofs.Linking.{IsOneWay, one_way}
 use Rattle.std.proofs.lemmas.List.Elements.{Contains-get_or}
 use Rattle.fr_net.proofs.Neighbours.{Points-has_link, row_entry_known, row_entry_node, row_holds}
@@ -14,7 +15,8 @@ use Rattle.fr_net.specs.Rows.{has_link, row, row_entry}
 use Rattle.fr_net.specs.declared.rows.First.{First}
 use Rattle.fr_net.specs.declared.rows.First.TheVariants.{Inward, Outward}
 use Rattle.fr_core.specs.Machine.{bound_of}
-use Rattle.fr_round.specs.Missing.{misses, missing_of}
+use Rattle.fr_round.specs.declared.seen.Seen.{Seen}
+use Rattle.fr_round.specs.Missing.{IsCounted, misses, missing_of}
 
 -- how many of the entries pass
 abbrev passing : (ℕ × First → Bool) → List (ℕ × First) → ℕ
@@ -223,3 +225,29 @@ all_lowered n links list counts missing y count j net is y_in long up t end z z_
     let whole = missing_lowered n links counts y z count net y_in z_in other long up in
     let same : count_by D (take j list) ≡ count_by D (row n links y) = ap (count_by D) (take_all j list end ∙ is) in
     omega (arith, t.left z z_in other, whole, same)
+
+-- the numbers of the nodes below k are right
+abbrev pub AreRightTo : ℕ → List (ℕ × ℕ) → List ℕ → List ℕ → ℕ → Type 0
+AreRightTo n links counts missing k = (x : ℕ) → x < k → slice_index missing x ≡ missing_of n links counts x
+
+-- a seen count is higher: the numbers of the other nodes are right for it, and that of its own node was counted anew
+pub raised : (n : ℕ) (links : List (ℕ × ℕ)) (seen seen' : Seen) (y count m : ℕ) (missing : List ℕ) → y < n → IsCounted n links seen → length missing ≡ length seen.missing.items
+    → ((z : ℕ) → z < n → z ≢ y → slice_index missing z ≡ missing_of n links (slice_set seen.counts.items y count) z)
+    → seen'.counts.items ≡ slice_set seen.counts.items y count → seen'.missing.items ≡ slice_set missing y m → m ≡ missing_of n links (slice_set seen.counts.items y count) y → IsCounted n links seen'
+raised n links seen seen' y count m missing y_in was long others counts numbers own = record {
+  one_each = ap (λ (l : List ℕ). length l) counts ∙ (length-set seen.counts.items y count ∙ was.one_each);
+  as_many = ap (λ (l : List ℕ). length l) numbers ∙ (length-set missing y m ∙ (long ∙ was.as_many));
+  right = λ x x_in. subst (λ (p : List ℕ × List ℕ). slice_index p.0 x ≡ missing_of n links p.1 x) (λ i. (sym numbers i, sym counts i))
+      (dite (ℕ_discrete x y)
+      (λ (e : x ≡ y). subst (λ (j : ℕ). slice_index (slice_set missing y m) j ≡ missing_of n links (slice_set seen.counts.items y count) j) (sym e)
+      (get_or-set_same missing y m 0 (omega (arith, long, was.as_many)) ∙ own))
+      (λ (other : x ≢ y). get_or-set_other missing y x m 0 other ∙ others x x_in other));
+}
+
+-- where none passes, none does at any place
+pub none_misses : (p : ℕ × First → Bool) (entries : List (ℕ × First)) (k : ℕ) (d : ℕ × First) → count_by p entries ≡ 0 → k < length entries → p (get_or entries k d) ≡ false
+none_misses p entries k d none inside =
+    elim (cases_Bool (p (get_or entries k d))) [
+      | inl passes ↦ absurd (omega (arith, one_passes p entries k d inside passes, none))
+      | inr fails ↦ fails
+    ]

@@ -1,5 +1,5 @@
 -- What the steps of a call make of what a worker knows. For the functions of the steps alone.
-use Rattle.std.specs.Prelude.{◌≡◌, ℕ, ◌+◌, ◌<◌, ◌≤◌, true, List, [], length, slice_index, replicate}
+use Rattle.std.specs.Prelude.{◌≡◌, ℕ, ◌+◌, ◌<◌, ◌≤◌, true, List, [], slice_index, replicate}
 use Rattle.atomic_table.specs.declared.shared.Seat.{Seat}
 use Rattle.atomic_table.specs.declared.shared.Shared.{Shared}
 use Rattle.fr_net.specs.Links.{Points}
@@ -70,12 +70,11 @@ pub record IsInCall (b : Setup) (x c : ℕ) (w : View) : Type 0 where
   pub count : w.count ≡ c
   pub own : slice_index w.seen x ≡ c
   pub in_range : x < b.nodes
-  pub long : length w.seen ≡ b.nodes
 
 -- a seat at the words of a round with these terms
 pub record IsAtWords (g : Terms) (words : Shared (Unit {0}) View Terms Rule) (seat : RoundSeat) : Type 0 where
   pub same : seat.table_id ≡ words.table_id
-  pub words : words.table_id.words ≡ g.net.nodes
+  pub one_each : words.table_id.words ≡ g.net.nodes
   pub key : words.key ≡ g
 
 -- what a worker has seen is what its seat knows, with the right numbers

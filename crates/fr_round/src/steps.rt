@@ -34,7 +34,7 @@ fn load_neighbour(
     c: u64,
     entry: (u32, First),
 ) -> u64
-    requires table { (seat.old.table_id ≡ words.now.table_id) × (words.now.table_id.words ≡ (setup_of words.now.key).nodes) }
+    requires table { IsAtWords words.now.key words.now seat.old }
     requires call { IsInCall (setup_of words.now.key) x c seat.old.me.0 }
     requires entry { Contains (row (setup_of words.now.key).nodes (setup_of words.now.key).links x) entry }
     ensures seat { IsSameSeat seat.old seat.new }
