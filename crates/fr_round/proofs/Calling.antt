@@ -1,5 +1,5 @@
 -- What the steps of a call come to.
-use Rattle.std.proofs.Common.{◌≡◌, ◌≢◌, ◌⊎◌, ℕ, ◌+◌, ◌<◌, ◌≤◌, List, false, get_or, get_or-set_other, length, sym, ap, ◌∙◌, subst, ⊎_elim, arith, get_or-set_same, ltb-false, ltb-true, true, Bool}
+use Rattle.std.proofs.Common.{◌≡◌, ◌≢◌, ◌⊎◌, ℕ, ◌+◌, ◌<◌, ◌≤◌, List, false, get_or-set_other, length, sym, ap, ◌∙◌, subst, ⊎_elim, arith, get_or-set_same, ltb-false, ltb-true, true, Bool}
 use Rattle.std.specs.Prelude.{MatchBool, nat_lt, not, slice_index, slice_set}
 use Rattle.std.specs.List.{All, Contains}
 use Rattle.std.proofs.lemmas.List.Elements.{All-contains, All-from_get_or, Contains-get_or}

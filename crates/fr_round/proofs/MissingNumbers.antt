@@ -1,5 +1,5 @@
 -- The numbers of neighbours that miss their bounds, and what becomes of them when a seen count rises.
-use Rattle.std.proofs.Common.{Bool, Contains, List, None, Option, Some, [], ap, arith, cond, count_by, eq-eqb, eqb, false, get_or, get_or-set_other, get_or-set_same, inl, inr, length, length-set, ltb, ltb-false, ltb-true, ne_eqb, option_to_list, refl, set, slice_index, slice_set, subst, suc, sym, take, take_all, true, zero, ℕ, ◌&&◌, ◌++◌, ◌+◌, ◌-◌, ◌<◌, ◌∙◌, ◌∷◌, ◌≡◌, ◌≢◌, ◌≤◌, ◌⊎◌}
+use Rattle.std.proofs.Common.{Bool, List, None, Option, Some, [], ap, arith, cond, count_by, eq-eqb, eqb, false, get_or, get_or-set_other, get_or-set_same, inl, inr, length, length-set, ltb, ltb-false, ltb-true, ne_eqb, option_to_list, refl, slice_index, slice_set, subst, suc, sym, take, take_all, true, zero, ℕ, ◌&&◌, ◌++◌, ◌+◌, ◌-◌, ◌<◌, ◌∙◌, ◌∷◌, ◌≡◌, ◌≢◌, ◌≤◌}
 use Rattle.std.specs.Prelude.{nat_lt, not}
 use Rattle.std.proofs.lemmas.Bool.{cases_Bool, cases_lt}
 use Rattle.std.proofs.lemmas.List.Sums.{count_by_more_no, count_by_more_yes, sum_by-append, sum_by_more_le}
@@ -129,8 +129,8 @@ missing_lowered n links counts y z count net y_in z_in other long up =
     let at_z = row_but_for P Q n links z y (λ e away. ap (λ (k : ℕ). nat_lt k (bound_of e.1 own)) (sym (get_or-set_other counts y e.0 count 0 away))) y_in in
     let at_y = row_but_for D never n links y z (λ e away. lowers_else counts had count z e away) z_in in
     let step : (f : First) → 0 + cond (P (y, opposite f)) 1 0 ≡ (0 + cond (Q (y, opposite f)) 1 0) + (0 + cond (D (z, f)) 1 0) = λ f.
-        rises_past had count (bound_of (opposite f) own) up
-        ∙ (λ i. (0 + cond (ltb (sym now i) (bound_of (opposite f) own)) 1 0) + (0 + cond (sym (lowers_at counts had count z f) i) 1 0)) in
+    rises_past had count (bound_of (opposite f) own) up
+    ∙ (λ i. (0 + cond (ltb (sym now i) (bound_of (opposite f) own)) 1 0) + (0 + cond (sym (lowers_at counts had count z f) i) 1 0)) in
     let one : IsOneWay links = one_way links net.no_self net.single in
     let both = seen_both_ways P Q D y z (has_link links y z) (has_link links z y)
     (λ out back. one.no_return y z (Points-has_link links y z out) (Points-has_link links z y back)) step in

@@ -1,4 +1,4 @@
-use Rattle.std.proofs.Common.{◌≡◌, ◌≤◌, List, ap, arith, length, ℕ}
+use Rattle.std.proofs.Common.{◌≡◌, List, ap, arith, length, ℕ}
 use Rattle.fr_net.proofs.Neighbours.{length-row-le}
 use Rattle.fr_net.specs.Rows.{row}
 use Rattle.fr_net.specs.declared.rows.First.{First}

@@ -1,4 +1,4 @@
-use Rattle.std.proofs.Common.{◌≡◌, ◌≤◌, ◌<◌, ◌+◌, ap, arith, refl, sym}
+use Rattle.std.proofs.Common.{◌+◌, ap, arith, refl, sym}
 use Rattle.fr_round.specs.Setups.{setup_of}
 use Rattle.fr_round.proofs.Keeping.{exchanges_at}
 use Rattle.fr_round.proofs.steps.exchange.Goals as goal

@@ -1,4 +1,4 @@
-use Rattle.std.proofs.Common.{◌≡◌, ◌<◌, ap, arith, get_or-set_same, length, sym, ◌∙◌, List, ℕ}
+use Rattle.std.proofs.Common.{◌≡◌, ap, arith, get_or-set_same, length, ◌∙◌, List, ℕ}
 use Rattle.std.specs.Prelude.{nat_lt, slice_index}
 use Rattle.fr_net.proofs.Neighbours.{row_holds}
 use Rattle.fr_core.specs.Machine.{bound_of}

@@ -1,4 +1,4 @@
-use Rattle.std.proofs.Common.{◌≡◌, ◌<◌, ◌≤◌, ◌+◌, List, ap, arith, length, subst, sym, ◌∙◌, ℕ}
+use Rattle.std.proofs.Common.{◌≡◌, ◌≤◌, List, ap, arith, length, subst, sym, ◌∙◌, ℕ}
 use Rattle.std.specs.Prelude.{slice_index}
 use Rattle.fr_net.specs.Rows.{row}
 use Rattle.fr_net.specs.declared.rows.First.{First}

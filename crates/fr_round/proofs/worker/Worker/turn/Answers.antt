@@ -1,5 +1,4 @@
-use Rattle.std.proofs.Common.{rules, ◌≡◌, ◌+◌, ◌<◌, ◌^◌, ℕ, arith, ap, ◌∙◌}
-use Rattle.fr_round.specs.declared.view.Setup.{Setup}
+use Rattle.std.proofs.Common.{rules, ◌≡◌, ◌+◌, ◌<◌, ◌^◌, arith, ap, ◌∙◌}
 use Rattle.fr_round.specs.Setups.{setup_of}
 use Rattle.fr_round.specs.Knowledge.{Knowledge}
 use Rattle.fr_round.proofs.TurnCounts.{not_turned, turn_of}
