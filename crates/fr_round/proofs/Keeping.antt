@@ -21,7 +21,7 @@ use Rattle.fr_round.specs.declared.view.Setup.{Setup}
 use Rattle.fr_round.specs.declared.view.View.{View}
 use Rattle.fr_round.specs.Histories.{IsHistory, moment, start, StartsWith, entry, reached}
 use Rattle.fr_round.specs.Rule.{KeepsRule, ViewFits, IsTaken}
-use Rattle.fr_round.specs.Calls.{AllMeet, IsInCall}
+use Rattle.fr_round.specs.Calls.{AllMeet, IsInCall, IsWorker}
 use Rattle.fr_round.specs.Steps.{EndsCall, noted, begun, own_loaded, neighbour_loaded, exchange_made}
 use Rattle.fr_round.proofs.Entries.{lawful_after, set_same_value, set_up, set_below, part_mine, part_other}
 use Rattle.fr_core.proofs.Loads.{held_along, held_against, sink_from_seen}
@@ -286,16 +286,12 @@ module _ {S : Type 0} where
           subst (λ ws. Outcome s id me ws (exchange_made (step slots x c new none) me found) b) (sym stays)
           (decided_view v (r.history ++ entry v.number x (Moved c found) ∷ []) x found, keeps, tt, t.0, (mine.below x, (λ hit. absurd (miss hit)), (λ _. t.1), refl)))
 
-module _ {S : Type 0} (b : Setup) (slots id : ℕ) (me : Me S View) (x c : ℕ) (seen : List ℕ) (w : ℕ) (call : IsInCall b x c me.0 seen) where
+module _ {S : Type 0} (b : Setup) (slots id : ℕ) (me : Me S View) (x c w : ℕ) (call : IsInCall b x c me.0) where
   here_begun : me.0.count ≤ slice_index me.0.seen me.0.node
-  here_begun =
-      let own = call.own in
-      let e : slice_index me.0.seen me.0.node ≡ slice_index seen x = λ i. slice_index (call.noted i) (call.node i) in
-      let k = call.count in
-      omega arith
+  here_begun = let e : slice_index me.0.seen me.0.node ≡ slice_index me.0.seen x = ap (slice_index me.0.seen) call.node in omega (arith, e, call.own, call.count)
 
   here_inside : me.0.node < me.0.setup.nodes
-  here_inside = let e : me.0.setup.nodes ≡ b.nodes = ap (λ (z : Setup). z.nodes) call.worker.setup in let k = call.node in let i = call.in_range in omega arith
+  here_inside = let e : me.0.setup.nodes ≡ b.nodes = ap (λ (z : Setup). z.nodes) call.worker.setup in omega (arith, e, call.node, call.in_range)
 
   pub loads_along_at : Contains b.links (x, w) → Allows (KeepsRule b) slots id me w (λ n. n) (neighbour_loaded 1 (step slots w 0 0 none) me)
   loads_along_at link =
@@ -307,12 +303,11 @@ module _ {S : Type 0} (b : Setup) (slots id : ℕ) (me : Me S View) (x c : ℕ) 
       loads_against b slots id me w call.worker.works here_inside here_begun
       (subst (λ (p : List (ℕ × ℕ) × ℕ). Contains p.0 (w, p.1)) (λ i. ((sym call.worker.setup i).links, sym call.node i)) link)
 
-pub exchanges_at : {S : Type 0} (b b' : Setup) → b' ≡ b → (slots id : ℕ) (me : Me S View) (x c new : ℕ) {seen : List ℕ} → new ≡ c + 1 → c < b'.nodes → IsInCall b' x c me.0 seen → IsTurnable b'.nodes b'.dest b'.links x → AllMeet b'.links me.0.seen x c
+pub exchanges_at : {S : Type 0} (b b' : Setup) → b' ≡ b → (slots id : ℕ) (me : Me S View) (x c new : ℕ) → new ≡ c + 1 → c < b'.nodes → c ≤ slice_index me.0.seen x → IsWorker b' me.0 → IsTurnable b'.nodes b'.dest b'.links x → AllMeet b'.links me.0.seen x c
     → Allows (KeepsRule b) slots id me x (λ n. either (eqb n c) new n) (exchange_made (step slots x c new none) me)
-exchanges_at b b' same slots id me x c new {seen} up room call may met =
-    let setup : me.0.setup ≡ b' = call.worker.setup in
+exchanges_at b b' same slots id me x c new up room had worker may met =
+    let setup : me.0.setup ≡ b' = worker.setup in
     let nodes : me.0.setup.nodes ≡ b'.nodes = ap (λ (z : Setup). z.nodes) setup in
     let dest : me.0.setup.dest ≡ b'.dest = ap (λ (z : Setup). z.dest) setup in
-    let had : c ≤ slice_index me.0.seen x = let p = call.own in let e : slice_index me.0.seen x ≡ slice_index seen x = ap (λ l. slice_index l x) call.noted in omega arith in
-    exchanges b slots id me x c new up call.worker.works (let i = may.inside in omega arith) (λ e. may.not_destination (e ∙ dest)) had (omega arith)
+    exchanges b slots id me x c new up worker.works (omega (arith, may.inside, nodes)) (λ e. may.not_destination (e ∙ dest)) had (omega arith)
     may.linked.0 (subst (λ (z : Setup). Joins z.links x may.linked.0) (sym setup) may.linked.1) (subst (λ (z : Setup). AllMeet z.links me.0.seen x c) (sym setup) met)

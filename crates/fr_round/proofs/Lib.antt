@@ -3,6 +3,7 @@ pub mod Keeping
 pub mod Seating
 pub mod TurnCounts
 pub mod Totals
+pub mod MissingNumbers
 pub mod Calling
 pub mod SoundCalls
 pub mod Gathering

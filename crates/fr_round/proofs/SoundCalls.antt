@@ -1,14 +1,17 @@
 -- A call leaves a worker sound.
-use Rattle.std.proofs.Common.{◌≡◌, ℕ, ◌+◌, ◌^◌, ◌<◌, List, [], ◌∷◌, ◌++◌, length, sym, ap, ◌∙◌, subst, arith}
+use Rattle.std.proofs.Common.{◌≡◌, ℕ, ◌+◌, ◌^◌, ◌<◌, List, [], ◌∷◌, ◌++◌, sym, ap, ◌∙◌, subst, arith}
 use Rattle.std.specs.Prelude.{slice_index}
-use Rattle.std.specs.Global.{Vec}
 use Rattle.fr_net.specs.Links.{IsNet}
 use Rattle.fr_core.specs.declared.entry.Reply.{Reply}
 use Rattle.fr_round.specs.declared.view.Setup.{Setup}
 use Rattle.fr_round.specs.declared.view.View.{View}
 use Rattle.fr_round.specs.declared.worker.Worker.TheInside.{Inside}
+use Rattle.fr_round.specs.declared.seen.Seen.{Seen}
+use Rattle.fr_round.specs.declared.terms.Terms.{Terms}
+use Rattle.fr_round.specs.Setups.{setup_of}
+use Rattle.fr_round.specs.Missing.{IsCounted}
 use Rattle.fr_round.specs.Histories.{IsHistory, entry, reached}
-use Rattle.fr_round.specs.Calls.{RoundSeat, IsCallMade, IsSameSeat}
+use Rattle.fr_round.specs.Calls.{RoundSeat, IsCallMade, IsSameSeat, ShowsSeen}
 use Rattle.fr_core.specs.History.{part, turn_count}
 use Rattle.fr_core.specs.declared.entry.Entry.{Entry}
 use Rattle.fr_round.specs.WorkerInside.{IsSoundWorker, knowledge_of}
@@ -31,20 +34,20 @@ turned_fits b w v' x reply net small same s call =
     let more = turned_more w v' x reply s call in
     turns_fit b.nodes (w.turned + turn_of reply) small (omega arith)
 
-pub sound_after : (w : Inside) (seat : RoundSeat) (seen : Vec ℕ) (turned : ℕ) (x : ℕ) (reply : Reply) → IsSoundWorker w → IsSameSeat w.seat seat → seat.me.0.seen ≡ seen.items → length seen.items ≡ length w.seen.items
+pub sound_after : (w : Inside) (g : Terms) (seat : RoundSeat) (seen : Seen) (turned x : ℕ) (reply : Reply) → IsSoundWorker w → w.seat.me.0.setup ≡ setup_of g → IsSameSeat w.seat seat → ShowsSeen g seat seen
     → IsCallMade w.seat.me.0 x reply seat.me.0 → turned ≡ w.turned + turn_of reply → IsSoundWorker (record { seat = seat; number = w.number; seen = seen; turned = turned })
-sound_after w seat seen turned x reply s same noted long call count =
+sound_after w g seat seen turned x reply s of same shows call count =
     let setup : seat.me.0.setup ≡ w.seat.me.0.setup = ap (λ (u : View). u.setup) call.same in
     record {
       works = ap (λ (u : View). u.works) call.same ∙ s.works;
       no_slot = same.2 ∙ s.no_slot;
-      noted = noted;
-      long = long ∙ (s.long ∙ ap (λ (b : Setup). b.nodes) (sym setup));
+      noted = shows.counts;
+      numbers = subst (λ (b : Setup). IsCounted b.nodes b.links seen) (sym (setup ∙ of)) shows.numbers;
       numbered = ap (λ (u : View). u.number) call.same ∙ s.numbered;
       counted = count ∙ sym (turned_more w seat.me.0 x reply s call);
       run = subst (λ (b : Setup). IsHistory b seat.me.0.known) (sym setup) call.extends.run;
       below = λ z. let p = call.below z in
-          let e : slice_index seat.me.0.seen z ≡ slice_index seen.items z = ap (λ l. slice_index l z) noted in
+          let e : slice_index seat.me.0.seen z ≡ slice_index seen.counts.items z = ap (λ l. slice_index l z) shows.counts in
           let r : reached w.seat.me.0.setup seat.me.0.known z ≡ reached seat.me.0.setup seat.me.0.known z = ap (λ (b : Setup). reached b seat.me.0.known z) (sym setup) in
           omega arith;
     }
@@ -57,7 +60,7 @@ knowledge_holds w s = record {
 }
 
 -- and so is what it knows after a call
-pub knowledge_after : (w : Inside) (seat : RoundSeat) (seen : Vec ℕ) (turned x : ℕ) (reply : Reply) → seat.me.0.seen ≡ seen.items → IsCallMade w.seat.me.0 x reply seat.me.0
+pub knowledge_after : (w : Inside) (seat : RoundSeat) (seen : Seen) (turned x : ℕ) (reply : Reply) → seat.me.0.seen ≡ seen.counts.items → IsCallMade w.seat.me.0 x reply seat.me.0
     → IsKnowledge (knowledge_of (record { seat = seat; number = w.number; seen = seen; turned = turned }))
 knowledge_after w seat seen turned x reply noted call =
     let setup : seat.me.0.setup ≡ w.seat.me.0.setup = ap (λ (u : View). u.setup) call.same in
@@ -65,7 +68,7 @@ knowledge_after w seat seen turned x reply noted call =
     record {
       run = run;
       below = λ z.
-          let e : slice_index seat.me.0.seen z ≡ slice_index seen.items z = ap (λ l. slice_index l z) noted in
+          let e : slice_index seat.me.0.seen z ≡ slice_index seen.counts.items z = ap (λ l. slice_index l z) noted in
           let r : reached w.seat.me.0.setup seat.me.0.known z ≡ reached seat.me.0.setup seat.me.0.known z = ap (λ (b : Setup). reached b seat.me.0.known z) (sym setup) in
           omega (arith, call.below z, e, r, reached_count seat.me.0.setup seat.me.0.known run z);
     }

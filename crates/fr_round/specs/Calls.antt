@@ -1,6 +1,7 @@
 -- What the steps of a call make of what a worker knows. For the functions of the steps alone.
-use Rattle.std.specs.Prelude.{◌≡◌, ℕ, ◌+◌, ◌<◌, ◌≤◌, true, List, [], length, slice_index, replicate}
+use Rattle.std.specs.Prelude.{◌≡◌, ℕ, ◌+◌, ◌<◌, ◌≤◌, true, List, [], slice_index, replicate}
 use Rattle.atomic_table.specs.declared.shared.Seat.{Seat}
+use Rattle.atomic_table.specs.declared.shared.Shared.{Shared}
 use Rattle.fr_net.specs.Links.{Points}
 use Rattle.fr_net.specs.Rows.{row}
 use Rattle.fr_net.specs.declared.rows.First.{First}
@@ -9,6 +10,10 @@ use Rattle.fr_core.specs.declared.entry.Reply.{Reply}
 use Rattle.fr_core.specs.declared.entry.Reply.TheVariants.{Turned, Held, Moved, Cut}
 use Rattle.fr_round.specs.declared.view.Setup.{Setup}
 use Rattle.fr_round.specs.declared.view.View.{View}
+use Rattle.fr_round.specs.declared.seen.Seen.{Seen}
+use Rattle.fr_round.specs.declared.terms.Terms.{Terms}
+use Rattle.fr_round.specs.declared.rule.Rule.{Rule}
+use Rattle.fr_round.specs.Missing.{IsCounted}
 use Rattle.fr_round.specs.Histories.{reached, entry}
 use Rattle.fr_round.specs.Steps.{Extends}
 
@@ -42,34 +47,40 @@ pub record IsCallMade (v : View) (x : ℕ) (reply : Reply) (w : View) : Type 0 w
   pub up : (z : ℕ) → slice_index v.seen z ≤ slice_index w.seen z
   pub shows : ShowsCount v.setup.nodes v.seen w.seen x reply
 
--- the call on x goes on, with the own count c
+-- the call on x goes on, with the own count c, which was loaded
 pub record IsLooking (v : View) (x c : ℕ) (w : View) : Type 0 where
   pub same : w ≡ record v { seen = w.seen; node = x; count = c }
   pub up : (z : ℕ) → slice_index v.seen z ≤ slice_index w.seen z
-  pub had : slice_index v.seen x ≤ c
-  pub own : c ≤ slice_index w.seen x
+  pub own : slice_index w.seen x ≡ c
 
 -- the first j neighbours of a row meet their bounds
 abbrev pub AreEnough : List (ℕ × First) → ℕ → List ℕ → ℕ → Type 0
 AreEnough neighbours j seen c = (i : ℕ) → i < j → bound_of (neighbour_at neighbours i).1 c ≤ slice_index seen (neighbour_at neighbours i).0
 
--- the same with the first j neighbours looked at
-pub record IsUnderWay (b : Setup) (v : View) (x c j : ℕ) (w : View) (seen : List ℕ) : Type 0 where
+-- the same where the first j neighbours of x were seen to meet them
+pub record IsUnderWay (b : Setup) (v : View) (x c j : ℕ) (w : View) : Type 0 where
   pub looking : IsLooking v x c w
-  pub noted : w.seen ≡ seen
-  pub enough : AreEnough (row b.nodes b.links x) j seen c
+  pub enough : AreEnough (row b.nodes b.links x) j w.seen c
   pub low : c ≤ b.nodes
 
 -- a worker is in a call on x, with the own count c
-pub record IsInCall (b : Setup) (x c : ℕ) (w : View) (seen : List ℕ) : Type 0 where
+pub record IsInCall (b : Setup) (x c : ℕ) (w : View) : Type 0 where
   pub worker : IsWorker b w
-  pub noted : w.seen ≡ seen
   pub node : w.node ≡ x
   pub count : w.count ≡ c
-  pub own : c ≤ slice_index seen x
-  pub low : c ≤ b.nodes
+  pub own : slice_index w.seen x ≡ c
   pub in_range : x < b.nodes
-  pub long : length seen ≡ b.nodes
+
+-- a seat at the words of a round with these terms
+pub record IsAtWords (g : Terms) (words : Shared (Unit {0}) View Terms Rule) (seat : RoundSeat) : Type 0 where
+  pub same : seat.table_id ≡ words.table_id
+  pub one_each : words.table_id.words ≡ g.net.nodes
+  pub key : words.key ≡ g
+
+-- what a worker has seen is what its seat knows, with the right numbers
+pub record ShowsSeen (g : Terms) (seat : RoundSeat) (seen : Seen) : Type 0 where
+  pub counts : seat.me.0.seen ≡ seen.counts.items
+  pub numbers : IsCounted g.net.nodes g.net.links seen
 
 -- the same seat at the same table, with the slots that it had
 abbrev pub IsSameSeat : RoundSeat → RoundSeat → Type 0

@@ -2,6 +2,7 @@ pub mod Setups
 pub mod Histories
 pub mod Rule
 pub mod Steps
+pub mod Missing
 pub mod Calls
 pub mod Knowledge
 pub mod Closing

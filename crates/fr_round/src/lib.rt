@@ -13,6 +13,7 @@ mod laws;
 mod opening;
 mod round;
 mod rule;
+mod seen;
 mod steps;
 mod terms;
 mod view;

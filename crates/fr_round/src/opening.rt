@@ -7,6 +7,7 @@ ghost use Rattle.fr_round.specs.Setups.{setup_of};
 ghost use Rattle.fr_round.specs.Seated.{IsTableOf};
 
 use crate::rule::{NumberWorker, Rule};
+use crate::seen::Seen;
 use crate::terms::Terms;
 use crate::view::View;
 use crate::worker::Worker;
@@ -39,9 +40,10 @@ fn make_table(alloc: Global, terms: &Terms) -> Result<Seated, AllocError>
     let nodes = terms.net.nodes();
     let words = zeros(alloc, nodes)?;
     let (table, mut opening) = Table::of_words(alloc, words.as_slice(), terms)?;
+    let unseen = Seen::new(alloc, &terms.net)?;
     let mut workers = Vec::new(alloc);
     for number in 0..terms.workers {
-        let seen = zeros(alloc, nodes)?;
+        let seen = unseen.to_copy(alloc)?;
         let seat = table.shared.split_seat::<NumberWorker>(&mut opening);
         workers.push(Worker::new(seat, number, seen))?;
     }

@@ -1,6 +1,7 @@
-//! The steps of a call on a node: the loads and the exchange of the machine of `fr_core`, one by one, on atomic words.
+//! The steps of a call on a node: those loads of the machine of `fr_core` that what was seen does not settle, and its exchange,
+//! one by one, on atomic words.
 
-ghost use Rattle.std.specs.Prelude.{◌≡◌, ◌+◌, ◌<◌, ◌≤◌, ◌^◌, MatchBool, length, slice_index};
+ghost use Rattle.std.specs.Prelude.{◌≡◌, ◌+◌, ◌<◌, ◌≤◌, MatchBool, slice_index};
 ghost use Rattle.std.specs.List.{Contains};
 ghost use Rattle.fr_net.specs.Rows.{row};
 ghost use Rattle.fr_core.specs.Machine.{bound_of};
@@ -8,9 +9,11 @@ ghost use Rattle.fr_core.specs.Targets.{IsTurnable};
 ghost use Rattle.fr_core.specs.declared.entry.Reply.TheVariants.{Held};
 ghost use Rattle.fr_round.specs.Setups.{setup_of};
 ghost use Rattle.fr_round.specs.Steps.{noted, EndsCall};
-ghost use Rattle.fr_round.specs.Calls.{IsWorker, IsSameSeat, IsInCall, IsCallMade};
+ghost use Rattle.fr_round.specs.Missing.{IsCounted};
+ghost use Rattle.fr_round.specs.Calls.{IsWorker, IsAtWords, IsSameSeat, IsInCall, IsCallMade, AllMeet, ShowsSeen};
 
 use crate::rule::{Exchange, LoadAgainst, LoadAlong, LoadOwn, Rule};
+use crate::seen::Seen;
 use crate::terms::Terms;
 use crate::view::View;
 use atomic_table::{Seat, Shared};
@@ -23,79 +26,124 @@ pub type RoundWords = Shared<(), View, Terms, Rule>;
 /// A seat at them.
 pub type RoundSeat = Seat<(), View>;
 
-/// Loads the count of a neighbour. True if it meets its bound; else the call is decided.
+/// Loads the count of a neighbour of `x`. Where that misses its bound for the count `c` of `x`, the call is decided.
 fn load_neighbour(
     words: &RoundWords,
     seat: &mut RoundSeat,
-    seen: &mut [u64],
     x: u32,
     c: u64,
-    neighbour: u32,
-    first: First,
-) -> bool
-    requires table { (seat.old.table_id ≡ words.now.table_id) × (words.now.table_id.words ≡ (setup_of words.now.key).nodes) }
-    requires call { IsInCall (setup_of words.now.key) x c seat.old.me.0 seen.old }
-    requires small { c < 2 ^ 32 }
-    requires entry { (neighbour < (setup_of words.now.key).nodes) × Contains (row (setup_of words.now.key).nodes (setup_of words.now.key).links x) (neighbour, first) }
+    entry: (u32, First),
+) -> u64
+    requires table { IsAtWords words.now.key words.now seat.old }
+    requires call { IsInCall (setup_of words.now.key) x c seat.old.me.0 }
+    requires entry { Contains (row (setup_of words.now.key).nodes (setup_of words.now.key).links x) entry }
     ensures seat { IsSameSeat seat.old seat.new }
-    ensures seen { (seat.new.me.0.seen ≡ seen.new) × (slice_index seen.old neighbour ≤ slice_index seen.new neighbour) }
-    ensures step { MatchBool result
-        ((bound_of first c ≤ slice_index seen.new neighbour) × (seat.new.me.0 ≡ noted seat.old.me.0 neighbour (slice_index seen.new neighbour)))
-        (EndsCall seat.old.me.0 x (Held neighbour) neighbour (slice_index seen.new neighbour) seat.new.me.0) }
+    ensures up { slice_index seat.old.me.0.seen entry.0 ≤ result }
+    ensures met { bound_of entry.1 c ≤ result → seat.new.me.0 ≡ noted seat.old.me.0 entry.0 result }
+    ensures missed { result < bound_of entry.1 c → EndsCall seat.old.me.0 x (Held entry.0) entry.0 result seat.new.me.0 }
 {
+    let (neighbour, first) = entry;
     let at = neighbour as usize;
     match first {
-        First::Outward => {
-            let found = words.load::<LoadAlong>(seat, at);
-            seen[at] = found;
-            found >= c + 1
-        }
-        First::Inward => {
-            let found = words.load::<LoadAgainst>(seat, at);
-            seen[at] = found;
-            found >= c
-        }
+        First::Outward => words.load::<LoadAlong>(seat, at),
+        First::Inward => words.load::<LoadAgainst>(seat, at),
     }
 }
 
-/// One call on node `x`: the load of its own count, the loads of its neighbours' counts in the order of its row, and the
-/// exchange of its own count, up to the step that decides the call.
-pub(crate) fn turn_at(
+/// Whether a neighbour of `x` meets its bound for the count `c` of `x`: by what was seen, or else by a load. If not, the call
+/// is decided.
+fn is_met(
     terms: &Terms,
     words: &RoundWords,
     seat: &mut RoundSeat,
-    seen: &mut [u64],
+    seen: &mut Seen,
     x: u32,
-) -> Reply
-    requires table { (seat.old.table_id ≡ words.now.table_id) × (words.now.table_id.words ≡ terms.now.net.nodes) × (words.now.key ≡ terms.now) }
-    requires worker { IsWorker (setup_of terms.now) seat.old.me.0 }
-    requires seen { (seat.old.me.0.seen ≡ seen.old) × (length seen.old ≡ terms.now.net.nodes) }
-    requires node { IsTurnable terms.now.net.nodes terms.now.dest terms.now.net.links x }
+    c: u64,
+    entry: (u32, First),
+) -> bool
+    requires table { IsAtWords terms.now words.now seat.old }
+    requires call { IsInCall (setup_of terms.now) x c seat.old.me.0 }
+    requires seen { ShowsSeen terms.now seat.old seen.old }
+    requires entry { Contains (row terms.now.net.nodes terms.now.net.links x) entry }
     ensures seat { IsSameSeat seat.old seat.new }
-    ensures seen { seat.new.me.0.seen ≡ seen.new }
+    ensures seen { ShowsSeen terms.now seat.new seen.new }
+    ensures up { slice_index seat.old.me.0.seen entry.0 ≤ slice_index seat.new.me.0.seen entry.0 }
+    ensures step { MatchBool result
+        ((bound_of entry.1 c ≤ slice_index seat.new.me.0.seen entry.0) × (seat.new.me.0 ≡ noted seat.old.me.0 entry.0 (slice_index seat.new.me.0.seen entry.0)))
+        (EndsCall seat.old.me.0 x (Held entry.0) entry.0 (slice_index seat.new.me.0.seen entry.0) seat.new.me.0) }
+{
+    if !seen.misses(entry, c) {
+        return true;
+    }
+    let found = load_neighbour(words, seat, x, c, entry);
+    seen.raise(&terms.net, entry.0, found);
+    !seen.misses(entry, c)
+}
+
+/// The exchange of the seen count `c` of node `x` for one more, which decides the call.
+fn exchange(
+    terms: &Terms,
+    words: &RoundWords,
+    seat: &mut RoundSeat,
+    seen: &mut Seen,
+    x: u32,
+    c: u64,
+) -> Reply
+    requires table { IsAtWords terms.now words.now seat.old }
+    requires worker { IsWorker (setup_of terms.now) seat.old.me.0 }
+    requires seen { ShowsSeen terms.now seat.old seen.old }
+    requires node { IsTurnable terms.now.net.nodes terms.now.dest terms.now.net.links x }
+    requires count { (c ≡ slice_index seat.old.me.0.seen x) × (c < terms.now.net.nodes) }
+    requires met { AllMeet terms.now.net.links seat.old.me.0.seen x c }
+    ensures seat { IsSameSeat seat.old seat.new }
+    ensures seen { ShowsSeen terms.now seat.new seen.new }
     ensures call { IsCallMade seat.old.me.0 x result seat.new.me.0 }
 {
-    let own = x as usize;
-    let nodes = u64::from(terms.net.nodes());
-    let c = words.load::<LoadOwn>(seat, own);
-    seen[own] = c;
-    if c == nodes {
-        return Reply::Cut;
-    }
-    for (neighbour, first) in terms.net.row(x) {
-        if !load_neighbour(words, seat, seen, x, c, *neighbour, *first) {
-            return Reply::Held { by: *neighbour };
-        }
-    }
-    let found = words.compare_exchange::<Exchange>(seat, own, c, c + 1);
+    let found = words.compare_exchange::<Exchange>(seat, x as usize, c, c + 1);
     if found == c {
-        seen[own] = c + 1;
+        seen.raise(&terms.net, x, c + 1);
         Reply::Turned { count: c + 1 }
     } else {
-        seen[own] = found;
+        seen.raise(&terms.net, x, found);
         Reply::Moved {
             had: c,
             count: found,
         }
     }
+}
+
+/// One call on node `x`, up to the step that decides it. Where every neighbour was seen to meet its bound for the seen count
+/// of `x`, it is the exchange of that count alone. Else its own count is loaded, then those of the neighbours that were not
+/// seen to meet their bounds for it, in the order of its row, and then its own count is exchanged.
+pub(crate) fn turn_at(
+    terms: &Terms,
+    words: &RoundWords,
+    seat: &mut RoundSeat,
+    seen: &mut Seen,
+    x: u32,
+) -> Reply
+    requires table { IsAtWords terms.now words.now seat.old }
+    requires worker { IsWorker (setup_of terms.now) seat.old.me.0 }
+    requires seen { ShowsSeen terms.now seat.old seen.old }
+    requires node { IsTurnable terms.now.net.nodes terms.now.dest terms.now.net.links x }
+    ensures seat { IsSameSeat seat.old seat.new }
+    ensures seen { ShowsSeen terms.now seat.new seen.new }
+    ensures call { IsCallMade seat.old.me.0 x result seat.new.me.0 }
+{
+    let nodes = u64::from(terms.net.nodes());
+    let had = seen.count(x);
+    if had < nodes && seen.all_meet(x) {
+        return exchange(terms, words, seat, seen, x, had);
+    }
+    let c = words.load::<LoadOwn>(seat, x as usize);
+    seen.raise(&terms.net, x, c);
+    if c == nodes {
+        return Reply::Cut;
+    }
+    for entry in terms.net.row(x) {
+        if !is_met(terms, words, seat, seen, x, c, *entry) {
+            return Reply::Held { by: entry.0 };
+        }
+    }
+    exchange(terms, words, seat, seen, x, c)
 }

@@ -6,10 +6,12 @@ ghost use Rattle.fr_core.specs.Targets.{IsTurnable};
 ghost use Rattle.fr_round.specs.Setups.{setup_of};
 ghost use Rattle.fr_round.specs.Histories.{entry};
 ghost use Rattle.fr_round.specs.Steps.{Extends};
+ghost use Rattle.fr_round.specs.Missing.{IsCounted};
 ghost use Rattle.fr_round.specs.Calls.{ShowsCount, IsNewView};
 ghost use Rattle.fr_round.specs.Knowledge.{IsKnowledge, new_worker};
 ghost use Rattle.fr_round.specs.Closing.{number_and_known};
 
+use crate::seen::Seen;
 use crate::steps::{RoundSeat, RoundWords, turn_at};
 use crate::terms::Terms;
 use fr_core::Reply;
@@ -21,7 +23,7 @@ use std::marker::Model;
 pub struct Worker {
     seat: RoundSeat,
     number: u32,
-    seen: Vec<u64>,
+    seen: Seen,
     turned: u64,
 }
 
@@ -39,8 +41,9 @@ impl Model for Worker {
 
 impl Worker {
     /// A worker before its first call.
-    pub(crate) fn new(seat: RoundSeat, number: u32, seen: Vec<u64>) -> Worker
-        requires { (seat.me.1 ≡ []) × IsNewView seat.me.0 number × (seat.me.0.seen ≡ seen.items) }
+    pub(crate) fn new(seat: RoundSeat, number: u32, seen: Seen) -> Worker
+        requires view { (seat.me.1 ≡ []) × IsNewView seat.me.0 number }
+        requires seen { (seat.me.0.seen ≡ seen.counts.items) × IsCounted seat.me.0.setup.nodes seat.me.0.setup.links seen }
         ensures { result ≡ new_worker seat.table_id seat.me.0.setup number }
     {
         Worker {
@@ -85,7 +88,7 @@ impl Worker {
         ensures seen { result ≡ slice_index self.now.seen x }
         ensures known { IsKnowledge self.now }
     {
-        self.seen[x as usize]
+        self.seen.count(x)
     }
 
     /// One call on node `x`, on the words of its own round.
@@ -101,7 +104,7 @@ impl Worker {
     {
         // For the proof that the turns fit: there are few nodes.
         let _nodes = terms.net.nodes();
-        let reply = turn_at(terms, words, &mut self.seat, self.seen.as_mut_slice(), x);
+        let reply = turn_at(terms, words, &mut self.seat, &mut self.seen, x);
         if let Reply::Turned { .. } = reply {
             self.turned += 1;
         }

@@ -108,7 +108,10 @@ fn two_workers_at_one_node(rt: HostRuntime) -> Result<(), Fail> {
         return Err(Fail::from("there are not two workers"));
     };
     assert_eq!(rt; round.try_turn(&mut a, 1), Ok(Reply::Turned { count: 1 }));
-    assert_eq!(rt; round.try_turn(&mut b, 1), Ok(Reply::Held { by: 0 }));
+    assert_eq!(rt;
+        round.try_turn(&mut b, 1),
+        Ok(Reply::Moved { had: 0, count: 1 })
+    );
     assert_eq!(rt; seen_by(&round, &b, 1), Some(1));
     assert_eq!(rt; round.try_turn(&mut b, 1), Ok(Reply::Held { by: 0 }));
     assert_eq!(rt; round.try_turn(&mut b, 0), Err(Refusal::Destination));
@@ -118,6 +121,46 @@ fn two_workers_at_one_node(rt: HostRuntime) -> Result<(), Fail> {
     let closed = round.close(workers);
     assert_eq!(rt; closed.counts.as_slice(), [0, 1].as_slice());
     assert_eq!(rt; closed.turned.as_slice(), [(0, 1), (1, 0)].as_slice());
+    Ok(())
+}
+
+/// The replies `Moved` show that no count is loaded where what was seen meets all bounds: a load would have shown that the
+/// node is held.
+#[test]
+fn loads_are_left_out(rt: HostRuntime) -> Result<(), Fail> {
+    let net = Net::new(rt.alloc(), 4, &[(0, 1), (0, 2), (1, 3), (2, 3)])?;
+    let (round, mut workers) = Round::open(rt.alloc(), net, 0, 2)?;
+    let (Some(mut b), Some(mut a)) = (workers.pop(), workers.pop()) else {
+        return Err(Fail::from("there are not two workers"));
+    };
+    assert_eq!(rt; round.try_turn(&mut a, 3), Ok(Reply::Turned { count: 1 }));
+    assert_eq!(rt;
+        round.try_turn(&mut b, 3),
+        Ok(Reply::Moved { had: 0, count: 1 })
+    );
+    assert_eq!(rt; round.try_turn(&mut a, 1), Ok(Reply::Turned { count: 1 }));
+    assert_eq!(rt;
+        round.try_turn(&mut b, 1),
+        Ok(Reply::Moved { had: 0, count: 1 })
+    );
+    assert_eq!(rt; round.try_turn(&mut b, 2), Ok(Reply::Turned { count: 1 }));
+    assert_eq!(rt; round.try_turn(&mut a, 3), Ok(Reply::Turned { count: 2 }));
+    workers.push(a)?;
+    workers.push(b)?;
+    let closed = round.close(workers);
+    assert_eq!(rt; closed.counts.as_slice(), [0, 1, 1, 2].as_slice());
+    assert_eq!(rt; closed.turned.as_slice(), [(0, 3), (1, 1)].as_slice());
+    Ok(())
+}
+
+#[test]
+fn the_first_bound_that_is_missed_is_named(rt: HostRuntime) -> Result<(), Fail> {
+    let net = Net::new(rt.alloc(), 3, &[(1, 0), (1, 2)])?;
+    let (round, mut workers) = Round::open(rt.alloc(), net, 0, 1)?;
+    let Some(mut worker) = workers.pop() else {
+        return Err(Fail::from("there is no worker"));
+    };
+    assert_eq!(rt; round.try_turn(&mut worker, 1), Ok(Reply::Held { by: 0 }));
     Ok(())
 }
 

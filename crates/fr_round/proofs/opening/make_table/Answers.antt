@@ -1,11 +1,10 @@
-use Rattle.std.proofs.Common.{◌≡◌, ◌<◌, ℕ, List, [], ◌∷◌, ◌++◌, length, replicate, arith, refl, sym, ap, subst, ◌∙◌, add-one}
+use Rattle.std.proofs.Common.{◌≡◌, ◌<◌, ℕ, List, [], length, replicate, arith, sym, ap, subst, ◌∙◌}
 use Rattle.std.proofs.lemmas.List.{length-replicate}
 use Rattle.atomic_table.specs.Table.{opening}
 use Rattle.fr_round.specs.declared.view.View.{View}
 use Rattle.fr_round.specs.Setups.{setup_of}
-use Rattle.fr_round.specs.Rule.{KeepsRule, opening_view, worker_view, numbered_next}
-use Rattle.fr_round.specs.Calls.{IsNewView}
-use Rattle.fr_round.specs.Knowledge.{new_worker, new_workers}
+use Rattle.fr_round.specs.Rule.{KeepsRule, opening_view}
+use Rattle.fr_round.specs.Knowledge.{new_workers}
 use Rattle.fr_round.specs.declared.terms.Terms.{Terms}
 use Rattle.fr_round.proofs.Seating.{first_keeps, splits}
 use Rattle.fr_round.proofs.opening.make_table.Goals as goal
@@ -36,36 +35,6 @@ split_seat-seat-requires c =
     let few : 0 < c.in_ok-table.table.shared.table_id.words = let w = d.table.words in let r = c.requires.dest in omega arith in
     let more : v.next < c.in_ok-table.table.shared.key.workers = let e : v.next ≡ c.loop-number.number = ap (λ (u : View). u.next) d.view in let k : c.in_ok-table.table.shared.key.workers ≡ c.args.terms.now.workers = ap (λ (z : Terms). z.workers) d.table.key in let t = c.loop-number-test.true in omega arith in
     (d.seat_table, few, splits (setup_of c.in_ok-table.table.shared.key) c.loop-number.opening.id v (ap (λ (u : View). u.opens) d.view) (ap (λ (u : View). u.works) d.view) (ap (λ (u : View). u.closes) d.view) more)
-
-pub new-requires : goal.new-requires
-new-requires c =
-    let d = c.loop-number.invariant.0 in
-    let s = c.split_seat-seat.ensures in
-    let b = setup_of c.args.terms.now in
-    let is : c.split_seat-seat.result.me.0 ≡ worker_view (record (opening_view b) { next = c.loop-number.number }) = ap (λ m. m.0) s.4 ∙ ap worker_view d.view in (
-      ap (λ m. m.1) s.4,
-      subst (λ (u : View). IsNewView u c.loop-number.number) (sym is) (record { works = refl; number = refl; known = refl; seen = refl }),
-      ap (λ (u : View). u.seen) is ∙ sym (c.in_ok-seen.ensures ∙ ap (λ (n : ℕ). replicate n 0) c.nodes-nodes.ensures.value),
-    )
-
-pub loop-number-preserved : goal.loop-number-preserved
-loop-number-preserved c =
-    let d = c.loop-number.invariant.0 in
-    let s = c.split_seat-seat.ensures in
-    let b = setup_of c.args.terms.now in
-    let k : ℕ = c.loop-number.number in
-    let t = c.in_ok-table.table.shared.table_id in
-    let is : c.split_seat-seat.result.me.0 ≡ worker_view (record (opening_view b) { next = k }) = ap (λ m. m.0) s.4 ∙ ap worker_view d.view in
-    let setup : c.split_seat-seat.result.me.0.setup ≡ b = ap (λ (u : View). u.setup) is in
-    let new : c.new.result ≡ new_worker t b k = c.new.ensures ∙ (λ i. new_worker ((s.3 ∙ d.seat_table) i) (setup i) k) in (
-      record {
-        table = d.table;
-        seat_table = s.0 ∙ d.seat_table;
-        seat_empty = ap (λ m. m.1) s.2 ∙ d.seat_empty;
-        view = ap (λ m. m.0) s.2 ∙ ap numbered_next d.view;
-      },
-      c.in_ok-push.ensures.items ∙ ((λ j. c.loop-number.invariant.1 j ++ new j ∷ []) ∙ sym (ap (new_workers t b) (add-one k))),
-    )
 
 pub returns-clause-table : goal.returns-clause-table
 returns-clause-table c = c.loop-number.invariant.0.table

@@ -1,5 +1,4 @@
-use Rattle.std.proofs.Common.{rules, ◌≡◌, ◌+◌, ◌<◌, ◌^◌, ℕ, List, length, arith, sym, ap, ◌∙◌}
-use Rattle.std.proofs.lemmas.List.{with_items_is}
+use Rattle.std.proofs.Common.{rules, ◌≡◌, ◌+◌, ◌<◌, ◌^◌, arith, ap, ◌∙◌}
 use Rattle.fr_round.specs.Setups.{setup_of}
 use Rattle.fr_round.specs.Knowledge.{Knowledge}
 use Rattle.fr_round.proofs.TurnCounts.{not_turned, turn_of}
@@ -18,31 +17,27 @@ overflow_add-self c =
 pub invariant_of-self : goal.invariant_of-self
 invariant_of-self c =
     let w = c.self.inside in
-    let is : turn_of c.turn_at-reply.result ≡ 1 = ap turn_of c.in-Turned.is in
     let r = c.turn_at-reply in
-    let same : (Rattle.std.specs.Vec.with_items w.seen r.new.seen).items ≡ r.new.seen = with_items_is w.seen r.new.seen (search rules) in
-    let long : length r.new.seen ≡ length w.seen.items = search rules in
-    sound_after w r.new.seat (Rattle.std.specs.Vec.with_items w.seen r.new.seen) (w.turned + 1) c.args.x r.result c.self.invariant r.ensures.seat (r.ensures.seen ∙ sym same) (ap (λ (l : List ℕ). length l) same ∙ long) r.ensures.call (omega arith)
+    let is : turn_of r.result ≡ 1 = ap turn_of c.in-Turned.is in
+    let setup : w.seat.me.0.setup ≡ setup_of c.args.terms.now = ap (λ (k : Knowledge). k.setup) c.self.view_is ∙ c.requires.setup in
+    sound_after w c.args.terms.now r.new.seat r.new.seen (w.turned + 1) c.args.x r.result c.self.invariant setup r.ensures.seat r.ensures.seen r.ensures.call (omega arith)
 
 pub invariant_of-self-in_default : goal.invariant_of-self-in_default
 invariant_of-self-in_default c =
     let w = c.self.inside in
     let r = c.turn_at-reply in
     let is : turn_of r.result ≡ 0 = not_turned r.result c.in_default.not-Turned in
-    let same : (Rattle.std.specs.Vec.with_items w.seen r.new.seen).items ≡ r.new.seen = with_items_is w.seen r.new.seen (search rules) in
-    let long : length r.new.seen ≡ length w.seen.items = search rules in
-    sound_after w r.new.seat (Rattle.std.specs.Vec.with_items w.seen r.new.seen) w.turned c.args.x r.result c.self.invariant r.ensures.seat (r.ensures.seen ∙ sym same) (ap (λ (l : List ℕ). length l) same ∙ long) r.ensures.call (omega arith)
+    let setup : w.seat.me.0.setup ≡ setup_of c.args.terms.now = ap (λ (k : Knowledge). k.setup) c.self.view_is ∙ c.requires.setup in
+    sound_after w c.args.terms.now r.new.seat r.new.seen w.turned c.args.x r.result c.self.invariant setup r.ensures.seat r.ensures.seen r.ensures.call (omega arith)
 
 pub returns-in-Turned-clause-known : goal.returns-in-Turned-clause-known
 returns-in-Turned-clause-known c =
     let w = c.self.inside in
     let r = c.turn_at-reply in
-    let same : (Rattle.std.specs.Vec.with_items w.seen r.new.seen).items ≡ r.new.seen = with_items_is w.seen r.new.seen (search rules) in
-    knowledge_after w r.new.seat (Rattle.std.specs.Vec.with_items w.seen r.new.seen) (w.turned + 1) c.args.x r.result (r.ensures.seen ∙ sym same) r.ensures.call
+    knowledge_after w r.new.seat r.new.seen (w.turned + 1) c.args.x r.result r.ensures.seen.counts r.ensures.call
 
 pub returns-in_default-clause-known : goal.returns-in_default-clause-known
 returns-in_default-clause-known c =
     let w = c.self.inside in
     let r = c.turn_at-reply in
-    let same : (Rattle.std.specs.Vec.with_items w.seen r.new.seen).items ≡ r.new.seen = with_items_is w.seen r.new.seen (search rules) in
-    knowledge_after w r.new.seat (Rattle.std.specs.Vec.with_items w.seen r.new.seen) w.turned c.args.x r.result (r.ensures.seen ∙ sym same) r.ensures.call
+    knowledge_after w r.new.seat r.new.seen w.turned c.args.x r.result r.ensures.seen.counts r.ensures.call

@@ -1,0 +1,5 @@
+use Rattle.fr_round.proofs.MissingNumbers.{AreRightTo}
+use Rattle.fr_round.proofs.seen.Seen.new.Given as goal
+
+abbrev pub invariant-loop-x : goal.invariant-loop-x
+invariant-loop-x l = AreRightTo l.net.nodes l.net.links l.counts.items l.missing.items l.x

@@ -1,0 +1,151 @@
+//! What a worker has seen of the counts.
+
+ghost use Rattle.std.specs.Prelude.{◌≡◌, ◌≢◌, ℕ, ◌<◌, ◌≤◌, ◌-◌, IfOk, IsTrue, not, nat_lt, ◌&&◌, ◌↔◌, length, slice_index, slice_set, replicate};
+ghost use Rattle.fr_net.specs.RowLists.{opposite};
+ghost use Rattle.fr_core.specs.Machine.{bound_of};
+ghost use Rattle.fr_round.specs.Missing.{misses, missing_of, IsCounted};
+
+use fr_net::{First, Net};
+use std::alloc::{AllocError, Global};
+
+/// The counts that a worker has seen, one for each node of a network, and beside each the number of its node: how many of its
+/// neighbours miss their bounds by what was seen. Counts never fall, so a bound that was seen to be met is met.
+#[derive(Drop)]
+pub(crate) struct Seen {
+    counts: Vec<u64>,
+    missing: Vec<u32>,
+}
+
+/// Whether a neighbour of this count misses its bound for the count `own` of the node.
+fn is_below(first: First, own: u64, count: u64) -> bool
+    ensures { result ≡ nat_lt count (bound_of first own) }
+{
+    match first {
+        First::Outward => count <= own,
+        First::Inward => count < own,
+    }
+}
+
+/// Whether a neighbour whose count rises from `had` to `count` begins to meet its bound for the count `own` of the node.
+fn begins_to_meet(first: First, own: u64, had: u64, count: u64) -> bool
+    ensures { result ≡ (nat_lt had (bound_of first own) && not (nat_lt count (bound_of first own))) }
+{
+    is_below(first, own, had) && !is_below(first, own, count)
+}
+
+/// The first direction of a link as seen from its other end.
+fn from_other_end(first: First) -> First
+    ensures { result ≡ opposite first }
+{
+    match first {
+        First::Outward => First::Inward,
+        First::Inward => First::Outward,
+    }
+}
+
+/// How many neighbours of node `x` miss their bounds by these counts.
+fn count_missing(net: &Net, counts: &[u64], x: u32) -> u32
+    requires node { x < net.now.nodes }
+    requires one_each { length counts.now ≡ net.now.nodes }
+    ensures { result ≡ missing_of net.now.nodes net.now.links counts.now x }
+{
+    // For the proof that the number fits: there are few nodes.
+    let _nodes = net.nodes();
+    let own = counts[x as usize];
+    let mut missing = 0;
+    for (neighbour, first) in net.row(x) {
+        if is_below(*first, own, counts[*neighbour as usize]) {
+            missing += 1;
+        }
+    }
+    missing
+}
+
+/// Takes node `y` off the number of each neighbour for which it meets its bound with this count, and missed it with the
+/// count that stands there still.
+fn lower_neighbours(net: &Net, counts: &[u64], missing: &mut [u32], y: u32, count: u64)
+    requires node { y < net.now.nodes }
+    requires one_each { (length counts.now ≡ net.now.nodes) × (length missing.old ≡ net.now.nodes) }
+    requires up { slice_index counts.now y ≤ count }
+    requires right { (z : ℕ) → z < net.now.nodes → slice_index missing.old z ≡ missing_of net.now.nodes net.now.links counts.now z }
+    ensures { (z : ℕ) → z < net.now.nodes → z ≢ y
+        → slice_index missing.new z ≡ missing_of net.now.nodes net.now.links (slice_set counts.now y count) z }
+{
+    // For the proof that no number falls below 0: each neighbour stands once in the row of `y`, and `y` once in its row.
+    let _nodes = net.nodes();
+    let had = counts[y as usize];
+    for (neighbour, first) in net.row(y) {
+        let at = *neighbour as usize;
+        if begins_to_meet(from_other_end(*first), counts[at], had, count) {
+            missing[at] -= 1;
+        }
+    }
+}
+
+impl Seen {
+    /// No turn of any node: all counts are 0, and the neighbours that miss their bounds are those to which a link points first.
+    pub fn new(alloc: Global, net: &Net) -> Result<Seen, AllocError>
+        ensures counts { IfOk result (λ seen. seen.counts.items ≡ replicate net.now.nodes 0) }
+        ensures counted { IfOk result (IsCounted net.now.nodes net.now.links) }
+    {
+        let nodes = net.nodes();
+        let counts = vec![in alloc; 0u64; nodes as usize]?;
+        let mut missing = vec![in alloc; 0u32; nodes as usize]?;
+        for x in 0..nodes {
+            missing[x as usize] = count_missing(net, &counts, x);
+        }
+        Ok(Seen { counts, missing })
+    }
+
+    /// The same counts and numbers in room of their own.
+    pub fn to_copy(&self, alloc: Global) -> Result<Seen, AllocError>
+        ensures counts { IfOk result (λ seen. seen.counts.items ≡ self.now.counts.items) }
+        ensures missing { IfOk result (λ seen. seen.missing.items ≡ self.now.missing.items) }
+    {
+        Ok(Seen {
+            counts: self.counts.to_vec(alloc)?,
+            missing: self.missing.to_vec(alloc)?,
+        })
+    }
+
+    /// The seen count of node `x`.
+    pub fn count(&self, x: u32) -> u64
+        requires { x < length self.now.counts.items }
+        ensures { result ≡ slice_index self.now.counts.items x }
+    {
+        self.counts[x as usize]
+    }
+
+    /// Whether every neighbour of node `x` meets its bound for the seen count of `x`, by what was seen.
+    pub fn all_meet(&self, x: u32) -> bool
+        requires { x < length self.now.missing.items }
+        ensures { IsTrue result ↔ (slice_index self.now.missing.items x ≡ 0) }
+    {
+        self.missing[x as usize] == 0
+    }
+
+    /// Whether a neighbour, a row's entry, misses its bound for the count `own`, by what was seen.
+    pub fn misses(&self, entry: (u32, First), own: u64) -> bool
+        requires { entry.0 < length self.now.counts.items }
+        ensures { result ≡ misses self.now.counts.items own entry }
+    {
+        is_below(entry.1, own, self.counts[entry.0 as usize])
+    }
+
+    /// Notes a count of node `y`, which is no less than what was seen of it. Where it is more, the numbers of `y` and of its
+    /// neighbours follow, which takes one step for each link of `y`.
+    pub fn raise(&mut self, net: &Net, y: u32, count: u64)
+        requires node { y < net.now.nodes }
+        requires up { slice_index self.old.counts.items y ≤ count }
+        requires counted { IsCounted net.now.nodes net.now.links self.old }
+        ensures counts { self.new.counts.items ≡ slice_set self.old.counts.items y count }
+        ensures counted { IsCounted net.now.nodes net.now.links self.new }
+    {
+        if self.counts[y as usize] == count {
+            return;
+        }
+        lower_neighbours(net, &self.counts, &mut self.missing, y, count);
+        self.counts[y as usize] = count;
+        self.missing[y as usize] = count_missing(net, &self.counts, y);
+    }
+}
