@@ -1,7 +1,6 @@
 //! What a worker has seen of the counts.
 
 ghost use Rattle.std.specs.Prelude.{◌≡◌, ◌≢◌, ℕ, ◌<◌, ◌≤◌, ◌-◌, IfOk, IsTrue, not, nat_lt, ◌&&◌, ◌↔◌, length, slice_index, slice_set, replicate};
-ghost use Rattle.fr_net.specs.RowLists.{opposite};
 ghost use Rattle.fr_core.specs.Machine.{bound_of};
 ghost use Rattle.fr_round.specs.Missing.{misses, missing_of, IsCounted};
 
@@ -33,24 +32,13 @@ fn begins_to_meet(first: First, own: u64, had: u64, count: u64) -> bool
     is_below(first, own, had) && !is_below(first, own, count)
 }
 
-/// The first direction of a link as seen from its other end.
-fn from_other_end(first: First) -> First
-    ensures { result ≡ opposite first }
-{
-    match first {
-        First::Outward => First::Inward,
-        First::Inward => First::Outward,
-    }
-}
-
 /// How many neighbours of node `x` miss their bounds by these counts.
 fn count_missing(net: &Net, counts: &[u64], x: u32) -> u32
     requires node { x < net.now.nodes }
     requires one_each { length counts.now ≡ net.now.nodes }
     ensures { result ≡ missing_of net.now.nodes net.now.links counts.now x }
 {
-    // For the proof that the number fits: there are few nodes.
-    let _nodes = net.nodes();
+    net.network_law();
     let own = counts[x as usize];
     let mut missing = 0;
     for (neighbour, first) in net.row(x) {
@@ -71,12 +59,11 @@ fn lower_neighbours(net: &Net, counts: &[u64], missing: &mut [u32], y: u32, coun
     ensures { (z : ℕ) → z < net.now.nodes → z ≢ y
         → slice_index missing.new z ≡ missing_of net.now.nodes net.now.links (slice_set counts.now y count) z }
 {
-    // For the proof that no number falls below 0: each neighbour stands once in the row of `y`, and `y` once in its row.
-    let _nodes = net.nodes();
+    net.network_law();
     let had = counts[y as usize];
     for (neighbour, first) in net.row(y) {
         let at = *neighbour as usize;
-        if begins_to_meet(from_other_end(*first), counts[at], had, count) {
+        if begins_to_meet(first.opposite(), counts[at], had, count) {
             missing[at] -= 1;
         }
     }

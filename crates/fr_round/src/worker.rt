@@ -102,8 +102,7 @@ impl Worker {
         ensures shows { ShowsCount self.old.setup.nodes self.old.seen self.new.seen x result }
         ensures known { IsKnowledge self.new }
     {
-        // For the proof that the turns fit: there are few nodes.
-        let _nodes = terms.net.nodes();
+        terms.net.network_law();
         let reply = turn_at(terms, words, &mut self.seat, &mut self.seen, x);
         if let Reply::Turned { .. } = reply {
             self.turned += 1;

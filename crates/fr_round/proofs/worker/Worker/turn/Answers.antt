@@ -11,7 +11,7 @@ overflow_add-self c =
     let is : turn_of c.turn_at-reply.result ≡ 1 = ap turn_of c.in-Turned.is in
     let setup = ap (λ (k : Knowledge). k.setup) c.self.view_is ∙ c.requires.setup in
     let small : c.args.terms.now.net.nodes < 2 ^ 32 = search rules in
-    let fits = turned_fits (setup_of c.args.terms.now) w c.turn_at-reply.new.seat.me.0 c.args.x c.turn_at-reply.result c.nodes-nodes.ensures.faultless.is_net small setup c.self.invariant c.turn_at-reply.ensures.call in
+    let fits = turned_fits (setup_of c.args.terms.now) w c.turn_at-reply.new.seat.me.0 c.args.x c.turn_at-reply.result c.network_law.ensures.is_net small setup c.self.invariant c.turn_at-reply.ensures.call in
     omega arith
 
 pub invariant_of-self : goal.invariant_of-self
