@@ -2,12 +2,12 @@
 use Rattle.std.proofs.Common.{Bool, List, None, Option, Some, [], ap, arith, cond, count_by, eq-eqb, eqb, false, get_or, get_or-set_other, get_or-set_same, inl, inr, length, length-set, ltb, ltb-false, ltb-true, ne_eqb, option_to_list, refl, slice_index, slice_set, subst, suc, sym, take, take_all, true, zero, ℕ, ◌&&◌, ◌++◌, ◌+◌, ◌-◌, ◌<◌, ◌∙◌, ◌∷◌, ◌≡◌, ◌≢◌, ◌≤◌}
 use Rattle.std.specs.Prelude.{nat_lt, not}
 use Rattle.std.proofs.lemmas.Bool.{cases_Bool, cases_lt}
+use Rattle.std.proofs.lemmas.List.Elements.{Contains-get_or}
 use Rattle.std.proofs.lemmas.List.Sums.{count_by_more_no, count_by_more_yes, sum_by-append, sum_by_more_le}
 use mathlib.Core.Logic.{dite}
 use native.Mathlib.Decide.{ℕ_discrete}
 use Rattle.fr_net.proofs.Counting.{one_passes}
 use Rattle.fr_net.proofs.Linking.{IsOneWay, one_way}
-use Rattle.std.proofs.lemmas.List.Elements.{Contains-get_or}
 use Rattle.fr_net.proofs.Neighbours.{Points-has_link, row_entry_known, row_entry_node, row_holds}
 use Rattle.fr_net.specs.Links.{IsNet}
 use Rattle.fr_net.specs.RowLists.{opposite}
@@ -18,33 +18,30 @@ use Rattle.fr_core.specs.Machine.{bound_of}
 use Rattle.fr_round.specs.declared.seen.Seen.{Seen}
 use Rattle.fr_round.specs.Missing.{IsCounted, misses, missing_of}
 
--- how many of the entries pass
-abbrev passing : (ℕ × First → Bool) → List (ℕ × First) → ℕ
-passing p entries = count_by p entries
-
-passing-append : (p : ℕ × First → Bool) (xs ys : List (ℕ × First)) → passing p (xs ++ ys) ≡ passing p xs + passing p ys
-passing-append p xs ys = sum_by-append (λ (e : ℕ × First). cond (p e) 1 0) xs ys
+-- how many entries pass
+count_by-append : (p : ℕ × First → Bool) (xs ys : List (ℕ × First)) → count_by p (xs ++ ys) ≡ count_by p xs + count_by p ys
+count_by-append p xs ys = sum_by-append (λ (e : ℕ × First). cond (p e) 1 0) xs ys
 
 -- the entry of w in a row of x, as a list
 abbrev entry_at : List (ℕ × ℕ) → ℕ → ℕ → List (ℕ × First)
 entry_at links x w = option_to_list (row_entry links x w)
 
-passing_same : (p q : ℕ × First → Bool) (o : Option (ℕ × First)) → ((e : ℕ × First) → o ≡ Some e → p e ≡ q e) → passing p (option_to_list o) ≡ passing q (option_to_list o)
-passing_same p q None same = refl
-passing_same p q (Some e) same = ap (λ (b : Bool). 0 + cond b 1 0) (same e refl)
+count_same : (p q : ℕ × First → Bool) (o : Option (ℕ × First)) → ((e : ℕ × First) → o ≡ Some e → p e ≡ q e) → count_by p (option_to_list o) ≡ count_by q (option_to_list o)
+count_same p q None same = refl
+count_same p q (Some e) same = ap (λ (b : Bool). 0 + cond b 1 0) (same e refl)
 
-agrees_at : (p q : ℕ × First → Bool) (links : List (ℕ × ℕ)) (x w m : ℕ) → ((e : ℕ × First) → e.0 ≢ w → p e ≡ q e) → m ≢ w → passing p (entry_at links x m) ≡ passing q (entry_at links x m)
+agrees_at : (p q : ℕ × First → Bool) (links : List (ℕ × ℕ)) (x w m : ℕ) → ((e : ℕ × First) → e.0 ≢ w → p e ≡ q e) → m ≢ w → count_by p (entry_at links x m) ≡ count_by q (entry_at links x m)
 agrees_at p q links x w m same other =
-    passing_same p q (row_entry links x m) (λ e is. same e (λ there. other (sym (row_entry_node links x m e is) ∙ there)))
+    count_same p q (row_entry links x m) (λ e is. same e (λ there. other (sym (row_entry_node links x m e is) ∙ there)))
 
 -- two tests that agree on all entries but that of node w count alike over a row that ends before it,
-row_before : (p q : ℕ × First → Bool) (n : ℕ) (links : List (ℕ × ℕ)) (x w : ℕ) → ((e : ℕ × First) → e.0 ≢ w → p e ≡ q e) → n ≤ w → passing p (row n links x) ≡ passing q (row n links x)
+row_before : (p q : ℕ × First → Bool) (n : ℕ) (links : List (ℕ × ℕ)) (x w : ℕ) → ((e : ℕ × First) → e.0 ≢ w → p e ≡ q e) → n ≤ w → count_by p (row n links x) ≡ count_by q (row n links x)
 row_before p q zero links x w same le = refl
 row_before p q (suc m) links x w same le =
     omega (
       arith,
-      passing-append p (row m links x) (entry_at links x m),
-      passing-append q (row m links x) (entry_at links x m),
+      count_by-append p (row m links x) (entry_at links x m),
+      count_by-append q (row m links x) (entry_at links x m),
       row_before p q m links x w same (omega arith),
       agrees_at p q links x w m same (omega arith),
     )
@@ -54,14 +51,14 @@ pub row_but_for : (p q : ℕ × First → Bool) (n : ℕ) (links : List (ℕ × 
     → count_by p (row n links x) + count_by q (option_to_list (row_entry links x w)) ≡ count_by q (row n links x) + count_by p (option_to_list (row_entry links x w))
 row_but_for p q zero links x w same lt = absurd (omega arith)
 row_but_for p q (suc m) links x w same lt =
-    let whole_p = passing-append p (row m links x) (entry_at links x m) in
-    let whole_q = passing-append q (row m links x) (entry_at links x m) in
+    let whole_p = count_by-append p (row m links x) (entry_at links x m) in
+    let whole_q = count_by-append q (row m links x) (entry_at links x m) in
     elim (cases_lt w m) [
       | inl before ↦ omega (arith, whole_p, whole_q, row_but_for p q m links x w same before, agrees_at p q links x w m same (omega arith))
       | inr reached ↦
           let here : w ≡ m = omega arith in
-          let here_p : passing p (entry_at links x w) ≡ passing p (entry_at links x m) = ap (λ (k : ℕ). passing p (entry_at links x k)) here in
-          let here_q : passing q (entry_at links x w) ≡ passing q (entry_at links x m) = ap (λ (k : ℕ). passing q (entry_at links x k)) here in
+          let here_p : count_by p (entry_at links x w) ≡ count_by p (entry_at links x m) = ap (λ (k : ℕ). count_by p (entry_at links x k)) here in
+          let here_q : count_by q (entry_at links x w) ≡ count_by q (entry_at links x m) = ap (λ (k : ℕ). count_by q (entry_at links x k)) here in
           omega (arith, whole_p, whole_q, here_p, here_q, row_before p q m links x w same (omega arith))
     ]
 
@@ -83,7 +80,7 @@ lowers_at counts had count z f = rw (eq-eqb z z refl) refl
 lowers_else : (counts : List ℕ) (had count z : ℕ) (e : ℕ × First) → e.0 ≢ z → lowers counts had count z e ≡ false
 lowers_else counts had count z e other = rw (ne_eqb e.0 z other) refl
 
-none_pass : (entries : List (ℕ × First)) → passing (λ _. false) entries ≡ 0
+none_pass : (entries : List (ℕ × First)) → count_by (λ _. false) entries ≡ 0
 none_pass [] = refl
 none_pass (e ∷ es) = none_pass es
 
@@ -106,8 +103,8 @@ rises_past had count bound up =
 -- the entry of y in the row of z tells what that of z in the row of y does
 seen_both_ways : (P Q D : ℕ × First → Bool) (y z : ℕ) (out back : Bool) → ((out ≡ true) → (back ≡ true) → ⊥)
     → ((f : First) → 0 + cond (P (y, opposite f)) 1 0 ≡ (0 + cond (Q (y, opposite f)) 1 0) + (0 + cond (D (z, f)) 1 0))
-    → passing P (option_to_list (cond back (Some (y, Outward)) (cond out (Some (y, Inward)) None)))
-    ≡ passing Q (option_to_list (cond back (Some (y, Outward)) (cond out (Some (y, Inward)) None))) + passing D (option_to_list (cond out (Some (z, Outward)) (cond back (Some (z, Inward)) None)))
+    → count_by P (option_to_list (cond back (Some (y, Outward)) (cond out (Some (y, Inward)) None)))
+    ≡ count_by Q (option_to_list (cond back (Some (y, Outward)) (cond out (Some (y, Inward)) None))) + count_by D (option_to_list (cond out (Some (z, Outward)) (cond back (Some (z, Inward)) None)))
 seen_both_ways P Q D y z true true bar same = absurd (bar refl refl)
 seen_both_ways P Q D y z true false bar same = same Outward
 seen_both_ways P Q D y z false true bar same = same Inward
@@ -134,7 +131,7 @@ missing_lowered n links counts y z count net y_in z_in other long up =
     let one : IsOneWay links = one_way links net.no_self net.single in
     let both = seen_both_ways P Q D y z (has_link links y z) (has_link links z y)
     (λ out back. one.no_return y z (Points-has_link links y z out) (Points-has_link links z y back)) step in
-    let counted : missing_of n links new z ≡ passing Q (row n links z) = ap (λ (k : ℕ). passing (misses new k) (row n links z)) own_same in
+    let counted : missing_of n links new z ≡ count_by Q (row n links z) = ap (λ (k : ℕ). count_by (misses new k) (row n links z)) own_same in
     omega (arith, at_z, at_y, both, counted, none_pass (row n links y), none_pass (entry_at links y z))
 
 -- the row is looked at up to place j

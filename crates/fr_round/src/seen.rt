@@ -1,6 +1,6 @@
 //! What a worker has seen of the counts.
 
-ghost use Rattle.std.specs.Prelude.{◌≡◌, ◌≢◌, ℕ, ◌<◌, ◌≤◌, ◌-◌, IfOk, IsTrue, not, nat_lt, ◌&&◌, ◌↔◌, length, slice_index, slice_set, replicate};
+ghost use Rattle.std.specs.Prelude.{◌≡◌, ◌≢◌, ℕ, ◌<◌, ◌≤◌, IfOk, IsTrue, not, nat_lt, ◌&&◌, ◌↔◌, length, slice_index, slice_set, replicate};
 ghost use Rattle.fr_core.specs.Machine.{bound_of};
 ghost use Rattle.fr_round.specs.Missing.{misses, missing_of, IsCounted};
 
@@ -15,7 +15,7 @@ pub(crate) struct Seen {
     missing: Vec<u32>,
 }
 
-/// Whether a neighbour of this count misses its bound for the count `own` of the node.
+/// Whether a neighbour of this count misses its bound for the count `own` of a node, from which their link was `first`.
 fn is_below(first: First, own: u64, count: u64) -> bool
     ensures { result ≡ nat_lt count (bound_of first own) }
 {
@@ -25,7 +25,7 @@ fn is_below(first: First, own: u64, count: u64) -> bool
     }
 }
 
-/// Whether a neighbour whose count rises from `had` to `count` begins to meet its bound for the count `own` of the node.
+/// Whether a neighbour whose count rises from `had` to `count` begins to meet that bound.
 fn begins_to_meet(first: First, own: u64, had: u64, count: u64) -> bool
     ensures { result ≡ (nat_lt had (bound_of first own) && not (nat_lt count (bound_of first own))) }
 {
@@ -120,7 +120,7 @@ impl Seen {
     }
 
     /// Notes a count of node `y`, which is no less than what was seen of it. Where it is more, the numbers of `y` and of its
-    /// neighbours follow, which takes one step for each link of `y`.
+    /// neighbours are brought up to date, by two walks over the row of `y`.
     pub fn raise(&mut self, net: &Net, y: u32, count: u64)
         requires node { y < net.now.nodes }
         requires up { slice_index self.old.counts.items y ≤ count }

@@ -1,7 +1,7 @@
 //! The steps of a call on a node: those loads of the machine of `fr_core` that what was seen does not settle, and its exchange,
 //! one by one, on atomic words.
 
-ghost use Rattle.std.specs.Prelude.{◌≡◌, ◌+◌, ◌<◌, ◌≤◌, MatchBool, slice_index};
+ghost use Rattle.std.specs.Prelude.{◌≡◌, ◌<◌, ◌≤◌, MatchBool, slice_index};
 ghost use Rattle.std.specs.List.{Contains};
 ghost use Rattle.fr_net.specs.Rows.{row};
 ghost use Rattle.fr_core.specs.Machine.{bound_of};
@@ -9,7 +9,6 @@ ghost use Rattle.fr_core.specs.Targets.{IsTurnable};
 ghost use Rattle.fr_core.specs.declared.entry.Reply.TheVariants.{Held};
 ghost use Rattle.fr_round.specs.Setups.{setup_of};
 ghost use Rattle.fr_round.specs.Steps.{noted, EndsCall};
-ghost use Rattle.fr_round.specs.Missing.{IsCounted};
 ghost use Rattle.fr_round.specs.Calls.{IsWorker, IsAtWords, IsSameSeat, IsInCall, IsCallMade, AllMeet, ShowsSeen};
 
 use crate::rule::{Exchange, LoadAgainst, LoadAlong, LoadOwn, Rule};
