@@ -7,9 +7,9 @@ ghost use Rattle.fr_route.specs.States.{State};
 ghost use Rattle.fr_run.specs.Answers.{AreAnswers};
 ghost use Rattle.fr_run.specs.Outputs.{IsBeginning, WritesOutput, WritesBeginning, StopsAtLine};
 
+use crate::fault::RunFault;
 use crate::lines::first_line;
 use crate::output::write_whole;
-use crate::fault::RunFault;
 use fr_crew::{Gate, Plan};
 use fr_route::{AnswerFault, Session};
 use std::alloc::Global;

@@ -486,7 +486,8 @@ fn stops_where_a_write_fails(rt: HostRuntime) -> Result<(), Fail> {
                 ),
                 Err(fault) => assert!(rt;
                     !writer.flushed
-                        && fault == RunFault::Write && ANSWERS.starts_with(writer.out.as_slice())
+                        && fault == RunFault::Write
+                        && ANSWERS.starts_with(writer.out.as_slice())
                 ),
             }
             let done = writer.out.as_slice() == ANSWERS;
