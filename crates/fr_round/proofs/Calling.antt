@@ -1,71 +1,23 @@
 -- What the steps of a call come to.
 use Rattle.std.proofs.Common.{◌≡◌, ◌≢◌, ◌⊎◌, ℕ, ◌+◌, ◌<◌, ◌≤◌, List, false, get_or-set_other, length, sym, ap, ◌∙◌, subst, ⊎_elim, arith, get_or-set_same, ltb-false, ltb-true, true, Bool}
 use Rattle.std.specs.Prelude.{MatchBool, nat_lt, not, slice_index, slice_set}
-use Rattle.std.specs.List.{All, Contains}
-use Rattle.std.proofs.lemmas.List.Elements.{All-contains, All-from_get_or, Contains-get_or}
+use Rattle.std.specs.List.{All}
+use Rattle.std.proofs.lemmas.List.Elements.{All-contains, All-from_get_or}
 use Rattle.fr_net.specs.Links.{IsNet}
 use Rattle.fr_net.specs.Rows.{row}
 use Rattle.fr_net.specs.declared.rows.First.{First}
 use Rattle.fr_net.specs.declared.rows.First.TheVariants.{Outward, Inward}
 use Rattle.fr_net.proofs.Neighbours.{row_of_in, row_of_out}
 use Rattle.fr_core.specs.Machine.{bound_of, neighbour_at}
-use Rattle.fr_core.specs.declared.entry.Reply.{Reply}
-use Rattle.fr_core.specs.declared.entry.Reply.TheVariants.{Turned, Held, Moved, Cut}
+use Rattle.fr_core.specs.declared.entry.Reply.TheVariants.{Held}
 use Rattle.fr_round.specs.declared.view.Setup.{Setup}
 use Rattle.fr_round.specs.declared.view.View.{View}
 use Rattle.fr_round.specs.declared.seen.Seen.{Seen}
-use Rattle.fr_round.specs.declared.terms.Terms.{Terms}
 use Rattle.fr_round.specs.Missing.{IsCounted, misses}
-use Rattle.fr_round.specs.Histories.{entry, reached}
-use Rattle.fr_round.specs.Steps.{EndsCall, Extends, noted, begun}
-use Rattle.fr_round.specs.Calls.{RoundSeat, IsWorker, ShowsCount, ShowsSeen, IsCallMade, IsLooking, AreEnough, IsUnderWay, IsInCall, AllMeet}
-use Rattle.fr_round.proofs.Entries.{set_same_value, set_up}
+use Rattle.fr_round.specs.Steps.{EndsCall, noted}
+use Rattle.fr_round.specs.Calls.{AreEnough, IsUnderWay, AllMeet}
+use Rattle.fr_round.proofs.Entries.{set_up}
 use Rattle.fr_round.proofs.MissingNumbers.{none_misses}
-
--- a step decides the call that it begins,
-pub call_ends : (v : View) (x : ℕ) (reply : Reply) (y f : ℕ) (w : View) → slice_index v.seen y ≤ f → EndsCall v x reply y f w → (w.seen ≡ slice_set v.seen y f → ShowsCount v.setup.nodes v.seen w.seen x reply) → IsCallMade v x reply w
-call_ends v x reply y f w le d shows =
-    let seen : w.seen ≡ slice_set v.seen y f = ap (λ (u : View). u.seen) d.same in
-    let node : w.node ≡ v.node = ap (λ (u : View). u.node) d.same in
-    let count : w.count ≡ v.count = ap (λ (u : View). u.count) d.same in
-    record {
-      same = d.same ∙ (λ i. record v { known = w.known; seen = sym seen i; node = sym node i; count = sym count i });
-      extends = d.extends;
-      below = d.below;
-      up = λ z. let e : slice_index w.seen z ≡ slice_index (slice_set v.seen y f) z = ap (λ l. slice_index l z) seen in omega (arith, set_up v.seen y f le z, e);
-      shows = shows seen;
-    }
-
--- and one that goes on
-pub call_goes_on : (v : View) (x c : ℕ) (w w' : View) (reply : Reply) → IsLooking v x c w → IsCallMade w x reply w' → IsCallMade v x reply w'
-call_goes_on v x c w w' reply l call =
-    let nodes : w.setup.nodes ≡ v.setup.nodes = ap (λ (u : View). u.setup.nodes) l.same in
-    record {
-      same = call.same ∙ ap (λ (u : View). record u { known = w'.known; seen = w'.seen; node = w'.node; count = w'.count }) l.same;
-      extends = subst (λ (u : View). Extends u.setup u.number u.known (entry u.number x reply) w'.known) l.same call.extends;
-      below = subst (λ (u : View). (z : ℕ) → slice_index w'.seen z ≤ reached u.setup w'.known z) l.same call.below;
-      up = λ z. omega (arith, l.up z, call.up z);
-      shows = shown_before w.setup.nodes v.setup.nodes w.seen v.seen w'.seen x reply nodes (l.up x) call.shows;
-    }
-  where
-    shown_before : (n n' : ℕ) (before earlier after : List ℕ) (x : ℕ) (reply : Reply) → n ≡ n' → slice_index earlier x ≤ slice_index before x → ShowsCount n before after x reply → ShowsCount n' earlier after x reply
-    shown_before n n' before earlier after x (Turned k) same le shows = shows
-    shown_before n n' before earlier after x (Held y) same le shows = shows
-    shown_before n n' before earlier after x (Moved had k) same le shows = (shows.0, omega (arith, shows.1, le))
-    shown_before n n' before earlier after x Cut same le shows = shows ∙ same
-
-pub begins : (b : Setup) (v w : View) (x c : ℕ) → w ≡ begun v x c → slice_index v.seen x ≤ c → x < length v.seen → c ≤ b.nodes → IsUnderWay b v x c 0 w
-begins b v w x c is le inside low =
-    let e : w.seen ≡ slice_set v.seen x c = ap (λ (u : View). u.seen) is in
-    record {
-      looking = record {
-        same = is ∙ (λ i. record v { seen = sym e i; node = x; count = c });
-        up = λ z. let p : slice_index w.seen z ≡ slice_index (slice_set v.seen x c) z = ap (λ l. slice_index l z) e in omega (arith, set_up v.seen x c le z, p);
-        own = ap (λ l. slice_index l x) e ∙ get_or-set_same v.seen x c 0 inside;
-      };
-      enough = λ k below. absurd (omega arith);
-      low = low;
-    }
 
 enough_next : (neighbours : List (ℕ × First)) (j c : ℕ) (seen seen' : List ℕ) → ((z : ℕ) → slice_index seen z ≤ slice_index seen' z) → AreEnough neighbours j seen c
     → bound_of (neighbour_at neighbours j).1 c ≤ slice_index seen' (neighbour_at neighbours j).0 → AreEnough neighbours (j + 1) seen' c
@@ -121,37 +73,7 @@ all_were_seen n links seen x net counted inside zero =
     (All-from_get_or (λ (e : ℕ × First). bound_of e.1 own ≤ slice_index counts e.0) (row n links x) (0, Outward)
     (λ k lt. ltb-false _ _ (none_misses (misses counts own) (row n links x) k (0, Outward) (sym (counted.right x inside) ∙ zero) lt)))
 
-pub goes_on_working : (b : Setup) (v w : View) (x c : ℕ) → IsWorker b v → IsLooking v x c w → IsWorker b w
-goes_on_working b v w x c worker l = record {
-  works = ap (λ (u : View). u.works) l.same ∙ worker.works;
-  setup = ap (λ (u : View). u.setup) l.same ∙ worker.setup;
-}
-
-pub in_call : (b : Setup) (v w : View) (x c i : ℕ) → IsWorker b v → x < b.nodes → IsUnderWay b v x c i w → IsInCall b x c w
-in_call b v w x c i worker inside g = record {
-  worker = goes_on_working b v w x c worker g.looking;
-  node = ap (λ (u : View). u.node) g.looking.same;
-  count = ap (λ (u : View). u.count) g.looking.same;
-  own = g.looking.own;
-  in_range = inside;
-}
-
--- what is seen of a count stays what the seat knows
-pub shows_raised : (g : Terms) (p q : RoundSeat) (seen seen' : Seen) (y f : ℕ) → ShowsSeen g p seen → q.me.0.seen ≡ slice_set p.me.0.seen y f → seen'.counts.items ≡ slice_set seen.counts.items y f → IsCounted g.net.nodes g.net.links seen' → ShowsSeen g q seen'
-shows_raised g p q seen seen' y f was view counts numbers = record {
-  counts = view ∙ (ap (λ l. slice_set l y f) was.counts ∙ sym counts);
-  numbers = numbers;
-}
-
--- the entry at a place of a list that is a row
-pub entry_in_row : (n : ℕ) (links : List (ℕ × ℕ)) (x : ℕ) (list : List (ℕ × First)) → list ≡ row n links x → (j : ℕ) → j < length list → Contains (row n links x) (neighbour_at list j)
-entry_in_row n links x list is j inside = subst (λ (l : List (ℕ × First)). Contains l (neighbour_at list j)) is (Contains-get_or list j (0, Outward) inside)
-
--- a neighbour that was seen to meet its bound,
-pub met_before : (v : View) (e : ℕ × First) (c : ℕ) → nat_lt (slice_index v.seen e.0) (bound_of e.1 c) ≡ false → (bound_of e.1 c ≤ slice_index v.seen e.0) × (v ≡ noted v e.0 (slice_index v.seen e.0))
-met_before v e c met = (ltb-false _ _ met, (λ i. record v { seen = sym (set_same_value v.seen e.0) i }))
-
--- and one whose count was loaded
+-- a neighbour whose count was loaded
 pub met_or_held : (v w : View) (x : ℕ) (e : ℕ × First) (c found : ℕ) (missed : Bool) → missed ≡ nat_lt found (bound_of e.1 c) → e.0 < length v.seen
     → (bound_of e.1 c ≤ found → w ≡ noted v e.0 found) → (found < bound_of e.1 c → EndsCall v x (Held e.0) e.0 found w)
     → MatchBool (not missed) ((bound_of e.1 c ≤ slice_index w.seen e.0) × (w ≡ noted v e.0 (slice_index w.seen e.0))) (EndsCall v x (Held e.0) e.0 (slice_index w.seen e.0) w)

@@ -22,7 +22,7 @@ pub struct View {
     pub known: LinkedList<Entry>,
     /// counts that the nodes had reached,
     pub seen: LinkedList<u64>,
-    /// and the node and its count in the call that is under way.
+    /// and the node and its count in the call that is under way, once that count was loaded.
     pub node: u32,
     pub count: u64,
     /// Whether it is the seat that gives out the workers' numbers, and the next number.
