@@ -1,6 +1,8 @@
 //! The plain Rust beside `revroute`, for time alone. `plain run` answers the same lines: it settles a network by turning sink
-//! after sink on one thread. `plain run --search` finds the settled counts by a search and turns no node.
+//! after sink on one thread. `plain run --workers N` turns sinks by a crew of N threads, and on one thread what these leave.
+//! `plain run --search` finds the settled counts by a search and turns no node.
 
+mod crew;
 mod net;
 mod request;
 mod round;
@@ -21,7 +23,11 @@ fn main() -> io::Result<()> {
     match words.iter().map(String::as_str).collect::<Vec<_>>()[..] {
         ["run"] => run(Method::Turns),
         ["run", "--search"] => run(Method::Search),
-        _ => Err(io::Error::other("usage: plain run [--search]")),
+        ["run", "--workers", number] => match number.parse() {
+            Ok(workers @ 1..=16) => run(Method::Crew(workers)),
+            _ => Err(io::Error::other("1 to 16 workers")),
+        },
+        _ => Err(io::Error::other("usage: plain run [--workers N | --search]")),
     }
 }
 

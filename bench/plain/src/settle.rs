@@ -1,5 +1,6 @@
 //! How often each node turns until no node can turn.
 
+use crate::crew::turned_by;
 use crate::net::{Net, Way};
 use std::collections::VecDeque;
 
@@ -7,25 +8,57 @@ use std::collections::VecDeque;
 pub enum Method {
     /// Full reversal: sink after sink turns.
     Turns,
+    /// The same by so many threads, and on one thread what these leave.
+    Crew(usize),
     /// A breadth-first search from the destination, where only a step along a link has a length.
     Search,
 }
 
 pub fn settled_counts(net: &Net, dest: u32, method: Method) -> Vec<u32> {
     match method {
-        Method::Turns => by_turns(net, dest),
+        Method::Turns => by_turns(net, dest, vec![0; net.nodes() as usize]),
+        Method::Crew(workers) => by_crew(net, dest, workers),
         Method::Search => by_search(net, dest),
     }
 }
 
+/// No thread is started where no node is a sink.
+fn by_crew(net: &Net, dest: u32, workers: usize) -> Vec<u32> {
+    let has_sink = (0..net.nodes())
+        .any(|x| x != dest && net.outward()[x as usize] == 0 && net.degree(x) > 0);
+    let counts = if has_sink {
+        turned_by(net, dest, workers)
+    } else {
+        vec![0; net.nodes() as usize]
+    };
+    by_turns(net, dest, counts)
+}
+
+/// How many links of node `x` point away from it at these counts.
+fn outward_at(net: &Net, counts: &[u32], x: u32) -> u32 {
+    let own = counts[x as usize];
+    let points_away = |w: u32, way| match way {
+        Way::Out => counts[w as usize] == own,
+        Way::In => own == counts[w as usize] + 1,
+    };
+    net.row(x)
+        .iter()
+        .filter(|entry| points_away(entry.neighbour, entry.way))
+        .count() as u32
+}
+
 /// Keeps for each node how many of its links point away, and the sinks in a queue. A turn turns all links of a sink outward,
 /// so each neighbour has one outward link less.
-fn by_turns(net: &Net, dest: u32) -> Vec<u32> {
+fn by_turns(net: &Net, dest: u32, mut counts: Vec<u32>) -> Vec<u32> {
     let cap = net.nodes();
-    let mut counts = vec![0; cap as usize];
-    let mut outward = net.outward().to_vec();
+    let mut outward: Vec<u32> = if counts.iter().all(|&count| count == 0) {
+        net.outward().to_vec()
+    } else {
+        (0..cap).map(|x| outward_at(net, &counts, x)).collect()
+    };
+    let can_turn = |counts: &[u32], x: u32| x != dest && net.degree(x) > 0 && counts[x as usize] < cap;
     let mut sinks: VecDeque<u32> = (0..cap)
-        .filter(|&x| x != dest && outward[x as usize] == 0 && net.degree(x) > 0)
+        .filter(|&x| outward[x as usize] == 0 && can_turn(&counts, x))
         .collect();
     while let Some(x) = sinks.pop_front() {
         let row = net.row(x);
@@ -34,7 +67,7 @@ fn by_turns(net: &Net, dest: u32) -> Vec<u32> {
         for entry in row {
             let w = entry.neighbour;
             outward[w as usize] -= 1;
-            if outward[w as usize] == 0 && w != dest && counts[w as usize] < cap {
+            if outward[w as usize] == 0 && can_turn(&counts, w) {
                 sinks.push_back(w);
             }
         }

@@ -14,7 +14,7 @@ fn answers(input: &[u8], method: Method) -> String {
 fn check(input: &str, expected: &str) {
     let input = input.replace(" / ", "\n");
     let expected = expected.replace(" / ", "\n") + "\n";
-    for method in [Method::Turns, Method::Search] {
+    for method in [Method::Turns, Method::Crew(1), Method::Crew(3), Method::Search] {
         assert_eq!(answers(input.as_bytes(), method), expected, "{method:?}");
     }
 }

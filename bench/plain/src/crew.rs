@@ -1,0 +1,83 @@
+//! Full reversal by threads, as a crew of a plain program would do it: one atomic count a node, and a deque of candidates for each
+//! worker, from which the others steal.
+
+use crate::net::{Net, Way};
+use crossbeam_deque::{Steal, Stealer, Worker};
+use std::sync::atomic::{AtomicU32, Ordering::SeqCst};
+use std::thread;
+
+/// How often each node has turned once so many workers find no candidate any more: mostly, but not always, until no node can
+/// turn.
+pub fn turned_by(net: &Net, dest: u32, workers: usize) -> Vec<u32> {
+    let deques: Vec<Worker<u32>> = (0..workers).map(|_| Worker::new_fifo()).collect();
+    for x in (0..net.nodes()).filter(|&x| x != dest && net.degree(x) > 0) {
+        deques[x as usize % workers].push(x);
+    }
+    let crew = Crew {
+        net,
+        dest,
+        counts: (0..net.nodes()).map(|_| AtomicU32::new(0)).collect(),
+        stealers: deques.iter().map(Worker::stealer).collect(),
+    };
+    thread::scope(|scope| {
+        let mut numbered = deques.into_iter().enumerate();
+        let last = numbered.next_back();
+        for (number, deque) in numbered {
+            let crew = &crew;
+            scope.spawn(move || crew.work(number, &deque));
+        }
+        if let Some((number, deque)) = last {
+            crew.work(number, &deque);
+        }
+    });
+    crew.counts.into_iter().map(AtomicU32::into_inner).collect()
+}
+
+struct Crew<'a> {
+    net: &'a Net,
+    dest: u32,
+    counts: Vec<AtomicU32>,
+    stealers: Vec<Stealer<u32>>,
+}
+
+impl Crew<'_> {
+    /// Turns candidates until it finds none.
+    fn work(&self, number: usize, own: &Worker<u32>) {
+        while let Some(x) = own.pop().or_else(|| self.stolen(number)) {
+            if self.turn(x) {
+                for entry in self.net.row(x) {
+                    if entry.neighbour != self.dest {
+                        own.push(entry.neighbour);
+                    }
+                }
+            }
+        }
+    }
+
+    /// A candidate of another worker.
+    fn stolen(&self, number: usize) -> Option<u32> {
+        let all = self.stealers.len();
+        (1..all).find_map(|step| loop {
+            match self.stealers[(number + step) % all].steal() {
+                Steal::Success(x) => return Some(x),
+                Steal::Empty => return None,
+                Steal::Retry => {}
+            }
+        })
+    }
+
+    /// Turns a node if it is a sink. Where another worker was faster, that one has the neighbours.
+    fn turn(&self, x: u32) -> bool {
+        let own = &self.counts[x as usize];
+        let count = own.load(SeqCst);
+        count < self.net.nodes()
+            && self.net.row(x).iter().all(|entry| {
+                let bound = match entry.way {
+                    Way::Out => count + 1,
+                    Way::In => count,
+                };
+                self.counts[entry.neighbour as usize].load(SeqCst) >= bound
+            })
+            && own.compare_exchange(count, count + 1, SeqCst, SeqCst).is_ok()
+    }
+}
