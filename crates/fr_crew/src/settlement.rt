@@ -8,8 +8,7 @@ ghost use Rattle.fr_core.specs.Settled.{AreSettled};
 ghost use Rattle.fr_crew.specs.Settlements.{IsSettlement};
 ghost use Rattle.fr_crew.specs.declared.fault.CrewFault.TheVariants.{Range, Memory};
 
-use crate::candidates::Candidates;
-use crate::crew::{Job, run_crew};
+use crate::crew::run_crew;
 use crate::fault::CrewFault;
 use crate::gate::Gate;
 use crate::plan::Plan;
@@ -17,6 +16,7 @@ use fr_core::{finish, is_sink};
 use fr_net::Net;
 use fr_round::{Closed, Round};
 use std::alloc::Global;
+use std::marker::Brand;
 use std::sync::Wait;
 use std::thread::Threads;
 
@@ -76,7 +76,7 @@ pub fn settle<R: Threads + Wait + Sync, G: Gate + Sync>(
 }
 
 /// Opens a round, lets a crew of threads turn its nodes, and finishes what they leave.
-fn settle_by_crew<R: Threads + Wait + Sync, G: Gate + Sync>(
+fn settle_by_crew<R: Threads + Wait, G: Gate + Sync>(
     rt: &R,
     alloc: Global,
     net: Net,
@@ -88,17 +88,10 @@ fn settle_by_crew<R: Threads + Wait + Sync, G: Gate + Sync>(
     ensures settled { IfOk result (λ settled. IsSettlement net.nodes dest net.links settled) }
     ensures fault { IfErr result (λ fault. fault ≢ Range) }
 {
-    let candidates = Candidates::first(alloc, &net, dest)?;
     let Ok((round, workers)) = Round::open(alloc, net, dest, plan.workers()) else {
         return Err(CrewFault::Memory);
     };
-    let job = Job {
-        round,
-        candidates,
-        budget: plan.budget(),
-    };
-    let workers = run_crew(rt, alloc, &job, gate, workers)?;
-    let Job { round, .. } = job;
+    let (round, workers) = run_crew::<Brand, R, G>(rt, alloc, round, workers, plan, gate)?;
     let Closed {
         net,
         counts,
