@@ -1,5 +1,5 @@
 -- What leaves a deque is a candidate, and so are the neighbours of a node that is tried.
-use Rattle.std.proofs.Common.{◌≡◌, ℕ, ◌<◌, All, Contains, List, [], ◌∷◌, ◌++◌, inl, inr, length, subst}
+use Rattle.std.proofs.Common.{◌≡◌, ℕ, ◌<◌, All, Contains, List, [], ◌∷◌, ◌++◌, arith, inl, inr, length, subst}
 use lib.Seq.{take-append_seam, drop-append_seam}
 use Rattle.std.proofs.lemmas.List.Elements.{All-take, All-drop}
 use Rattle.crossbeam_deque.specs.Tasks.{Takes, Pops}
@@ -7,6 +7,9 @@ use Rattle.fr_net.proofs.Neighbours.{Points-has_link, row_entry_known, row_holds
 use Rattle.fr_net.specs.Links.{Joins}
 use Rattle.fr_net.specs.Rows.{has_link, row}
 use Rattle.fr_net.specs.declared.rows.First.{First}
+use Rattle.fr_round.specs.Knowledge.{Refuses}
+use Rattle.fr_round.specs.declared.faults.Refusal.{Refusal}
+use Rattle.fr_round.specs.declared.faults.Refusal.TheVariants.{NoNode, Destination, Alone}
 use Rattle.fr_round.specs.declared.view.Setup.{Setup}
 use Rattle.fr_crew.specs.Candidates.{IsCandidate}
 
@@ -40,3 +43,9 @@ neighbour_is_candidate b x e stands other = record {
   not_destination = other;
   linked = (x, row_joins b.nodes b.links x e stands.1);
 }
+
+-- no call on a candidate is refused
+pub candidate_not_refused : (b : Setup) (x : ℕ) (r : Refusal) → IsCandidate b x → Refuses b x r → ⊥
+candidate_not_refused b x NoNode is refused = absurd (omega (arith, is.inside, refused))
+candidate_not_refused b x Destination is refused = is.not_destination refused.1
+candidate_not_refused b x Alone is refused = refused.2 is.linked.0 is.linked.1

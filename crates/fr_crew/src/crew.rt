@@ -26,7 +26,6 @@ struct Job<J: Naming> {
     round: Round,
     victims: Vec<Victim<J>>,
     budget: u64,
-    ghost named: { round.setup ≡ J.setup },
     ghost some_victim: { 0 < vec_len victims },
 }
 
@@ -50,7 +49,8 @@ struct Started {
 
 /// What one worker does: it takes candidates and tries to turn them, until it finds none or its budget is spent.
 fn work<J: Naming, G: Gate>(job: &Job<J>, gate: &G, member: Member<J>) -> Worker
-    requires { IsOwn job.now.round member.worker }
+    requires named { job.now.round.setup ≡ J.setup }
+    requires own { IsOwn job.now.round member.worker }
     ensures { IsSameWorker member.worker result }
 {
     let Job {
@@ -89,6 +89,7 @@ fn start_each<'s, 'e, J: Naming + Send + Sync, G: Gate + Sync>(
     mut threads: Vec<Thread>,
     members: Vec<Member<J>>,
 ) -> Started
+    requires named { job.now.round.setup ≡ J.setup }
     requires own { Each (IsOwnMember job.now.round) members.items }
     requires room { (vec_len threads ≡ 0) × (vec_len members ≤ vec_capacity threads) }
     ensures own { Each (IsOwnThread job.now.round) result.threads.items }
@@ -131,7 +132,8 @@ fn run_each<'s, 'e, J: Naming + Send + Sync, R: Threads, G: Gate + Sync>(
     gate: &'e G,
     mut members: Vec<Member<J>>,
 ) -> Result<Vec<Worker>, CrewFault>
-    requires { Each (IsOwnMember job.now.round) members.items }
+    requires named { job.now.round.setup ≡ J.setup }
+    requires own { Each (IsOwnMember job.now.round) members.items }
     ensures own { IfOk result (λ back. Each (IsOwn job.now.round) back.items) }
     ensures len { IfOk result (λ back. vec_len back ≡ vec_len members) }
     ensures fault { IfErr result (λ fault. fault ≢ Range) }
@@ -195,7 +197,8 @@ fn run_threads<J: Naming + Send + Sync, R: Threads + Wait, G: Gate + Sync>(
     gate: &G,
     members: Vec<Member<J>>,
 ) -> Result<Vec<Worker>, CrewFault>
-    requires { Each (IsOwnMember job.now.round) members.items }
+    requires named { job.now.round.setup ≡ J.setup }
+    requires own { Each (IsOwnMember job.now.round) members.items }
     ensures own { IfOk result (λ back. Each (IsOwn job.now.round) back.items) }
     ensures len { IfOk result (λ back. vec_len back ≡ vec_len members) }
     ensures fault { IfErr result (λ fault. fault ≢ Range) }
@@ -204,7 +207,7 @@ fn run_threads<J: Naming + Send + Sync, R: Threads + Wait, G: Gate + Sync>(
         thread::scope_env(),
         rt,
         |scope| -> Result<Vec<Worker>, CrewFault>
-            requires { Each (IsOwnMember job.now.round) members.items }
+            requires { (job.now.round.setup ≡ J.setup) × Each (IsOwnMember job.now.round) members.items }
             ensures { IfOk result (λ back. Each (IsOwn job.entry.now.round) back.items) × IfOk result (λ back. vec_len back ≡ vec_len members)
                 × IfErr result (λ fault. fault ≢ Range) }
         { run_each(scope, rt, alloc, job, gate, members) },

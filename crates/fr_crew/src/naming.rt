@@ -1,5 +1,6 @@
 //! Which round the deques of a type belong to, and what may stand in them.
 
+ghost use Rattle.std.specs.Prelude.{[]};
 ghost use Rattle.fr_round.specs.declared.view.Setup.{Setup};
 
 use crossbeam_deque::protocol::{Outcome, Protocol};

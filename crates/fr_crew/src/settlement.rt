@@ -97,6 +97,7 @@ fn settle_by_crew<R: Threads + Wait, G: Gate + Sync>(
         counts,
         turned,
     } = round.close(workers);
+    net.network_law();
     let by_workers = turns_of(&turned);
     Ok(finished(net, dest, counts, by_workers))
 }

@@ -1,4 +1,4 @@
-use Rattle.std.proofs.Common.{rules, ◌≡◌, ◌<◌, ◌∙◌, ◌%◌, length, arith, subst, sym}
+use Rattle.std.proofs.Common.{rules, ◌<◌, ◌∙◌, ◌%◌, length, arith, subst, sym}
 use Rattle.fr_net.proofs.Neighbours.{row_linked}
 use Rattle.fr_round.specs.declared.view.Setup.{Setup}
 use Rattle.fr_crew.specs.Candidates.{IsCandidate}

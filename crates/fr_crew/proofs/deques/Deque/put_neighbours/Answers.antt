@@ -1,4 +1,4 @@
-use Rattle.std.proofs.Common.{◌≡◌, ◌∙◌, subst, sym}
+use Rattle.std.proofs.Common.{◌∙◌, subst, sym}
 use Rattle.fr_core.specs.Machine.{neighbour_at}
 use Rattle.fr_round.specs.declared.view.Setup.{Setup}
 use Rattle.fr_round.proofs.Calling.{entry_at}
