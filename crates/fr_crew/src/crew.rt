@@ -1,4 +1,4 @@
-//! Workers in threads of their own. They wait for one another only where their threads are joined.
+//! Workers in threads of their own. Nothing here waits but the joining of the threads.
 
 ghost use Rattle.std.specs.Prelude.{◌≡◌, ◌≢◌, ◌<◌, ◌≤◌, true, IfOk, IfErr, vec_len, vec_capacity};
 ghost use Rattle.std.specs.List.{AllByRecursion as Each};
@@ -75,6 +75,7 @@ fn work<J: Naming, G: Gate>(job: &Job<J>, gate: &G, member: Member<J>) -> Worker
             Ok(Reply::Moved { .. }) => deque.put(x),
             // Whoever turns the neighbour that held it makes it a candidate again.
             Ok(Reply::Held { .. }) | Ok(Reply::Cut) => {}
+            // No candidate is refused.
             Err(_) => unreachable!(),
         }
     }
@@ -154,9 +155,34 @@ fn run_each<'s, 'e, J: Naming + Send + Sync, R: Threads, G: Gate + Sync>(
     Ok(back)
 }
 
+/// Starts the threads in a scope, which comes back when all of them have ended.
+fn run_threads<J: Naming + Send + Sync, R: Threads + Wait, G: Gate + Sync>(
+    rt: &R,
+    alloc: Global,
+    job: &Job<J>,
+    gate: &G,
+    members: Vec<Member<J>>,
+) -> Result<Vec<Worker>, CrewFault>
+    requires named { job.now.round.setup ≡ J.setup }
+    requires own { Each (IsOwnMember job.now.round) members.items }
+    ensures own { IfOk result (λ back. Each (IsOwn job.now.round) back.items) }
+    ensures len { IfOk result (λ back. vec_len back ≡ vec_len members) }
+    ensures fault { IfErr result (λ fault. fault ≢ Range) }
+{
+    thread::scope(
+        thread::scope_env(),
+        rt,
+        |scope| -> Result<Vec<Worker>, CrewFault>
+            requires { (job.now.round.setup ≡ J.setup) × Each (IsOwnMember job.now.round) members.items }
+            ensures { IfOk result (λ back. Each (IsOwn job.entry.now.round) back.items) × IfOk result (λ back. vec_len back ≡ vec_len members)
+                × IfErr result (λ fault. fault ≢ Range) }
+        { run_each(scope, rt, alloc, job, gate, members) },
+    )
+}
+
 /// Lets all workers work at once, each in a thread of its own but for the last, which works on this one, and gives them back
-/// in their order, with their round. The room for their deques is taken before the first thread is started. Where a thread cannot be
-/// started, those that were started are joined first, and the last worker does nothing.
+/// in their order, with their round. Their deques have room for all nodes before the first thread is started. Where a thread
+/// cannot be started, those that were started are joined first, and the last worker does nothing.
 pub(crate) fn run_crew<J: Naming + Send + Sync, R: Threads + Wait, G: Gate + Sync>(
     rt: &R,
     alloc: Global,
@@ -187,29 +213,4 @@ pub(crate) fn run_crew<J: Naming + Send + Sync, R: Threads + Wait, G: Gate + Syn
     let workers = run_threads(rt, alloc, &job, gate, members)?;
     let Job { round, .. } = job;
     Ok((round, workers))
-}
-
-/// Runs the threads, and comes back when all have ended.
-fn run_threads<J: Naming + Send + Sync, R: Threads + Wait, G: Gate + Sync>(
-    rt: &R,
-    alloc: Global,
-    job: &Job<J>,
-    gate: &G,
-    members: Vec<Member<J>>,
-) -> Result<Vec<Worker>, CrewFault>
-    requires named { job.now.round.setup ≡ J.setup }
-    requires own { Each (IsOwnMember job.now.round) members.items }
-    ensures own { IfOk result (λ back. Each (IsOwn job.now.round) back.items) }
-    ensures len { IfOk result (λ back. vec_len back ≡ vec_len members) }
-    ensures fault { IfErr result (λ fault. fault ≢ Range) }
-{
-    thread::scope(
-        thread::scope_env(),
-        rt,
-        |scope| -> Result<Vec<Worker>, CrewFault>
-            requires { (job.now.round.setup ≡ J.setup) × Each (IsOwnMember job.now.round) members.items }
-            ensures { IfOk result (λ back. Each (IsOwn job.entry.now.round) back.items) × IfOk result (λ back. vec_len back ≡ vec_len members)
-                × IfErr result (λ fault. fault ≢ Range) }
-        { run_each(scope, rt, alloc, job, gate, members) },
-    )
 }

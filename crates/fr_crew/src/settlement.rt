@@ -38,14 +38,15 @@ pub struct Settled {
 /// [`finish`](fr_core::finish) on one thread. Whatever the plan, the gate and the schedule, the answer is the same but for who
 /// made how many turns.
 ///
-/// A worker takes a candidate, tries to turn it, and makes candidates of all its neighbours where it did, and of the node
-/// itself where another worker was faster. It ends as soon as it finds no candidate, or its budget is spent. At first all
-/// nodes with a link but the destination are candidates. No thread is started where no node can turn at all, or where no
-/// worker may make a call.
+/// Each worker has a deque of candidates. At first these are all nodes with a link but the destination, dealt out in turn. A
+/// worker takes a candidate of its own, or else steals one from another worker, and tries to turn it. It makes candidates of
+/// its own of all neighbours where it did, and of the node itself where another worker was faster. It ends as soon as it finds no
+/// candidate, or its budget is spent. No thread is started where no node can turn at all, or where no worker may make a call.
+/// There is no lock, and the crew waits only for its threads to end.
 ///
 /// `Range` where the destination is no node, which is tested first. The room for the whole round is taken before the first
-/// thread is started; after that the only fault is `Start`. Where there is a fault, the network is given up. It comes back
-/// if the calls of the gate do.
+/// thread is started; after that the only fault is `Start`, since a candidate for which a deque finds no more room is left to
+/// the finisher. Where there is a fault, the network is given up. It comes back if the calls of the gate do.
 pub fn settle<R: Threads + Wait + Sync, G: Gate + Sync>(
     rt: &R,
     alloc: Global,
