@@ -3,6 +3,7 @@ use Rattle.std.specs.Prelude.{◌≡◌}
 use Rattle.std.specs.declared.thread.PromisedHandle.{PromisedHandle}
 use Rattle.fr_round.specs.Knowledge.{Knowledge, OpenRound, IsOwn}
 use Rattle.fr_crew.specs.declared.crew.GivesBack.{GivesBack}
+use Rattle.fr_crew.specs.declared.members.Member.{Member}
 
 -- the same worker, later on
 pub record IsSameWorker (before after : Knowledge) : Type 0 where
@@ -13,3 +14,8 @@ pub record IsSameWorker (before after : Knowledge) : Type 0 where
 -- the thread has a worker of this round
 abbrev pub IsOwnThread : OpenRound → PromisedHandle Knowledge GivesBack → Type 0
 IsOwnThread round thread = IsOwn round thread.promise.0.value
+
+-- the member's worker is one of this round
+module _ {J : Type 0} where
+  abbrev pub IsOwnMember : OpenRound → Member J → Type 0
+  IsOwnMember round member = IsOwn round member.worker

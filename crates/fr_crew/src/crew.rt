@@ -1,14 +1,17 @@
-//! Workers in threads of their own.
+//! Workers in threads of their own. Nothing here waits but the joining of the threads.
 
-ghost use Rattle.std.specs.Prelude.{◌≡◌, ◌≢◌, ◌≤◌, true, IfOk, IfErr, vec_len, vec_capacity};
+ghost use Rattle.std.specs.Prelude.{◌≡◌, ◌≢◌, ◌<◌, ◌≤◌, true, IfOk, IfErr, vec_len, vec_capacity};
 ghost use Rattle.std.specs.List.{AllByRecursion as Each};
 ghost use Rattle.fr_round.specs.Knowledge.{IsOwn, OpenRound};
-ghost use Rattle.fr_crew.specs.Crews.{IsSameWorker, IsOwnThread};
+ghost use Rattle.fr_crew.specs.Crews.{IsSameWorker, IsOwnMember, IsOwnThread};
 ghost use Rattle.fr_crew.specs.declared.fault.CrewFault.TheVariants.{Range};
 
-use crate::candidates::Candidates;
+use crate::deques::Victim;
 use crate::fault::CrewFault;
 use crate::gate::Gate;
+use crate::members::{Member, Members, deal, equip};
+use crate::naming::Naming;
+use crate::plan::Plan;
 use fr_core::Reply;
 use fr_round::{Round, Worker};
 use std::alloc::Global;
@@ -17,12 +20,13 @@ use std::sync::Wait;
 use std::thread;
 use std::thread::{Promise, PromisedHandle, Scope, Threads};
 
-/// What the threads of a crew work at together.
+/// What the threads of a crew share.
 #[derive(Drop)]
-pub(crate) struct Job {
-    pub round: Round,
-    pub candidates: Candidates,
-    pub budget: u64,
+struct Job<J: Naming> {
+    round: Round,
+    victims: Vec<Victim<J>>,
+    budget: u64,
+    ghost some_victim: { 0 < vec_len victims },
 }
 
 /// A thread gives back the worker that it was given.
@@ -43,55 +47,59 @@ struct Started {
     all: bool,
 }
 
-/// What one worker does: it takes candidates and tries to turn them, until there is none or its budget is spent.
-fn work<R: Wait, G: Gate>(rt: &R, job: &Job, gate: &G, mut worker: Worker) -> Worker
-    requires { IsOwn job.now.round worker }
-    ensures { IsSameWorker worker result }
+/// What one worker does: it takes candidates and tries to turn them, until it finds none or its budget is spent.
+fn work<J: Naming, G: Gate>(job: &Job<J>, gate: &G, member: Member<J>) -> Worker
+    requires named { job.now.round.setup ≡ J.setup }
+    requires own { IsOwn job.now.round member.worker }
+    ensures { IsSameWorker member.worker result }
 {
     let Job {
         round,
-        candidates,
+        victims,
         budget,
     } = job;
+    let Member {
+        mut worker,
+        mut deque,
+    } = member;
     let number = worker.number();
-    let mut next = candidates.take(rt);
     for made in 0..*budget {
-        let Some(x) = next else {
+        let Some(x) = deque.take(victims) else {
             break;
         };
         gate.before(number, made + 1);
         let reply = round.try_turn(&mut worker, x);
         gate.after(number, made + 1);
-        next = match reply {
-            Ok(Reply::Turned { .. }) => {
-                candidates.take_after_turn(rt, round.net(), round.dest(), x)
-            }
-            Ok(Reply::Moved { .. }) => candidates.take_after(rt, x),
+        match reply {
+            Ok(Reply::Turned { .. }) => deque.put_neighbours(round, x),
+            Ok(Reply::Moved { .. }) => deque.put(x),
             // Whoever turns the neighbour that held it makes it a candidate again.
-            Ok(Reply::Held { .. }) | Ok(Reply::Cut) | Err(_) => candidates.take(rt),
-        };
+            Ok(Reply::Held { .. }) | Ok(Reply::Cut) => {}
+            // No candidate is refused.
+            Err(_) => unreachable!(),
+        }
     }
     worker
 }
 
-/// Starts a thread for each worker. It stops at the first that cannot be started.
-fn start_each<'s, 'e, R: Wait + Sync, G: Gate + Sync>(
+/// Starts a thread for each member. It stops at the first that cannot be started.
+fn start_each<'s, 'e, J: Naming + Send + Sync, G: Gate + Sync>(
     scope: &'s Scope<'s, &'e ()>,
-    rt: &'e R,
-    job: &'e Job,
+    job: &'e Job<J>,
     gate: &'e G,
     mut threads: Vec<Thread>,
-    workers: Vec<Worker>,
+    members: Vec<Member<J>>,
 ) -> Started
-    requires own { Each (IsOwn job.now.round) workers.items }
-    requires room { (vec_len threads ≡ 0) × (vec_len workers ≤ vec_capacity threads) }
+    requires named { job.now.round.setup ≡ J.setup }
+    requires own { Each (IsOwnMember job.now.round) members.items }
+    requires room { (vec_len threads ≡ 0) × (vec_len members ≤ vec_capacity threads) }
     ensures own { Each (IsOwnThread job.now.round) result.threads.items }
-    ensures all { result.all ≡ true → vec_len result.threads ≡ vec_len workers }
-    ensures few { vec_len result.threads ≤ vec_len workers }
+    ensures all { result.all ≡ true → vec_len result.threads ≡ vec_len members }
+    ensures few { vec_len result.threads ≤ vec_len members }
 {
-    for worker in workers {
-        let promise = GivesBack(Snapshot::of(&worker));
-        match scope.spawn_with(promise, move || work(rt, job, gate, worker)) {
+    for member in members {
+        let promise = GivesBack(Snapshot::of(&member.worker));
+        match scope.spawn_with(promise, move || work(job, gate, member)) {
             Ok(thread) => threads.push_reserved(thread),
             Err(_) => return Started {
                 threads,
@@ -115,58 +123,94 @@ fn join_each<R: Threads>(rt: &R, threads: Vec<Thread>, mut workers: Vec<Worker>)
     workers
 }
 
-/// The whole life of the threads. The room for all of them is taken before the first is started. The last worker works on
+/// The whole life of the threads. The room for all of them is taken before the first is started. The last member works on
 /// the thread that called, which would only wait for the others.
-fn run_each<'s, 'e, R: Threads + Wait + Sync, G: Gate + Sync>(
+fn run_each<'s, 'e, J: Naming + Send + Sync, R: Threads, G: Gate + Sync>(
     scope: &'s Scope<'s, &'e ()>,
-    rt: &'e R,
+    rt: &R,
     alloc: Global,
-    job: &'e Job,
+    job: &'e Job<J>,
     gate: &'e G,
-    mut workers: Vec<Worker>,
+    mut members: Vec<Member<J>>,
 ) -> Result<Vec<Worker>, CrewFault>
-    requires { Each (IsOwn job.now.round) workers.items }
+    requires named { job.now.round.setup ≡ J.setup }
+    requires own { Each (IsOwnMember job.now.round) members.items }
     ensures own { IfOk result (λ back. Each (IsOwn job.now.round) back.items) }
-    ensures len { IfOk result (λ back. vec_len back ≡ vec_len workers) }
+    ensures len { IfOk result (λ back. vec_len back ≡ vec_len members) }
     ensures fault { IfErr result (λ fault. fault ≢ Range) }
 {
-    let back = Vec::with_capacity(alloc, workers.len())?;
-    let threads = Vec::with_capacity(alloc, workers.len())?;
-    let Some(last) = workers.pop() else {
+    let back = Vec::with_capacity(alloc, members.len())?;
+    let threads = Vec::with_capacity(alloc, members.len())?;
+    let Some(last) = members.pop() else {
         return Ok(back);
     };
-    let Started { threads, all } = start_each(scope, rt, job, gate, threads, workers);
+    let Started { threads, all } = start_each(scope, job, gate, threads, members);
     if !all {
         join_each(rt, threads, back);
         return Err(CrewFault::Start);
     }
-    let last = work(rt, job, gate, last);
+    let last = work(job, gate, last);
     let mut back = join_each(rt, threads, back);
     back.push_reserved(last);
     Ok(back)
 }
 
-/// Lets all workers work at once, each in a thread of its own but for the last, which works on this one, and gives them back
-/// in their order. Where a thread cannot be started, those that were started are joined first, and the last does nothing.
-pub(crate) fn run_crew<R: Threads + Wait + Sync, G: Gate + Sync>(
+/// Starts the threads in a scope, which comes back when all of them have ended.
+fn run_threads<J: Naming + Send + Sync, R: Threads + Wait, G: Gate + Sync>(
     rt: &R,
     alloc: Global,
-    job: &Job,
+    job: &Job<J>,
     gate: &G,
-    workers: Vec<Worker>,
+    members: Vec<Member<J>>,
 ) -> Result<Vec<Worker>, CrewFault>
-    requires { Each (IsOwn job.now.round) workers.items }
+    requires named { job.now.round.setup ≡ J.setup }
+    requires own { Each (IsOwnMember job.now.round) members.items }
     ensures own { IfOk result (λ back. Each (IsOwn job.now.round) back.items) }
-    ensures len { IfOk result (λ back. vec_len back ≡ vec_len workers) }
+    ensures len { IfOk result (λ back. vec_len back ≡ vec_len members) }
     ensures fault { IfErr result (λ fault. fault ≢ Range) }
 {
     thread::scope(
         thread::scope_env(),
         rt,
         |scope| -> Result<Vec<Worker>, CrewFault>
-            requires { Each (IsOwn job.now.round) workers.items }
-            ensures { IfOk result (λ back. Each (IsOwn job.entry.now.round) back.items) × IfOk result (λ back. vec_len back ≡ vec_len workers)
+            requires { (job.now.round.setup ≡ J.setup) × Each (IsOwnMember job.now.round) members.items }
+            ensures { IfOk result (λ back. Each (IsOwn job.entry.now.round) back.items) × IfOk result (λ back. vec_len back ≡ vec_len members)
                 × IfErr result (λ fault. fault ≢ Range) }
-        { run_each(scope, rt, alloc, job, gate, workers) },
+        { run_each(scope, rt, alloc, job, gate, members) },
     )
+}
+
+/// Lets all workers work at once, each in a thread of its own but for the last, which works on this one, and gives them back
+/// in their order, with their round. Their deques have room for all nodes before the first thread is started. Where a thread
+/// cannot be started, those that were started are joined first, and the last worker does nothing.
+pub(crate) fn run_crew<J: Naming + Send + Sync, R: Threads + Wait, G: Gate + Sync>(
+    rt: &R,
+    alloc: Global,
+    round: Round,
+    workers: Vec<Worker>,
+    plan: &Plan,
+    gate: &G,
+) -> Result<(Round, Vec<Worker>), CrewFault>
+    requires named { round.setup ≡ J.setup }
+    requires own { Each (IsOwn round) workers.items }
+    requires some { 0 < vec_len workers }
+    ensures round { IfOk result (λ back. back.0 ≡ round) }
+    ensures own { IfOk result (λ back. Each (IsOwn round) back.1.items) }
+    ensures len { IfOk result (λ back. vec_len back.1 ≡ vec_len workers) }
+    ensures fault { IfErr result (λ fault. fault ≢ Range) }
+{
+    let room = round.net().nodes() as usize;
+    let Members {
+        mut members,
+        victims,
+    } = equip::<J>(alloc, workers, room, plan.seed())?;
+    deal(&round, &mut members);
+    let job = Job {
+        round,
+        victims,
+        budget: plan.budget(),
+    };
+    let workers = run_threads(rt, alloc, &job, gate, members)?;
+    let Job { round, .. } = job;
+    Ok((round, workers))
 }

@@ -5,10 +5,12 @@
 //! [`Gate`] is called round each call of a worker.
 #![tactic(auto)]
 
-mod candidates;
 mod crew;
+mod deques;
 mod fault;
 mod gate;
+mod members;
+mod naming;
 mod plan;
 mod settlement;
 

@@ -16,7 +16,7 @@ pub struct Plan {
 
 impl Plan {
     /// The plan with 1 to [`MAX_WORKERS`] workers, each of which makes at most `budget` calls; with another number of workers there is
-    /// none. The seed is for workers that draw where they look for work, which none does yet; no answer depends on it.
+    /// none. From the seed each worker draws where it looks first for work when it has none of its own; no answer depends on it.
     pub fn new(workers: u32, seed: u64, budget: u64) -> Option<Plan>
         ensures none { IsNone result ↔ ((workers ≡ 0) ⊎ (most_workers < workers)) }
         ensures some { IfSome result (λ plan. (plan.workers ≡ workers) × (plan.seed ≡ seed) × (plan.budget ≡ budget)) }

@@ -8,8 +8,7 @@ ghost use Rattle.fr_core.specs.Settled.{AreSettled};
 ghost use Rattle.fr_crew.specs.Settlements.{IsSettlement};
 ghost use Rattle.fr_crew.specs.declared.fault.CrewFault.TheVariants.{Range, Memory};
 
-use crate::candidates::Candidates;
-use crate::crew::{Job, run_crew};
+use crate::crew::run_crew;
 use crate::fault::CrewFault;
 use crate::gate::Gate;
 use crate::plan::Plan;
@@ -17,6 +16,7 @@ use fr_core::{finish, is_sink};
 use fr_net::Net;
 use fr_round::{Closed, Round};
 use std::alloc::Global;
+use std::marker::Brand;
 use std::sync::Wait;
 use std::thread::Threads;
 
@@ -38,14 +38,15 @@ pub struct Settled {
 /// [`finish`](fr_core::finish) on one thread. Whatever the plan, the gate and the schedule, the answer is the same but for who
 /// made how many turns.
 ///
-/// A worker takes a candidate, tries to turn it, and makes candidates of all its neighbours where it did, and of the node
-/// itself where another worker was faster. It ends as soon as it finds no candidate, or its budget is spent. At first all
-/// nodes with a link but the destination are candidates. No thread is started where no node can turn at all, or where no
-/// worker may make a call.
+/// Each worker has a deque of candidates. At first these are all nodes with a link but the destination, dealt out in turn. A
+/// worker takes a candidate of its own, or else steals one from another worker, and tries to turn it. It makes candidates of
+/// its own of all neighbours where it did, and of the node itself where another worker was faster. It ends as soon as it finds no
+/// candidate, or its budget is spent. No thread is started where no node can turn at all, or where no worker may make a call.
+/// There is no lock, and the crew waits only for its threads to end.
 ///
 /// `Range` where the destination is no node, which is tested first. The room for the whole round is taken before the first
-/// thread is started; after that the only fault is `Start`. Where there is a fault, the network is given up. It comes back
-/// if the calls of the gate do.
+/// thread is started; after that the only fault is `Start`, since a candidate for which a deque finds no more room is left to
+/// the finisher. Where there is a fault, the network is given up. It comes back if the calls of the gate do.
 pub fn settle<R: Threads + Wait + Sync, G: Gate + Sync>(
     rt: &R,
     alloc: Global,
@@ -76,7 +77,7 @@ pub fn settle<R: Threads + Wait + Sync, G: Gate + Sync>(
 }
 
 /// Opens a round, lets a crew of threads turn its nodes, and finishes what they leave.
-fn settle_by_crew<R: Threads + Wait + Sync, G: Gate + Sync>(
+fn settle_by_crew<R: Threads + Wait, G: Gate + Sync>(
     rt: &R,
     alloc: Global,
     net: Net,
@@ -88,22 +89,16 @@ fn settle_by_crew<R: Threads + Wait + Sync, G: Gate + Sync>(
     ensures settled { IfOk result (λ settled. IsSettlement net.nodes dest net.links settled) }
     ensures fault { IfErr result (λ fault. fault ≢ Range) }
 {
-    let candidates = Candidates::first(alloc, &net, dest)?;
     let Ok((round, workers)) = Round::open(alloc, net, dest, plan.workers()) else {
         return Err(CrewFault::Memory);
     };
-    let job = Job {
-        round,
-        candidates,
-        budget: plan.budget(),
-    };
-    let workers = run_crew(rt, alloc, &job, gate, workers)?;
-    let Job { round, .. } = job;
+    let (round, workers) = run_crew::<Brand, R, G>(rt, alloc, round, workers, plan, gate)?;
     let Closed {
         net,
         counts,
         turned,
     } = round.close(workers);
+    net.network_law();
     let by_workers = turns_of(&turned);
     Ok(finished(net, dest, counts, by_workers))
 }

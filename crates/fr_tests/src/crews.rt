@@ -152,6 +152,16 @@ fn without_budget_the_finisher_does_all(rt: HostRuntime) -> Result<(), Fail> {
 }
 
 #[test]
+fn the_finisher_does_what_the_budget_leaves(rt: HostRuntime) -> Result<(), Fail> {
+    // Worker 0 is dealt node 4, which turns, and worker 1 nodes 1 and 3; node 1 is held.
+    let net = Net::new(rt.alloc(), 5, &[(0, 1), (1, 3), (3, 4)])?;
+    let settled = settle(&rt, rt.alloc(), net, 0, &plan(2, 1)?, &OpenGate)?;
+    assert_eq!(rt; turns(&settled), (1, 5));
+    assert_eq!(rt; settled.counts.as_slice(), [0, 1, 0, 2, 3].as_slice());
+    Ok(())
+}
+
+#[test]
 fn with_budget_the_workers_do_all(rt: HostRuntime) -> Result<(), Fail> {
     let settled = settle(
         &rt,
@@ -211,6 +221,9 @@ fn every_plan_ends_alike(rt: HostRuntime) -> Result<(), Fail> {
             let net = Net::new(rt.alloc(), 5, &[(0, 1), (1, 2), (0, 3), (2, 3), (3, 4)])?;
             let settled = settle(&rt, rt.alloc(), net, 0, &plan(workers, budget)?, &OpenGate)?;
             assert_eq!(rt; all_turns(&settled), 5);
+            if budget == 1000 {
+                assert_eq!(rt; settled.by_finisher, 0);
+            }
             assert_eq!(rt; settled.counts.as_slice(), [0, 1, 1, 1, 2].as_slice());
             assert_eq!(rt;
                 settled.net.links(),

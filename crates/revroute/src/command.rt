@@ -36,7 +36,7 @@ const RUN_WORKERS: &str = "How many workers turn the network, 1 to 16";
 const PLAY_WORKERS: &str = "How many workers make the steps, 1 to 16";
 
 const RUN_SEED: &str =
-    "A seed for where workers look for work, 0 to 18446744073709551615; nothing draws from it yet";
+    "A seed for where workers look first for work, 0 to 18446744073709551615; no answer depends on it";
 
 const PLAY_SEED: &str = "The seed of the schedule, 0 to 18446744073709551615";
 

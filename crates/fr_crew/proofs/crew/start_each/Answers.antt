@@ -2,13 +2,13 @@ use Rattle.std.proofs.Common.{rules, subst, sym}
 use Rattle.std.specs.List.{AllByRecursion as Each}
 use Rattle.fr_round.specs.Knowledge.{IsOwn}
 use Rattle.fr_round.proofs.Keeping.{each_snoc}
-use Rattle.fr_crew.specs.Crews.{IsOwnThread}
+use Rattle.fr_crew.specs.Crews.{IsOwnMember, IsOwnThread}
 use Rattle.fr_crew.proofs.crew.start_each.Goals as goal
 
-pub loop-worker-preserved : goal.loop-worker-preserved
-loop-worker-preserved g c =
-    let was = c.loop-worker.invariant in
-    let here = subst (Each (IsOwn c.args.job.now.round)) c.in-Some.ensures.steps.0 was.rest in record {
+pub loop-member-preserved : goal.loop-member-preserved
+loop-member-preserved g c =
+    let was = c.loop-member.invariant in
+    let here = subst (Each (IsOwnMember c.args.job.now.round)) c.in-Some.ensures.steps.0 was.rest in record {
       count = search rules;
       room = search rules;
       rest = here.1;

@@ -1,0 +1,51 @@
+-- What leaves a deque is a candidate, and so are the neighbours of a node that is tried.
+use Rattle.std.proofs.Common.{◌≡◌, ℕ, ◌<◌, All, Contains, List, [], ◌∷◌, ◌++◌, arith, inl, inr, length, subst}
+use lib.Seq.{take-append_seam, drop-append_seam}
+use Rattle.std.proofs.lemmas.List.Elements.{All-take, All-drop}
+use Rattle.crossbeam_deque.specs.Tasks.{Takes, Pops}
+use Rattle.fr_net.proofs.Neighbours.{Points-has_link, row_entry_known, row_holds}
+use Rattle.fr_net.specs.Links.{Joins}
+use Rattle.fr_net.specs.Rows.{has_link, row}
+use Rattle.fr_net.specs.declared.rows.First.{First}
+use Rattle.fr_round.specs.Knowledge.{Refuses}
+use Rattle.fr_round.specs.declared.faults.Refusal.{Refusal}
+use Rattle.fr_round.specs.declared.faults.Refusal.TheVariants.{NoNode, Destination, Alone}
+use Rattle.fr_round.specs.declared.view.Setup.{Setup}
+use Rattle.fr_crew.specs.Candidates.{IsCandidate}
+
+module _ (P : ℕ → Type 0) where
+  abbrev Holds : List ℕ → List (Unit {0}) → Type 0
+  Holds tasks _ = All P tasks
+
+  left : (xs ys : List ℕ) → All P (xs ++ ys) → All P xs
+  left xs ys each = subst (All P) (take-append_seam xs ys) (All-take P (length xs) (xs ++ ys) each)
+
+  right : (xs ys : List ℕ) → All P (xs ++ ys) → All P ys
+  right xs ys each = subst (All P) (drop-append_seam xs ys) (All-drop P (length xs) (xs ++ ys) each)
+
+  pub takes : (port : ℕ) (v : Unit {0}) (most : ℕ) → Takes Holds port v most (λ xs _. All P xs)
+  takes port v most xs tasks views _ _ each _ = (tt, right xs tasks each, left xs tasks each)
+
+  pub pops : (port : ℕ) (v : Unit {0}) → Pops Holds port v (λ xs _. All P xs)
+  pops port v x tasks views each _ = (tt, left tasks (x ∷ []) each, right tasks (x ∷ []) each)
+
+row_joins : (n : ℕ) (links : List (ℕ × ℕ)) (x : ℕ) (e : ℕ × First) → Contains (row n links x) e → Joins links e.0 x
+row_joins n links x e stands =
+    elim (row_entry_known (has_link links x e.0) (has_link links e.0 x) e.0 e (row_holds n links x e stands).1) [
+      | inl out ↦ inr (Points-has_link links x e.0 out.0)
+      | inr into ↦ inl (Points-has_link links e.0 x into.1)
+    ]
+
+-- a neighbour of a node is a candidate, unless it is the destination
+pub neighbour_is_candidate : (b : Setup) (x : ℕ) (e : ℕ × First) → (e.0 < b.nodes) × Contains (row b.nodes b.links x) e → ¬ (e.0 ≡ b.dest) → IsCandidate b e.0
+neighbour_is_candidate b x e stands other = record {
+  inside = stands.0;
+  not_destination = other;
+  linked = (x, row_joins b.nodes b.links x e stands.1);
+}
+
+-- no call on a candidate is refused
+pub candidate_not_refused : (b : Setup) (x : ℕ) (r : Refusal) → IsCandidate b x → Refuses b x r → ⊥
+candidate_not_refused b x NoNode is refused = absurd (omega (arith, is.inside, refused))
+candidate_not_refused b x Destination is refused = is.not_destination refused.1
+candidate_not_refused b x Alone is refused = refused.2 is.linked.0 is.linked.1

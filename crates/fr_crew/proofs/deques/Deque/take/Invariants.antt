@@ -1,0 +1,6 @@
+use Rattle.std.proofs.Common.{◌<◌, length}
+use Rattle.fr_crew.proofs.deques.Deque.take.Given as goal
+
+-- the place is one of a deque
+abbrev pub invariant-loop : goal.invariant-loop
+invariant-loop g l = l.at < length l.victims

@@ -1,0 +1,18 @@
+use Rattle.std.proofs.Common.{rules, subst}
+use Rattle.std.specs.List.{AllByRecursion as Each}
+use Rattle.fr_round.specs.Knowledge.{IsOwn}
+use Rattle.fr_round.proofs.Keeping.{each_snoc}
+use Rattle.fr_crew.specs.Crews.{IsOwnMember}
+use Rattle.fr_crew.proofs.members.equip.Goals as goal
+
+pub loop-worker-preserved : goal.loop-worker-preserved
+loop-worker-preserved g c =
+    let was = c.loop-worker.invariant in
+    let next = c.in-Some.ensures.steps.0 in record {
+      members = search rules;
+      victims = search rules;
+      rest = λ round each. (subst (Each (IsOwn round)) next (was.rest round each)).1;
+      own = λ round each.
+          let here = subst (Each (IsOwn round)) next (was.rest round each) in
+          rw c.in_ok-push-2.ensures.items (each_snoc (IsOwnMember {J = g.row.J.Denot} round) _ _ (was.own round each) here.0);
+    }

@@ -1,0 +1,14 @@
+use Rattle.std.proofs.Common.{◌≡◌, ◌+◌, vec_len}
+use Rattle.std.specs.List.{AllByRecursion as Each}
+use Rattle.std.specs.Vec.Iter.{into_iter_items, into_iter_len}
+use Rattle.fr_round.specs.Knowledge.{OpenRound, IsOwn}
+use Rattle.fr_crew.specs.Crews.{IsOwnMember}
+use Rattle.fr_crew.proofs.members.equip.Given as goal
+
+abbrev pub invariant-loop-worker : goal.invariant-loop-worker
+invariant-loop-worker g l = record {
+  members : vec_len l.members + into_iter_len l.worker-iterator ≡ vec_len l.fn.workers;
+  victims : vec_len l.victims ≡ vec_len l.members;
+  rest : (round : OpenRound) → Each (IsOwn round) l.fn.workers.items → Each (IsOwn round) (into_iter_items l.worker-iterator);
+  own : (round : OpenRound) → Each (IsOwn round) l.fn.workers.items → Each (IsOwnMember round) l.members.items;
+}

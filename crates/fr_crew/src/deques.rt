@@ -1,0 +1,98 @@
+//! Where the workers find the nodes that they try: a deque for each, from which the others steal. None of its calls waits.
+
+ghost use Rattle.std.specs.Prelude.{◌≡◌, ◌<◌, ◌≤◌, IfSome, length};
+ghost use Rattle.fr_crew.specs.Candidates.{IsCandidate};
+
+use crate::naming::{Candidates, Naming};
+use crossbeam_deque::{Steal, Stealer, Worker};
+use fr_round::Round;
+use rand_core::SeedableRng;
+use rand_core::utils::NextWord;
+use rand_pcg::Lcg64Xsh32;
+use std::alloc::{AllocError, Global};
+
+/// How often a steal is tried while others take from the same deque. Then that deque is passed over.
+const TRIES: u32 = 64;
+
+/// What the others hold of a worker's deque.
+pub(crate) type Victim<J> = Stealer<u32, Global, (), Candidates<J>>;
+
+/// A worker's own deque, which gives first what was put first, and the draws that tell where the worker steals first.
+#[derive(Drop)]
+pub(crate) struct Deque<J: Naming> {
+    own: Worker<u32, Global, (), Candidates<J>>,
+    number: usize,
+    draws: Lcg64Xsh32,
+}
+
+impl<J: Naming> Deque<J> {
+    /// The deque of the worker of this number, with room for so many candidates.
+    pub fn new(alloc: Global, room: usize, seed: u64, number: u32) -> Result<Deque<J>, AllocError> {
+        Ok(Deque {
+            own: Worker::fifo_as(alloc, room)?,
+            number: number as usize,
+            draws: Lcg64Xsh32::seed_from_u64(seed.wrapping_add(u64::from(number))),
+        })
+    }
+
+    /// What the other workers need to steal from it.
+    pub fn victim(&self) -> Result<Victim<J>, AllocError> {
+        self.own.stealer()
+    }
+
+    /// Puts a candidate at the end. One that finds no memory is dropped, and so left to the finisher.
+    pub fn put(&mut self, x: u32)
+        requires { IsCandidate J.setup x }
+    {
+        let _ = self.own.push_as::<Candidates<J>>(x);
+    }
+
+    /// Puts all neighbours of a node but the destination: each may be a sink now that the node has turned.
+    pub fn put_neighbours(&mut self, round: &Round, x: u32)
+        requires named { round.now.setup ≡ J.setup }
+        requires node { x < J.setup.nodes }
+    {
+        let dest = round.dest();
+        for (neighbour, _) in round.net().row(x) {
+            if *neighbour != dest {
+                self.put(*neighbour);
+            }
+        }
+    }
+
+    /// The candidate that was put first, or else one of another worker. A draw names the deque from which the worker steals
+    /// first; the others follow in the order of their numbers, round the end.
+    pub fn take(&mut self, victims: &[Victim<J>]) -> Option<u32>
+        requires { 0 < length victims.now }
+        ensures { IfSome result (IsCandidate J.setup) }
+    {
+        if let Some(x) = self.own.pop_as::<Candidates<J>>() {
+            return Some(x);
+        }
+        let mut at = self.draws.next_word() as usize % victims.len();
+        for _ in 0..victims.len() {
+            if at != self.number {
+                if let Some(x) = steal(&victims[at]) {
+                    return Some(x);
+                }
+            }
+            at = if at + 1 < victims.len() { at + 1 } else { 0 };
+        }
+        None
+    }
+}
+
+/// Steals the candidate that was put first into another's deque.
+fn steal<J: Naming>(victim: &Victim<J>) -> Option<u32>
+    ensures { IfSome result (IsCandidate J.setup) }
+{
+    let mut pass = victim.pass();
+    for _ in 0..TRIES {
+        match victim.steal_as::<Candidates<J>>(&mut pass) {
+            Steal::Success(x) => return Some(x),
+            Steal::Empty => return None,
+            Steal::Retry => {}
+        }
+    }
+    None
+}

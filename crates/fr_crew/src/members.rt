@@ -1,0 +1,63 @@
+//! Workers with what they find their work by.
+
+ghost use Rattle.std.specs.Prelude.{◌≡◌, ◌<◌, IfOk, length, vec_len};
+ghost use Rattle.std.specs.List.{AllByRecursion as Each};
+ghost use Rattle.fr_round.specs.Knowledge.{IsOwn, OpenRound};
+ghost use Rattle.fr_crew.specs.Crews.{IsOwnMember};
+
+use crate::deques::{Deque, Victim};
+use crate::naming::Naming;
+use fr_round::{Round, Worker};
+use std::alloc::{AllocError, Global};
+
+/// A worker with its deque.
+#[derive(Drop)]
+pub(crate) struct Member<J: Naming> {
+    pub worker: Worker,
+    pub deque: Deque<J>,
+}
+
+/// All members of a crew, and what the others need to steal from each, in the same order.
+#[derive(Drop)]
+pub(crate) struct Members<J: Naming> {
+    pub members: Vec<Member<J>>,
+    pub victims: Vec<Victim<J>>,
+}
+
+/// Gives each worker a deque of its own, with room for all nodes of a round.
+pub(crate) fn equip<J: Naming>(
+    alloc: Global,
+    workers: Vec<Worker>,
+    room: usize,
+    seed: u64,
+) -> Result<Members<J>, AllocError>
+    ensures own { IfOk result (λ all. (round : OpenRound) → Each (IsOwn round) workers.items → Each (IsOwnMember round) all.members.items) }
+    ensures members { IfOk result (λ all. vec_len all.members ≡ vec_len workers) }
+    ensures victims { IfOk result (λ all. vec_len all.victims ≡ vec_len workers) }
+{
+    let mut members = Vec::with_capacity(alloc, workers.len())?;
+    let mut victims = Vec::with_capacity(alloc, workers.len())?;
+    for worker in workers {
+        let deque = Deque::new(alloc, room, seed, worker.number())?;
+        victims.push(deque.victim()?)?;
+        members.push(Member { worker, deque })?;
+    }
+    Ok(Members { members, victims })
+}
+
+/// Deals the first candidates: all nodes with a link but the destination, in rising order, each to the member whose number
+/// is that of the node modulo the number of members.
+pub(crate) fn deal<J: Naming>(round: &Round, members: &mut [Member<J>])
+    requires named { round.now.setup ≡ J.setup }
+    requires some { 0 < length members.old }
+    ensures own { (own : OpenRound) → Each (IsOwnMember own) members.old → Each (IsOwnMember own) members.new }
+{
+    let net = round.net();
+    let dest = round.dest();
+    for x in 0..net.nodes() {
+        if x != dest && net.degree(x) > 0 {
+            let to = x as usize % members.len();
+            members[to].deque.put(x);
+        }
+    }
+}

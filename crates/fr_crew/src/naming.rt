@@ -1,0 +1,37 @@
+//! Which round the deques of a type belong to, and what may stand in them.
+
+ghost use Rattle.std.specs.Prelude.{[]};
+ghost use Rattle.fr_round.specs.declared.view.Setup.{Setup};
+
+use crossbeam_deque::protocol::{Outcome, Protocol};
+use std::marker::{Brand, PhantomData};
+
+/// What a round was opened with, as the type of its deques names it. It is picked where the round is settled.
+pub(crate) trait Naming {
+    ghost setup: { Setup };
+}
+
+impl Naming for Brand {
+    ghost setup = { record { nodes = 0; dest = 0; links = []; workers = 0 } };
+}
+
+/// The rule of the deques of a round, and what each call on them tells: every task is a candidate of the round.
+pub(crate) struct Candidates<J>(PhantomData<J>);
+
+impl<J: Naming> Protocol<u32, ()> for Candidates<J> {
+    ghost use Rattle.std.specs.Prelude.{All};
+    ghost use Rattle.fr_crew.specs.Candidates.{IsCandidate};
+
+    ghost holds = { λ tasks _. All (IsCandidate J.setup) tasks };
+
+    ghost first = { tt };
+
+    ghost guest = { tt };
+}
+
+impl<J: Naming> Outcome<u32, ()> for Candidates<J> {
+    ghost use Rattle.std.specs.Prelude.{All};
+    ghost use Rattle.fr_crew.specs.Candidates.{IsCandidate};
+
+    ghost then = { λ _ tasks _. All (IsCandidate J.setup) tasks };
+}
