@@ -6,7 +6,7 @@ ghost use Rattle.fr_round.specs.Knowledge.{IsOwn, OpenRound};
 ghost use Rattle.fr_crew.specs.Crews.{IsSameWorker, IsOwnMember, IsOwnThread};
 ghost use Rattle.fr_crew.specs.declared.fault.CrewFault.TheVariants.{Range};
 
-use crate::deques::Victim;
+use crate::deques::Stealer;
 use crate::fault::CrewFault;
 use crate::gate::Gate;
 use crate::members::{Member, Members, deal, equip};
@@ -24,9 +24,9 @@ use std::thread::{Promise, PromisedHandle, Scope, Threads};
 #[derive(Drop)]
 struct Job<J: Naming> {
     round: Round,
-    victims: Vec<Victim<J>>,
+    stealers: Vec<Stealer<J>>,
     budget: u64,
-    ghost some_victim: { 0 < vec_len victims },
+    ghost some_stealer: { 0 < vec_len stealers },
 }
 
 /// A thread gives back the worker that it was given.
@@ -55,7 +55,7 @@ fn work<J: Naming, G: Gate>(job: &Job<J>, gate: &G, member: Member<J>) -> Worker
 {
     let Job {
         round,
-        victims,
+        stealers,
         budget,
     } = job;
     let Member {
@@ -64,7 +64,7 @@ fn work<J: Naming, G: Gate>(job: &Job<J>, gate: &G, member: Member<J>) -> Worker
     } = member;
     let number = worker.number();
     for made in 0..*budget {
-        let Some(x) = deque.take(victims) else {
+        let Some(x) = deque.take(stealers) else {
             break;
         };
         gate.before(number, made + 1);
@@ -202,12 +202,12 @@ pub(crate) fn run_crew<J: Naming + Send + Sync, R: Threads + Wait, G: Gate + Syn
     let room = round.net().nodes() as usize;
     let Members {
         mut members,
-        victims,
+        stealers,
     } = equip::<J>(alloc, workers, room, plan.seed())?;
     deal(&round, &mut members);
     let job = Job {
         round,
-        victims,
+        stealers,
         budget: plan.budget(),
     };
     let workers = run_threads(rt, alloc, &job, gate, members)?;

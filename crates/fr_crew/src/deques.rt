@@ -4,7 +4,7 @@ ghost use Rattle.std.specs.Prelude.{◌≡◌, ◌<◌, ◌≤◌, IfSome, lengt
 ghost use Rattle.fr_crew.specs.Candidates.{IsCandidate};
 
 use crate::naming::{Candidates, Naming};
-use crossbeam_deque::{Steal, Stealer, Worker};
+use crossbeam_deque::{Steal, Worker};
 use fr_round::Round;
 use rand_core::SeedableRng;
 use rand_core::utils::NextWord;
@@ -14,8 +14,8 @@ use std::alloc::{AllocError, Global};
 /// How often a steal is tried while others take from the same deque. Then that deque is passed over.
 const TRIES: u32 = 64;
 
-/// What the others hold of a worker's deque.
-pub(crate) type Victim<J> = Stealer<u32, Global, (), Candidates<J>>;
+/// What other workers steal from a deque by.
+pub(crate) type Stealer<J> = crossbeam_deque::Stealer<u32, Global, (), Candidates<J>>;
 
 /// A worker's own deque, which gives first what was put first, and the draws that tell where the worker steals first.
 #[derive(Drop)]
@@ -35,8 +35,8 @@ impl<J: Naming> Deque<J> {
         })
     }
 
-    /// What the other workers need to steal from it.
-    pub fn victim(&self) -> Result<Victim<J>, AllocError> {
+    /// What other workers steal from it by.
+    pub fn stealer(&self) -> Result<Stealer<J>, AllocError> {
         self.own.stealer()
     }
 
@@ -62,33 +62,33 @@ impl<J: Naming> Deque<J> {
 
     /// The candidate that was put first, or else one of another worker. A draw names the deque from which the worker steals
     /// first; the others follow in the order of their numbers, round the end.
-    pub fn take(&mut self, victims: &[Victim<J>]) -> Option<u32>
-        requires { 0 < length victims.now }
+    pub fn take(&mut self, stealers: &[Stealer<J>]) -> Option<u32>
+        requires { 0 < length stealers.now }
         ensures { IfSome result (IsCandidate J.setup) }
     {
         if let Some(x) = self.own.pop_as::<Candidates<J>>() {
             return Some(x);
         }
-        let mut at = self.draws.next_word() as usize % victims.len();
-        for _ in 0..victims.len() {
+        let mut at = self.draws.next_word() as usize % stealers.len();
+        for _ in 0..stealers.len() {
             if at != self.number {
-                if let Some(x) = steal(&victims[at]) {
+                if let Some(x) = steal(&stealers[at]) {
                     return Some(x);
                 }
             }
-            at = if at + 1 < victims.len() { at + 1 } else { 0 };
+            at = if at + 1 < stealers.len() { at + 1 } else { 0 };
         }
         None
     }
 }
 
 /// Steals the candidate that was put first into another's deque.
-fn steal<J: Naming>(victim: &Victim<J>) -> Option<u32>
+fn steal<J: Naming>(stealer: &Stealer<J>) -> Option<u32>
     ensures { IfSome result (IsCandidate J.setup) }
 {
-    let mut pass = victim.pass();
+    let mut pass = stealer.pass();
     for _ in 0..TRIES {
-        match victim.steal_as::<Candidates<J>>(&mut pass) {
+        match stealer.steal_as::<Candidates<J>>(&mut pass) {
             Steal::Success(x) => return Some(x),
             Steal::Empty => return None,
             Steal::Retry => {}

@@ -5,7 +5,7 @@ ghost use Rattle.std.specs.List.{AllByRecursion as Each};
 ghost use Rattle.fr_round.specs.Knowledge.{IsOwn, OpenRound};
 ghost use Rattle.fr_crew.specs.Crews.{IsOwnMember};
 
-use crate::deques::{Deque, Victim};
+use crate::deques::{Deque, Stealer};
 use crate::naming::Naming;
 use fr_round::{Round, Worker};
 use std::alloc::{AllocError, Global};
@@ -17,11 +17,11 @@ pub(crate) struct Member<J: Naming> {
     pub deque: Deque<J>,
 }
 
-/// All members of a crew, and what the others need to steal from each, in the same order.
+/// All members of a crew, and by what the others steal from each, in the same order.
 #[derive(Drop)]
 pub(crate) struct Members<J: Naming> {
     pub members: Vec<Member<J>>,
-    pub victims: Vec<Victim<J>>,
+    pub stealers: Vec<Stealer<J>>,
 }
 
 /// Gives each worker a deque of its own, with room for all nodes of a round.
@@ -33,16 +33,16 @@ pub(crate) fn equip<J: Naming>(
 ) -> Result<Members<J>, AllocError>
     ensures own { IfOk result (λ all. (round : OpenRound) → Each (IsOwn round) workers.items → Each (IsOwnMember round) all.members.items) }
     ensures members { IfOk result (λ all. vec_len all.members ≡ vec_len workers) }
-    ensures victims { IfOk result (λ all. vec_len all.victims ≡ vec_len workers) }
+    ensures stealers { IfOk result (λ all. vec_len all.stealers ≡ vec_len workers) }
 {
     let mut members = Vec::with_capacity(alloc, workers.len())?;
-    let mut victims = Vec::with_capacity(alloc, workers.len())?;
+    let mut stealers = Vec::with_capacity(alloc, workers.len())?;
     for worker in workers {
         let deque = Deque::new(alloc, room, seed, worker.number())?;
-        victims.push(deque.victim()?)?;
+        stealers.push(deque.stealer()?)?;
         members.push(Member { worker, deque })?;
     }
-    Ok(Members { members, victims })
+    Ok(Members { members, stealers })
 }
 
 /// Deals the first candidates: all nodes with a link but the destination, in rising order, each to the member whose number

@@ -3,4 +3,4 @@ use Rattle.fr_crew.proofs.deques.steal.Given as goal
 
 -- the pass is one of this deque
 abbrev pub invariant-loop : goal.invariant-loop
-invariant-loop g l = IsPassOf (stealer_deque l.victim) l.pass
+invariant-loop g l = IsPassOf (stealer_deque l.stealer) l.pass

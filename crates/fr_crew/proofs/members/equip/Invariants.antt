@@ -8,7 +8,7 @@ use Rattle.fr_crew.proofs.members.equip.Given as goal
 abbrev pub invariant-loop-worker : goal.invariant-loop-worker
 invariant-loop-worker g l = record {
   members : vec_len l.members + into_iter_len l.worker-iterator ≡ vec_len l.fn.workers;
-  victims : vec_len l.victims ≡ vec_len l.members;
+  stealers : vec_len l.stealers ≡ vec_len l.members;
   rest : (round : OpenRound) → Each (IsOwn round) l.fn.workers.items → Each (IsOwn round) (into_iter_items l.worker-iterator);
   own : (round : OpenRound) → Each (IsOwn round) l.fn.workers.items → Each (IsOwnMember round) l.members.items;
 }

@@ -3,4 +3,4 @@ use Rattle.fr_crew.proofs.deques.Deque.take.Given as goal
 
 -- the place is one of a deque
 abbrev pub invariant-loop : goal.invariant-loop
-invariant-loop g l = l.at < length l.victims
+invariant-loop g l = l.at < length l.stealers
