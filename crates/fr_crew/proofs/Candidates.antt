@@ -1,12 +1,15 @@
 -- What leaves a deque is a candidate, and so are the neighbours of a node that is tried.
-use Rattle.std.proofs.Common.{◌≡◌, ℕ, ◌<◌, All, Contains, List, [], ◌∷◌, ◌++◌, arith, inl, inr, length, subst}
+use Rattle.std.proofs.Common.{◌≡◌, ℕ, ◌<◌, All, Contains, List, [], ◌∷◌, ◌++◌, arith, inl, inr, length, subst, sym}
 use lib.Seq.{take-append_seam, drop-append_seam}
-use Rattle.std.proofs.lemmas.List.Elements.{All-take, All-drop}
+use Rattle.std.proofs.lemmas.List.Elements.{All-take, All-drop, Contains-get_or}
 use Rattle.crossbeam_deque.specs.Tasks.{Takes, Pops}
 use Rattle.fr_net.proofs.Neighbours.{Points-has_link, row_entry_known, row_holds}
 use Rattle.fr_net.specs.Links.{Joins}
 use Rattle.fr_net.specs.Rows.{has_link, row}
 use Rattle.fr_net.specs.declared.rows.First.{First}
+use Rattle.fr_net.specs.declared.rows.First.TheVariants.{Outward}
+use Rattle.fr_core.specs.Machine.{neighbour_at}
+use Rattle.fr_core.proofs.RowLinks.{row_below}
 use Rattle.fr_round.specs.Knowledge.{Refuses}
 use Rattle.fr_round.specs.declared.faults.Refusal.{Refusal}
 use Rattle.fr_round.specs.declared.faults.Refusal.TheVariants.{NoNode, Destination, Alone}
@@ -35,6 +38,13 @@ row_joins n links x e stands =
       | inl out ↦ inr (Points-has_link links x e.0 out.0)
       | inr into ↦ inl (Points-has_link links e.0 x into.1)
     ]
+
+-- the entry at a place of a list that is a row
+pub entry_at : (b : Setup) (x : ℕ) (list : List (ℕ × First)) → list ≡ row b.nodes b.links x → (j : ℕ) → j < length list
+    → ((neighbour_at list j).0 < b.nodes) × Contains (row b.nodes b.links x) (neighbour_at list j)
+entry_at b x list is j =
+    subst (λ (l : List (ℕ × First)). j < length l → ((neighbour_at l j).0 < b.nodes) × Contains (row b.nodes b.links x) (neighbour_at l j)) (sym is)
+    (λ lt. (row_below b.nodes b.links x j (0, Outward) lt, Contains-get_or (row b.nodes b.links x) j (0, Outward) lt))
 
 -- a neighbour of a node is a candidate, unless it is the destination
 pub neighbour_is_candidate : (b : Setup) (x : ℕ) (e : ℕ × First) → (e.0 < b.nodes) × Contains (row b.nodes b.links x) e → ¬ (e.0 ≡ b.dest) → IsCandidate b e.0

@@ -1,9 +1,8 @@
 use Rattle.std.proofs.Common.{◌∙◌, subst, sym}
 use Rattle.fr_core.specs.Machine.{neighbour_at}
 use Rattle.fr_round.specs.declared.view.Setup.{Setup}
-use Rattle.fr_round.proofs.Calling.{entry_at}
 use Rattle.fr_crew.specs.Candidates.{IsCandidate}
-use Rattle.fr_crew.proofs.Candidates.{neighbour_is_candidate}
+use Rattle.fr_crew.proofs.Candidates.{entry_at, neighbour_is_candidate}
 use Rattle.fr_crew.proofs.deques.Deque.put_neighbours.Goals as goal
 
 pub put-requires : goal.put-requires
