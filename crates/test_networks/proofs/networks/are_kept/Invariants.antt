@@ -1,6 +1,6 @@
 use Rattle.std.proofs.Common.{take, All}
 use Rattle.fr_net.specs.Counts.{IsKept}
-use Rattle.fr_tests.proofs.networks.are_kept.Given as goal
+use Rattle.test_networks.proofs.networks.are_kept.Given as goal
 
 abbrev pub invariant-loop-tail : goal.invariant-loop-tail
 invariant-loop-tail l = All (IsKept l.counts) (take l.tail-index l.links)

@@ -1,7 +1,7 @@
 use Rattle.std.proofs.Common.{◌≡◌}
 use Rattle.fr_core.specs.Played.{HasCome}
 use Rattle.fr_core.specs.Targets.{lists_of}
-use Rattle.fr_tests.proofs.machines.step_by_hand.Given as goal
+use Rattle.test_networks.proofs.machines.step_by_hand.Given as goal
 
 abbrev pub invariant-loop-worker : goal.invariant-loop-worker
 invariant-loop-worker l =

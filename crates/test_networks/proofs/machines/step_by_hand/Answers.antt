@@ -3,8 +3,8 @@ use Rattle.std.proofs.lemmas.List.{append-nil}
 use Rattle.fr_core.specs.Played.{HasCome, MachineView}
 use Rattle.fr_core.specs.Targets.{lists_of}
 use Rattle.fr_core.specs.declared.entry.Entry.{Entry}
-use Rattle.fr_tests.proofs.machines.step_by_hand.Goals as goal
-use Rattle.fr_tests.proofs.machines.step_by_hand.Goals.{in-Some+in_ok-push, in_default}
+use Rattle.test_networks.proofs.machines.step_by_hand.Goals as goal
+use Rattle.test_networks.proofs.machines.step_by_hand.Goals.{in-Some+in_ok-push, in_default}
 
 pub loop-worker-preserved : goal.loop-worker-preserved
 loop-worker-preserved c =

@@ -1,5 +1,5 @@
 use Rattle.fr_round.specs.Knowledge.{IsOwn}
-use Rattle.fr_tests.proofs.rounds.turn_each.Given as goal
+use Rattle.test_rounds.proofs.rounds.turn_each.Given as goal
 
 abbrev pub invariant-loop-x : goal.invariant-loop-x
 invariant-loop-x l = IsOwn l.round l.worker

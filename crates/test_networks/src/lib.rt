@@ -1,0 +1,17 @@
+//! Tests of networks, request lines, the finisher, the machine and its checker (fr_net, fr_core), by public calls alone: worked
+//! examples whose values come from outside, and each call once on its happy path. They stand in a crate of their own since a
+//! crate that has tests is proved twice, with them and without.
+#![tactic(auto)]
+
+#[cfg(test)]
+mod finishing;
+#[cfg(test)]
+mod histories;
+#[cfg(test)]
+mod machines;
+#[cfg(test)]
+mod networks;
+#[cfg(test)]
+mod plain;
+#[cfg(test)]
+mod request_lines;
