@@ -1,172 +1,136 @@
-//! What no clause says: values from outside, and the plain program's answers.
+//! Counts: which are lawful, where `finish` ends, which nodes are sinks, and where a link points.
 
-use crate::plain::turn_all;
 use fr_core::{Sense, finish, is_sink, lawful, sense};
 use fr_net::{First, Net};
-use rand_core::SeedableRng;
-use rand_core::utils::NextWord;
-use rand_pcg::Lcg64Xsh32;
 use std::alloc::{AllocError, Global};
 use std::test::Fail;
 
-/// The number of turns and the counts at which `finish` ends from the counts 0; None where it may not be called.
-fn finished(alloc: Global, net: &Net, dest: u32) -> Result<Option<(u64, Vec<u64>)>, AllocError> {
+/// The number of turns and the counts at which `finish` ends from the counts 0, with destination 0.
+fn finished(alloc: Global, net: &Net) -> Result<String, AllocError> {
     let mut counts = vec![in alloc; 0u64; net.nodes() as usize]?;
-    if dest >= net.nodes() || !lawful(net, dest, &counts) {
-        return Ok(None);
+    if net.nodes() == 0 || !lawful(net, 0, &counts) {
+        return String::from_str(alloc, "not lawful");
     }
-    let turns = finish(net, dest, &mut counts);
-    Ok(Some((turns, counts)))
+    let turns = finish(net, 0, &mut counts);
+    format!(in alloc; "{turns} {counts:?}")
 }
 
+const SETTLED: &[(u32, &[(u32, u32)], &str)] = &[
+    (4, &[(0, 1), (1, 2), (2, 3)], "6 [0, 1, 2, 3]"),
+    (4, &[(1, 0), (2, 1), (3, 2)], "0 [0, 0, 0, 0]"),
+    (1, &[], "0 [0]"),
+    (4, &[(1, 0), (2, 3)], "8 [0, 0, 4, 4]"),
+    (4, &[(0, 1), (0, 2), (1, 3), (2, 3)], "4 [0, 1, 1, 2]"),
+    (4, &[(0, 1), (2, 1), (2, 3), (3, 0)], "1 [0, 1, 0, 0]"),
+    (
+        5,
+        &[(0, 1), (1, 2), (0, 3), (2, 3), (3, 4)],
+        "5 [0, 1, 1, 1, 2]",
+    ),
+    (4, &[(2, 1), (3, 2)], "12 [0, 4, 4, 4]"),
+    (4, &[(2, 1), (3, 2), (3, 0)], "3 [0, 2, 1, 0]"),
+];
+
 #[test]
-fn known_networks(rt: HostRuntime) -> Result<(), Fail> {
-    let known: [(u32, &[(u32, u32)], u64, &[u64]); 9] = [
-        (4, &[(0, 1), (1, 2), (2, 3)], 6, &[0, 1, 2, 3]),
-        (4, &[(1, 0), (2, 1), (3, 2)], 0, &[0, 0, 0, 0]),
-        (1, &[], 0, &[0]),
-        (4, &[(1, 0), (2, 3)], 8, &[0, 0, 4, 4]),
-        (4, &[(0, 1), (0, 2), (1, 3), (2, 3)], 4, &[0, 1, 1, 2]),
-        (4, &[(0, 1), (2, 1), (2, 3), (3, 0)], 1, &[0, 1, 0, 0]),
-        (
-            5,
-            &[(0, 1), (1, 2), (0, 3), (2, 3), (3, 4)],
-            5,
-            &[0, 1, 1, 1, 2],
-        ),
-        (4, &[(2, 1), (3, 2)], 12, &[0, 4, 4, 4]),
-        (4, &[(2, 1), (3, 2), (3, 0)], 3, &[0, 2, 1, 0]),
-    ];
-    for (nodes, links, turns, counts) in known {
-        let net = Net::new(rt.alloc(), nodes, links)?;
-        let plain = turn_all(rt.alloc(), &net, 0)?;
-        assert_eq!(rt; plain.0, turns, "the plain program's turns at {links:?}");
-        assert_eq!(rt;
-            plain.1.as_slice(),
-            counts,
-            "the plain program's counts at {links:?}"
-        );
-        let found = finished(rt.alloc(), &net, 0)?.ok_or("not lawful")?;
-        assert_eq!(rt; found.0, turns, "turns at {links:?}");
-        assert_eq!(rt; found.1.as_slice(), counts, "counts at {links:?}");
+fn settles_small_networks(rt: HostRuntime) -> Result<(), Fail> {
+    for (nodes, links, wanted) in SETTLED {
+        let net = Net::new(rt.alloc(), *nodes, links)?;
+        let text = finished(rt.alloc(), &net)?;
+        assert!(rt; text.as_str() == *wanted, "{links:?}: {text}");
     }
     Ok(())
 }
 
-#[test]
-fn long_chains(rt: HostRuntime) -> Result<(), Fail> {
-    for (first, turns) in [(0, 523_776), (1, 1_047_552)] {
-        let mut links = Vec::new(rt.alloc());
-        for x in first..1023u32 {
-            links.push((x, x + 1))?;
-        }
-        let net = Net::new(rt.alloc(), 1024, &links)?;
-        let plain = turn_all(rt.alloc(), &net, 0)?;
-        let found = finished(rt.alloc(), &net, 0)?.ok_or("not lawful")?;
-        assert_eq!(rt; found.0, turns, "turns of the chain from {first}");
-        assert_eq!(rt; found, plain, "the plain program on the chain from {first}");
-    }
-    Ok(())
-}
-
-/// A drawn network: each node has a drawn rank, and each drawn pair of nodes is linked from the lower rank to the higher.
-fn drawn_net(alloc: Global, rng: &mut Lcg64Xsh32) -> Result<Net, Fail> {
-    let nodes = 1 + rng.next_word() % 40;
-    let mut ranks = Vec::new(alloc);
-    for _x in 0..nodes {
-        ranks.push(rng.next_word())?;
-    }
-    let most = 1 + rng.next_word() % 8;
+/// The links of a chain of 1,024 nodes, each from `first` on with a link to the next.
+fn long_chain(alloc: Global, first: u32) -> Result<Vec<(u32, u32)>, AllocError> {
     let mut links = Vec::new(alloc);
-    for x in 0..nodes {
-        for w in x + 1..nodes {
-            if rng.next_word() % (2 * nodes) < most {
-                let rises = ranks.get(x as usize) < ranks.get(w as usize);
-                links.push(if rises { (x, w) } else { (w, x) })?;
-            }
-        }
+    for x in first..1023 {
+        links.push((x, x + 1))?;
     }
-    Ok(Net::new(alloc, nodes, &links)?)
+    Ok(links)
 }
 
 #[test]
-fn drawn_networks(rt: HostRuntime) -> Result<(), Fail> {
-    let mut rng = Lcg64Xsh32::seed_from_u64(1981);
-    let mut turns = 0u64;
-    for case in 0..60 {
-        let net = drawn_net(rt.alloc(), &mut rng)?;
-        let dest = rng.next_word() % net.nodes();
-        let plain = turn_all(rt.alloc(), &net, dest)?;
-        let found = finished(rt.alloc(), &net, dest)?.ok_or("not lawful")?;
-        assert_eq!(rt; found, plain, "case {case}");
-        turns = turns.saturating_add(found.0);
+fn settles_long_chains(rt: HostRuntime) -> Result<(), Fail> {
+    for (first, turns) in [(0, "523776 ["), (1, "1047552 [")] {
+        let net = Net::new(rt.alloc(), 1024, &long_chain(rt.alloc(), first)?)?;
+        assert!(rt; finished(rt.alloc(), &net)?.starts_with(turns), "{first}");
     }
-    assert!(rt; turns > 1000, "the draws have few turns: {turns}");
     Ok(())
 }
 
+/// Counts of five nodes, of which node 1 has no link, and whether they are lawful.
+const LAWFUL: &[(&[u64], bool)] = &[
+    (&[0, 0, 0, 0, 0], true),
+    (&[0, 0, 1, 2, 2], true),
+    (&[0, 0, 0, 1, 0], true),
+    // One count too few, and one too many.
+    (&[0, 0, 0, 0], false),
+    (&[0, 0, 0, 0, 0, 0], false),
+    // The destination and a node with no link have turned.
+    (&[1, 0, 1, 1, 1], false),
+    (&[0, 1, 0, 0, 0], false),
+    // A link is lost, and a tail has turned before its head.
+    (&[0, 0, 0, 2, 1], false),
+    (&[0, 0, 1, 0, 0], false),
+];
+
 #[test]
-fn lawful_counts(rt: HostRuntime) -> Result<(), Fail> {
-    // Node 1 has no link.
+fn tells_lawful_counts(rt: HostRuntime) -> Result<(), Fail> {
     let net = Net::new(rt.alloc(), 5, &[(0, 2), (2, 3), (4, 3)])?;
-    let cases: [(&[u64], bool, &str); 9] = [
-        (&[0, 0, 0, 0, 0], true, "zeros"),
-        (&[0, 0, 1, 2, 2], true, "settled counts"),
-        (&[0, 0, 0, 1, 0], true, "one turn"),
-        (&[0, 0, 0, 0], false, "one count too few"),
-        (&[0, 0, 0, 0, 0, 0], false, "one count too many"),
-        (&[1, 0, 1, 1, 1], false, "the destination has turned"),
-        (&[0, 1, 0, 0, 0], false, "a node with no link has turned"),
-        (&[0, 0, 0, 2, 1], false, "a link is lost"),
-        (&[0, 0, 1, 0, 0], false, "a tail has turned before its head"),
-    ];
-    for (counts, expected, case) in cases {
-        assert_eq!(rt; lawful(&net, 0, counts), expected, "{case}");
+    for (counts, wanted) in LAWFUL {
+        assert!(rt;
+            net.nodes() > 0 && lawful(&net, 0, counts) == *wanted,
+            "{counts:?}"
+        );
     }
     let pair = Net::new(rt.alloc(), 3, &[(1, 2)])?;
-    assert!(rt; lawful(&pair, 0, &[0, 3, 3]), "counts at the cap");
-    assert!(rt; !lawful(&pair, 0, &[0, 4, 4]), "counts above the cap");
+    let cap = pair.nodes() > 0 && lawful(&pair, 0, &[0, 3, 3]) && !lawful(&pair, 0, &[0, 4, 4]);
+    assert!(rt; cap);
     Ok(())
 }
 
-#[test]
-fn sinks(rt: HostRuntime) -> Result<(), Fail> {
-    // Node 4 has no link.
-    let net = Net::new(rt.alloc(), 5, &[(0, 1), (2, 1), (2, 3), (3, 0)])?;
-    let cases: [(&[u64], u32); 2] = [(&[0, 0, 0, 0, 0], 1), (&[0, 1, 0, 0, 0], 0)];
-    for (counts, sink) in cases {
-        assert!(rt; lawful(&net, 0, counts), "lawful at {counts:?}");
-        for x in 0..net.nodes() {
-            assert_eq!(rt;
-                is_sink(&net, counts, x),
-                x == sink,
-                "node {x} at {counts:?}"
-            );
+/// The nodes that are sinks at these counts, with destination 0.
+fn sinks(alloc: Global, net: &Net, counts: &[u64]) -> Result<Vec<u32>, AllocError> {
+    let mut found = Vec::new(alloc);
+    if net.nodes() == 0 || !lawful(net, 0, counts) {
+        return Ok(found);
+    }
+    for x in 0..net.nodes() {
+        if is_sink(net, counts, x) {
+            found.push(x)?;
         }
     }
-    Ok(())
+    Ok(found)
 }
 
 #[test]
-fn senses(rt: HostRuntime) {
-    let most = u64::MAX;
-    for (first, cx, cw, expected) in [
-        (First::Outward, 3, 3, Some(Sense::Outward)),
-        (First::Outward, 3, 4, Some(Sense::Inward)),
-        (First::Outward, 3, 5, None),
-        (First::Outward, 4, 3, None),
-        (First::Inward, 3, 3, Some(Sense::Inward)),
-        (First::Inward, 4, 3, Some(Sense::Outward)),
-        (First::Inward, 5, 3, None),
-        (First::Inward, 3, 4, None),
-        (First::Outward, most, most, Some(Sense::Outward)),
-        (First::Outward, most, 0, None),
-        (First::Inward, 0, most, None),
-        (First::Inward, most, most - 1, Some(Sense::Outward)),
-    ] {
-        assert_eq!(rt;
-            sense(first, cx, cw),
-            expected,
+fn tells_sinks(rt: HostRuntime) -> Result<(), Fail> {
+    // Node 4 has no link.
+    let net = Net::new(rt.alloc(), 5, &[(0, 1), (2, 1), (2, 3), (3, 0)])?;
+    let first = sinks(rt.alloc(), &net, &[0, 0, 0, 0, 0])?;
+    let then = sinks(rt.alloc(), &net, &[0, 1, 0, 0, 0])?;
+    assert!(rt; first.as_slice() == [1].as_slice() && then.as_slice() == [0].as_slice());
+    Ok(())
+}
+
+const SENSES: &[(First, u64, u64, Option<Sense>)] = &[
+    (First::Outward, 3, 3, Some(Sense::Outward)),
+    (First::Outward, 3, 4, Some(Sense::Inward)),
+    (First::Outward, 3, 5, None),
+    (First::Outward, 4, 3, None),
+    (First::Inward, 3, 3, Some(Sense::Inward)),
+    (First::Inward, 4, 3, Some(Sense::Outward)),
+    (First::Inward, 5, 3, None),
+    (First::Inward, 3, 4, None),
+    (First::Inward, 0, u64::MAX, None),
+];
+
+#[test]
+fn tells_senses(rt: HostRuntime) {
+    for (first, cx, cw, wanted) in SENSES {
+        assert!(rt;
+            sense(*first, *cx, *cw) == *wanted,
             "{first:?} at {cx} and {cw}"
         );
     }

@@ -1,6 +1,7 @@
 //! Tests of networks, request lines, the finisher, the machine and its checker (fr_net, fr_core), by public calls alone: worked
 //! examples whose values come from outside, and each call once on its happy path. They stand in a crate of their own since a
-//! crate that has tests is proved twice, with them and without.
+//! crate that has tests is proved twice, with them and without; and in tables of rows that one loop goes through, since each
+//! assertion costs more proof than a hundred rows.
 #![tactic(auto)]
 
 #[cfg(test)]
@@ -11,7 +12,5 @@ mod histories;
 mod machines;
 #[cfg(test)]
 mod networks;
-#[cfg(test)]
-mod plain;
 #[cfg(test)]
 mod request_lines;

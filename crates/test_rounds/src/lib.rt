@@ -5,4 +5,6 @@
 #[cfg(test)]
 mod crews;
 #[cfg(test)]
+mod gates;
+#[cfg(test)]
 mod rounds;

@@ -1,10 +1,13 @@
-//! Each public call on its happy path, the refusals, and threads that really run.
+//! Each public call of a round on its happy path, the refusals, workers that do not come back, and threads that really run.
 
+ghost use Rattle.std.specs.Prelude.{IfOk};
 ghost use Rattle.fr_round.specs.Knowledge.{IsOwn};
 
 use fr_core::Reply;
 use fr_net::Net;
-use fr_round::{OpenWhy, Refusal, Round, Worker};
+use fr_round::{Round, Worker};
+use std::alloc::Global;
+use std::fmt::Write;
 use std::test::*;
 use std::thread::{Threads, join};
 
@@ -13,12 +16,229 @@ fn is_shared<T: Sync>(_value: &T) {}
 
 fn is_sent<T: Send>(_value: &T) {}
 
+/// Which of two workers are handed back, and in which order.
+#[derive(Clone, Copy)]
+enum Back {
+    Both,
+    Swapped,
+    Second,
+    None,
+}
+
+/// Nodes and links with destination 0, worker and node of each call, who comes back, the replies, and what the round closes with.
+type Calls = (
+    u32,
+    &'static [(u32, u32)],
+    &'static [(u32, u32)],
+    Back,
+    &'static str,
+    &'static str,
+);
+
+const CALLS: &[Calls] = &[
+    // Two workers at one node. The second exchanges without a load, and comes too late.
+    (
+        2,
+        &[(0, 1)],
+        &[(0, 1), (1, 1), (1, 1), (1, 0), (1, 2)],
+        Back::Both,
+        "Turned { count: 1 }, Moved { had: 0, count: 1 }, Held { by: 0 }, Destination, NoNode, ",
+        "[0, 1] [(0, 1), (1, 0)]",
+    ),
+    // No count is loaded where what was seen meets all bounds: a load would have shown that the node is held.
+    (
+        4,
+        &[(0, 1), (0, 2), (1, 3), (2, 3)],
+        &[(0, 3), (1, 3), (0, 1), (1, 1), (1, 2), (0, 3)],
+        Back::Both,
+        "Turned { count: 1 }, Moved { had: 0, count: 1 }, Turned { count: 1 }, Moved { had: 0, count: 1 }, \
+            Turned { count: 1 }, Turned { count: 2 }, ",
+        "[0, 1, 1, 2] [(0, 3), (1, 1)]",
+    ),
+    // Of two neighbours that miss their bounds the lower one is named.
+    (
+        3,
+        &[(1, 0), (1, 2)],
+        &[(0, 1)],
+        Back::Both,
+        "Held { by: 0 }, ",
+        "[0, 0, 0] [(0, 0), (1, 0)]",
+    ),
+    // Node 3 has no link.
+    (
+        4,
+        &[(0, 1), (1, 2)],
+        &[(0, 1), (0, 2), (1, 1), (0, 4), (0, 0), (0, 3)],
+        Back::Both,
+        "Held { by: 2 }, Turned { count: 1 }, Turned { count: 1 }, NoNode, Destination, Alone, ",
+        "[0, 1, 1, 0] [(0, 1), (1, 1)]",
+    ),
+    // A chain settles.
+    (
+        4,
+        &[(0, 1), (1, 2), (2, 3)],
+        &[
+            (0, 3),
+            (0, 2),
+            (0, 1),
+            (0, 3),
+            (0, 2),
+            (0, 3),
+            (0, 1),
+            (0, 2),
+            (0, 3),
+        ],
+        Back::Both,
+        "Turned { count: 1 }, Turned { count: 1 }, Turned { count: 1 }, Turned { count: 2 }, Turned { count: 2 }, \
+            Turned { count: 3 }, Held { by: 0 }, Held { by: 1 }, Held { by: 2 }, ",
+        "[0, 1, 2, 3] [(0, 6), (1, 0)]",
+    ),
+    // What is not joined with the destination turns to the cap.
+    (
+        3,
+        &[(1, 2)],
+        &[
+            (0, 2),
+            (0, 1),
+            (0, 2),
+            (0, 1),
+            (0, 2),
+            (0, 1),
+            (0, 2),
+            (0, 1),
+        ],
+        Back::Both,
+        "Turned { count: 1 }, Turned { count: 1 }, Turned { count: 2 }, Turned { count: 2 }, Turned { count: 3 }, \
+            Turned { count: 3 }, Cut, Cut, ",
+        "[0, 3, 3] [(0, 6), (1, 0)]",
+    ),
+    // Workers come back in any order, or not at all.
+    (
+        2,
+        &[(0, 1)],
+        &[(0, 1)],
+        Back::Swapped,
+        "Turned { count: 1 }, ",
+        "[0, 1] [(1, 0), (0, 1)]",
+    ),
+    (
+        2,
+        &[(0, 1)],
+        &[(0, 1)],
+        Back::Second,
+        "Turned { count: 1 }, ",
+        "[0, 1] [(1, 0)]",
+    ),
+    (
+        2,
+        &[(0, 1)],
+        &[(0, 1)],
+        Back::None,
+        "Turned { count: 1 }, ",
+        "[0, 1] []",
+    ),
+];
+
+/// The two workers of a round of two, by number.
+fn opened(alloc: Global, nodes: u32, links: &[(u32, u32)]) -> Result<(Round, Worker, Worker), Fail>
+    ensures { IfOk result (λ r. IsOwn r.0 r.1 × IsOwn r.0 r.2) }
+{
+    let net = Net::new(alloc, nodes, links)?;
+    let (round, mut workers) = Round::open(alloc, net, 0, 2)?;
+    let (Some(b), Some(a)) = (workers.pop(), workers.pop()) else {
+        return Err(Fail::from("there are not two workers"));
+    };
+    Ok((round, a, b))
+}
+
+/// The replies to the calls, each of a worker and a node.
+fn replies(
+    alloc: Global,
+    round: &Round,
+    a: &mut Worker,
+    b: &mut Worker,
+    calls: &[(u32, u32)],
+) -> Result<String, Fail>
+    requires { IsOwn round.now a.old × IsOwn round.now b.old }
+    ensures { IsOwn round.now a.new × IsOwn round.now b.new }
+{
+    let mut text = String::new(alloc);
+    for (worker, node) in calls {
+        let reply = if *worker == 0 {
+            round.try_turn(a, *node)
+        } else {
+            round.try_turn(b, *node)
+        };
+        match reply {
+            Ok(reply) => write!(text, "{reply:?}, ")?,
+            Err(refusal) => write!(text, "{refusal:?}, ")?,
+        }
+    }
+    Ok(text)
+}
+
+/// The counts and turns that a round closes with where these workers come back.
+fn closed(alloc: Global, round: Round, a: Worker, b: Worker, back: Back) -> Result<String, Fail>
+    requires { IsOwn round a × IsOwn round b }
+{
+    let mut workers = Vec::with_capacity(alloc, 2)?;
+    match back {
+        Back::Both => {
+            workers.push(a)?;
+            workers.push(b)?;
+        }
+        Back::Swapped => {
+            workers.push(b)?;
+            workers.push(a)?;
+        }
+        Back::Second => workers.push(b)?,
+        Back::None => {}
+    }
+    let closed = round.close(workers);
+    Ok(format!(in alloc; "{:?} {:?}", closed.counts, closed.turned)?)
+}
+
 #[test]
-fn a_round_is_shared(rt: HostRuntime) -> Result<(), Fail> {
-    let net = Net::new(rt.alloc(), 2, &[(0, 1)])?;
-    let (round, workers) = Round::open(rt.alloc(), net, 0, 1)?;
+fn calls_of_one_thread(rt: HostRuntime) -> Result<(), Fail> {
+    for (nodes, links, calls, back, wanted, end) in CALLS {
+        let (round, mut a, mut b) = opened(rt.alloc(), *nodes, links)?;
+        let text = replies(rt.alloc(), &round, &mut a, &mut b, calls)?;
+        let after = closed(rt.alloc(), round, a, b, *back)?;
+        assert!(rt;
+            text.as_str() == *wanted && after.as_str() == *end,
+            "{text} {after}"
+        );
+    }
+    Ok(())
+}
+
+#[test]
+fn tells_what_was_opened(rt: HostRuntime) -> Result<(), Fail> {
+    let (round, a, b) = opened(rt.alloc(), 2, &[(0, 1)])?;
     is_shared(&round);
-    is_sent(&workers);
+    is_sent(&a);
+    let numbers = (
+        round.workers(),
+        round.dest(),
+        a.number(),
+        b.number(),
+        a.turned(),
+    );
+    assert!(rt; numbers == (2, 0, 0, 1, 0));
+    assert!(rt; round.net().nodes() == 2 && a.seen(1) == 0);
+    Ok(())
+}
+
+#[test]
+fn rounds_that_do_not_open(rt: HostRuntime) -> Result<(), Fail> {
+    for (dest, workers) in [(2, 1), (0, 0), (0, 17)] {
+        let net = Net::new(rt.alloc(), 2, &[(0, 1)])?;
+        let Err(fault) = Round::open(rt.alloc(), net, dest, workers) else {
+            return Err(Fail::from("a round was opened"));
+        };
+        let text = format!(in rt.alloc(); "{:?} {:?}", fault.why, fault.net.links())?;
+        assert!(rt; text.as_str() == "Range [(0, 1)]", "{text}");
+    }
     Ok(())
 }
 
@@ -33,20 +253,6 @@ fn turn_until(round: &Round, mut worker: Worker, x: u32) -> (Worker, u64)
         }
     }
     (worker, 0)
-}
-
-/// Calls on each of the nodes in order, and answers how many of the calls turned one.
-fn turn_each(round: &Round, worker: &mut Worker, nodes: &[u32]) -> u64
-    requires { IsOwn round.now worker.old }
-    ensures { IsOwn round.now worker.new }
-{
-    let mut turned = 0u64;
-    for x in nodes {
-        if let Ok(Reply::Turned { .. }) = round.try_turn(worker, *x) {
-            turned = turned.saturating_add(1);
-        }
-    }
-    turned
 }
 
 fn two_threads<R: Threads + Sync>(
@@ -73,237 +279,12 @@ fn two_threads<R: Threads + Sync>(
 
 #[test]
 fn two_threads_turn(rt: HostRuntime) -> Result<(), Fail> {
-    let net = Net::new(rt.alloc(), 3, &[(0, 1), (1, 2)])?;
-    let (round, mut workers) = Round::open(rt.alloc(), net, 0, 2)?;
-    let (Some(b), Some(a)) = (workers.pop(), workers.pop()) else {
-        return Err(Fail::from("there are not two workers"));
-    };
+    let (round, a, b) = opened(rt.alloc(), 3, &[(0, 1), (1, 2)])?;
     let ((a, first), (b, second)) = two_threads(&rt, &round, a, b);
-    assert_eq!(rt; (first, second), (1, 1));
-    assert_eq!(rt; (a.turned(), b.turned()), (1, 1));
-    workers.push(a)?;
-    workers.push(b)?;
-    let closed = round.close(workers);
-    assert_eq!(rt; closed.counts.as_slice(), [0, 1, 1].as_slice());
-    assert_eq!(rt; closed.turned.as_slice(), [(0, 1), (1, 1)].as_slice());
-    Ok(())
-}
-
-/// What the worker has seen of node `x`, if that is a node.
-fn seen_by(round: &Round, worker: &Worker, x: u32) -> Option<u64>
-    requires { IsOwn round.now worker.now }
-{
-    if x < round.net().nodes() {
-        Some(worker.seen(x))
-    } else {
-        None
-    }
-}
-
-#[test]
-fn two_workers_at_one_node(rt: HostRuntime) -> Result<(), Fail> {
-    let net = Net::new(rt.alloc(), 2, &[(0, 1)])?;
-    let (round, mut workers) = Round::open(rt.alloc(), net, 0, 2)?;
-    let (Some(mut b), Some(mut a)) = (workers.pop(), workers.pop()) else {
-        return Err(Fail::from("there are not two workers"));
-    };
-    assert_eq!(rt; round.try_turn(&mut a, 1), Ok(Reply::Turned { count: 1 }));
-    assert_eq!(rt;
-        round.try_turn(&mut b, 1),
-        Ok(Reply::Moved { had: 0, count: 1 })
+    let text = closed(rt.alloc(), round, a, b, Back::Both)?;
+    assert!(rt;
+        (first, second) == (1, 1) && text.as_str() == "[0, 1, 1] [(0, 1), (1, 1)]",
+        "{text}"
     );
-    assert_eq!(rt; seen_by(&round, &b, 1), Some(1));
-    assert_eq!(rt; round.try_turn(&mut b, 1), Ok(Reply::Held { by: 0 }));
-    assert_eq!(rt; round.try_turn(&mut b, 0), Err(Refusal::Destination));
-    assert_eq!(rt; round.try_turn(&mut b, 2), Err(Refusal::NoNode));
-    workers.push(a)?;
-    workers.push(b)?;
-    let closed = round.close(workers);
-    assert_eq!(rt; closed.counts.as_slice(), [0, 1].as_slice());
-    assert_eq!(rt; closed.turned.as_slice(), [(0, 1), (1, 0)].as_slice());
-    Ok(())
-}
-
-/// The replies `Moved` show that no count is loaded where what was seen meets all bounds: a load would have shown that the
-/// node is held.
-#[test]
-fn loads_are_left_out(rt: HostRuntime) -> Result<(), Fail> {
-    let net = Net::new(rt.alloc(), 4, &[(0, 1), (0, 2), (1, 3), (2, 3)])?;
-    let (round, mut workers) = Round::open(rt.alloc(), net, 0, 2)?;
-    let (Some(mut b), Some(mut a)) = (workers.pop(), workers.pop()) else {
-        return Err(Fail::from("there are not two workers"));
-    };
-    assert_eq!(rt; round.try_turn(&mut a, 3), Ok(Reply::Turned { count: 1 }));
-    assert_eq!(rt;
-        round.try_turn(&mut b, 3),
-        Ok(Reply::Moved { had: 0, count: 1 })
-    );
-    assert_eq!(rt; round.try_turn(&mut a, 1), Ok(Reply::Turned { count: 1 }));
-    assert_eq!(rt;
-        round.try_turn(&mut b, 1),
-        Ok(Reply::Moved { had: 0, count: 1 })
-    );
-    assert_eq!(rt; round.try_turn(&mut b, 2), Ok(Reply::Turned { count: 1 }));
-    assert_eq!(rt; round.try_turn(&mut a, 3), Ok(Reply::Turned { count: 2 }));
-    workers.push(a)?;
-    workers.push(b)?;
-    let closed = round.close(workers);
-    assert_eq!(rt; closed.counts.as_slice(), [0, 1, 1, 2].as_slice());
-    assert_eq!(rt; closed.turned.as_slice(), [(0, 3), (1, 1)].as_slice());
-    Ok(())
-}
-
-#[test]
-fn the_first_bound_that_is_missed_is_named(rt: HostRuntime) -> Result<(), Fail> {
-    let net = Net::new(rt.alloc(), 3, &[(1, 0), (1, 2)])?;
-    let (round, mut workers) = Round::open(rt.alloc(), net, 0, 1)?;
-    let Some(mut worker) = workers.pop() else {
-        return Err(Fail::from("there is no worker"));
-    };
-    assert_eq!(rt; round.try_turn(&mut worker, 1), Ok(Reply::Held { by: 0 }));
-    Ok(())
-}
-
-#[test]
-fn workers_come_back_in_any_order(rt: HostRuntime) -> Result<(), Fail> {
-    let net = Net::new(rt.alloc(), 2, &[(0, 1)])?;
-    let (round, mut workers) = Round::open(rt.alloc(), net, 0, 2)?;
-    let (Some(b), Some(mut a)) = (workers.pop(), workers.pop()) else {
-        return Err(Fail::from("there are not two workers"));
-    };
-    assert_eq!(rt; round.try_turn(&mut a, 1), Ok(Reply::Turned { count: 1 }));
-    workers.push(b)?;
-    workers.push(a)?;
-    let closed = round.close(workers);
-    assert_eq!(rt; closed.counts.as_slice(), [0, 1].as_slice());
-    assert_eq!(rt; closed.turned.as_slice(), [(1, 0), (0, 1)].as_slice());
-    Ok(())
-}
-
-#[test]
-fn the_worker_that_turned_is_missing(rt: HostRuntime) -> Result<(), Fail> {
-    let net = Net::new(rt.alloc(), 2, &[(0, 1)])?;
-    let (round, mut workers) = Round::open(rt.alloc(), net, 0, 2)?;
-    let (Some(b), Some(mut a)) = (workers.pop(), workers.pop()) else {
-        return Err(Fail::from("there are not two workers"));
-    };
-    assert_eq!(rt; round.try_turn(&mut a, 1), Ok(Reply::Turned { count: 1 }));
-    workers.push(b)?;
-    let closed = round.close(workers);
-    assert_eq!(rt; closed.counts.as_slice(), [0, 1].as_slice());
-    assert_eq!(rt; closed.turned.as_slice(), [(1, 0)].as_slice());
-    Ok(())
-}
-
-#[test]
-fn all_workers_are_missing(rt: HostRuntime) -> Result<(), Fail> {
-    let net = Net::new(rt.alloc(), 2, &[(0, 1)])?;
-    let (round, mut workers) = Round::open(rt.alloc(), net, 0, 2)?;
-    let (Some(_b), Some(mut a)) = (workers.pop(), workers.pop()) else {
-        return Err(Fail::from("there are not two workers"));
-    };
-    assert_eq!(rt; round.try_turn(&mut a, 1), Ok(Reply::Turned { count: 1 }));
-    let closed = round.close(workers);
-    assert_eq!(rt; closed.counts.as_slice(), [0, 1].as_slice());
-    assert!(rt; closed.turned.is_empty());
-    Ok(())
-}
-
-#[test]
-fn calls_of_one_thread(rt: HostRuntime) -> Result<(), Fail> {
-    let net = Net::new(rt.alloc(), 4, &[(0, 1), (1, 2)])?;
-    let (round, mut workers) = Round::open(rt.alloc(), net, 0, 2)?;
-    assert_eq!(rt;
-        (round.workers(), round.dest(), round.net().nodes()),
-        (2, 0, 4)
-    );
-    let (Some(mut b), Some(mut a)) = (workers.pop(), workers.pop()) else {
-        return Err(Fail::from("there are not two workers"));
-    };
-    assert_eq!(rt; round.try_turn(&mut a, 1), Ok(Reply::Held { by: 2 }));
-    assert_eq!(rt; round.try_turn(&mut a, 2), Ok(Reply::Turned { count: 1 }));
-    assert_eq!(rt; round.try_turn(&mut b, 1), Ok(Reply::Turned { count: 1 }));
-    assert_eq!(rt; round.try_turn(&mut a, 4), Err(Refusal::NoNode));
-    assert_eq!(rt; round.try_turn(&mut a, 0), Err(Refusal::Destination));
-    assert_eq!(rt; round.try_turn(&mut a, 3), Err(Refusal::Alone));
-    assert_eq!(rt;
-        (a.number(), b.number(), a.turned(), b.turned()),
-        (0, 1, 1, 1)
-    );
-    workers.push(b)?;
-    let closed = round.close(workers);
-    assert_eq!(rt; closed.net.links(), [(0, 1), (1, 2)].as_slice());
-    assert_eq!(rt; closed.counts.as_slice(), [0, 1, 1, 0].as_slice());
-    assert_eq!(rt; closed.turned.as_slice(), [(1, 1)].as_slice());
-    Ok(())
-}
-
-#[test]
-fn a_chain_settles(rt: HostRuntime) -> Result<(), Fail> {
-    let net = Net::new(rt.alloc(), 4, &[(0, 1), (1, 2), (2, 3)])?;
-    let (round, mut workers) = Round::open(rt.alloc(), net, 0, 1)?;
-    let Some(mut worker) = workers.pop() else {
-        return Err(Fail::from("there is no worker"));
-    };
-    assert_eq!(rt; turn_each(&round, &mut worker, &[3, 2, 1, 3, 2, 3]), 6);
-    assert_eq!(rt; round.try_turn(&mut worker, 1), Ok(Reply::Held { by: 0 }));
-    assert_eq!(rt; round.try_turn(&mut worker, 2), Ok(Reply::Held { by: 1 }));
-    assert_eq!(rt; round.try_turn(&mut worker, 3), Ok(Reply::Held { by: 2 }));
-    workers.push(worker)?;
-    let closed = round.close(workers);
-    assert_eq!(rt; closed.counts.as_slice(), [0, 1, 2, 3].as_slice());
-    assert_eq!(rt; closed.turned.as_slice(), [(0, 6)].as_slice());
-    Ok(())
-}
-
-#[test]
-fn what_is_not_joined_is_cut(rt: HostRuntime) -> Result<(), Fail> {
-    let net = Net::new(rt.alloc(), 3, &[(1, 2)])?;
-    let (round, mut workers) = Round::open(rt.alloc(), net, 0, 1)?;
-    let Some(mut worker) = workers.pop() else {
-        return Err(Fail::from("there is no worker"));
-    };
-    assert_eq!(rt;
-        round.try_turn(&mut worker, 2),
-        Ok(Reply::Turned { count: 1 })
-    );
-    assert_eq!(rt;
-        round.try_turn(&mut worker, 1),
-        Ok(Reply::Turned { count: 1 })
-    );
-    assert_eq!(rt;
-        round.try_turn(&mut worker, 2),
-        Ok(Reply::Turned { count: 2 })
-    );
-    assert_eq!(rt;
-        round.try_turn(&mut worker, 1),
-        Ok(Reply::Turned { count: 2 })
-    );
-    assert_eq!(rt;
-        round.try_turn(&mut worker, 2),
-        Ok(Reply::Turned { count: 3 })
-    );
-    assert_eq!(rt;
-        round.try_turn(&mut worker, 1),
-        Ok(Reply::Turned { count: 3 })
-    );
-    assert_eq!(rt; round.try_turn(&mut worker, 2), Ok(Reply::Cut));
-    assert_eq!(rt; round.try_turn(&mut worker, 1), Ok(Reply::Cut));
-    workers.push(worker)?;
-    let closed = round.close(workers);
-    assert_eq!(rt; closed.counts.as_slice(), [0, 3, 3].as_slice());
-    Ok(())
-}
-
-#[test]
-fn rounds_that_do_not_open(rt: HostRuntime) -> Result<(), Fail> {
-    for (dest, workers) in [(2, 1), (0, 0), (0, 17)] {
-        let net = Net::new(rt.alloc(), 2, &[(0, 1)])?;
-        let Err(fault) = Round::open(rt.alloc(), net, dest, workers) else {
-            return Err(Fail::from("a round was opened"));
-        };
-        assert_eq!(rt; fault.why, OpenWhy::Range);
-        assert_eq!(rt; fault.net.links(), [(0, 1)].as_slice());
-    }
     Ok(())
 }
