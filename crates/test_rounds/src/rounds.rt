@@ -181,18 +181,14 @@ fn replies(
 fn closed(alloc: Global, round: Round, a: Worker, b: Worker, back: Back) -> Result<String, Fail>
     requires { IsOwn round a × IsOwn round b }
 {
-    let mut workers = Vec::with_capacity(alloc, 2)?;
-    match back {
-        Back::Both => {
-            workers.push(a)?;
-            workers.push(b)?;
-        }
-        Back::Swapped => {
-            workers.push(b)?;
-            workers.push(a)?;
-        }
-        Back::Second => workers.push(b)?,
-        Back::None => {}
+    let workers = match back {
+        Back::Both => vec![in alloc; a, b]?,
+        Back::Swapped => vec![in alloc; b, a]?,
+        Back::Second => vec![in alloc; b]?,
+        Back::None => Vec::new(alloc),
+    };
+    if workers.len() > round.workers() as usize {
+        return Err(Fail::from("too many workers"));
     }
     let closed = round.close(workers);
     Ok(format!(in alloc; "{:?} {:?}", closed.counts, closed.turned)?)

@@ -1,4 +1,3 @@
-use Rattle.std.proofs.Common.{◌×◌}
 use Rattle.fr_round.specs.Knowledge.{IsOwn}
 use Rattle.test_rounds.proofs.rounds.replies.Given as goal
 
