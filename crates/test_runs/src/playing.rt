@@ -99,29 +99,35 @@ fn schedule(alloc: Global, seed: u64) -> Result<Vec<u32>, AllocError> {
     Ok(schedule)
 }
 
+/// The targets of two workers.
+fn targets(alloc: Global) -> Result<Vec<Vec<Target>>, AllocError> {
+    Ok(vec![in alloc; turns(alloc)?, turns(alloc)?]?)
+}
+
 /// The entries of a play of the schedule on the two ways.
-fn entries(alloc: Global, seed: u64) -> Result<Vec<Entry>, Fail> {
+fn entries(alloc: Global, schedule: &[u32]) -> Result<Vec<Entry>, Fail> {
     let net = Net::new(alloc, 4, &[(0, 1), (0, 2), (1, 3), (2, 3)])?;
-    let schedule = schedule(alloc, seed)?;
-    let targets = vec![in alloc; turns(alloc)?, turns(alloc)?]?;
-    Ok(play(alloc, &net, 0, targets, &schedule)?)
+    Ok(play(alloc, &net, 0, targets(alloc)?, schedule)?)
 }
 
 /// Writes the line of an entry.
 fn write_entry(text: &mut String, entry: Entry) -> Result<(), AllocError> {
-    let (k, x) = (entry.worker, entry.node);
-    match entry.reply {
-        Reply::Turned { count } => writeln!(text, "{k} {x} turned {count}"),
-        Reply::Held { by } => writeln!(text, "{k} {x} held {by}"),
-        Reply::Moved { had, count } => writeln!(text, "{k} {x} moved {had} {count}"),
-        Reply::Cut => writeln!(text, "{k} {x} cut"),
-    }
+    let (worker, node) = (entry.worker, entry.node);
+    let (word, number) = match entry.reply {
+        Reply::Turned { count } => ("turned", count),
+        Reply::Held { by } => ("held", u64::from(by)),
+        Reply::Moved { had, count } => {
+            return writeln!(text, "{worker} {node} moved {had} {count}");
+        }
+        Reply::Cut => return writeln!(text, "{worker} {node} cut"),
+    };
+    writeln!(text, "{worker} {node} {word} {number}")
 }
 
 /// How the text begins that a play of the schedule has to print: up to the links.
 fn begin_of_play(alloc: Global, seed: u64) -> Result<String, Fail> {
     let mut text = String::new(alloc);
-    for entry in entries(alloc, seed)? {
+    for entry in entries(alloc, &schedule(alloc, seed)?)? {
         write_entry(&mut text, entry)?;
     }
     text.push_str("links ")?;
@@ -133,7 +139,7 @@ fn plays_the_schedule_that_is_drawn(rt: HostRuntime) -> Result<(), Fail> {
     for seed in 0..10 {
         let begin = begin_of_play(rt.alloc(), seed)?;
         let text = play_text(rt.alloc(), &mut DIAMOND.as_bytes(), (2, seed, 100));
-        assert!(rt; text.starts_with(begin.as_bytes()), "{seed}");
+        assert!(rt; text.starts_with(begin.as_bytes()));
     }
     Ok(())
 }

@@ -1,166 +1,204 @@
-//! Sessions that answer lines and requests, and routers that open, change and are asked.
+//! A session that answers lines and one that answers requests, and a router that opens, changes and is asked.
 
 use crate::texts::check_text;
 use fr_crew::{OpenGate, Plan};
 use fr_net::{Net, read_line};
-use fr_route::{AnswerFault, Change, Router, Session};
+use fr_route::{AnswerFault, Change, RouteFault, Router, Session};
+use fr_run::{RunFault, run_end};
 use std::alloc::{AllocError, Global};
 use std::fmt::Write;
 use std::sync::Wait;
 use std::test::Fail;
 use std::thread::Threads;
 
-/// The lines of one session, each with its answer. A blank line has none.
-const LINES: &[(&str, Option<&str>)] = &[
-    (r#"["net",4,0,[[0,1],[1,2],[2,3]]]"#, Some("turned 6 cut 0")),
-    (r#"["links"]"#, Some("links 1>0 2>1 3>2")),
-    (r#"["counts"]"#, Some("counts 0 1 2 3")),
-    (r#"["hops"]"#, Some("hops here 0 1 2")),
-    ("", None),
-    (r#"["walk",3]"#, Some("walk 3 2 1 0")),
-    (r#"["cut",1,2]"#, Some("turned 8 cut 2")),
-    (" \t\r", None),
-    (r#"["add",2,0]"#, Some("turned 0 cut 0")),
+/// The lines of a session, two of them blank.
+const LINES: &[&str] = &[
+    r#"["net",4,0,[[0,1],[1,2],[2,3]]]"#,
+    r#"["links"]"#,
+    r#"["counts"]"#,
+    r#"["hops"]"#,
+    "",
+    r#"["walk",3]"#,
+    r#"["cut",1,2]"#,
+    " \t\r",
+    r#"["add",2,0]"#,
 ];
 
-/// The answer to a line, or to the request that is read from it before.
-fn answer<T: Threads + Wait + Sync>(
+/// The answers to the lines, and to the requests that are read from them. A blank line has none, and is no request.
+const ANSWERS: &str = r#"Some("turned 6 cut 0") turned 6 cut 0
+Some("links 1>0 2>1 3>2") links 1>0 2>1 3>2
+Some("counts 0 1 2 3") counts 0 1 2 3
+Some("hops here 0 1 2") hops here 0 1 2
+None
+Some("walk 3 2 1 0") walk 3 2 1 0
+Some("turned 8 cut 2") turned 8 cut 2
+None
+Some("turned 0 cut 0") turned 0 cut 0
+"#;
+
+/// Writes the answer that a session gives to a line.
+fn write_answer<T: Threads + Wait + Sync>(
     rt: &T,
     alloc: Global,
+    text: &mut String,
     session: &mut Session,
     line: &str,
-    read: bool,
-) -> Result<Option<String>, AnswerFault> {
-    let Some(plan) = Plan::new(2, 0, 1_000) else {
-        return Ok(None);
-    };
-    if !read {
-        return session.answer_line(rt, alloc, line.as_bytes(), &plan, &OpenGate);
-    }
-    match read_line(alloc, line.as_bytes()) {
-        Ok(request) => Ok(Some(session.answer(rt, alloc, &request, &plan, &OpenGate)?)),
-        Err(_) => Ok(None),
-    }
-}
-
-#[test]
-fn sessions_answer(rt: HostRuntime) -> Result<(), Fail> {
-    for read in [false, true] {
-        let mut session = Session::new();
-        for (line, wanted) in LINES {
-            let answer = answer(&rt, rt.alloc(), &mut session, line, read)?;
-            assert!(rt; answer.as_deref() == *wanted, "{line}");
-        }
-    }
+    plan: &Plan,
+) -> Result<(), Fail> {
+    let answer = session.answer_line(rt, alloc, line.as_bytes(), plan, &OpenGate)?;
+    write!(text, "{answer:?}")?;
     Ok(())
 }
 
-/// What a router is opened on and how it is then changed.
-struct Story {
-    nodes: u32,
-    dest: u32,
-    links: &'static [(u32, u32)],
-    changes: &'static [Change],
-    /// The state of the router after it is opened, and each change with the state after it.
-    told: &'static str,
+/// Writes the answer that a session gives to the request that a line is, if it is one.
+fn write_request_answer<T: Threads + Wait + Sync>(
+    rt: &T,
+    alloc: Global,
+    text: &mut String,
+    session: &mut Session,
+    line: &str,
+    plan: &Plan,
+) -> Result<(), Fail> {
+    if let Ok(request) = read_line(alloc, line.as_bytes()) {
+        let answer = session.answer(rt, alloc, &request, plan, &OpenGate)?;
+        write!(text, " {answer}")?;
+    }
+    text.push('\n')?;
+    Ok(())
 }
 
-const STORIES: &[Story] = &[
-    // A chain that points away from the destination, and a node that is alone.
-    Story {
-        nodes: 5,
-        dest: 0,
-        links: &[(0, 1), (1, 2), (2, 3)],
-        changes: &[],
-        told: "\
-Report { turned: 6, cut: 1 } 0 [(1, 0), (2, 1), (3, 2)] [0, 1, 2, 3, 0]
-Here Route([0])
-To(0) Route([1, 0])
-To(1) Route([2, 1, 0])
-To(2) Route([3, 2, 1, 0])
-CutOff CutOff
-",
-    },
-    // A chain that points home is parted, and closed again from its other end. Changes that are refused change nothing.
-    Story {
-        nodes: 4,
-        dest: 0,
-        links: &[(1, 0), (2, 1), (3, 2)],
-        changes: &[
-            Change::Cut { u: 0, v: 1 },
-            Change::Cut { u: 0, v: 2 },
-            Change::Add { u: 3, v: 0 },
-            Change::Add { u: 2, v: 2 },
-        ],
-        told: "\
-Report { turned: 0, cut: 0 } 0 [(1, 0), (2, 1), (3, 2)] [0, 0, 0, 0]
-Ok(Report { turned: 12, cut: 3 })
-Report { turned: 12, cut: 3 } 0 [(2, 1), (3, 2)] [0, 4, 4, 4]
-Err(Net(NoLink))
-Report { turned: 12, cut: 3 } 0 [(2, 1), (3, 2)] [0, 4, 4, 4]
-Ok(Report { turned: 3, cut: 0 })
-Report { turned: 3, cut: 0 } 0 [(1, 2), (2, 3), (3, 0)] [0, 2, 1, 0]
-Err(Net(SelfLink(2)))
-Report { turned: 3, cut: 0 } 0 [(1, 2), (2, 3), (3, 0)] [0, 2, 1, 0]
-Here Route([0])
-To(2) Route([1, 2, 3, 0])
-To(3) Route([2, 3, 0])
-To(0) Route([3, 0])
-",
-    },
+/// The answers of two sessions, of which one takes lines and the other requests.
+fn session_text<T: Threads + Wait + Sync>(
+    rt: &T,
+    alloc: Global,
+    plan: &Plan,
+) -> Result<String, Fail> {
+    let mut text = String::new(alloc);
+    let mut first = Session::new();
+    let mut second = Session::new();
+    for line in LINES {
+        write_answer(rt, alloc, &mut text, &mut first, line, plan)?;
+        write_request_answer(rt, alloc, &mut text, &mut second, line, plan)?;
+    }
+    Ok(text)
+}
+
+/// How a router is changed. Two of the changes are refused.
+const CHANGES: &[Change] = &[
+    Change::Cut { u: 1, v: 2 },
+    Change::Cut { u: 0, v: 2 },
+    Change::Add { u: 3, v: 0 },
+    Change::Add { u: 2, v: 2 },
 ];
 
-/// Writes the state of a router in a line.
-fn write_state(text: &mut String, router: &Router) -> Result<(), AllocError> {
+/// What each change came to, and the state before the first and behind each: the report, the destination, the links, the
+/// counts, and the next hop and the route of node 3.
+const STATES: &str = "\
+Report { turned: 6, cut: 0 } 0 [(1, 0), (2, 1), (3, 2)] [0, 1, 2, 3] To(2) Route([3, 2, 1, 0])
+Ok(Report { turned: 8, cut: 2 })
+Report { turned: 8, cut: 2 } 0 [(1, 0), (3, 2)] [0, 0, 4, 4] CutOff CutOff
+Err(Net(NoLink))
+Report { turned: 8, cut: 2 } 0 [(1, 0), (3, 2)] [0, 0, 4, 4] CutOff CutOff
+Ok(Report { turned: 1, cut: 0 })
+Report { turned: 1, cut: 0 } 0 [(1, 0), (2, 3), (3, 0)] [0, 0, 1, 0] To(0) Route([3, 0])
+Err(Net(SelfLink(2)))
+Report { turned: 1, cut: 0 } 0 [(1, 0), (2, 3), (3, 0)] [0, 0, 1, 0] To(0) Route([3, 0])
+";
+
+/// Writes the state of a router in a line, with the next hop and the route of its last node.
+fn write_state(text: &mut String, alloc: Global, router: &Router) -> Result<(), Fail> {
     let (net, dest) = (router.net(), router.dest());
-    writeln!(
+    write!(
         text,
         "{:?} {dest} {:?} {:?}",
         router.report(),
         net.links(),
         router.counts()
-    )
-}
-
-/// Writes the next hop and the route of each node, each in a line.
-fn write_routes(text: &mut String, alloc: Global, router: &Router) -> Result<(), Fail> {
-    for x in 0..router.net().nodes() {
-        writeln!(
-            text,
-            "{:?} {:?}",
-            router.next_hop(x),
-            router.walk(alloc, x)?
-        )?;
-    }
+    )?;
+    let last = net.nodes() - 1;
+    writeln!(
+        text,
+        " {:?} {:?}",
+        router.next_hop(last),
+        router.walk(alloc, last)?
+    )?;
     Ok(())
 }
 
-/// Writes what comes of a story.
-fn write_story<T: Threads + Wait + Sync>(
+/// Writes what a change came to.
+fn write_change<T: Threads + Wait + Sync>(
     rt: &T,
     alloc: Global,
     text: &mut String,
-    story: &Story,
+    router: &mut Router,
+    change: Change,
     plan: &Plan,
-) -> Result<(), Fail> {
-    let net = Net::new(alloc, story.nodes, story.links)?;
-    let mut router = Router::open(rt, alloc, net, story.dest, plan, &OpenGate)?;
-    for change in story.changes {
-        write_state(text, &router)?;
-        let end = router.change(rt, alloc, *change, plan, &OpenGate);
-        writeln!(text, "{end:?}")?;
-    }
-    write_state(text, &router)?;
-    write_routes(text, alloc, &router)
+) -> Result<(), AllocError> {
+    let end = router.change(rt, alloc, change, plan, &OpenGate);
+    writeln!(text, "{end:?}")
 }
 
-#[test]
-fn routers_open_and_change(rt: HostRuntime) -> Result<(), Fail> {
-    let plan = Plan::new(2, 0, 1_000).ok_or("no plan")?;
-    for story in STORIES {
-        let mut text = String::new(rt.alloc());
-        write_story(&rt, rt.alloc(), &mut text, story, &plan)?;
-        check_text(&rt, story.told, text.as_bytes(), story.told);
+/// What comes of a router that is opened on a chain, and of its changes.
+fn router_text<T: Threads + Wait + Sync>(
+    rt: &T,
+    alloc: Global,
+    plan: &Plan,
+) -> Result<String, Fail> {
+    let net = Net::new(alloc, 4, &[(0, 1), (1, 2), (2, 3)])?;
+    let mut router = Router::open(rt, alloc, net, 0, plan, &OpenGate)?;
+    let mut text = String::new(alloc);
+    write_state(&mut text, alloc, &router)?;
+    for change in CHANGES {
+        write_change(rt, alloc, &mut text, &mut router, *change, plan)?;
+        write_state(&mut text, alloc, &router)?;
     }
+    Ok(text)
+}
+
+/// How runs end, and faults of routers and sessions.
+fn fault_text(alloc: Global) -> Result<String, AllocError> {
+    format!(in alloc;
+        "{:?}\n{:?}\n{:?}\n{:?}\n{:?}\n{}\n{}\n{}\n{}\n{}\n",
+        run_end(&RunFault::Read),
+        run_end(&RunFault::Write),
+        run_end(&RunFault::TooLong),
+        run_end(&RunFault::Start),
+        run_end(&RunFault::Memory),
+        RouteFault::Range,
+        RouteFault::Start,
+        RouteFault::Memory,
+        AnswerFault::Start,
+        AnswerFault::Memory
+    )
+}
+
+const FAULTS: &str = r#"(1, "revroute: read fault")
+(1, "revroute: write fault")
+(1, "revroute: input too long")
+(1, "revroute: no thread")
+(1, "revroute: no memory")
+the destination is no node
+a thread could not be started
+no memory
+a thread could not be started
+no memory
+"#;
+
+#[test]
+fn sessions_and_routers_answer(rt: HostRuntime) -> Result<(), Fail> {
+    let plan = Plan::new(2, 0, 1_000).ok_or("no plan")?;
+    check_text(
+        &rt,
+        "session",
+        session_text(&rt, rt.alloc(), &plan)?.as_bytes(),
+        ANSWERS,
+    );
+    check_text(
+        &rt,
+        "router",
+        router_text(&rt, rt.alloc(), &plan)?.as_bytes(),
+        STATES,
+    );
+    check_text(&rt, "faults", fault_text(rt.alloc())?.as_bytes(), FAULTS);
     Ok(())
 }
