@@ -1,5 +1,7 @@
 //! Tests of routers, sessions, runs and plays (fr_route, fr_run, fr_play), by public calls alone: worked examples whose values come
 //! from outside, each call once on its happy path, and readers and writers that fail.
+//!
+//! Examples are rows of constants, which cost no proof, and what a call came to is told as a text, which one assertion compares.
 #![tactic(auto)]
 
 #[cfg(test)]
@@ -8,3 +10,7 @@ mod playing;
 mod routing;
 #[cfg(test)]
 mod running;
+#[cfg(test)]
+mod streams;
+#[cfg(test)]
+mod texts;

@@ -1,232 +1,145 @@
-use fr_core::{Entry, Reply, Target, check_run, play};
+//! What a play prints for small networks, and that it makes the schedule that is drawn.
+
+use crate::texts::check_text;
+use fr_core::{Entry, Reply, Target, play};
 use fr_net::Net;
 use fr_play::{Draw, play_drawn};
-use fr_run::RunFault;
 use rand_core::SeedableRng;
 use rand_core::utils::NextWord;
 use rand_pcg::Lcg64Xsh32;
 use std::alloc::{AllocError, Global};
 use std::fmt::Write as FmtWrite;
-use std::io;
 use std::io::{Read, Write};
 use std::test::Fail;
 
-/// What a play prints for an input, and how many entries it has.
-fn printed(alloc: Global, input: &[u8], draw: Draw) -> Result<(Vec<u8>, u64), RunFault> {
-    let mut reader = input;
+/// What a play prints for an input, by the numbers of a draw, and behind it what the play answers. It ends early where memory
+/// is wanting.
+pub(crate) fn play_text<R: Read>(
+    alloc: Global,
+    reader: &mut R,
+    numbers: (u32, u64, u32),
+) -> Vec<u8> {
     let mut out = Vec::new(alloc);
-    let count = play_drawn(alloc, &mut reader, &mut out, draw)?;
-    Ok((out, count))
+    if let Some(draw) = Draw::new(numbers.0, numbers.1, numbers.2) {
+        let end = play_drawn(alloc, reader, &mut out, draw);
+        let _ = writeln!(out, "{end:?}");
+    }
+    out
 }
 
-/// Inputs with the numbers of a draw, and what is printed.
-const PLAYS: &[(&str, (u32, u64, u32), &str, u64)] = &[
+/// Inputs with the numbers of a draw, and what is printed and answered.
+const PLAYS: &[(&str, (u32, u64, u32), &str)] = &[
     // The sixth step begins a third call, and decides nothing.
     (
         "[\"net\",2,0,[[0,1]]]",
         (1, 7, 6),
-        "0 1 turned 1\n0 1 held 0\nlinks 1>0\ncounts 0 1\n",
-        2,
+        "0 1 turned 1\n0 1 held 0\nlinks 1>0\ncounts 0 1\nOk(2)\n",
     ),
     // Node 1 is held by 2, and then 2 turns.
     (
         "[\"net\",3,0,[[0,1],[1,2]]]",
         (1, 0, 6),
-        "0 1 held 2\n0 2 turned 1\nlinks 0>1 2>1\ncounts 0 0 1\n",
-        2,
+        "0 1 held 2\n0 2 turned 1\nlinks 0>1 2>1\ncounts 0 0 1\nOk(2)\n",
     ),
     // No step is made.
     (
         "[\"net\",4,0,[[0,1],[0,2],[1,3],[2,3]]]",
         (3, 0, 0),
-        "links 0>1 0>2 1>3 2>3\ncounts 0 0 0 0\n",
-        0,
+        "links 0>1 0>2 1>3 2>3\ncounts 0 0 0 0\nOk(0)\n",
     ),
     // No node can be a target.
-    ("[\"net\",1,0,[]]", (2, 0, 100), "links\ncounts 0\n", 0),
+    ("[\"net\",1,0,[]]", (2, 0, 100), "links\ncounts 0\nOk(0)\n"),
     // No network, refused ones, and no JSON.
-    ("[\"links\"]", (2, 0, 100), "refused 3\n", 0),
-    ("[\"net\",2,2,[[1,0]]]", (2, 0, 100), "refused 4\n", 0),
-    ("[\"net\",2,0,[[1,0],[0,1]]]", (2, 0, 100), "refused 6\n", 0),
-    ("[\"net\",2,0,[[1,0]", (2, 0, 100), "refused 1\n", 0),
-    ("[\"fly\",1]", (2, 0, 100), "refused 2\n", 0),
-    ("", (2, 0, 100), "refused 3\n", 0),
-    (" \t\r\n\n", (2, 0, 100), "refused 3\n", 0),
+    ("[\"links\"]", (2, 0, 100), "refused 3\nOk(0)\n"),
+    ("[\"net\",2,2,[[1,0]]]", (2, 0, 100), "refused 4\nOk(0)\n"),
+    (
+        "[\"net\",2,0,[[1,0],[0,1]]]",
+        (2, 0, 100),
+        "refused 6\nOk(0)\n",
+    ),
+    ("[\"net\",2,0,[[1,0]", (2, 0, 100), "refused 1\nOk(0)\n"),
+    ("[\"fly\",1]", (2, 0, 100), "refused 2\nOk(0)\n"),
+    ("", (2, 0, 100), "refused 3\nOk(0)\n"),
+    (" \t\r\n\n", (2, 0, 100), "refused 3\nOk(0)\n"),
     // Only the first line that is not blank counts.
     (
         "\n  \n[\"net\",1,0,[]]\n[\"fly\"]\n",
         (2, 0, 100),
-        "links\ncounts 0\n",
-        0,
+        "links\ncounts 0\nOk(0)\n",
     ),
 ];
 
 #[test]
-fn plays_small_networks(rt: HostRuntime) -> Result<(), Fail> {
-    for (input, numbers, output, entries) in PLAYS {
-        match Draw::new(numbers.0, numbers.1, numbers.2) {
-            Some(draw) => {
-                let (out, count) = printed(rt.alloc(), input.as_bytes(), draw)?;
-                assert!(rt;
-                    out.as_slice() == output.as_bytes() && count == *entries,
-                    "{input}"
-                );
-            }
-            None => assert!(rt; false, "{input}"),
-        }
+fn plays_small_networks(rt: HostRuntime) {
+    for (input, numbers, wanted) in PLAYS {
+        let text = play_text(rt.alloc(), &mut input.as_bytes(), *numbers);
+        check_text(&rt, input, &text, wanted);
     }
-    Ok(())
 }
 
-/// The four links of two ways from node 0 to node 3.
-const DIAMOND: &[u8] = b"[\"net\",4,0,[[0,1],[0,2],[1,3],[2,3]]]\n";
+/// Two ways from node 0 to node 3.
+const DIAMOND: &str = "[\"net\",4,0,[[0,1],[0,2],[1,3],[2,3]]]\n";
 
-/// The entries of a play of 100 steps of two workers on the diamond, under the schedule that this test draws itself.
-fn diamond_entries(alloc: Global, net: &Net, seed: u64) -> Result<Vec<Entry>, Fail> {
+/// A hundred turns: of the nodes 1, 2 and 3, and again from the first.
+fn turns(alloc: Global) -> Result<Vec<Target>, AllocError> {
+    let mut turns = Vec::new(alloc);
+    for place in 0..100u32 {
+        turns.push(Target::Turn(place % 3 + 1))?;
+    }
+    Ok(turns)
+}
+
+/// The schedule of a hundred steps of two workers that this test draws itself.
+fn schedule(alloc: Global, seed: u64) -> Result<Vec<u32>, AllocError> {
     let mut generator = Lcg64Xsh32::seed_from_u64(seed);
     let mut schedule = Vec::new(alloc);
-    let mut targets = vec![in alloc; Vec::new(alloc), Vec::new(alloc)]?;
-    for _step in 0..34 {
-        for x in 1..4u32 {
-            targets[0].push(Target::Turn(x))?;
-            targets[1].push(Target::Turn(x))?;
-        }
-    }
-    targets[0].truncate(100);
-    targets[1].truncate(100);
     for _step in 0..100 {
         schedule.push(generator.next_word() % 2)?;
     }
-    Ok(play(alloc, net, 0, targets, &schedule)?)
+    Ok(schedule)
 }
 
-/// The text that stands for the entries and for the counts at their end.
-fn diamond_text(alloc: Global, net: &Net, entries: &[Entry]) -> Result<String, Fail> {
-    let mut text = String::new(alloc);
-    for entry in entries {
-        let (k, x) = (entry.worker, entry.node);
-        match entry.reply {
-            Reply::Turned { count } => writeln!(text, "{k} {x} turned {count}")?,
-            Reply::Held { by } => writeln!(text, "{k} {x} held {by}")?,
-            Reply::Moved { had, count } => writeln!(text, "{k} {x} moved {had} {count}")?,
-            Reply::Cut => writeln!(text, "{k} {x} cut")?,
+/// The targets of two workers.
+fn targets(alloc: Global) -> Result<Vec<Vec<Target>>, AllocError> {
+    Ok(vec![in alloc; turns(alloc)?, turns(alloc)?]?)
+}
+
+/// The entries of a play of the schedule on the two ways.
+fn entries(alloc: Global, schedule: &[u32]) -> Result<Vec<Entry>, Fail> {
+    let net = Net::new(alloc, 4, &[(0, 1), (0, 2), (1, 3), (2, 3)])?;
+    Ok(play(alloc, &net, 0, targets(alloc)?, schedule)?)
+}
+
+/// Writes the line of an entry.
+fn write_entry(text: &mut String, entry: Entry) -> Result<(), AllocError> {
+    let (worker, node) = (entry.worker, entry.node);
+    let (word, number) = match entry.reply {
+        Reply::Turned { count } => ("turned", count),
+        Reply::Held { by } => ("held", u64::from(by)),
+        Reply::Moved { had, count } => {
+            return writeln!(text, "{worker} {node} moved {had} {count}");
         }
+        Reply::Cut => return writeln!(text, "{worker} {node} cut"),
+    };
+    writeln!(text, "{worker} {node} {word} {number}")
+}
+
+/// How the text begins that a play of the schedule has to print: up to the links.
+fn begin_of_play(alloc: Global, seed: u64) -> Result<String, Fail> {
+    let mut text = String::new(alloc);
+    for entry in entries(alloc, &schedule(alloc, seed)?)? {
+        write_entry(&mut text, entry)?;
     }
-    let counts = check_run(alloc, net, 0, entries)?;
-    write!(text, "links")?;
-    for (tail, head) in net.turned_by(alloc, &counts)?.links() {
-        write!(text, " {tail}>{head}")?;
-    }
-    write!(text, "\ncounts")?;
-    for count in &counts {
-        write!(text, " {count}")?;
-    }
-    writeln!(text)?;
+    text.push_str("links ")?;
     Ok(text)
 }
 
 #[test]
 fn plays_the_schedule_that_is_drawn(rt: HostRuntime) -> Result<(), Fail> {
-    let alloc = rt.alloc();
-    let net = Net::new(alloc, 4, &[(0, 1), (0, 2), (1, 3), (2, 3)])?;
     for seed in 0..10 {
-        let entries = diamond_entries(alloc, &net, seed)?;
-        let text = diamond_text(alloc, &net, &entries)?;
-        let Some(draw) = Draw::new(2, seed, 100) else {
-            return Err(Fail::from("no draw"));
-        };
-        let (out, count) = printed(alloc, DIAMOND, draw)?;
-        assert!(rt; out.as_slice() == text.as_bytes(), "{seed}");
-        assert_eq!(rt; count, entries.len() as u64);
-    }
-    Ok(())
-}
-
-const SMALL: &[u8] = b"[\"net\",2,0,[[0,1]]]";
-
-const SMALL_TEXT: &[u8] = b"0 1 turned 1\n0 1 held 0\nlinks 1>0\ncounts 0 1\n";
-
-/// Gives what it has in one read, and fails at the next.
-#[derive(Drop)]
-struct BrokenReader<'a> {
-    rest: Option<&'a [u8]>,
-}
-
-impl Read for BrokenReader<'_> {
-    fn read(&mut self, buf: &mut [u8]) -> io::Result<usize> {
-        match self.rest.take() {
-            Some(bytes) => {
-                let count = bytes.len().min(buf.len());
-                buf[..count].copy_from_slice(&bytes[..count]);
-                Ok(count)
-            }
-            None => Err(io::Error::from(io::ErrorKind::Other)),
-        }
-    }
-}
-
-#[test]
-fn stops_where_a_read_fails(rt: HostRuntime) -> Result<(), Fail> {
-    let mut reader = BrokenReader { rest: Some(SMALL) };
-    let mut out = Vec::new(rt.alloc());
-    let Some(draw) = Draw::new(1, 7, 6) else {
-        return Err(Fail::from("no draw"));
-    };
-    let end = play_drawn(rt.alloc(), &mut reader, &mut out, draw);
-    assert!(rt; end == Err(RunFault::Read) && out.is_empty());
-    Ok(())
-}
-
-/// Takes three bytes at most, and fails once so many calls went well.
-#[derive(Drop)]
-struct BrokenWriter {
-    out: Vec<u8>,
-    good: u32,
-    flushed: bool,
-}
-
-impl Write for BrokenWriter {
-    fn write(&mut self, buf: &[u8]) -> io::Result<usize> {
-        if self.good == 0 {
-            return Err(io::Error::from(io::ErrorKind::Other));
-        }
-        self.good -= 1;
-        let count = buf.len().min(3);
-        self.out.extend_from_slice(&buf[..count])?;
-        Ok(count)
-    }
-
-    fn flush(&mut self) -> io::Result<()> {
-        if self.good == 0 {
-            return Err(io::Error::from(io::ErrorKind::Other));
-        }
-        self.flushed = true;
-        Ok(())
-    }
-}
-
-#[test]
-fn stops_where_a_write_or_the_flush_fails(rt: HostRuntime) -> Result<(), Fail> {
-    let Some(draw) = Draw::new(1, 7, 6) else {
-        return Err(Fail::from("no draw"));
-    };
-    for good in 0..20 {
-        let mut reader = SMALL;
-        let mut writer = BrokenWriter {
-            out: Vec::new(rt.alloc()),
-            good,
-            flushed: false,
-        };
-        match play_drawn(rt.alloc(), &mut reader, &mut writer, draw) {
-            Ok(count) => assert!(rt;
-                good > 15 && count == 2 && writer.flushed && writer.out.as_slice() == SMALL_TEXT
-            ),
-            Err(fault) => assert!(rt;
-                good <= 15
-                    && fault == RunFault::Write
-                    && SMALL_TEXT.starts_with(writer.out.as_slice())
-            ),
-        }
+        let begin = begin_of_play(rt.alloc(), seed)?;
+        let text = play_text(rt.alloc(), &mut DIAMOND.as_bytes(), (2, seed, 100));
+        assert!(rt; text.starts_with(begin.as_bytes()));
     }
     Ok(())
 }

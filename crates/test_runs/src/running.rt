@@ -1,35 +1,48 @@
-//! What a run writes for worked examples, that its networks are settled by threads under the gate, and what no clause says:
-//! readers and writers that fail.
+//! What a run writes for worked examples, the limits of its input, and that its networks are settled by threads under the gate.
 
+use crate::streams::MadeReader;
+use crate::texts::check_text;
 use fr_crew::{Gate, OpenGate, Plan};
-use fr_run::{RunFault, run, run_end};
+use fr_run::run;
 use std::alloc::{AllocError, Global};
-use std::io;
+use std::fmt::Write as FmtWrite;
 use std::io::{Read, Write};
 use std::sync::Wait;
 use std::sync::atomic::{AtomicBool, AtomicU64, Ordering};
 use std::test::Fail;
 use std::thread::Threads;
 
-fn plan(workers: u32, budget: u64) -> Result<Plan, Fail> {
-    Ok(Plan::new(workers, 0, budget).ok_or("no such plan")?)
-}
-
-/// What a run writes for an input, and how many lines it answers.
-fn written<T: Threads + Wait + Sync, G: Gate + Sync>(
+/// What a run writes for an input by so many workers, each with so many calls, and behind it what the run answers. It ends
+/// early where memory is wanting.
+pub(crate) fn run_text<T: Threads + Wait + Sync, R: Read, G: Gate + Sync>(
     rt: &T,
     alloc: Global,
-    input: &[u8],
-    plan: &Plan,
+    reader: &mut R,
+    numbers: (u32, u64),
     gate: &G,
-) -> Result<(Vec<u8>, u64), RunFault> {
-    let mut reader = input;
+) -> Vec<u8> {
     let mut out = Vec::new(alloc);
-    let count = run(rt, alloc, &mut reader, &mut out, plan, gate)?;
-    Ok((out, count))
+    if let Some(plan) = Plan::new(numbers.0, 0, numbers.1) {
+        let end = run(rt, alloc, reader, &mut out, &plan, gate);
+        let _ = writeln!(out, "{end:?}");
+    }
+    out
 }
 
-/// Inputs, each with its output: the small networks on which the method can be followed by hand.
+/// Numbers of workers with budgets, on which no answer depends.
+const PLANS: &[(u32, u64)] = &[
+    (1, 0),
+    (1, 2),
+    (1, 1000),
+    (3, 0),
+    (3, 2),
+    (3, 1000),
+    (16, 0),
+    (16, 2),
+    (16, 1000),
+];
+
+/// Inputs, each with its output and what the run answers: the small networks on which the method can be followed by hand.
 const SESSIONS: &[(&str, &str)] = &[
     // A chain that points away from the destination, as in examples/chain.jsonl.
     (
@@ -39,7 +52,14 @@ const SESSIONS: &[(&str, &str)] = &[
 ["hops"]
 ["walk",3]
 "#,
-        "turned 6 cut 0\nlinks 1>0 2>1 3>2\ncounts 0 1 2 3\nhops here 0 1 2\nwalk 3 2 1 0\n",
+        "\
+turned 6 cut 0
+links 1>0 2>1 3>2
+counts 0 1 2 3
+hops here 0 1 2
+walk 3 2 1 0
+Ok(5)
+",
     ),
     // A chain that points home already; its first link fails, a new one closes it from the other end, and another fails.
     (
@@ -57,7 +77,22 @@ const SESSIONS: &[(&str, &str)] = &[
 ["links"]
 ["hops"]
 "#,
-        "turned 0 cut 0\nlinks 1>0 2>1 3>2\nturned 12 cut 3\nlinks 2>1 3>2\nwalk 3 cut\nturned 3 cut 0\ncounts 0 2 1 0\nlinks 1>2 2>3 3>0\nwalk 1 2 3 0\nturned 8 cut 2\ncounts 0 4 4 0\nlinks 1>2 3>0\nhops here cut cut 0\n",
+        "\
+turned 0 cut 0
+links 1>0 2>1 3>2
+turned 12 cut 3
+links 2>1 3>2
+walk 3 cut
+turned 3 cut 0
+counts 0 2 1 0
+links 1>2 2>3 3>0
+walk 1 2 3 0
+turned 8 cut 2
+counts 0 4 4 0
+links 1>2 3>0
+hops here cut cut 0
+Ok(13)
+",
     ),
     // The tour of the README, as in examples/tour.jsonl: a link fails, a new one would close a walk, and another does not.
     (
@@ -71,7 +106,18 @@ const SESSIONS: &[(&str, &str)] = &[
 ["add",4,0]
 ["hops"]
 "#,
-        "turned 0 cut 0\nwalk 4 3 1 0\nturned 1 cut 0\nlinks 1>3 2>0 3>2 4>3\nwalk 1 3 2 0\nwalk 4 3 2 0\nrefused 7\nturned 0 cut 0\nhops here 3 0 2 0\n",
+        "\
+turned 0 cut 0
+walk 4 3 1 0
+turned 1 cut 0
+links 1>3 2>0 3>2 4>3
+walk 1 3 2 0
+walk 4 3 2 0
+refused 7
+turned 0 cut 0
+hops here 3 0 2 0
+Ok(9)
+",
     ),
     // A destination alone.
     (
@@ -80,7 +126,13 @@ const SESSIONS: &[(&str, &str)] = &[
 ["links"]
 ["counts"]
 "#,
-        "turned 0 cut 0\nwalk 0\nlinks\ncounts 0\n",
+        "\
+turned 0 cut 0
+walk 0
+links
+counts 0
+Ok(4)
+",
     ),
     // Two nodes that are cut off turn up to the cap, and their link is back where it was.
     (
@@ -89,7 +141,26 @@ const SESSIONS: &[(&str, &str)] = &[
 ["counts"]
 ["hops"]
 "#,
-        "turned 8 cut 2\nlinks 1>0 2>3\ncounts 0 0 4 4\nhops here 0 cut cut\n",
+        "\
+turned 8 cut 2
+links 1>0 2>3
+counts 0 0 4 4
+hops here 0 cut cut
+Ok(4)
+",
+    ),
+    // A chain of seven nodes that nothing joins with the destination.
+    (
+        r#"["net",8,0,[[1,2],[2,3],[3,4],[4,5],[5,6],[6,7]]]
+["counts"]
+["hops"]
+"#,
+        "\
+turned 56 cut 7
+counts 0 8 8 8 8 8 8 8
+hops here cut cut cut cut cut cut cut
+Ok(3)
+",
     ),
     // A node without links is cut off, and never turns.
     (
@@ -97,7 +168,12 @@ const SESSIONS: &[(&str, &str)] = &[
 ["walk",2]
 ["hops"]
 "#,
-        "turned 0 cut 1\nwalk 2 cut\nhops here 0 cut\n",
+        "\
+turned 0 cut 1
+walk 2 cut
+hops here 0 cut
+Ok(3)
+",
     ),
     // Two ways to the destination, as in examples/square.jsonl.
     (
@@ -106,7 +182,13 @@ const SESSIONS: &[(&str, &str)] = &[
 ["links"]
 ["walk",3]
 "#,
-        "turned 4 cut 0\ncounts 0 1 1 2\nlinks 1>0 2>0 3>1 3>2\nwalk 3 1 0\n",
+        "\
+turned 4 cut 0
+counts 0 1 1 2
+links 1>0 2>0 3>1 3>2
+walk 3 1 0
+Ok(4)
+",
     ),
     // One link on a way around has to turn.
     (
@@ -116,7 +198,14 @@ const SESSIONS: &[(&str, &str)] = &[
 ["walk",2]
 ["walk",1]
 "#,
-        "turned 1 cut 0\ncounts 0 1 0 0\nlinks 1>0 1>2 2>3 3>0\nwalk 2 3 0\nwalk 1 0\n",
+        "\
+turned 1 cut 0
+counts 0 1 0 0
+links 1>0 1>2 2>3 3>0
+walk 2 3 0
+walk 1 0
+Ok(5)
+",
     ),
     // The links come in rising order, also where some turned and some did not.
     (
@@ -126,7 +215,14 @@ const SESSIONS: &[(&str, &str)] = &[
 ["walk",2]
 ["walk",4]
 "#,
-        "turned 5 cut 0\ncounts 0 1 1 1 2\nlinks 1>0 1>2 2>3 3>0 4>3\nwalk 2 3 0\nwalk 4 3 0\n",
+        "\
+turned 5 cut 0
+counts 0 1 1 1 2
+links 1>0 1>2 2>3 3>0 4>3
+walk 2 3 0
+walk 4 3 0
+Ok(5)
+",
     ),
     // Changes that are refused, and change nothing.
     (
@@ -135,14 +231,32 @@ const SESSIONS: &[(&str, &str)] = &[
 ["add",0,1]
 ["cut",0,2]
 ["links"]
+["add",1,3]
+["add",2,2]
+["cut",0,3]
+["hops"]
 "#,
-        "turned 0 cut 0\nrefused 7\nrefused 6\nrefused 8\nlinks 1>0 2>1\n",
+        "\
+turned 0 cut 0
+refused 7
+refused 6
+refused 8
+links 1>0 2>1
+refused 4
+refused 5
+refused 8
+hops here 0 1
+Ok(9)
+",
     ),
     // Two links between two nodes are one fault, and a closed walk the other.
     (
         r#"["net",2,0,[[1,0],[0,1]]]
 "#,
-        "refused 6\n",
+        "\
+refused 6
+Ok(1)
+",
     ),
     // A later network takes the place of the one before it, and a refused one does not.
     (
@@ -152,7 +266,14 @@ const SESSIONS: &[(&str, &str)] = &[
 ["net",2,1,[[1,0]]]
 ["links"]
 "#,
-        "turned 1 cut 0\nrefused 5\nlinks 1>0\nturned 1 cut 0\nlinks 0>1\n",
+        "\
+turned 1 cut 0
+refused 5
+links 1>0
+turned 1 cut 0
+links 0>1
+Ok(5)
+",
     ),
     // One refusal does not change the next.
     (
@@ -162,7 +283,15 @@ const SESSIONS: &[(&str, &str)] = &[
 ["net",0,0,[]]
 ["net",2,2,[[1,0]]]
 ["net",3,5,[[0,1],[1,2],[2,0]]]"#,
-        "refused 5\nrefused 4\nrefused 9\nrefused 4\nrefused 4\nrefused 7\n",
+        "\
+refused 5
+refused 4
+refused 9
+refused 4
+refused 4
+refused 7
+Ok(6)
+",
     ),
     // Faults of each kind between answers, a blank line, and no byte 10 at the end.
     (
@@ -176,54 +305,97 @@ const SESSIONS: &[(&str, &str)] = &[
 ["fly",1]
 []
 ["walk",1]"#,
-        "refused 3\nrefused 1\nturned 0 cut 0\nrefused 4\nrefused 2\nrefused 2\nrefused 2\nrefused 2\nwalk 1 0\n",
+        "\
+refused 3
+refused 1
+turned 0 cut 0
+refused 4
+refused 2
+refused 2
+refused 2
+refused 2
+walk 1 0
+Ok(9)
+",
+    ),
+    // Requests before there is a network, and lines that are refused whatever there is.
+    (
+        r#"["links"]
+["counts"]
+["hops"]
+["walk",0]
+["cut",0,1]
+["add",0,1]
+["links"] x
+["links",1]
+["net",2,0,[[1,0,0]]]
+["net",4294967296,0,[]]
+["net",4294967295,0,[]]
+"#,
+        "\
+refused 3
+refused 3
+refused 3
+refused 3
+refused 3
+refused 3
+refused 1
+refused 2
+refused 2
+refused 2
+refused 9
+Ok(11)
+",
+    ),
+    // Blank lines have no answer, as in examples/refused.jsonl.
+    (
+        "[\"links\"]\n[\"net\",2,0,[[1,0]\n\n \t\r\n[\"net\",2,0,[[1,0]]]\n[\"fly\",1]\n[]\n[\"net\",3,0,[[0,1],[1,2],[2,0]]]\n[\"links\"]",
+        "\
+refused 3
+refused 1
+turned 0 cut 0
+refused 2
+refused 2
+refused 7
+links 1>0
+Ok(7)
+",
     ),
     // No input has no output.
-    ("", ""),
+    ("", "Ok(0)\n"),
 ];
 
 #[test]
-fn answers_small_networks(rt: HostRuntime) -> Result<(), Fail> {
-    for (workers, budget) in [(1, 0), (3, 2), (16, 1000)] {
-        let plan = plan(workers, budget)?;
-        for (input, output) in SESSIONS {
-            let (out, count) = written(&rt, rt.alloc(), input.as_bytes(), &plan, &OpenGate)?;
-            assert!(rt; out.as_slice() == output.as_bytes(), "{input}");
-            let lines = output.as_bytes().iter().filter(|b| **b == b'\n').count();
-            assert!(rt; count == lines as u64, "{input}");
+fn answers_small_networks(rt: HostRuntime) {
+    for numbers in PLANS {
+        for (input, wanted) in SESSIONS {
+            let text = run_text(&rt, rt.alloc(), &mut input.as_bytes(), *numbers, &OpenGate);
+            check_text(&rt, input, &text, wanted);
         }
     }
-    Ok(())
 }
 
-/// Lines that are refused, each with its answer.
-const REFUSALS: &[(&str, &str)] = &[
-    (r#"["net",2,0,[[1,0]"#, "refused 1\n"),
-    (r#"["links"] x"#, "refused 1\n"),
-    (r#"["links",1]"#, "refused 2\n"),
-    (r#"["fly",1]"#, "refused 2\n"),
-    ("[]", "refused 2\n"),
-    (r#"["net",2,0,[[1,0,0]]]"#, "refused 2\n"),
-    (r#"["net",4294967296,0,[]]"#, "refused 2\n"),
-    (r#"["links"]"#, "refused 3\n"),
-    (r#"["counts"]"#, "refused 3\n"),
-    (r#"["hops"]"#, "refused 3\n"),
-    (r#"["walk",0]"#, "refused 3\n"),
-    (r#"["cut",0,1]"#, "refused 3\n"),
-    (r#"["add",0,1]"#, "refused 3\n"),
-    (r#"["net",4294967295,0,[]]"#, "refused 9\n"),
+/// Inputs of one byte so often, and then of another, each with its output: lines that nest as deep as they may and deeper, one
+/// that is no UTF-8, many blank ones, and an input that is as long as it may be and one that is longer.
+const MADE: &[((u8, usize), (u8, usize), &str)] = &[
+    ((b'[', 127), (b']', 127), "refused 2\nOk(1)\n"),
+    ((b'[', 128), (b']', 128), "refused 1\nOk(1)\n"),
+    ((b'[', 200), (b']', 200), "refused 1\nOk(1)\n"),
+    ((255, 1), (b'\n', 65_536), "refused 1\nOk(1)\n"),
+    ((255, 16_777_200), (b'\n', 16), "refused 1\nOk(1)\n"),
+    ((b'\n', 16_777_200), (b'\n', 17), "Err(TooLong)\n"),
 ];
 
 #[test]
-fn refuses_lines(rt: HostRuntime) -> Result<(), Fail> {
-    let plan = plan(1, 0)?;
-    for (line, answer) in REFUSALS {
-        let (out, count) = written(&rt, rt.alloc(), line.as_bytes(), &plan, &OpenGate)?;
-        assert!(rt; out.as_slice() == answer.as_bytes() && count == 1, "{line}");
+fn bounds_the_input(rt: HostRuntime) {
+    for (first, second, wanted) in MADE {
+        let mut reader = MadeReader {
+            first: *first,
+            second: *second,
+        };
+        let text = run_text(&rt, rt.alloc(), &mut reader, (1, 0), &OpenGate);
+        check_text(&rt, wanted, &text, wanted);
     }
-    let (out, count) = written(&rt, rt.alloc(), &[255], &plan, &OpenGate)?;
-    assert!(rt; out.as_slice() == b"refused 1\n".as_slice() && count == 1);
-    Ok(())
 }
 
 /// The longest that the gate holds a worker, in turns of a loop.
@@ -238,6 +410,26 @@ struct HoldingGate {
     reached: AtomicBool,
     before: AtomicU64,
     after: AtomicU64,
+}
+
+impl HoldingGate {
+    fn new(held: u32, until: u32) -> HoldingGate {
+        HoldingGate {
+            held,
+            until,
+            answered: AtomicBool::new(false),
+            reached: AtomicBool::new(false),
+            before: AtomicU64::new(0),
+            after: AtomicU64::new(0),
+        }
+    }
+
+    /// Whether the limit was not reached, and at least four calls passed.
+    fn is_passed(&self) -> bool {
+        !self.reached.load(Ordering::SeqCst)
+            && self.before.load(Ordering::SeqCst) >= 4
+            && self.after.load(Ordering::SeqCst) >= 4
+    }
 }
 
 impl Gate for HoldingGate {
@@ -262,250 +454,60 @@ impl Gate for HoldingGate {
     }
 }
 
+const SQUARE: &[u8] = b"[\"net\",4,0,[[0,1],[0,2],[1,3],[2,3]]]";
+
 #[test]
-fn settles_by_threads_under_the_gate(rt: HostRuntime) -> Result<(), Fail> {
+fn settles_by_threads_under_the_gate(rt: HostRuntime) {
     for (held, until) in [(0, 1), (1, 0)] {
-        let gate = HoldingGate {
-            held,
-            until,
-            answered: AtomicBool::new(false),
-            reached: AtomicBool::new(false),
-            before: AtomicU64::new(0),
-            after: AtomicU64::new(0),
-        };
-        let line = b"[\"net\",4,0,[[0,1],[0,2],[1,3],[2,3]]]".as_slice();
-        let (out, _) = written(&rt, rt.alloc(), line, &plan(2, 1000)?, &gate)?;
-        assert!(rt; out.as_slice() == b"turned 4 cut 0\n".as_slice());
-        assert!(rt; !gate.reached.load(Ordering::SeqCst));
-        assert!(rt; gate.before.load(Ordering::SeqCst) >= 4);
-        assert!(rt; gate.after.load(Ordering::SeqCst) >= 4);
-    }
-    Ok(())
-}
-
-/// A line of so many opening and then as many closing square brackets.
-fn brackets(alloc: Global, deep: usize) -> Result<Vec<u8>, AllocError> {
-    let mut line = vec![in alloc; b'['; deep]?;
-    for _ in 0..deep {
-        line.push(b']')?;
-    }
-    Ok(line)
-}
-
-#[test]
-fn bounds_the_nesting(rt: HostRuntime) -> Result<(), Fail> {
-    for (deep, answer) in [
-        (127, b"refused 2\n".as_slice()),
-        (128, b"refused 1\n".as_slice()),
-        (200, b"refused 1\n".as_slice()),
-    ] {
-        let line = brackets(rt.alloc(), deep)?;
-        let (out, _) = written(&rt, rt.alloc(), &line, &plan(1, 0)?, &OpenGate)?;
-        assert!(rt; out.as_slice() == answer, "{deep}");
-    }
-    Ok(())
-}
-
-/// A session with faults of each kind between its answers, blank lines, and no byte 10 at its end, as in
-/// examples/refused.jsonl.
-const SESSION: &[u8] =
-    b"[\"links\"]\n[\"net\",2,0,[[1,0]\n\n \t\r\n[\"net\",2,0,[[1,0]]]\n[\"fly\",1]\n[]\n[\"net\",3,0,[[0,1],[1,2],[2,0]]]\n[\"links\"]";
-
-const ANSWERS: &[u8] =
-    b"refused 3\nrefused 1\nturned 0 cut 0\nrefused 2\nrefused 2\nrefused 7\nlinks 1>0\n";
-
-#[test]
-fn passes_over_blank_lines(rt: HostRuntime) -> Result<(), Fail> {
-    let (out, count) = written(&rt, rt.alloc(), SESSION, &plan(1, 0)?, &OpenGate)?;
-    assert_eq!(rt; out.as_slice(), ANSWERS);
-    assert_eq!(rt; count, 7);
-    Ok(())
-}
-
-/// A net line of 1,024 nodes with destination 0 and the links from each node from `start` on to the next.
-fn long_chain(alloc: Global, start: u32) -> Result<String, AllocError> {
-    let mut line = String::from_str(alloc, "[\"net\",1024,0,[")?;
-    for tail in start..1023 {
-        if tail > start {
-            line.push(',')?;
-        }
-        let head = tail.wrapping_add(1);
-        line.push_str(format!(in alloc; "[{tail},{head}]")?.as_str())?;
-    }
-    line.push_str("]]")?;
-    Ok(line)
-}
-
-#[test]
-fn settles_the_longest_chain(rt: HostRuntime) -> Result<(), Fail> {
-    for (start, answer) in [
-        (0, b"turned 523776 cut 0\n".as_slice()),
-        (1, b"turned 1047552 cut 1023\n".as_slice()),
-    ] {
-        let mut input = long_chain(rt.alloc(), start)?;
-        input.push_str("\n[\"links\"]\n[\"counts\"]\n[\"hops\"]\n")?;
-        let (first, _) = written(&rt, rt.alloc(), input.as_bytes(), &plan(1, 0)?, &OpenGate)?;
-        assert!(rt; first.starts_with(answer), "from {start}");
-        for workers in [1, 2, 8] {
-            let (out, _) = written(
-                &rt,
-                rt.alloc(),
-                input.as_bytes(),
-                &plan(workers, 20_000)?,
-                &OpenGate,
-            )?;
-            assert!(rt; out == first, "from {start} by {workers}");
-        }
-    }
-    Ok(())
-}
-
-fn newlines(alloc: Global, count: usize) -> Result<Vec<u8>, AllocError> {
-    vec![in alloc; b'\n'; count]
-}
-
-#[test]
-fn bounds_the_input(rt: HostRuntime) -> Result<(), Fail> {
-    let long = newlines(rt.alloc(), 16_777_217)?;
-    let Some((_, most)) = long.split_last() else {
-        return Err(Fail::from("no bytes"));
-    };
-    let plan = plan(1, 0)?;
-    let (out, count) = written(&rt, rt.alloc(), most, &plan, &OpenGate)?;
-    assert!(rt; out.is_empty() && count == 0);
-    let mut reader = long.as_slice();
-    let mut out = Vec::new(rt.alloc());
-    let end = run(&rt, rt.alloc(), &mut reader, &mut out, &plan, &OpenGate);
-    assert!(rt; end == Err(RunFault::TooLong));
-    assert!(rt; out.is_empty());
-    Ok(())
-}
-
-/// Gives one byte at a time, and fails once so many reads went well.
-#[derive(Drop)]
-struct SlowReader<'a> {
-    rest: &'a [u8],
-    good: u32,
-}
-
-impl Read for SlowReader<'_> {
-    fn read(&mut self, buf: &mut [u8]) -> io::Result<usize> {
-        if self.good == 0 {
-            return Err(io::Error::from(io::ErrorKind::Other));
-        }
-        self.good -= 1;
-        match (self.rest.split_first(), buf.first_mut()) {
-            (Some((byte, after)), Some(place)) => {
-                *place = *byte;
-                self.rest = after;
-                Ok(1)
-            }
-            _ => Ok(0),
-        }
+        let gate = HoldingGate::new(held, until);
+        let mut reader = SQUARE;
+        let text = run_text(&rt, rt.alloc(), &mut reader, (2, 1000), &gate);
+        check_text(&rt, "under the gate", &text, "turned 4 cut 0\nOk(1)\n");
+        assert!(rt; gate.is_passed());
     }
 }
 
-#[test]
-fn stops_where_a_read_fails(rt: HostRuntime) -> Result<(), Fail> {
-    let reads = SESSION.len() as u32 + 1;
-    for good in 0..=reads {
-        let mut reader = SlowReader {
-            rest: SESSION,
-            good,
-        };
-        let mut out = Vec::new(rt.alloc());
-        match run(
-            &rt,
-            rt.alloc(),
-            &mut reader,
-            &mut out,
-            &plan(1, 0)?,
+/// How net lines begin that have a link from each node to the next, of all 1,024 nodes and of all but the destination, and how
+/// the answers to them begin.
+const CHAINS: &[(&str, &str)] = &[
+    ("[\"net\",1024,0,[[0,1],[1,2]", "turned 523776 cut 0\n"),
+    ("[\"net\",1024,0,[[1,2]", "turned 1047552 cut 1023\n"),
+];
+
+/// An input of a net line that begins so and goes on with the links from each node to the next, and of the questions.
+fn long_chain(alloc: Global, begin: &str) -> Result<String, AllocError> {
+    let mut input = String::from_str(alloc, begin)?;
+    for tail in 2..1023u32 {
+        let head = tail + 1;
+        write!(input, ",[{tail},{head}]")?;
+    }
+    input.push_str("]]\n[\"links\"]\n[\"counts\"]\n[\"hops\"]\n")?;
+    Ok(input)
+}
+
+/// Whether runs of an input by 1, 2 and 8 workers write what one writes that settles all by one search, and it begins so.
+fn plans_agree<T: Threads + Wait + Sync>(rt: &T, alloc: Global, input: &str, begin: &str) -> bool {
+    let first = run_text(rt, alloc, &mut input.as_bytes(), (1, 0), &OpenGate);
+    for workers in [1, 2, 8] {
+        if run_text(
+            rt,
+            alloc,
+            &mut input.as_bytes(),
+            (workers, 20_000),
             &OpenGate,
-        ) {
-            Ok(count) => assert!(rt; good == reads && count == 7 && out.as_slice() == ANSWERS),
-            Err(fault) => assert!(rt; good < reads && fault == RunFault::Read && out.is_empty()),
+        ) != first
+        {
+            return false;
         }
     }
-    Ok(())
-}
-
-/// Takes three bytes at most. Once so many calls went well it fails, or takes none.
-#[derive(Drop)]
-struct NarrowWriter {
-    out: Vec<u8>,
-    good: u32,
-    fails: bool,
-    flushed: bool,
-}
-
-impl Write for NarrowWriter {
-    fn write(&mut self, buf: &[u8]) -> io::Result<usize> {
-        if self.good == 0 {
-            return if self.fails {
-                Err(io::Error::from(io::ErrorKind::Other))
-            } else {
-                Ok(0)
-            };
-        }
-        self.good -= 1;
-        let count = buf.len().min(3);
-        self.out.extend_from_slice(&buf[..count])?;
-        Ok(count)
-    }
-
-    fn flush(&mut self) -> io::Result<()> {
-        if self.good == 0 && self.fails {
-            return Err(io::Error::from(io::ErrorKind::Other));
-        }
-        self.flushed = true;
-        Ok(())
-    }
+    first.starts_with(begin.as_bytes())
 }
 
 #[test]
-fn stops_where_a_write_fails(rt: HostRuntime) -> Result<(), Fail> {
-    for fails in [false, true] {
-        for good in 0..40 {
-            let mut reader = SESSION;
-            let mut writer = NarrowWriter {
-                out: Vec::new(rt.alloc()),
-                good,
-                fails,
-                flushed: false,
-            };
-            match run(
-                &rt,
-                rt.alloc(),
-                &mut reader,
-                &mut writer,
-                &plan(1, 0)?,
-                &OpenGate,
-            ) {
-                Ok(count) => assert!(rt;
-                    count == 7 && writer.flushed && writer.out.as_slice() == ANSWERS
-                ),
-                Err(fault) => assert!(rt;
-                    !writer.flushed
-                        && fault == RunFault::Write
-                        && ANSWERS.starts_with(writer.out.as_slice())
-                ),
-            }
-            let done = writer.out.as_slice() == ANSWERS;
-            assert!(rt; done || good < 30, "after {good} calls");
-        }
+fn settles_the_longest_chains(rt: HostRuntime) -> Result<(), Fail> {
+    for (begin, answer) in CHAINS {
+        let input = long_chain(rt.alloc(), begin)?;
+        assert!(rt; plans_agree(&rt, rt.alloc(), &input, answer), "{answer}");
     }
     Ok(())
-}
-
-#[test]
-fn tells_how_a_run_ended(rt: HostRuntime) {
-    for (fault, text) in [
-        (RunFault::Read, "revroute: read fault"),
-        (RunFault::Write, "revroute: write fault"),
-        (RunFault::TooLong, "revroute: input too long"),
-        (RunFault::Start, "revroute: no thread"),
-        (RunFault::Memory, "revroute: no memory"),
-    ] {
-        assert!(rt; run_end(&fault) == (1, text));
-    }
 }

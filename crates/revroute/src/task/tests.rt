@@ -1,126 +1,99 @@
 use super::*;
 use std::test::Fail;
 
-/// The task that the words ask for, behind the program's name.
-fn asked_task(alloc: Global, words: &'static [&'static str]) -> Result<Task, TaskFault> {
-    task_of(alloc, words)
-}
-
-static RUN: [&str; 2] = ["revroute", "run"];
-
-static RUN_WITH_ALL: [&str; 8] = [
-    "revroute",
-    "run",
-    "--workers",
-    "3",
-    "--seed",
-    "5",
-    "--budget",
-    "7",
-];
-
-static PLAY: [&str; 2] = ["revroute", "play"];
-
-static PLAY_WITH_ALL: [&str; 6] = [
-    "revroute",
-    "play",
-    "--seed=18446744073709551615",
-    "--steps=10000",
-    "--workers",
-    "16",
-];
-
-#[test]
-fn reads_tasks(rt: HostRuntime) -> Result<(), Fail> {
-    let alloc = rt.alloc();
-    let runs = [
-        (RUN.as_slice(), Plan::new(4, 0, 1_000_000)),
-        (RUN_WITH_ALL.as_slice(), Plan::new(3, 5, 7)),
-    ];
-    for (words, plan) in runs {
-        assert_eq!(rt; Some(asked_task(alloc, words)?), plan.map(Task::Run));
-    }
-    let plays = [
-        (PLAY.as_slice(), Draw::new(2, 0, 100)),
-        (PLAY_WITH_ALL.as_slice(), Draw::new(16, u64::MAX, 10_000)),
-    ];
-    for (words, draw) in plays {
-        assert_eq!(rt; Some(asked_task(alloc, words)?), draw.map(Task::Play));
-    }
-    Ok(())
-}
-
-static NO_WORDS: [&str; 1] = ["revroute"];
-
-static NO_WORKERS: [&str; 4] = ["revroute", "run", "--workers", "0"];
-
-static MANY_WORKERS: [&str; 4] = ["revroute", "run", "--workers", "17"];
-
-static MANY_STEPS: [&str; 4] = ["revroute", "play", "--steps", "10001"];
-
-static MUCH_BUDGET: [&str; 4] = ["revroute", "run", "--budget", "1000000001"];
-
-static ANOTHER_WORD: [&str; 2] = ["revroute", "fly"];
-
-#[test]
-fn refuses_wrong_words(rt: HostRuntime) -> Result<(), Fail> {
-    for words in [
-        NO_WORDS.as_slice(),
-        NO_WORKERS.as_slice(),
-        MANY_WORKERS.as_slice(),
-        MANY_STEPS.as_slice(),
-        MUCH_BUDGET.as_slice(),
-        ANOTHER_WORD.as_slice(),
-    ] {
-        match asked_task(rt.alloc(), words) {
-            Ok(_) => assert!(rt; false, "{words:?}"),
-            Err(fault) => {
-                let (status, text) = task_end(&fault);
-                assert!(rt; status == 2 && text.contains("try '--help'"), "{words:?}");
-            }
+/// What the words come to: the task, or the exit status and the text.
+fn told(alloc: Global, words: &'static [&'static str]) -> Result<String, AllocError> {
+    match task_of(alloc, words) {
+        Ok(task) => format!(in alloc; "{task:?}"),
+        Err(fault) => {
+            let (status, text) = task_end(&fault);
+            format!(in alloc; "{status} {text}")
         }
     }
-    Ok(())
 }
 
-static HELP: [&str; 2] = ["revroute", "--help"];
+/// Words behind the program's name, with how the text begins that tells what they come to, what it holds, and how it ends.
+const ROWS: &[(&[&str], &str, &str, &str)] = &[
+    // Tasks, with no option and with all.
+    (
+        &["revroute", "run"],
+        "Run(Plan { workers: 4, seed: 0, budget: 1000000 })",
+        "",
+        "",
+    ),
+    (
+        &[
+            "revroute",
+            "run",
+            "--workers",
+            "3",
+            "--seed",
+            "5",
+            "--budget",
+            "7",
+        ],
+        "Run(Plan { workers: 3, seed: 5, budget: 7 })",
+        "",
+        "",
+    ),
+    (
+        &["revroute", "play"],
+        "Play(Draw { workers: 2, seed: 0, steps: 100 })",
+        "",
+        "",
+    ),
+    (
+        &[
+            "revroute",
+            "play",
+            "--seed=18446744073709551615",
+            "--steps=10000",
+            "--workers",
+            "16",
+        ],
+        "Play(Draw { workers: 16, seed: 18446744073709551615, steps: 10000 })",
+        "",
+        "",
+    ),
+    // Wrong words.
+    (&["revroute"], "2 ", "try '--help'", ""),
+    (&["revroute", "run", "--workers", "0"], "2 ", "try '--help'", ""),
+    (&["revroute", "run", "--workers", "17"], "2 ", "try '--help'", ""),
+    (&["revroute", "play", "--steps", "10001"], "2 ", "try '--help'", ""),
+    (&["revroute", "run", "--budget", "1000000001"], "2 ", "try '--help'", ""),
+    (&["revroute", "fly"], "2 ", "try '--help'", ""),
+    // Help.
+    (
+        &["revroute", "--help"],
+        "0 Keeps a network of directed links free of loops",
+        "Print help",
+        "revroute run < requests > answers",
+    ),
+    (
+        &["revroute", "run", "--help"],
+        "0 Answers requests",
+        "How many workers turn the network, 1 to 16 [default: 4]",
+        "| revroute run --workers 2",
+    ),
+    (
+        &["revroute", "help", "play"],
+        "0 Plays a drawn schedule",
+        "How many steps are made, 0 to 10000 [default: 100]",
+        "| revroute play --workers 1 --seed 7 --steps 6",
+    ),
+];
 
-static HELP_OF_RUN: [&str; 3] = ["revroute", "run", "--help"];
-
-static HELP_OF_PLAY: [&str; 3] = ["revroute", "help", "play"];
+/// Whether a text begins, goes on and ends so.
+fn fits(text: &str, begin: &str, middle: &str, end: &str) -> bool {
+    text.starts_with(begin) && text.contains(middle) && text.trim_end().ends_with(end)
+}
 
 #[test]
-fn helps_where_asked(rt: HostRuntime) -> Result<(), Fail> {
-    for (words, about, option, example) in [
-        (
-            HELP.as_slice(),
-            "Keeps a network of directed links free of loops",
-            "Print help",
-            "revroute run < requests > answers",
-        ),
-        (
-            HELP_OF_RUN.as_slice(),
-            "Answers requests",
-            "How many workers turn the network, 1 to 16 [default: 4]",
-            "| revroute run --workers 2",
-        ),
-        (
-            HELP_OF_PLAY.as_slice(),
-            "Plays a drawn schedule",
-            "How many steps are made, 0 to 10000 [default: 100]",
-            "| revroute play --workers 1 --seed 7 --steps 6",
-        ),
-    ] {
-        match asked_task(rt.alloc(), words) {
-            Ok(_) => assert!(rt; false, "{words:?}"),
-            Err(fault) => {
-                let (status, text) = task_end(&fault);
-                assert!(rt; status == 0 && text.starts_with(about), "{words:?}");
-                assert!(rt; text.contains(option), "{words:?}");
-                assert!(rt; text.trim_end().ends_with(example), "{words:?}");
-            }
-        }
+fn tells_tasks_faults_and_help(rt: HostRuntime) -> Result<(), Fail> {
+    for (words, begin, middle, end) in ROWS {
+        let text = told(rt.alloc(), words)?;
+        assert!(rt; fits(&text, begin, middle, end), "{words:?}: {text}");
     }
-    assert_eq!(rt; task_end(&TaskFault::Memory), (1, "revroute: no memory"));
+    assert!(rt; task_end(&TaskFault::Memory) == (1, "revroute: no memory"));
     Ok(())
 }
