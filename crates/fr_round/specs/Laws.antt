@@ -7,8 +7,9 @@ use Rattle.fr_net.specs.Rows.{row}
 use Rattle.fr_net.specs.declared.rows.First.{First}
 use Rattle.fr_net.specs.declared.rows.First.TheVariants.{Outward, Inward}
 use Rattle.fr_core.specs.History.{part}
-use Rattle.fr_core.specs.Machine.{Outcome, WorkerState, all_but_first, outcome, neighbour_at}
+use Rattle.fr_core.specs.Machine.{Outcome, WorkerState, all_but_first, outcome, neighbour_at, phase_unheld}
 use Rattle.fr_core.specs.Runs.{IsRunTo}
+use Rattle.fr_core.specs.Targets.{node_of}
 use Rattle.fr_core.specs.declared.entry.Entry.{Entry}
 use Rattle.fr_core.specs.declared.entry.Reply.{Reply}
 use Rattle.fr_core.specs.declared.targets.Target.{Target}
@@ -87,23 +88,23 @@ pub record ComesToTheSame (v w : View) (words : List ℕ) (targets : List Target
 abbrev pub OwnLoadIsTheMachines : Type 0
 OwnLoadIsTheMachines = (s : Step (Unit {0})) (me me' : Me (Unit {0}) View) (found : ℕ) (first : List (ℕ × ℕ)) (words : List ℕ) (rest : List Target) → slice_index words s.word ≡ found
     → own_loaded s me found me'
-    → ComesToTheSame me.0 me'.0 words (Turn s.word ∷ rest) (Looking me'.0.node me'.0.count 0) (outcome me.0.setup.nodes first words (Turn s.word ∷ rest) Idle)
+    → ComesToTheSame me.0 me'.0 words (Turn s.word ∷ rest) (Looking (Turn me'.0.node) me'.0.count 0) (outcome me.0.setup.nodes first words (Turn s.word ∷ rest) Idle)
 
 -- how far the bound of a neighbour is above the own count
 abbrev pub more_of : First → ℕ
 more_of Outward = 1
 more_of Inward = 0
 
--- the phase once neighbour j of a row met its bound: the next neighbour, and after the last one the exchange
-abbrev pub phase_past : List (ℕ × First) → ℕ → ℕ → ℕ → Phase
-phase_past neighbours x c j = if j + 1 == length neighbours then Swapping x c else Looking x c (j + 1)
+-- the phase once neighbour j of a row met its bound: the next neighbour, and after the last one the step that ends the call
+abbrev pub phase_past : List (ℕ × First) → Target → ℕ → ℕ → Phase
+phase_past neighbours t c j = if j + 1 == length neighbours then phase_unheld t c else Looking t c (j + 1)
 
--- the load of a neighbour's count is the machine's load of it: the words stay, and where nothing is decided the machine goes
--- past this neighbour, with the node and the count of the view
+-- the load of a neighbour's count is the machine's load of it, in a turn and in a look: the words stay, and where nothing is
+-- decided the machine goes past this neighbour, with the node and the count of the view
 abbrev pub NeighbourLoadIsTheMachines : Type 0
-NeighbourLoadIsTheMachines = (s : Step (Unit {0})) (me me' : Me (Unit {0}) View) (found j : ℕ) (f : First) (first : List (ℕ × ℕ)) (words : List ℕ) (targets : List Target) → slice_index words s.word ≡ found
-    → neighbour_at (row me.0.setup.nodes first me.0.node) j ≡ (s.word, f) → neighbour_loaded (more_of f) s me found me'
-    → ComesToTheSame me.0 me'.0 words targets (phase_past (row me.0.setup.nodes first me.0.node) me'.0.node me'.0.count j) (outcome me.0.setup.nodes first words targets (Looking me.0.node me.0.count j))
+NeighbourLoadIsTheMachines = (s : Step (Unit {0})) (me me' : Me (Unit {0}) View) (found j : ℕ) (f : First) (t : Target) (first : List (ℕ × ℕ)) (words : List ℕ) (targets : List Target) → slice_index words s.word ≡ found
+    → node_of t ≡ me.0.node → neighbour_at (row me.0.setup.nodes first me.0.node) j ≡ (s.word, f) → neighbour_loaded (more_of f) s me found me'
+    → ComesToTheSame me.0 me'.0 words targets (phase_past (row me.0.setup.nodes first me.0.node) t me'.0.count j) (outcome me.0.setup.nodes first words targets (Looking t me.0.count j))
 
 -- the exchange of a count for the next one is the machine's exchange: where the word was that count it becomes the next one, and
 -- else it stays; and the call is decided

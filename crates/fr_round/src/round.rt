@@ -2,10 +2,11 @@
 
 ghost use Rattle.std.specs.Prelude.{◌≡◌, ◌≤◌, ◌<◌, ℕ, MatchResult, IfOk, IfErr, length, slice_index};
 ghost use Rattle.std.specs.List.{AllByRecursion as Each};
+ghost use Rattle.fr_core.specs.Replies.{IsReplyToTurn};
 ghost use Rattle.fr_core.specs.Targets.{IsTurnable};
 ghost use Rattle.fr_round.specs.Histories.{entry};
 ghost use Rattle.fr_round.specs.Steps.{Extends};
-ghost use Rattle.fr_round.specs.Calls.{ShowsCount, IsReplyToTurn};
+ghost use Rattle.fr_round.specs.Calls.{ShowsCount};
 ghost use Rattle.fr_round.specs.Knowledge.{IsOwn, IsKnowledge, IsOpenable, Refuses, IsWhyNotOpened, new_workers};
 ghost use Rattle.fr_round.specs.Closing.{Closes};
 

@@ -2,6 +2,7 @@
 
 ghost use Rattle.std.specs.Prelude.{◌≡◌, ◌<◌, ◌≤◌, ℕ, [], true, slice_index};
 ghost use Rattle.fr_core.specs.History.{part, turn_count};
+ghost use Rattle.fr_core.specs.Replies.{IsReplyToTurn};
 ghost use Rattle.fr_core.specs.Targets.{IsTurnable};
 ghost use Rattle.fr_round.specs.Setups.{setup_of};
 ghost use Rattle.fr_round.specs.Histories.{entry};
@@ -99,6 +100,7 @@ impl Worker {
         ensures same { self.new ≡ record self.old { known = self.new.known; seen = self.new.seen } }
         ensures history { Extends self.old.setup self.old.number self.old.known (entry self.old.number x result) self.new.known }
         ensures up { (z : ℕ) → slice_index self.old.seen z ≤ slice_index self.new.seen z }
+        ensures kind { IsReplyToTurn result }
         ensures shows { ShowsCount self.old.setup.nodes self.old.seen self.new.seen x result }
         ensures known { IsKnowledge self.new }
     {

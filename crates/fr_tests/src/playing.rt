@@ -110,6 +110,7 @@ fn diamond_text(alloc: Global, net: &Net, entries: &[Entry]) -> Result<String, F
             Reply::Held { by } => writeln!(text, "{k} {x} held {by}")?,
             Reply::Moved { had, count } => writeln!(text, "{k} {x} moved {had} {count}")?,
             Reply::Cut => writeln!(text, "{k} {x} cut")?,
+            Reply::Sink => writeln!(text, "{k} {x} sink")?,
         }
     }
     let counts = check_run(alloc, net, 0, entries)?;
