@@ -7,14 +7,14 @@ use Rattle.fr_net.specs.declared.rows.First.{First}
 use Rattle.fr_net.specs.declared.rows.First.TheVariants.{Inward, Outward}
 use Rattle.fr_core.specs.Machine.{Outcome, bound_of, decides, goes_on, load_neighbour, neighbour_at, phase_unheld}
 use Rattle.fr_core.specs.Targets.{node_of}
-use Rattle.fr_core.specs.declared.entry.Reply.TheVariants.{Cut, Held, Moved, Turned}
+use Rattle.fr_core.specs.declared.entry.Reply.TheVariants.{Cut, Held, Moved, Sink, Turned}
 use Rattle.fr_core.specs.declared.targets.Target.{Target}
-use Rattle.fr_core.specs.declared.targets.Target.TheVariants.{Turn}
+use Rattle.fr_core.specs.declared.targets.Target.TheVariants.{Look, Turn}
 use Rattle.fr_core.specs.declared.worker.Phase.{Phase}
 use Rattle.fr_core.specs.declared.worker.Phase.TheVariants.{Idle, Looking}
 use Rattle.fr_round.specs.declared.view.View.{View}
 use Rattle.fr_round.specs.Histories.{entry}
-use Rattle.fr_round.specs.Laws.{ComesToTheSame, ExchangeIsTheMachines, NeighbourLoadIsTheMachines, OwnLoadIsTheMachines, more_of, phase_past}
+use Rattle.fr_round.specs.Laws.{ComesToTheSame, ExchangeIsTheMachines, LookBeginsAsTheMachines, LookEndsAsTheMachines, NeighbourLoadIsTheMachines, OwnLoadIsTheMachines, more_of, phase_past}
 use Rattle.fr_round.specs.Steps.{Extends}
 use Rattle.fr_round.proofs.Entries.{set_same_value}
 
@@ -106,4 +106,31 @@ exchange_same s me me' found first words targets at (up, wins, loses, same) =
             worker = refl;
           }),
       by_test (λ (o : Outcome). IsSome o.decided) (eqb word c) turned moved (λ _. refl) (λ _. refl),
+    )
+
+pub look_begins_same : LookBeginsAsTheMachines
+look_begins_same s me me' found first words rest at (up, low, begun, same) =
+    let targets = Look s.word ∷ rest in
+    let count : slice_index words s.word ≡ me'.0.count = at ∙ sym (ap (λ (v : View). v.count) begun) in
+    record {
+      counts = refl;
+      decided = ap (λ (v : View). v.known) begun;
+      worker = λ i. record { left = targets; phase = Looking (Look ((sym begun i).node)) (count i) 0 };
+    }
+
+pub look_ends_same : LookEndsAsTheMachines
+look_ends_same s me me' found first words targets at (up, stays, moves, same) =
+    let x = s.word in
+    let c = me.0.count in
+    let word = slice_index words x in
+    let sink = decides words targets x Sink in
+    let moved = decides words targets x (Moved c word) in (
+      by_test (ComesToTheSame me.0 me'.0 words targets Idle) (eqb word c) sink moved
+          (λ e. let d = stays (sym at ∙ eqb-true word c e) in record { counts = refl; decided = d.extends; worker = refl })
+          (λ e. let d = moves (λ is. eqb-false word c e (at ∙ is)) in record {
+            counts = refl;
+            decided = subst (λ (k : ℕ). Extends me.0.setup me.0.number me.0.known (entry me.0.number x (Moved c k)) me'.0.known) (sym at) d.extends;
+            worker = refl;
+          }),
+      by_test (λ (o : Outcome). IsSome o.decided) (eqb word c) sink moved (λ _. refl) (λ _. refl),
     )

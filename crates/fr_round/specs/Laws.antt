@@ -13,14 +13,14 @@ use Rattle.fr_core.specs.Targets.{node_of}
 use Rattle.fr_core.specs.declared.entry.Entry.{Entry}
 use Rattle.fr_core.specs.declared.entry.Reply.{Reply}
 use Rattle.fr_core.specs.declared.targets.Target.{Target}
-use Rattle.fr_core.specs.declared.targets.Target.TheVariants.{Turn}
+use Rattle.fr_core.specs.declared.targets.Target.TheVariants.{Turn, Look}
 use Rattle.fr_core.specs.declared.worker.Phase.{Phase}
-use Rattle.fr_core.specs.declared.worker.Phase.TheVariants.{Idle, Looking, Swapping}
+use Rattle.fr_core.specs.declared.worker.Phase.TheVariants.{Idle, Looking, Swapping, Confirming}
 use Rattle.fr_round.specs.declared.view.Setup.{Setup}
 use Rattle.fr_round.specs.declared.view.View.{View}
 use Rattle.fr_round.specs.Histories.{StartsWith, AreApart, entry}
 use Rattle.fr_round.specs.Rule.{KeepsRule, opening_view}
-use Rattle.fr_round.specs.Steps.{Extends, own_loaded, neighbour_loaded, exchange_made}
+use Rattle.fr_round.specs.Steps.{Extends, own_loaded, neighbour_loaded, exchange_made, look_begun, look_ended}
 
 -- One history behind all
 
@@ -113,3 +113,17 @@ ExchangeIsTheMachines = (s : Step (Unit {0})) (me me' : Me (Unit {0}) View) (fou
     → exchange_made s me found me'
     → ComesToTheSame me.0 me'.0 (slice_set words s.word (if found == s.first then s.first + 1 else found)) targets Idle (outcome me.0.setup.nodes first words targets (Swapping s.word s.first))
     × IsSome (outcome me.0.setup.nodes first words targets (Swapping s.word s.first)).decided
+
+-- the first load of a look is the first step of the machine's look: the words stay, and the machine looks at neighbour 0 next, with
+-- the node and the count of the view
+abbrev pub LookBeginsAsTheMachines : Type 0
+LookBeginsAsTheMachines = (s : Step (Unit {0})) (me me' : Me (Unit {0}) View) (found : ℕ) (first : List (ℕ × ℕ)) (words : List ℕ) (rest : List Target) → slice_index words s.word ≡ found
+    → look_begun s me found me'
+    → ComesToTheSame me.0 me'.0 words (Look s.word ∷ rest) (Looking (Look me'.0.node) me'.0.count 0) (outcome me.0.setup.nodes first words (Look s.word ∷ rest) Idle)
+
+-- its second load is the machine's: the words stay, and the call is decided
+abbrev pub LookEndsAsTheMachines : Type 0
+LookEndsAsTheMachines = (s : Step (Unit {0})) (me me' : Me (Unit {0}) View) (found : ℕ) (first : List (ℕ × ℕ)) (words : List ℕ) (targets : List Target) → slice_index words s.word ≡ found
+    → look_ended s me found me'
+    → ComesToTheSame me.0 me'.0 words targets Idle (outcome me.0.setup.nodes first words targets (Confirming s.word me.0.count))
+    × IsSome (outcome me.0.setup.nodes first words targets (Confirming s.word me.0.count)).decided

@@ -52,7 +52,7 @@ fn load_neighbour(
 
 /// Whether a neighbour of `x` meets its bound for the count `c` of `x`: by what was seen, or else by a load. If not, the call
 /// is decided.
-fn is_met(
+pub(crate) fn is_met(
     terms: &Terms,
     words: &RoundWords,
     seat: &mut RoundSeat,

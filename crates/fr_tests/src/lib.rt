@@ -10,6 +10,8 @@ mod finishing;
 #[cfg(test)]
 mod histories;
 #[cfg(test)]
+mod looks;
+#[cfg(test)]
 mod machine_looks;
 #[cfg(test)]
 mod machines;
