@@ -12,7 +12,7 @@ use Rattle.fr_core.specs.Legal.{IsLegal, IsRun}
 use Rattle.fr_core.specs.declared.check.fault.Why.{Why}
 use Rattle.fr_core.specs.declared.entry.Entry.{Entry}
 use Rattle.fr_core.specs.declared.entry.Reply.{Reply}
-use Rattle.fr_core.specs.declared.entry.Reply.TheVariants.{Cut, Held, Moved, Turned}
+use Rattle.fr_core.specs.declared.entry.Reply.TheVariants.{Cut, Held, Moved, Sink, Turned}
 use Rattle.fr_net.specs.Counts.{AreLawful, links_at}
 use Rattle.fr_net.specs.Links.{IsNet}
 
@@ -22,6 +22,7 @@ same_after m x (Turned k) no_turn = absurd (no_turn k refl)
 same_after m x (Held by) no_turn = refl
 same_after m x (Moved had k) no_turn = refl
 same_after m x Cut no_turn = refl
+same_after m x Sink no_turn = refl
 
 module _ (n d : ℕ) (first : List (ℕ × ℕ)) where
   -- one more legal entry

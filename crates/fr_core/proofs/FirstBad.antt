@@ -10,7 +10,7 @@ use Rattle.fr_core.specs.declared.check.fault.Why.{Why}
 use Rattle.fr_core.specs.declared.check.fault.Why.TheVariants.{Capped, Destination, NoNode, NotCut, NotHeld, NotMoved, NotSink, WrongCount}
 use Rattle.fr_core.specs.declared.entry.Entry.{Entry}
 use Rattle.fr_core.specs.declared.entry.Reply.{Reply}
-use Rattle.fr_core.specs.declared.entry.Reply.TheVariants.{Cut, Held, Moved, Turned}
+use Rattle.fr_core.specs.declared.entry.Reply.TheVariants.{Cut, Held, Moved, Sink, Turned}
 use Rattle.fr_net.proofs.Neighbours.{Points-has_link, has_link_true}
 use Rattle.fr_net.specs.Links.{Points}
 use Rattle.fr_net.specs.Rows.{has_link}
@@ -31,6 +31,7 @@ reply_not_legal n d m x (Turned k) why f l = turn_not_legal n d m x k why f l
 reply_not_legal n d m x (Held by) why f l = f.1 l
 reply_not_legal n d m x (Moved had k) why f l = f.1 l
 reply_not_legal n d m x Cut why f l = f.1 l
+reply_not_legal n d m x Sink why f l = f.1 l
 
 not_legal : (n d : ℕ) (m : Moment) (e : Entry) (why : Why) → Fails n d m e why → ¬ IsLegal n d m e
 not_legal n d m e why (inl f) l = omega (arith, f.1, l.0)
@@ -72,6 +73,7 @@ test_reply n d m x (Moved had k) = ⊎_elim
     (λ no. inr (NotMoved, (refl, λ both. no both.0)))
     (cases_eq k (count_at m x))
 test_reply n d m x Cut = ⊎_elim (λ e. inl e) (λ no. inr (NotCut, (refl, no))) (cases_eq (count_at m x) n)
+test_reply n d m x Sink = ⊎_elim (λ s. inl s) (λ no. inr (NotSink, (refl, no))) (cases_sink m.links x)
 
 test : (n d : ℕ) (m : Moment) (e : Entry) → IsLegal n d m e ⊎ ((why : Why) × Fails n d m e why)
 test n d m e = ⊎_elim
@@ -133,6 +135,7 @@ one_reply_why n d m x (Turned k) why other f g = one_turn_why n d m x k why othe
 one_reply_why n d m x (Held by) why other f g = f.0 ∙ sym g.0
 one_reply_why n d m x (Moved had k) why other f g = f.0 ∙ sym g.0
 one_reply_why n d m x Cut why other f g = f.0 ∙ sym g.0
+one_reply_why n d m x Sink why other f g = f.0 ∙ sym g.0
 
 one_why : (n d : ℕ) (m : Moment) (e : Entry) (why other : Why) → Fails n d m e why → Fails n d m e other → why ≡ other
 one_why n d m e why other (inl f) (inl g) = f.0 ∙ sym g.0

@@ -8,17 +8,18 @@ use Rattle.fr_net.specs.Rows.{row}
 use Rattle.fr_net.specs.declared.rows.First.{First}
 use Rattle.fr_core.proofs.MachineRuns.{machine_runs}
 use Rattle.fr_core.specs.History.{part}
-use Rattle.fr_core.specs.Machine.{Outcome, MachineState, WorkerState, all_but_first, begin_call, decided_by, decides, entries_of, entry_of, exchange, fresh, bound_of, load_neighbour, load_own, neighbour_at, outcome, outcome_of, start, state_after, step, step_idle, worker_of}
-use Rattle.fr_core.specs.Played.{HasPart, IsPlay, answer_of, target_of}
+use Rattle.fr_core.specs.Machine.{Outcome, MachineState, WorkerState, all_but_first, begin_call, bound_of, confirm, decided_by, decides, entries_of, entry_of, exchange, fresh, goes_on, load_neighbour, load_own, load_to_look, neighbour_at, outcome, outcome_of, phase_unheld, start, state_after, step, step_idle, worker_of}
+use Rattle.fr_core.specs.Played.{HasPart, IsPlay, answer_of}
+use Rattle.fr_core.specs.Replies.{AreAnswersTo, IsAnswerTo}
 use Rattle.fr_core.specs.Runs.{IsRunTo}
-use Rattle.fr_core.specs.Targets.{IsPlayable}
+use Rattle.fr_core.specs.Targets.{IsPlayable, node_of}
 use Rattle.fr_core.specs.declared.entry.Entry.{Entry}
 use Rattle.fr_core.specs.declared.entry.Reply.{Reply}
-use Rattle.fr_core.specs.declared.entry.Reply.TheVariants.{Cut, Held, Moved, Turned}
+use Rattle.fr_core.specs.declared.entry.Reply.TheVariants.{Cut, Held, Moved, Sink, Turned}
 use Rattle.fr_core.specs.declared.targets.Target.{Target}
-use Rattle.fr_core.specs.declared.targets.Target.TheVariants.{Turn}
+use Rattle.fr_core.specs.declared.targets.Target.TheVariants.{Look, Turn}
 use Rattle.fr_core.specs.declared.worker.Phase.{Phase}
-use Rattle.fr_core.specs.declared.worker.Phase.TheVariants.{Idle, Looking, Swapping}
+use Rattle.fr_core.specs.declared.worker.Phase.TheVariants.{Confirming, Idle, Looking, Swapping}
 
 one_entry : {B : Type 0} (f : Entry → B) (b : Bool) (e : Entry) → map f (if b then e ∷ [] else []) ≡ (if b then f e ∷ [] else [])
 one_entry f true e = refl
@@ -32,14 +33,6 @@ part_answers : (j k : ℕ) (o : Option (ℕ × Reply)) → map answer_of (part k
 part_answers j k None = sym (no_entry (j == k))
 part_answers j k (Some p) = one_entry answer_of (j == k) (record { worker = j; node = p.0; reply = p.1 })
 
--- the targets that these calls were on
-abbrev targets_of : Option (ℕ × Reply) → List Target
-targets_of o = map (λ (p : ℕ × Reply). Turn p.0) (option_to_list o)
-
-part_targets : (j k : ℕ) (o : Option (ℕ × Reply)) → map target_of (part k (entry_of j o)) ≡ (if j == k then targets_of o else [])
-part_targets j k None = sym (no_entry (j == k))
-part_targets j k (Some p) = one_entry target_of (j == k) (record { worker = j; node = p.0; reply = p.1 })
-
 part_append : {B : Type 0} (f : Entry → B) (k : ℕ) (a b : List Entry) → map f (part k (a ++ b)) ≡ map f (part k a) ++ map f (part k b)
 part_append f k a b = ap (map f) (filter-append (λ (e : Entry). e.worker == k) a b) ∙ map-append f (part k a) (part k b)
 
@@ -52,45 +45,98 @@ replies n first m k (j ∷ ks) =
 -- a call that is under way is one on the first of the targets left
 abbrev IsOnFirst : List Target → Phase → Type 0
 IsOnFirst left Idle = Unit {0}
-IsOnFirst left (Looking x c j) = (ts : List Target) × (left ≡ Turn x ∷ ts)
+IsOnFirst left (Looking t c j) = (ts : List Target) × (left ≡ t ∷ ts)
 IsOnFirst left (Swapping x c) = (ts : List Target) × (left ≡ Turn x ∷ ts)
+IsOnFirst left (Confirming x c) = (ts : List Target) × (left ≡ Look x ∷ ts)
 
--- what a step decides is a call on the first of the targets left, which it uses up
-abbrev UsesUp : List Target → Outcome → Type 0
-UsesUp left made = (targets_of made.decided ++ made.worker.left ≡ left) × IsOnFirst made.worker.left made.worker.phase
+-- what is decided answers the targets that were used up, and these and what is then left are the targets before
+record Answers (before left : List Target) (decided : List (ℕ × Reply)) : Type 0 where
+  used : List Target
+  parted : used ++ left ≡ before
+  answered : AreAnswersTo used decided
 
-decides_uses : (counts : List ℕ) (left : List Target) (x : ℕ) (reply : Reply) → (ts : List Target) × (left ≡ Turn x ∷ ts) → UsesUp left (decides counts left x reply)
-decides_uses counts left x reply (ts, e) = (subst (λ (l : List Target). let t : Target = Turn x in t ∷ all_but_first l ≡ l) (sym e) refl, tt)
+no_answer : (left : List Target) → Answers left left []
+no_answer left = record { used = []; parted = refl; answered = tt }
+
+answers_append : (us : List Target) (some : List (ℕ × Reply)) (vs : List Target) (more : List (ℕ × Reply)) → AreAnswersTo us some → AreAnswersTo vs more → AreAnswersTo (us ++ vs) (some ++ more)
+answers_append [] [] vs more h g = g
+answers_append [] (a ∷ some) vs more h g = absurd h
+answers_append (u ∷ us) [] vs more h g = absurd h
+answers_append (u ∷ us) (a ∷ some) vs more h g = (h.0, answers_append us some vs more h.1 g)
+
+more_answers : (before now left : List Target) (some more : List (ℕ × Reply)) → Answers before now some → Answers now left more → Answers before left (some ++ more)
+more_answers before now left some more h g = record {
+  used = h.used ++ g.used;
+  parted = append_assoc h.used g.used left ∙ (ap (λ (ts : List Target). h.used ++ ts) g.parted ∙ h.parted);
+  answered = answers_append h.used some g.used more h.answered g.answered;
+}
+
+-- what a step decides is an answer to the first of the targets left, which it uses up
+record UsesUp (left : List Target) (made : Outcome) : Type 0 where
+  answers : Answers left made.worker.left (option_to_list made.decided)
+  on_first : IsOnFirst made.worker.left made.worker.phase
+
+stays : (counts : List ℕ) (left : List Target) (phase : Phase) → IsOnFirst left phase → UsesUp left (goes_on counts left phase)
+stays counts left phase b = record { answers = no_answer left; on_first = b }
+
+decides_uses : (counts : List ℕ) (left : List Target) (t : Target) (reply : Reply) → IsAnswerTo t (node_of t, reply) → (ts : List Target) × (left ≡ t ∷ ts) → UsesUp left (decides counts left (node_of t) reply)
+decides_uses counts left t reply answer (ts, e) = record {
+  answers = record { used = t ∷ []; parted = subst (λ (l : List Target). t ∷ all_but_first l ≡ l) (sym e) refl; answered = (answer, tt) };
+  on_first = tt;
+}
 
 load_own_uses : (n : ℕ) (counts : List ℕ) (left : List Target) (x : ℕ) → (ts : List Target) × (left ≡ Turn x ∷ ts) → UsesUp left (load_own n counts left x)
-load_own_uses n counts left x b = cond_both (slice_index counts x == n) _ _ (UsesUp left) (λ t. decides_uses counts left x Cut b) (λ f. (refl, b))
+load_own_uses n counts left x b = cond_both (slice_index counts x == n) _ _ (UsesUp left)
+    (λ t. decides_uses counts left (Turn x) Cut (refl, tt) b)
+    (λ f. stays counts left (Looking (Turn x) (slice_index counts x) 0) b)
 
 begin_uses : (n : ℕ) (counts : List ℕ) (t : Target) (ts : List Target) → UsesUp (t ∷ ts) (begin_call n counts (t ∷ ts) t)
 begin_uses n counts (Turn x) ts = load_own_uses n counts (Turn x ∷ ts) x (ts, refl)
+begin_uses n counts (Look x) ts = stays counts (Look x ∷ ts) (Looking (Look x) (slice_index counts x) 0) (ts, refl)
 
 idle_uses : (n : ℕ) (counts : List ℕ) (left : List Target) → UsesUp left (step_idle n counts left)
-idle_uses n counts [] = (refl, tt)
+idle_uses n counts [] = stays counts [] Idle tt
 idle_uses n counts (t ∷ ts) = begin_uses n counts t ts
 
-load_neighbour_uses : (r : List (ℕ × First)) (counts : List ℕ) (left : List Target) (x c j : ℕ) → (ts : List Target) × (left ≡ Turn x ∷ ts) → UsesUp left (load_neighbour r counts left x c j)
-load_neighbour_uses r counts left x c j b =
+held_answers : (t : Target) (w : ℕ) → IsAnswerTo t (node_of t, Held w)
+held_answers (Turn x) w = (refl, tt)
+held_answers (Look x) w = (refl, tt)
+
+unheld_on_first : (left : List Target) (t : Target) (c : ℕ) → (ts : List Target) × (left ≡ t ∷ ts) → IsOnFirst left (phase_unheld t c)
+unheld_on_first left (Turn x) c b = b
+unheld_on_first left (Look x) c b = b
+
+load_neighbour_uses : (r : List (ℕ × First)) (counts : List ℕ) (left : List Target) (t : Target) (c j : ℕ) → (ts : List Target) × (left ≡ t ∷ ts) → UsesUp left (load_neighbour r counts left t c j)
+load_neighbour_uses r counts left t c j b =
     cond_both (nat_lt (slice_index counts (neighbour_at r j).0) (bound_of (neighbour_at r j).1 c)) _ _ (UsesUp left)
-    (λ t. decides_uses counts left x (Held (neighbour_at r j).0) b)
-    (λ f. cond_both (j + 1 == length r) _ _ (UsesUp left) (λ t. (refl, b)) (λ g. (refl, b)))
+    (λ h. decides_uses counts left t (Held (neighbour_at r j).0) (held_answers t (neighbour_at r j).0) b)
+    (λ f. cond_both (j + 1 == length r) _ _ (UsesUp left)
+    (λ h. stays counts left (phase_unheld t c) (unheld_on_first left t c b))
+    (λ g. stays counts left (Looking t c (j + 1)) b))
 
 exchange_uses : (counts : List ℕ) (left : List Target) (x c : ℕ) → (ts : List Target) × (left ≡ Turn x ∷ ts) → UsesUp left (exchange counts left x c)
 exchange_uses counts left x c b =
     cond_both (slice_index counts x == c) _ _ (UsesUp left)
-    (λ t. decides_uses (slice_set counts x (c + 1)) left x (Turned (c + 1)) b)
-    (λ f. decides_uses counts left x (Moved c (slice_index counts x)) b)
+    (λ t. decides_uses (slice_set counts x (c + 1)) left (Turn x) (Turned (c + 1)) (refl, tt) b)
+    (λ f. decides_uses counts left (Turn x) (Moved c (slice_index counts x)) (refl, tt) b)
+
+confirm_uses : (counts : List ℕ) (left : List Target) (x c : ℕ) → (ts : List Target) × (left ≡ Look x ∷ ts) → UsesUp left (confirm counts left x c)
+confirm_uses counts left x c b =
+    cond_both (slice_index counts x == c) _ _ (UsesUp left)
+    (λ t. decides_uses counts left (Look x) Sink (refl, tt) b)
+    (λ f. decides_uses counts left (Look x) (Moved c (slice_index counts x)) (refl, tt) b)
 
 outcome_uses : (n : ℕ) (first : List (ℕ × ℕ)) (counts : List ℕ) (left : List Target) (phase : Phase) → IsOnFirst left phase → UsesUp left (outcome n first counts left phase)
 outcome_uses n first counts left Idle b = idle_uses n counts left
-outcome_uses n first counts left (Looking x c j) b = load_neighbour_uses (row n first x) counts left x c j b
+outcome_uses n first counts left (Looking t c j) b = load_neighbour_uses (row n first (node_of t)) counts left t c j b
 outcome_uses n first counts left (Swapping x c) b = exchange_uses counts left x c b
+outcome_uses n first counts left (Confirming x c) b = confirm_uses counts left x c b
 
 abbrev AreOnFirst : MachineState → Type 0
 AreOnFirst m = (k : ℕ) → IsOnFirst (worker_of m k).left (worker_of m k).phase
+
+answers_is : {a b c d : List Target} {s t : List (ℕ × Reply)} → a ≡ b → c ≡ d → s ≡ t → Answers a c s → Answers b d t
+answers_is {a} {b} {c} {d} {s} {t} p q r h = subst (λ (z : List Target). Answers z d t) p (subst (λ (z : List Target). Answers a z t) q (subst (λ (z : List (ℕ × Reply)). Answers a c z) r h))
 
 module _ (n : ℕ) (first : List (ℕ × ℕ)) (m : MachineState) (j k : ℕ) where
   same_past : length m.workers ≤ j → worker_of (step n first m j) k ≡ worker_of m k
@@ -108,33 +154,35 @@ module _ (n : ℕ) (first : List (ℕ × ℕ)) (m : MachineState) (j k : ℕ) wh
   step_on_first : AreOnFirst m → IsOnFirst (worker_of (step n first m j) k).left (worker_of (step n first m j) k).phase
   step_on_first all = ⊎_elim
       (λ l. ⊎_elim
-      (λ e. subst (λ (w : WorkerState). IsOnFirst w.left w.phase) (sym (new_here l e)) (outcome_uses n first m.counts (worker_of m j).left (worker_of m j).phase (all j)).1)
+      (λ e. subst (λ (w : WorkerState). IsOnFirst w.left w.phase) (sym (new_here l e)) (outcome_uses n first m.counts (worker_of m j).left (worker_of m j).phase (all j)).on_first)
       (λ ne. subst (λ (w : WorkerState). IsOnFirst w.left w.phase) (sym (same_other ne)) (all k))
       (cases_eq k j))
       (λ past. subst (λ (w : WorkerState). IsOnFirst w.left w.phase) (sym (same_past past)) (all k))
       (cases_lt j (length m.workers))
 
-  -- the target of the entry, if it is of worker k, and what is then left to it
-  step_uses : AreOnFirst m → map target_of (part k (entry_of j (outcome_of n first m j).decided)) ++ (worker_of (step n first m j) k).left ≡ (worker_of m k).left
+  -- what worker k decides, if the step is its own, and what is then left to it
+  step_uses : AreOnFirst m → Answers (worker_of m k).left (worker_of (step n first m j) k).left (if j == k then option_to_list (outcome_of n first m j).decided else [])
   step_uses all = ⊎_elim
       (λ l. ⊎_elim
-      (λ e. let used = part_targets j k (outcome_of n first m j).decided ∙ cond-true (j == k) (targets_of (outcome_of n first m j).decided) [] (eq-eqb j k (sym e)) in
-      (λ i. used i ++ (new_here l e i).left)
-      ∙ ((outcome_uses n first m.counts (worker_of m j).left (worker_of m j).phase (all j)).0 ∙ ap (λ (z : ℕ). (worker_of m z).left) (sym e)))
-      (λ ne. let used = part_targets j k (outcome_of n first m j).decided ∙ cond-false (j == k) (targets_of (outcome_of n first m j).decided) [] (ne_eqb j k (λ e. ne (sym e))) in
-      λ i. used i ++ (same_other ne i).left)
+      (λ e. answers_is (ap (λ (z : ℕ). (worker_of m z).left) (sym e)) (ap (λ (w : WorkerState). w.left) (sym (new_here l e)))
+      (sym (cond-true (j == k) (option_to_list (outcome_of n first m j).decided) [] (eq-eqb j k (sym e))))
+      (outcome_uses n first m.counts (worker_of m j).left (worker_of m j).phase (all j)).answers)
+      (λ ne. answers_is refl (ap (λ (w : WorkerState). w.left) (sym (same_other ne)))
+      (sym (cond-false (j == k) (option_to_list (outcome_of n first m j).decided) [] (ne_eqb j k (λ e. ne (sym e)))))
+      (no_answer (worker_of m k).left))
       (cases_eq k j))
-      (λ past. λ i. map target_of (part k (entry_of j (none_past past i))) ++ (same_past past i).left)
+      (λ past. answers_is refl (ap (λ (w : WorkerState). w.left) (sym (same_past past)))
+      (sym (no_entry (j == k)) ∙ ap (λ (o : Option (ℕ × Reply)). if j == k then option_to_list o else []) (sym (none_past past)))
+      (no_answer (worker_of m k).left))
       (cases_lt j (length m.workers))
 
 used_up : (n : ℕ) (first : List (ℕ × ℕ)) (m : MachineState) (k : ℕ) → AreOnFirst m → (schedule : List ℕ)
-    → map target_of (part k (entries_of n first m schedule)) ++ (worker_of (state_after n first m schedule) k).left ≡ (worker_of m k).left
-used_up n first m k all [] = refl
+    → Answers (worker_of m k).left (worker_of (state_after n first m schedule) k).left (decided_by n first m k schedule)
+used_up n first m k all [] = no_answer (worker_of m k).left
 used_up n first m k all (j ∷ ks) =
-    ap (λ (ts : List Target). ts ++ (worker_of (state_after n first (step n first m j) ks) k).left) (part_append target_of k (entry_of j (outcome_of n first m j).decided) (entries_of n first (step n first m j) ks))
-    ∙ (append_assoc (map target_of (part k (entry_of j (outcome_of n first m j).decided))) (map target_of (part k (entries_of n first (step n first m j) ks))) (worker_of (state_after n first (step n first m j) ks) k).left
-    ∙ (ap (λ (ts : List Target). map target_of (part k (entry_of j (outcome_of n first m j).decided)) ++ ts) (used_up n first (step n first m j) k (λ i. step_on_first n first m j i all) ks)
-    ∙ step_uses n first m j k all))
+    more_answers (worker_of m k).left (worker_of (step n first m j) k).left (worker_of (state_after n first (step n first m j) ks) k).left
+    (if j == k then option_to_list (outcome_of n first m j).decided else []) (decided_by n first (step n first m j) k ks)
+    (step_uses n first m j k all) (used_up n first (step n first m j) k (λ i. step_on_first n first m j i all) ks)
 
 fresh_at : (targets : List (List Target)) (k : ℕ) → slice_index_or (map fresh targets) k (fresh []) ≡ fresh (slice_index_or targets k [])
 fresh_at [] k = refl
@@ -146,10 +194,15 @@ start_on_first n targets k = subst (λ (w : WorkerState). IsOnFirst w.left w.pha
 
 pub parts_are_replies : (n : ℕ) (first : List (ℕ × ℕ)) (targets : List (List Target)) (schedule : List ℕ) (k : ℕ)
     → HasPart n first targets schedule (entries_of n first (start n targets) schedule) k
-parts_are_replies n first targets schedule k = record {
-  replies = replies n first (start n targets) k schedule;
-  used_up = used_up n first (start n targets) k (start_on_first n targets) schedule ∙ ap (λ (w : WorkerState). w.left) (fresh_at targets k);
-}
+parts_are_replies n first targets schedule k =
+    let all = used_up n first (start n targets) k (start_on_first n targets) schedule in
+    let same = replies n first (start n targets) k schedule in
+    record {
+      replies = same;
+      used = all.used;
+      used_up = all.parted ∙ ap (λ (w : WorkerState). w.left) (fresh_at targets k);
+      answers = subst (AreAnswersTo all.used) (sym same) all.answered;
+    }
 
 -- entries that the table decides are a play
 pub played : (n d : ℕ) (first : List (ℕ × ℕ)) (targets : List (List Target)) (schedule : List ℕ) (entries : List Entry) → IsNet n first → IsPlayable n d first targets schedule

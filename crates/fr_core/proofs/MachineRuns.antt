@@ -5,7 +5,7 @@ use Rattle.std.proofs.lemmas.List.{append-nil, append_assoc, drop_all, get_or_de
 use Rattle.std.proofs.lemmas.List.Elements.{All-get_or, All-map, All-nil, All-set, All-weaker}
 use Rattle.fr_net.specs.Links.{IsNet}
 use Rattle.fr_core.proofs.Finishing.{zeros_lawful}
-use Rattle.fr_core.proofs.MachineSteps.{IsFine, outcome_fine, phase_rises}
+use Rattle.fr_core.proofs.MachineSteps.{IsFine, fit_inside, in_range_capped, outcome_fine, phase_rises}
 use Rattle.fr_core.proofs.Rounds.{after_all-append, run_append}
 use Rattle.fr_core.proofs.Runs.{run_to}
 use Rattle.fr_core.proofs.Settling.{cases_linked}
@@ -14,13 +14,13 @@ use Rattle.fr_core.specs.Legal.{IsRun}
 use Rattle.fr_core.specs.Machine.{Outcome, MachineState, WorkerState, entries_of, entry_of, fresh, outcome, outcome_of, start, state_after, step, worker_of}
 use Rattle.fr_core.specs.Runs.{IsRunTo}
 use Rattle.fr_core.specs.Sound.{CanStep, IsFit, IsOnNode, IsPhaseInside, IsSound, IsSoundMachine, IsSoundPhase, IsSoundWorker, outcome_with, view_of}
-use Rattle.fr_core.specs.Targets.{AreAllAccepted, AreAccepted, IsTurnable, IsUnturnable, IsTargetRefused}
+use Rattle.fr_core.specs.Targets.{AreAllAccepted, AreAccepted, IsLookable, IsTurnable, IsUnlookable, IsUnturnable, IsTargetRefused}
 use Rattle.fr_core.specs.declared.entry.Entry.{Entry}
 use Rattle.fr_core.specs.declared.entry.Reply.{Reply}
 use Rattle.fr_core.specs.declared.targets.Target.{Target}
-use Rattle.fr_core.specs.declared.targets.Target.TheVariants.{Turn}
+use Rattle.fr_core.specs.declared.targets.Target.TheVariants.{Look, Turn}
 use Rattle.fr_core.specs.declared.worker.Phase.{Phase}
-use Rattle.fr_core.specs.declared.worker.Phase.TheVariants.{Idle, Looking, Swapping}
+use Rattle.fr_core.specs.declared.worker.Phase.TheVariants.{Confirming, Idle, Looking, Swapping}
 
 sound_worker : (n d : ℕ) (first : List (ℕ × ℕ)) (m : MachineState) → IsSound n d first m → (k : ℕ) → IsSoundWorker n d first m.counts (worker_of m k)
 sound_worker n d first m sound k = ⊎_elim
@@ -67,8 +67,15 @@ turnable_from n d first x good = record {
   linked = ⊎_elim (λ l. l) (λ alone. absurd (good (inr (inr alone)))) (cases_linked first x);
 }
 
+lookable_from : (n : ℕ) (first : List (ℕ × ℕ)) (x : ℕ) → ¬ IsUnlookable n first x → IsLookable n first x
+lookable_from n first x good = record {
+  inside = ⊎_elim (λ l. l) (λ past. absurd (good (inl past))) (cases_lt x n);
+  linked = ⊎_elim (λ l. l) (λ alone. absurd (good (inr alone))) (cases_linked first x);
+}
+
 fit_from : (n d : ℕ) (first : List (ℕ × ℕ)) (t : Target) → ¬ IsTargetRefused n d first t → IsFit n d first t
 fit_from n d first (Turn x) good = turnable_from n d first x good
+fit_from n d first (Look x) good = lookable_from n first x good
 
 start_sound : (n d : ℕ) (first : List (ℕ × ℕ)) (targets : List (List Target)) → AreAllAccepted n d first targets → IsSound n d first (start n targets)
 start_sound n d first targets good = record {
@@ -98,15 +105,13 @@ begun_sound n d first targets counts workers net good e f = record {
 -- what a worker of a sound machine can rely on in its step
 phase_inside : (n d : ℕ) (first : List (ℕ × ℕ)) (counts : List ℕ) (phase : Phase) → IsSoundPhase n d first counts phase → IsPhaseInside n first phase
 phase_inside n d first counts Idle h = tt
-phase_inside n d first counts (Looking x c j) h = (h.0.turnable.inside, h.0.below_cap, h.1)
-phase_inside n d first counts (Swapping x c) h = (h.turnable.inside, h.below_cap)
-
-on_node : (n d : ℕ) (first : List (ℕ × ℕ)) (t : Target) → IsFit n d first t → IsOnNode n t
-on_node n d first (Turn x) fit = fit.inside
+phase_inside n d first counts (Looking t c j) h = (fit_inside n d first t h.0.fit, in_range_capped n t c h.0.in_range, h.1)
+phase_inside n d first counts (Swapping x c) h = (h.fit.inside, h.in_range)
+phase_inside n d first counts (Confirming x c) h = h.fit.inside
 
 can_step : (n d : ℕ) (first : List (ℕ × ℕ)) (counts : List ℕ) (w : WorkerState) → IsSoundWorker n d first counts w → CanStep n first w
 can_step n d first counts w h = record {
-  left = All-weaker (IsFit n d first) (IsOnNode n) (on_node n d first) w.left h.fit;
+  left = All-weaker (IsFit n d first) (IsOnNode n) (fit_inside n d first) w.left h.fit;
   phase = phase_inside n d first counts w.phase h.phase;
 }
 

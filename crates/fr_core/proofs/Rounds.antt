@@ -4,7 +4,7 @@ use Rattle.fr_core.specs.History.{Moment, after, after_all, after_reply, is_turn
 use Rattle.fr_core.specs.Legal.{IsRun}
 use Rattle.fr_core.specs.declared.entry.Entry.{Entry}
 use Rattle.fr_core.specs.declared.entry.Reply.{Reply}
-use Rattle.fr_core.specs.declared.entry.Reply.TheVariants.{Cut, Held, Moved, Turned}
+use Rattle.fr_core.specs.declared.entry.Reply.TheVariants.{Cut, Held, Moved, Sink, Turned}
 use Rattle.fr_net.specs.Turn.{turn}
 
 pub after_all-append : (m : Moment) (a b : List Entry) → after_all m (a ++ b) ≡ after_all (after_all m a) b
@@ -29,3 +29,4 @@ links-after_all m (e ∷ h) = links-after_all (after m e) h ∙ ap (λ (links : 
     one m x (Held by) = refl
     one m x (Moved had k) = refl
     one m x Cut = refl
+    one m x Sink = refl

@@ -9,7 +9,7 @@ use Rattle.fr_core.specs.Legal.{IsRun}
 use Rattle.fr_core.specs.Runs.{IsRunTo}
 use Rattle.fr_core.specs.declared.entry.Entry.{Entry}
 use Rattle.fr_core.specs.declared.entry.Reply.{Reply}
-use Rattle.fr_core.specs.declared.entry.Reply.TheVariants.{Cut, Held, Moved, Turned}
+use Rattle.fr_core.specs.declared.entry.Reply.TheVariants.{Cut, Held, Moved, Sink, Turned}
 use Rattle.fr_net.proofs.Acyclic.{links_at_acyclic}
 use Rattle.fr_net.specs.Counts.{AreLawful}
 use Rattle.fr_net.specs.Links.{IsNet}
@@ -19,12 +19,14 @@ length_after_reply m x (Turned k) = length-set m.counts x (count_at m x + 1)
 length_after_reply m x (Held by) = refl
 length_after_reply m x (Moved had k) = refl
 length_after_reply m x Cut = refl
+length_after_reply m x Sink = refl
 
 pub sum_after_reply : (m : Moment) (x : ℕ) (r : Reply) → x < length m.counts → sum (after_reply m x r).counts ≡ sum m.counts + cond (is_turned r) 1 0
 sum_after_reply m x (Turned k) l = omega (arith, sum_by-set (λ (y : ℕ). y) m.counts x (count_at m x + 1) 0 l)
 sum_after_reply m x (Held by) l = omega arith
 sum_after_reply m x (Moved had k) l = omega arith
 sum_after_reply m x Cut l = omega arith
+sum_after_reply m x Sink l = omega arith
 
 pub run_sum : (n d : ℕ) (m : Moment) (es : List Entry) → length m.counts ≡ n → IsRun n d m es → sum (after_all m es).counts ≡ sum m.counts + turn_count es
 run_sum n d m [] long run = omega arith
@@ -43,6 +45,7 @@ count_after_reply m x (Turned k) y l = ⊎_elim
 count_after_reply m x (Held by) y l = omega arith
 count_after_reply m x (Moved had k) y l = omega arith
 count_after_reply m x Cut y l = omega arith
+count_after_reply m x Sink y l = omega arith
 
 pub run_count : (n d : ℕ) (m : Moment) (es : List Entry) → length m.counts ≡ n → IsRun n d m es → (y : ℕ) → slice_index (after_all m es).counts y ≡ slice_index m.counts y + turn_count_of y es
 run_count n d m [] long run y = omega arith

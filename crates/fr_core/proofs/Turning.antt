@@ -8,7 +8,7 @@ use Rattle.fr_core.specs.History.{Moment, after, after_all, after_reply}
 use Rattle.fr_core.specs.Legal.{CanTurn, IsLegalReply, IsRun}
 use Rattle.fr_core.specs.declared.entry.Entry.{Entry}
 use Rattle.fr_core.specs.declared.entry.Reply.{Reply}
-use Rattle.fr_core.specs.declared.entry.Reply.TheVariants.{Cut, Held, Moved, Turned}
+use Rattle.fr_core.specs.declared.entry.Reply.TheVariants.{Cut, Held, Moved, Sink, Turned}
 use Rattle.fr_net.proofs.Giving.{Points-links_at_from, filter_map-Contains, link_at-kept, link_at-same, link_at-turned}
 use Rattle.fr_net.proofs.Linking.{joined_below}
 use Rattle.fr_net.proofs.Members.{Contains-head, Contains-tail}
@@ -120,6 +120,7 @@ reply_keeps n d first net m at x (Turned k) legal = turn_keeps n d first net m a
 reply_keeps n d first net m at x (Held by) legal = at
 reply_keeps n d first net m at x (Moved had k) legal = at
 reply_keeps n d first net m at x Cut legal = at
+reply_keeps n d first net m at x Sink legal = at
 
 pub run_keeps : (n d : ℕ) (first : List (ℕ × ℕ)) → IsNet n first → (m : Moment) → IsLawfulAt n d first m → (es : List Entry) → IsRun n d m es → IsLawfulAt n d first (after_all m es)
 run_keeps n d first net m at [] run = at

@@ -10,7 +10,7 @@ use Rattle.fr_core.specs.declared.check.fault.Why.{Why}
 use Rattle.fr_core.specs.declared.check.fault.Why.TheVariants.{NoNode, Destination, Capped, NotSink, WrongCount, NotHeld, NotMoved, NotCut}
 use Rattle.fr_core.specs.declared.entry.Entry.{Entry}
 use Rattle.fr_core.specs.declared.entry.Reply.{Reply}
-use Rattle.fr_core.specs.declared.entry.Reply.TheVariants.{Turned, Held, Moved, Cut}
+use Rattle.fr_core.specs.declared.entry.Reply.TheVariants.{Turned, Held, Moved, Cut, Sink}
 
 -- a turn of x to the count k fails this test, and none before it; the other tests are none of a turn
 abbrev pub FailsTurn : ℕ → ℕ → Moment → ℕ → ℕ → Why → Type 0
@@ -29,6 +29,7 @@ FailsReply n d m x (Turned k) why = FailsTurn n d m x k why
 FailsReply n d m x (Held by) why = (why ≡ NotHeld) × ¬ Points m.links x by
 FailsReply n d m x (Moved had k) why = (why ≡ NotMoved) × ¬ ((k ≡ count_at m x) × (had < k))
 FailsReply n d m x Cut why = (why ≡ NotCut) × ¬ (count_at m x ≡ n)
+FailsReply n d m x Sink why = (why ≡ NotSink) × ¬ IsSink m.links x
 
 -- the entry fails this test, and none before it: its node is out of range, or its reply fails
 abbrev pub Fails : ℕ → ℕ → Moment → Entry → Why → Type 0

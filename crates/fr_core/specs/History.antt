@@ -5,13 +5,14 @@ use Rattle.fr_net.specs.Counts.{links_at}
 use Rattle.fr_net.specs.Turn.{turn}
 use Rattle.fr_core.specs.declared.entry.Entry.{Entry}
 use Rattle.fr_core.specs.declared.entry.Reply.{Reply}
-use Rattle.fr_core.specs.declared.entry.Reply.TheVariants.{Turned, Held, Moved, Cut}
+use Rattle.fr_core.specs.declared.entry.Reply.TheVariants.{Turned, Held, Moved, Cut, Sink}
 
 abbrev pub is_turned : Reply → Bool
 is_turned (Turned k) = true
 is_turned (Held by) = false
 is_turned (Moved had k) = false
 is_turned Cut = false
+is_turned Sink = false
 
 -- the links after a history: each Turned entry turns its node, in order
 abbrev pub links_after : List (ℕ × ℕ) → List Entry → List (ℕ × ℕ)
@@ -43,6 +44,7 @@ after_reply m x (Turned k) = record { links = turn x m.links; counts = slice_set
 after_reply m x (Held by) = m
 after_reply m x (Moved had k) = m
 after_reply m x Cut = m
+after_reply m x Sink = m
 
 abbrev pub after : Moment → Entry → Moment
 after m e = after_reply m e.node e.reply

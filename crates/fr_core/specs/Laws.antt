@@ -174,7 +174,7 @@ abbrev pub MachineRuns : Type 0
 MachineRuns = (n d : ℕ) (first : List (ℕ × ℕ)) (targets : List (List Target)) (schedule : List ℕ) → IsNet n first → AreAllAccepted n d first targets
     → IsRunTo n d first (entries_of n first (start n targets) schedule) (state_after n first (start n targets) schedule).counts
 
--- and each worker's part of them is its replies in order, one for each target that it has used up
+-- and each worker's part of them is its replies in order, an answer to each target that it has used up
 abbrev pub PartsAreReplies : Type 0
 PartsAreReplies = (n : ℕ) (first : List (ℕ × ℕ)) (targets : List (List Target)) (schedule : List ℕ) (k : ℕ)
     → HasPart n first targets schedule (entries_of n first (start n targets) schedule) k

@@ -6,7 +6,7 @@ use Rattle.fr_net.specs.Turn.{IsSink}
 use Rattle.fr_core.specs.History.{Moment, count_at, after}
 use Rattle.fr_core.specs.declared.entry.Entry.{Entry}
 use Rattle.fr_core.specs.declared.entry.Reply.{Reply}
-use Rattle.fr_core.specs.declared.entry.Reply.TheVariants.{Turned, Held, Moved, Cut}
+use Rattle.fr_core.specs.declared.entry.Reply.TheVariants.{Turned, Held, Moved, Cut, Sink}
 
 -- a node that can turn: a sink that is not the destination, with a count below the cap
 pub record CanTurn (n d : ℕ) (m : Moment) (x : ℕ) : Type 0 where
@@ -18,12 +18,13 @@ abbrev pub NoneCanTurn : ℕ → ℕ → Moment → Type 0
 NoneCanTurn n d m = (x : ℕ) → ¬ CanTurn n d m x
 
 -- Turned: the node can turn, and k is its count with this turn. Held: a link points from it to the other node.
--- Moved: k is its count, and above the count that was had. Cut: its count is the cap
+-- Moved: k is its count, and above the count that was had. Cut: its count is the cap. Sink: it is one
 abbrev pub IsLegalReply : ℕ → ℕ → Moment → ℕ → Reply → Type 0
 IsLegalReply n d m x (Turned k) = CanTurn n d m x × (k ≡ count_at m x + 1)
 IsLegalReply n d m x (Held by) = Points m.links x by
 IsLegalReply n d m x (Moved had k) = (k ≡ count_at m x) × (had < k)
 IsLegalReply n d m x Cut = count_at m x ≡ n
+IsLegalReply n d m x Sink = IsSink m.links x
 
 -- the reply is one that full reversal by one thread gives at this point
 abbrev pub IsLegal : ℕ → ℕ → Moment → Entry → Type 0

@@ -1,5 +1,6 @@
 pub mod History
 pub mod Legal
+pub mod Replies
 pub mod Walks
 pub mod Settled
 pub mod Bounds

@@ -1,26 +1,32 @@
--- The machine: workers turn nodes by single loads and exchanges on the counts of a network. A step is the load of one count or
--- the exchange of one count, and the steps of the workers come in whatever order a schedule has.
+-- The machine: workers turn nodes and look at them by single loads and exchanges on the counts of a network. A step is the load
+-- of one count or the exchange of one count, and the steps of the workers come in whatever order a schedule has. In the table t
+-- is a turn of x or a look at x.
 --
 --   phase              the step                                 what it comes to
 --   Idle, none left    nothing
 --   Idle, turn of x    loads the count c of x                   c is n: decides Cut
---                                                               else Looking x c 0
---   Looking x c j      loads the count of neighbour j of x      below its bound: decides Held by it
---                                                               else, the last neighbour: Swapping x c
---                                                               else Looking x c (j + 1)
+--                                                               else Looking (turn of x) c 0
+--   Idle, look at x    loads the count c of x                   Looking (look at x) c 0
+--   Looking t c j      loads the count of neighbour j of x      below its bound: decides Held by it
+--                                                               else, the last neighbour: of a turn Swapping x c,
+--                                                                                         of a look Confirming x c
+--                                                               else Looking t c (j + 1)
 --   Swapping x c       exchanges the count of x, if it is c,    it was c: decides Turned, with c + 1
 --                      for c + 1                                else decides Moved, with c and what it found
+--   Confirming x c     loads the count of x                     it is c: decides Sink
+--                                                               else decides Moved, with c and what it found
 use Rattle.std.specs.Prelude.{ℕ, ◌+◌, ◌==◌, nat_lt, if◌then◌else◌, List, [], ◌∷◌, ◌++◌, length, map, replicate, Option, Some, None, slice_index, slice_index_or, slice_set, option_to_list}
 use Rattle.fr_net.specs.Rows.{row}
 use Rattle.fr_net.specs.declared.rows.First.{First}
 use Rattle.fr_net.specs.declared.rows.First.TheVariants.{Outward, Inward}
+use Rattle.fr_core.specs.Targets.{node_of}
 use Rattle.fr_core.specs.declared.entry.Entry.{Entry}
 use Rattle.fr_core.specs.declared.entry.Reply.{Reply}
-use Rattle.fr_core.specs.declared.entry.Reply.TheVariants.{Turned, Held, Moved, Cut}
+use Rattle.fr_core.specs.declared.entry.Reply.TheVariants.{Turned, Held, Moved, Cut, Sink}
 use Rattle.fr_core.specs.declared.targets.Target.{Target}
-use Rattle.fr_core.specs.declared.targets.Target.TheVariants.{Turn}
+use Rattle.fr_core.specs.declared.targets.Target.TheVariants.{Turn, Look}
 use Rattle.fr_core.specs.declared.worker.Phase.{Phase}
-use Rattle.fr_core.specs.declared.worker.Phase.TheVariants.{Idle, Looking, Swapping}
+use Rattle.fr_core.specs.declared.worker.Phase.TheVariants.{Idle, Looking, Swapping, Confirming}
 
 -- a worker: the targets that it has not used up, and its phase in the call on the first of them
 pub record WorkerState : Type 0 where
@@ -63,23 +69,31 @@ abbrev pub bound_of : First → ℕ → ℕ
 bound_of Outward c = c + 1
 bound_of Inward c = c
 
--- the load of the own count
+-- the load of the own count, for a turn and for a look
 abbrev pub load_own : ℕ → List ℕ → List Target → ℕ → Outcome
 load_own n counts left x =
     if slice_index counts x == n then decides counts left x Cut
-    else goes_on counts left (Looking x (slice_index counts x) 0)
+    else goes_on counts left (Looking (Turn x) (slice_index counts x) 0)
+
+abbrev pub load_to_look : List ℕ → List Target → ℕ → Outcome
+load_to_look counts left x = goes_on counts left (Looking (Look x) (slice_index counts x) 0)
 
 -- the neighbour at place j of a row, with the first direction of its link
 abbrev pub neighbour_at : List (ℕ × First) → ℕ → ℕ × First
 neighbour_at neighbours j = slice_index_or neighbours j (0, Outward)
 
+-- the phase of a call that no neighbour held
+abbrev pub phase_unheld : Target → ℕ → Phase
+phase_unheld (Turn x) c = Swapping x c
+phase_unheld (Look x) c = Confirming x c
+
 -- the load of a neighbour's count
-abbrev pub load_neighbour : List (ℕ × First) → List ℕ → List Target → ℕ → ℕ → ℕ → Outcome
-load_neighbour neighbours counts left x c j =
+abbrev pub load_neighbour : List (ℕ × First) → List ℕ → List Target → Target → ℕ → ℕ → Outcome
+load_neighbour neighbours counts left t c j =
     let w = neighbour_at neighbours j in
-    if nat_lt (slice_index counts w.0) (bound_of w.1 c) then decides counts left x (Held w.0)
-    else if j + 1 == length neighbours then goes_on counts left (Swapping x c)
-    else goes_on counts left (Looking x c (j + 1))
+    if nat_lt (slice_index counts w.0) (bound_of w.1 c) then decides counts left (node_of t) (Held w.0)
+    else if j + 1 == length neighbours then goes_on counts left (phase_unheld t c)
+    else goes_on counts left (Looking t c (j + 1))
 
 -- the exchange of the own count
 abbrev pub exchange : List ℕ → List Target → ℕ → ℕ → Outcome
@@ -87,9 +101,16 @@ exchange counts left x c =
     if slice_index counts x == c then decides (slice_set counts x (c + 1)) left x (Turned (c + 1))
     else decides counts left x (Moved c (slice_index counts x))
 
+-- the second load of the own count
+abbrev pub confirm : List ℕ → List Target → ℕ → ℕ → Outcome
+confirm counts left x c =
+    if slice_index counts x == c then decides counts left x Sink
+    else decides counts left x (Moved c (slice_index counts x))
+
 -- the first step of a call
 abbrev pub begin_call : ℕ → List ℕ → List Target → Target → Outcome
 begin_call n counts left (Turn x) = load_own n counts left x
+begin_call n counts left (Look x) = load_to_look counts left x
 
 abbrev pub step_idle : ℕ → List ℕ → List Target → Outcome
 step_idle n counts [] = goes_on counts [] Idle
@@ -98,8 +119,9 @@ step_idle n counts (t ∷ ts) = begin_call n counts (t ∷ ts) t
 -- a step of a worker with these targets left, by its phase
 abbrev pub outcome : ℕ → List (ℕ × ℕ) → List ℕ → List Target → Phase → Outcome
 outcome n first counts left Idle = step_idle n counts left
-outcome n first counts left (Looking x c j) = load_neighbour (row n first x) counts left x c j
+outcome n first counts left (Looking t c j) = load_neighbour (row n first (node_of t)) counts left t c j
 outcome n first counts left (Swapping x c) = exchange counts left x c
+outcome n first counts left (Confirming x c) = confirm counts left x c
 
 abbrev pub worker_of : MachineState → ℕ → WorkerState
 worker_of m k = slice_index_or m.workers k (fresh [])

@@ -2,12 +2,12 @@
 use Rattle.std.specs.Prelude.{◌≡◌, ℕ, List, [], ◌++◌, map, slice_index_or}
 use Rattle.fr_core.specs.History.{part}
 use Rattle.fr_core.specs.Machine.{MachineState, start, worker_of, entries_of, state_after, decided_by}
+use Rattle.fr_core.specs.Replies.{AreAnswersTo}
 use Rattle.fr_core.specs.Runs.{IsRunTo}
 use Rattle.fr_core.specs.Targets.{IsPlayable}
 use Rattle.fr_core.specs.declared.entry.Entry.{Entry}
 use Rattle.fr_core.specs.declared.entry.Reply.{Reply}
 use Rattle.fr_core.specs.declared.targets.Target.{Target}
-use Rattle.fr_core.specs.declared.targets.Target.TheVariants.{Turn}
 
 -- a machine as contracts see it: the network, the destination and the state
 pub record MachineView : Type 0 where
@@ -19,17 +19,16 @@ pub record MachineView : Type 0 where
 abbrev pub started : ℕ → ℕ → List (ℕ × ℕ) → List (List Target) → MachineView
 started n d links targets = record { nodes = n; dest = d; links = links; state = start n targets }
 
--- the target that a decided call was on
-abbrev pub target_of : Entry → Target
-target_of e = Turn e.node
-
+-- the node and the reply of a decided call
 abbrev pub answer_of : Entry → ℕ × Reply
 answer_of e = (e.node, e.reply)
 
--- the part of worker k among the entries: what its steps decide, in order, one for each target that it has used up
+-- the part of worker k among the entries: what its steps decide, in order, an answer to each target that it has used up
 pub record HasPart (n : ℕ) (first : List (ℕ × ℕ)) (targets : List (List Target)) (schedule : List ℕ) (entries : List Entry) (k : ℕ) : Type 0 where
   pub replies : map answer_of (part k entries) ≡ decided_by n first (start n targets) k schedule
-  pub used_up : map target_of (part k entries) ++ (worker_of (state_after n first (start n targets) schedule) k).left ≡ slice_index_or targets k []
+  pub used : List Target
+  pub used_up : used ++ (worker_of (state_after n first (start n targets) schedule) k).left ≡ slice_index_or targets k []
+  pub answers : AreAnswersTo used (map answer_of (part k entries))
 
 -- what a schedule makes of a machine before its first step
 pub record IsPlay (n d : ℕ) (first : List (ℕ × ℕ)) (targets : List (List Target)) (schedule : List ℕ) (entries : List Entry) : Type 0 where

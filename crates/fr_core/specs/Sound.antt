@@ -6,16 +6,22 @@ use Rattle.fr_net.specs.Links.{IsNet}
 use Rattle.fr_net.specs.Rows.{row}
 use Rattle.fr_core.specs.Machine.{WorkerState, MachineState, Outcome, neighbour_at, bound_of, entries_of}
 use Rattle.fr_core.specs.Played.{MachineView}
-use Rattle.fr_core.specs.Targets.{IsTargetRefused, IsTurnable}
+use Rattle.fr_core.specs.Targets.{node_of, IsTargetRefused, IsTurnable, IsLookable}
 use Rattle.fr_core.specs.declared.entry.Entry.{Entry}
 use Rattle.fr_core.specs.declared.entry.Reply.{Reply}
 use Rattle.fr_core.specs.declared.targets.Target.{Target}
-use Rattle.fr_core.specs.declared.targets.Target.TheVariants.{Turn}
+use Rattle.fr_core.specs.declared.targets.Target.TheVariants.{Turn, Look}
 use Rattle.fr_core.specs.declared.worker.Phase.{Phase}
-use Rattle.fr_core.specs.declared.worker.Phase.TheVariants.{Idle, Looking, Swapping}
+use Rattle.fr_core.specs.declared.worker.Phase.TheVariants.{Idle, Looking, Swapping, Confirming}
 
 abbrev pub IsFit : ℕ → ℕ → List (ℕ × ℕ) → Target → Type 0
 IsFit n d first (Turn x) = IsTurnable n d first x
+IsFit n d first (Look x) = IsLookable n first x
+
+-- the count is one from which the call goes on: a look goes on at the cap as well
+abbrev pub IsInRange : ℕ → Target → ℕ → Type 0
+IsInRange n (Turn x) c = c < n
+IsInRange n (Look x) c = c ≤ n
 
 -- the first target of a list that would be refused
 pub record IsFirstRefused (n d : ℕ) (links : List (ℕ × ℕ)) (list : List Target) (at : ℕ) : Type 0 where
@@ -24,17 +30,18 @@ pub record IsFirstRefused (n d : ℕ) (links : List (ℕ × ℕ)) (list : List T
   pub refused : IsTargetRefused n d links target
   pub first : (i : ℕ) (t : Target) → slice_get list i ≡ Some t → i < at → ¬ IsTargetRefused n d links t
 
--- what a call on x stands on after the load of its own count c: the first j neighbours meet their bounds
-pub record IsUnderWay (n d : ℕ) (first : List (ℕ × ℕ)) (counts : List ℕ) (x c j : ℕ) : Type 0 where
-  pub turnable : IsTurnable n d first x
-  pub low : c ≤ slice_index counts x
-  pub below_cap : c < n
-  pub enough : (i : ℕ) → i < j → bound_of (neighbour_at (row n first x) i).1 c ≤ slice_index counts (neighbour_at (row n first x) i).0
+-- what a call stands on after the load of its node's own count c: the first j neighbours meet their bounds
+pub record IsUnderWay (n d : ℕ) (first : List (ℕ × ℕ)) (counts : List ℕ) (t : Target) (c j : ℕ) : Type 0 where
+  pub fit : IsFit n d first t
+  pub low : c ≤ slice_index counts (node_of t)
+  pub in_range : IsInRange n t c
+  pub enough : (i : ℕ) → i < j → bound_of (neighbour_at (row n first (node_of t)) i).1 c ≤ slice_index counts (neighbour_at (row n first (node_of t)) i).0
 
 abbrev pub IsSoundPhase : ℕ → ℕ → List (ℕ × ℕ) → List ℕ → Phase → Type 0
 IsSoundPhase n d first counts Idle = Unit {0}
-IsSoundPhase n d first counts (Looking x c j) = IsUnderWay n d first counts x c j × (j < length (row n first x))
-IsSoundPhase n d first counts (Swapping x c) = IsUnderWay n d first counts x c (length (row n first x))
+IsSoundPhase n d first counts (Looking t c j) = IsUnderWay n d first counts t c j × (j < length (row n first (node_of t)))
+IsSoundPhase n d first counts (Swapping x c) = IsUnderWay n d first counts (Turn x) c (length (row n first x))
+IsSoundPhase n d first counts (Confirming x c) = IsUnderWay n d first counts (Look x) c (length (row n first x))
 
 pub record IsSoundWorker (n d : ℕ) (first : List (ℕ × ℕ)) (counts : List ℕ) (worker : WorkerState) : Type 0 where
   pub fit : All (IsFit n d first) worker.left
@@ -51,13 +58,14 @@ pub record IsSoundMachine (m : MachineView) : Type 0 where
 
 -- a target is on a node below n
 abbrev pub IsOnNode : ℕ → Target → Type 0
-IsOnNode n (Turn x) = x < n
+IsOnNode n t = node_of t < n
 
 -- the phase is at nodes and places that are there
 abbrev pub IsPhaseInside : ℕ → List (ℕ × ℕ) → Phase → Type 0
 IsPhaseInside n first Idle = Unit {0}
-IsPhaseInside n first (Looking x c j) = (x < n) × (c < n) × (j < length (row n first x))
+IsPhaseInside n first (Looking t c j) = (node_of t < n) × (c ≤ n) × (j < length (row n first (node_of t)))
 IsPhaseInside n first (Swapping x c) = (x < n) × (c < n)
+IsPhaseInside n first (Confirming x c) = x < n
 
 pub record CanStep (n : ℕ) (first : List (ℕ × ℕ)) (worker : WorkerState) : Type 0 where
   pub left : All (IsOnNode n) worker.left

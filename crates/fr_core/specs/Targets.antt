@@ -1,11 +1,11 @@
--- Which turns are refused, and which targets and schedules a machine takes.
+-- Which turns and looks are refused, and which targets and schedules a machine takes.
 use Rattle.std.specs.Prelude.{◌≡◌, ℕ, ◌<◌, ◌≤◌, ◌⊎◌, List, length, map, Some, slice_get, Vec}
 use Rattle.std.specs.List.{All, Any}
 use Rattle.fr_net.specs.Links.{IsAlone, Joins}
 use Rattle.fr_core.specs.declared.play_fault.PlayFault.{PlayFault}
 use Rattle.fr_core.specs.declared.play_fault.PlayFault.TheVariants.{Range, BadTarget, Memory}
 use Rattle.fr_core.specs.declared.targets.Target.{Target}
-use Rattle.fr_core.specs.declared.targets.Target.TheVariants.{Turn}
+use Rattle.fr_core.specs.declared.targets.Target.TheVariants.{Turn, Look}
 
 -- the lists of a list of vectors
 module _ {A Z : Type 0} where
@@ -22,8 +22,23 @@ pub record IsTurnable (n d : ℕ) (links : List (ℕ × ℕ)) (x : ℕ) : Type 0
   pub not_destination : ¬ (x ≡ d)
   pub linked : (w : ℕ) × Joins links x w
 
+-- a look at x would be refused: it is no node, or alone
+abbrev pub IsUnlookable : ℕ → List (ℕ × ℕ) → ℕ → Type 0
+IsUnlookable n links x = (n ≤ x) ⊎ IsAlone links x
+
+-- a look at x would not be refused
+pub record IsLookable (n : ℕ) (links : List (ℕ × ℕ)) (x : ℕ) : Type 0 where
+  pub inside : x < n
+  pub linked : (w : ℕ) × Joins links x w
+
+-- the node that a target is on
+abbrev pub node_of : Target → ℕ
+node_of (Turn x) = x
+node_of (Look x) = x
+
 abbrev pub IsTargetRefused : ℕ → ℕ → List (ℕ × ℕ) → Target → Type 0
 IsTargetRefused n d links (Turn x) = IsUnturnable n d links x
+IsTargetRefused n d links (Look x) = IsUnlookable n links x
 
 -- no target of a list would be refused, and none of any worker's list
 abbrev pub AreAccepted : ℕ → ℕ → List (ℕ × ℕ) → List Target → Type 0

@@ -3,12 +3,13 @@
 ghost use Rattle.std.specs.Prelude.{◌≡◌, ◌≢◌, ℕ, ◌<◌, ◌↔◌, IsTrue, All, length, slice_index, IfOk, IfErr, IfSome, IfNone};
 ghost use Rattle.fr_net.specs.Counts.{AreLawful, IsKept, links_at};
 ghost use Rattle.fr_net.specs.Links.{Points};
+ghost use Rattle.fr_net.specs.Turn.{IsSink};
 ghost use Rattle.fr_core.specs.Checks.{Fails, FailsReply, IsCheckFault};
 ghost use Rattle.fr_core.specs.Runs.{IsRunTo};
 ghost use Rattle.fr_core.specs.History.{moment_of};
 ghost use Rattle.fr_core.specs.Legal.{IsLegal, IsLegalReply};
 ghost use Rattle.fr_core.specs.declared.check.fault.CheckFault.TheVariants.{Memory};
-ghost use Rattle.fr_core.specs.declared.check.fault.Why.TheVariants.{NotHeld, NotMoved, NotCut};
+ghost use Rattle.fr_core.specs.declared.check.fault.Why.TheVariants.{NotSink, NotHeld, NotMoved, NotCut};
 ghost use Rattle.fr_core.specs.declared.entry.Reply.TheVariants.{Turned};
 
 mod fault;
@@ -100,6 +101,21 @@ fn cut_fault(nodes: u32, now: u64) -> Option<Why>
     }
 }
 
+/// The test that node `x` is a sink.
+fn sink_fault(net: &Net, counts: &[u64], x: u32) -> Option<Why>
+    requires one_each { length counts.now ≡ net.now.nodes }
+    requires kept { All (IsKept counts.now) net.now.links }
+    requires node { x < net.now.nodes }
+    ensures none { IfNone result (IsSink (links_at net.now.links counts.now) x) }
+    ensures some { IfSome result (λ why. (why ≡ NotSink) × ¬ IsSink (links_at net.now.links counts.now) x) }
+{
+    if is_sink(net, counts, x) {
+        None
+    } else {
+        Some(Why::NotSink)
+    }
+}
+
 /// The first test that the entry fails at these counts.
 fn fault_of(net: &Net, dest: u32, counts: &[u64], entry: Entry) -> Option<Why>
     requires { AreLawful net.now.nodes dest net.now.links counts.now }
@@ -117,6 +133,7 @@ fn fault_of(net: &Net, dest: u32, counts: &[u64], entry: Entry) -> Option<Why>
         Reply::Held { by } => held_fault(net, counts, x, by),
         Reply::Moved { had, count } => moved_fault(now, had, count),
         Reply::Cut => cut_fault(nodes, now),
+        Reply::Sink => sink_fault(net, counts, x),
     }
 }
 

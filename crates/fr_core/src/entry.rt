@@ -11,6 +11,8 @@ pub enum Reply {
     Moved { had: u64, count: u64 },
     /// The node has turned as often as there are nodes, and turns no more.
     Cut,
+    /// All links of the node point to it. The answer of a look, which turns nothing.
+    Sink,
 }
 
 /// A decided call of a worker on a node.

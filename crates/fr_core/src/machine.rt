@@ -48,8 +48,8 @@ impl<'a> Model for Machine<'a> {
 
 impl<'a> Machine<'a> {
     /// A machine before its first step, with a worker for each list of targets, or the first fault that stands: `Range` where
-    /// `dest` is no node, and then `BadTarget` with the first target that is no node, the destination, or has no link.
-    /// `Memory` where no room could be had for the counts or the workers.
+    /// `dest` is no node, and then `BadTarget` with the first target that is no node or a node with no link, or is a turn of the
+    /// destination. `Memory` where no room could be had for the counts or the workers.
     pub fn new(
         alloc: Global,
         net: &'a Net,

@@ -13,9 +13,9 @@ pub enum PlayFault {
     /// The destination is no node, or a number of the schedule is no worker.
     #[error("the destination is no node, or a number of the schedule is no worker")]
     Range,
-    /// The first target, by worker and then by place in the worker's list, that is no node, the destination or a node with
-    /// no link.
-    #[error("target {at} of worker {worker} is no node, the destination, or has no link")]
+    /// The first target, by worker and then by place in the worker's list, that is no node or a node with no link, or is a
+    /// turn of the destination.
+    #[error("target {at} of worker {worker} is no node or has no link, or is a turn of the destination")]
     BadTarget { worker: usize, at: usize },
     /// An allocation was refused.
     #[error("no memory")]

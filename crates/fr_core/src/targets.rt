@@ -1,7 +1,7 @@
 //! What a machine's workers are to do.
 
 ghost use Rattle.std.specs.Prelude.{◌≡◌, ◌↔◌, IsTrue, IfSome, IfNone};
-ghost use Rattle.fr_core.specs.Targets.{IsUnturnable, IsTargetRefused, IsFirstBadTarget, AreAccepted, AreAllAccepted, lists_of};
+ghost use Rattle.fr_core.specs.Targets.{node_of, IsUnturnable, IsUnlookable, IsTargetRefused, IsFirstBadTarget, AreAccepted, AreAllAccepted, lists_of};
 ghost use Rattle.fr_core.specs.Sound.{IsFirstRefused};
 
 use fr_net::Net;
@@ -11,13 +11,33 @@ use fr_net::Net;
 pub enum Target {
     /// Turn this node, if it is a sink.
     Turn(u32),
+    /// Look where a link of this node points, and turn nothing.
+    Look(u32),
 }
 
-/// Whether a turn of node `x` would be refused: it is no node, the destination, or has no link.
+impl Target {
+    /// The node that it is on.
+    pub(crate) fn node(self) -> u32
+        ensures { result ≡ node_of self }
+    {
+        match self {
+            Target::Turn(x) | Target::Look(x) => x,
+        }
+    }
+}
+
+/// Whether a look at node `x` would be refused: it is no node, or has no link.
+fn is_unlookable(net: &Net, x: u32) -> bool
+    ensures { IsTrue result ↔ IsUnlookable net.now.nodes net.now.links x }
+{
+    x >= net.nodes() || net.degree(x) == 0
+}
+
+/// Whether a turn of node `x` would be refused: a look at it would be, or it is the destination.
 fn is_unturnable(net: &Net, dest: u32, x: u32) -> bool
     ensures { IsTrue result ↔ IsUnturnable net.now.nodes dest net.now.links x }
 {
-    x >= net.nodes() || x == dest || net.degree(x) == 0
+    is_unlookable(net, x) || x == dest
 }
 
 /// Whether a machine refuses the target.
@@ -26,6 +46,7 @@ fn is_refused(net: &Net, dest: u32, target: Target) -> bool
 {
     match target {
         Target::Turn(x) => is_unturnable(net, dest, x),
+        Target::Look(x) => is_unlookable(net, x),
     }
 }
 

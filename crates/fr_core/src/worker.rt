@@ -1,8 +1,9 @@
 //! The workers of a machine.
 
-ghost use Rattle.std.specs.Prelude.{◌≡◌, ◌<◌, ◌^◌, All, length};
+ghost use Rattle.std.specs.Prelude.{◌≡◌, ◌<◌, ◌≤◌, ◌^◌, All, length};
 ghost use Rattle.fr_net.specs.Rows.{row};
-ghost use Rattle.fr_core.specs.Machine.{fresh, all_but_first, load_own, load_neighbour, exchange, step_idle, outcome, bound_of};
+ghost use Rattle.fr_core.specs.Machine.{fresh, all_but_first, load_own, load_to_look, load_neighbour, exchange, confirm, phase_unheld, step_idle, outcome, bound_of};
+ghost use Rattle.fr_core.specs.Targets.{node_of};
 ghost use Rattle.fr_core.specs.Sound.{CanStep, IsOnNode, outcome_with};
 ghost use Rattle.fr_core.specs.declared.worker.Phase.TheVariants.{Idle};
 
@@ -17,10 +18,22 @@ use std::marker::Model;
 pub(crate) enum Phase {
     /// The worker is in no call.
     Idle,
-    /// The node had turned so often, and the neighbour at this place of its row is the next to be looked at.
-    Looking { node: u32, count: u64, place: u32 },
-    /// The node had turned so often, and no neighbour held it.
-    Swapping { node: u32, count: u64 },
+    /// The node of the target had turned so often, and the neighbour at this place of its row is the next to be looked at.
+    Looking {
+        target: Target,
+        count: u64,
+        place: u32,
+    },
+    /// The node of a turn had turned so often, and no neighbour held it.
+    Swapping {
+        node: u32,
+        count: u64,
+    },
+    /// The node of a look had turned so often, and no neighbour held it.
+    Confirming {
+        node: u32,
+        count: u64,
+    },
 }
 
 /// A worker: the targets that it has not used up, and where it stands in the call on the first of them.
@@ -49,6 +62,16 @@ fn bound_of(first: First, count: u64) -> u64
     }
 }
 
+/// The phase of a call that no neighbour held.
+fn phase_unheld(target: Target, count: u64) -> Phase
+    ensures { result ≡ phase_unheld target count }
+{
+    match target {
+        Target::Turn(node) => Phase::Swapping { node, count },
+        Target::Look(node) => Phase::Confirming { node, count },
+    }
+}
+
 impl Worker {
     /// A worker before its first step.
     pub fn new(targets: Vec<Target>) -> Worker
@@ -74,7 +97,7 @@ impl Worker {
         self.phase = Phase::Idle;
     }
 
-    /// The load of the own count.
+    /// The load of the own count for a turn.
     fn load_own(&mut self, nodes: u32, counts: &[u64], node: u32) -> Option<(u32, Reply)>
         requires { node < length counts.now }
         ensures { outcome_with counts.now self.new result ≡ load_own nodes counts.now self.old.left node }
@@ -85,8 +108,21 @@ impl Worker {
             return Some((node, Reply::Cut));
         }
         self.phase = Phase::Looking {
-            node,
+            target: Target::Turn(node),
             count,
+            place: 0,
+        };
+        None
+    }
+
+    /// The load of the own count for a look.
+    fn load_to_look(&mut self, counts: &[u64], node: u32) -> Option<(u32, Reply)>
+        requires { node < length counts.now }
+        ensures { outcome_with counts.now self.new result ≡ load_to_look counts.now self.old.left node }
+    {
+        self.phase = Phase::Looking {
+            target: Target::Look(node),
+            count: counts[node as usize],
             place: 0,
         };
         None
@@ -103,6 +139,7 @@ impl Worker {
         };
         match *target {
             Target::Turn(node) => self.load_own(nodes, counts, node),
+            Target::Look(node) => self.load_to_look(counts, node),
         }
     }
 
@@ -111,19 +148,20 @@ impl Worker {
         &mut self,
         net: &Net,
         counts: &[u64],
-        node: u32,
+        target: Target,
         count: u64,
         place: u32,
     ) -> Option<(u32, Reply)>
-        requires node { node < net.now.nodes }
-        requires place { place < length (row net.now.nodes net.now.links node) }
+        requires node { node_of target < net.now.nodes }
+        requires place { place < length (row net.now.nodes net.now.links (node_of target)) }
         requires one_each { length counts.now ≡ net.now.nodes }
-        requires below_cap { count < net.now.nodes }
+        requires capped { count ≤ net.now.nodes }
         ensures { outcome_with counts.now self.new result
-            ≡ load_neighbour (row net.now.nodes net.now.links node) counts.now self.old.left node count place }
+            ≡ load_neighbour (row net.now.nodes net.now.links (node_of target)) counts.now self.old.left target count place }
     {
         // By the law there are few nodes, so few neighbours.
         net.network_law();
+        let node = target.node();
         let degree = net.degree(node);
         let (neighbour, first) = net.neighbour(node, place);
         if counts[neighbour as usize] < bound_of(first, count) {
@@ -131,10 +169,10 @@ impl Worker {
             return Some((node, Reply::Held { by: neighbour }));
         }
         self.phase = if place + 1 == degree {
-            Phase::Swapping { node, count }
+            phase_unheld(target, count)
         } else {
             Phase::Looking {
-                node,
+                target,
                 count,
                 place: place + 1,
             }
@@ -162,6 +200,25 @@ impl Worker {
         Some((node, reply))
     }
 
+    /// The second load of the own count, with which a look ends.
+    fn confirm(&mut self, counts: &[u64], node: u32, count: u64) -> Option<(u32, Reply)>
+        requires { node < length counts.now }
+        ensures { outcome_with counts.now self.new result ≡ confirm counts.now self.old.left node count }
+    {
+        self.end_call();
+        let found = counts[node as usize];
+        if found == count {
+            return Some((node, Reply::Sink));
+        }
+        Some((
+            node,
+            Reply::Moved {
+                had: count,
+                count: found,
+            },
+        ))
+    }
+
     /// One step: the load or the exchange of one count. The node and the reply of the call, if the step decides it.
     pub fn step(&mut self, net: &Net, counts: &mut [u64]) -> Option<(u32, Reply)>
         requires one_each { length counts.old ≡ net.now.nodes }
@@ -172,10 +229,13 @@ impl Worker {
         let nodes = net.nodes();
         match self.phase() {
             Phase::Idle => self.begin_call(nodes, counts),
-            Phase::Looking { node, count, place } => {
-                self.load_neighbour(net, counts, node, count, place)
-            }
+            Phase::Looking {
+                target,
+                count,
+                place,
+            } => { self.load_neighbour(net, counts, target, count, place) }
             Phase::Swapping { node, count } => self.exchange(counts, node, count),
+            Phase::Confirming { node, count } => self.confirm(counts, node, count),
         }
     }
 }

@@ -77,6 +77,8 @@ fn work<J: Naming, G: Gate>(job: &Job<J>, gate: &G, member: Member<J>) -> Worker
             Ok(Reply::Held { .. }) | Ok(Reply::Cut) => {}
             // No candidate is refused.
             Err(_) => unreachable!(),
+            // That is a look's reply.
+            Ok(Reply::Sink) => unreachable!(),
         }
     }
     worker

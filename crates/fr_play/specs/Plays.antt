@@ -12,7 +12,7 @@ use Rattle.fr_core.specs.Played.{IsPlay}
 use Rattle.fr_core.specs.Runs.{IsRunTo}
 use Rattle.fr_core.specs.declared.entry.Entry.{Entry}
 use Rattle.fr_core.specs.declared.entry.Reply.{Reply}
-use Rattle.fr_core.specs.declared.entry.Reply.TheVariants.{Turned, Held, Moved, Cut}
+use Rattle.fr_core.specs.declared.entry.Reply.TheVariants.{Turned, Held, Moved, Cut, Sink}
 use Rattle.fr_core.specs.declared.targets.Target.{Target}
 use Rattle.fr_core.specs.declared.targets.Target.TheVariants.{Turn}
 use Rattle.fr_route.specs.Answers.{IsRefused}
@@ -41,6 +41,7 @@ reply_text (Turned count) = codes "turned " ++ decimal count
 reply_text (Held by) = codes "held " ++ decimal by
 reply_text (Moved had count) = codes "moved " ++ (decimal had ++ (codes " " ++ decimal count))
 reply_text Cut = codes "cut"
+reply_text Sink = codes "sink"
 
 -- the worker, the node, and what the call came to
 abbrev pub entry_text : Entry → List ℕ

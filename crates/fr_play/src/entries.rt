@@ -114,6 +114,7 @@ fn write_reply(text: &mut String, reply: Reply) -> Result<(), AllocError>
         Reply::Held { by } => write!(text, "held {by}")?,
         Reply::Moved { had, count } => write!(text, "moved {had} {count}")?,
         Reply::Cut => text.push_str("cut")?,
+        Reply::Sink => text.push_str("sink")?,
     }
     Ok(())
 }

@@ -13,16 +13,16 @@ use Rattle.fr_net.specs.Counts.{links_at}
 use Rattle.fr_net.specs.Links.{Points, Joins}
 use Rattle.fr_core.specs.History.{Moment, after, count_at, part}
 use Rattle.fr_core.specs.Legal.{CanTurn, IsLegal}
-use Rattle.fr_core.specs.Targets.{IsTurnable}
+use Rattle.fr_core.specs.Targets.{IsLookable, IsTurnable}
 use Rattle.fr_core.specs.declared.entry.Entry.{Entry}
 use Rattle.fr_core.specs.declared.entry.Reply.{Reply}
-use Rattle.fr_core.specs.declared.entry.Reply.TheVariants.{Turned, Held, Moved, Cut}
+use Rattle.fr_core.specs.declared.entry.Reply.TheVariants.{Turned, Held, Moved, Cut, Sink}
 use Rattle.fr_round.specs.declared.view.Setup.{Setup}
 use Rattle.fr_round.specs.declared.view.View.{View}
 use Rattle.fr_round.specs.Histories.{IsHistory, moment, start, StartsWith, entry, reached}
 use Rattle.fr_round.specs.Rule.{KeepsRule, ViewFits, IsTaken}
 use Rattle.fr_round.specs.Calls.{AllMeet, IsInCall, IsWorker}
-use Rattle.fr_round.specs.Steps.{EndsCall, noted, begun, own_loaded, neighbour_loaded, exchange_made}
+use Rattle.fr_round.specs.Steps.{EndsCall, noted, begun, own_loaded, neighbour_loaded, exchange_made, look_begun, look_ended}
 use Rattle.fr_round.proofs.Entries.{lawful_after, set_same_value, set_up, set_below, part_mine, part_other}
 use Rattle.fr_core.proofs.Loads.{held_along, held_against, sink_from_seen}
 use Rattle.fr_core.proofs.Rounds.{after_all-append, run_append}
@@ -286,6 +286,54 @@ module _ {S : Type 0} where
           subst (λ ws. Outcome s id me ws (exchange_made (step slots x c new none) me found) b) (sym stays)
           (decided_view v (r.history ++ entry v.number x (Moved c found) ∷ []) x found, keeps, tt, t.0, (mine.below x, (λ hit. absurd (miss hit)), (λ _. t.1), refl)))
 
+  pub begins_look : (b : Setup) (slots id : ℕ) (me : Me S View) (i : ℕ) → me.0.works ≡ true
+      → Allows (KeepsRule b) slots id me i (λ n. n) (look_begun (step slots i 0 0 none) me)
+  begins_look b slots id me i works s r0 _ here _ =
+      let found : ℕ = slice_index s.words i in
+      let then : Me S View → Type 0 = look_begun (step slots i 0 0 none) me found in
+      rebase s id me (slice_set s.words i found) then b r0 here works (λ r. load_at s id i me then me.0.setup (main s here r))
+    where
+      main : (s : State S View) → get_elem? s.views id ≡ some me.0 → (r : KeepsRule me.0.setup s) → Outcome s id me s.words (look_begun (step slots i 0 0 none) me (slice_index s.words i)) me.0.setup
+      main s here r =
+          let found : ℕ = slice_index s.words i in
+          let v = me.0 in
+          let b = v.setup in
+          let mine = (r.views id v here).worker works in
+          let is : found ≡ reached b r.history i = word_is b s r i in
+          let most : found ≤ b.nodes = let m = (lawful_here b s r).lawful.capped i in omega arith in
+          (begun v i found, keeps, tt, notes s id v r i found i found here works (le_refl found), (mine.below i, most, refl, refl))
+
+  ends_look : (b : Setup) (slots id : ℕ) (me : Me S View) (x : ℕ) → me.0.works ≡ true → x < me.0.setup.nodes → me.0.count ≤ slice_index me.0.seen x
+      → (w : ℕ) → Joins me.0.setup.links x w → AllMeet me.0.setup.links me.0.seen x me.0.count
+      → Allows (KeepsRule b) slots id me x (λ n. n) (look_ended (step slots x 0 0 none) me)
+  ends_look b slots id me x works inside had w joined met s r0 _ here _ =
+      let found : ℕ = slice_index s.words x in
+      let then : Me S View → Type 0 = look_ended (step slots x 0 0 none) me found in
+      rebase s id me (slice_set s.words x found) then b r0 here works (λ r. load_at s id x me then me.0.setup (main s here r))
+    where
+      main : (s : State S View) → get_elem? s.views id ≡ some me.0 → (r : KeepsRule me.0.setup s) → Outcome s id me s.words (look_ended (step slots x 0 0 none) me (slice_index s.words x)) me.0.setup
+      main s here r =
+          let found : ℕ = slice_index s.words x in
+          let v = me.0 in
+          let b = v.setup in
+          let c : ℕ = v.count in
+          let m : Moment = moment b r.history in
+          let st = lawful_here b s r in
+          let mine = (r.views id v here).worker works in
+          let is : found ≡ count_at m x = word_is b s r x in
+          dite (ℕ_discrete found c)
+          (λ (hit : found ≡ c).
+          let own : count_at m x ≡ c = sym is ∙ hit in
+          let sink : IsSink (links_at b.links m.counts) x = sink_from_seen b.links m.counts st.lawful.kept x (slice_index v.seen)
+          (λ y. let q = mine.below y in let e = word_is b s r y in omega arith) (w, joined)
+          (λ y l. let p = met.along y l in omega arith) (λ y l. let p = met.against y l in omega arith) in
+          let t = call_ended s id v r x Sink x found s.words here works (inside, subst (λ (ls : List (ℕ × ℕ)). IsSink ls x) (sym st.links) sink) r.words (λ z. le_refl _) (le_refl found) in
+          (decided_view v (r.history ++ entry v.number x Sink ∷ []) x found, keeps, tt, t.0, (mine.below x, (λ _. t.1), (λ other. absurd (other hit)), refl)))
+          (λ (miss : found ≢ c).
+          let above : c < found = let p = mine.below x in omega arith in
+          let t = call_ended s id v r x (Moved c found) x found s.words here works (inside, (is, above)) r.words (λ z. le_refl _) (le_refl found) in
+          (decided_view v (r.history ++ entry v.number x (Moved c found) ∷ []) x found, keeps, tt, t.0, (mine.below x, (λ hit. absurd (miss hit)), (λ _. t.1), refl)))
+
 module _ {S : Type 0} (b : Setup) (slots id : ℕ) (me : Me S View) (x c w : ℕ) (call : IsInCall b x c me.0) where
   here_begun : me.0.count ≤ slice_index me.0.seen me.0.node
   here_begun = let e : slice_index me.0.seen me.0.node ≡ slice_index me.0.seen x = ap (slice_index me.0.seen) call.node in omega (arith, e, call.own, call.count)
@@ -311,3 +359,12 @@ exchanges_at b b' same slots id me x c new up room had worker may met =
     let dest : me.0.setup.dest ≡ b'.dest = ap (λ (z : Setup). z.dest) setup in
     exchanges b slots id me x c new up worker.works (omega (arith, may.inside, nodes)) (λ e. may.not_destination (e ∙ dest)) had (omega arith)
     may.linked.0 (subst (λ (z : Setup). Joins z.links x may.linked.0) (sym setup) may.linked.1) (subst (λ (z : Setup). AllMeet z.links me.0.seen x c) (sym setup) met)
+
+pub ends_look_at : {S : Type 0} (b b' : Setup) → b' ≡ b → (slots id : ℕ) (me : Me S View) (x c : ℕ) → IsInCall b' x c me.0 → IsLookable b'.nodes b'.links x → AllMeet b'.links me.0.seen x c
+    → Allows (KeepsRule b) slots id me x (λ n. n) (look_ended (step slots x 0 0 none) me)
+ends_look_at b b' same slots id me x c call may met =
+    let setup : me.0.setup ≡ b' = call.worker.setup in
+    let nodes : me.0.setup.nodes ≡ b'.nodes = ap (λ (z : Setup). z.nodes) setup in
+    ends_look b slots id me x call.worker.works (omega (arith, may.inside, nodes)) (omega (arith, call.own, call.count))
+    may.linked.0 (subst (λ (z : Setup). Joins z.links x may.linked.0) (sym setup) may.linked.1)
+    (subst (λ (p : Setup × ℕ). AllMeet p.0.links me.0.seen x p.1) (λ i. (sym setup i, sym call.count i)) met)

@@ -5,15 +5,16 @@ use Rattle.std.proofs.lemmas.Bool.{eqb-false}
 use Rattle.fr_net.specs.Rows.{row}
 use Rattle.fr_net.specs.declared.rows.First.{First}
 use Rattle.fr_net.specs.declared.rows.First.TheVariants.{Inward, Outward}
-use Rattle.fr_core.specs.Machine.{Outcome, bound_of, decides, goes_on}
-use Rattle.fr_core.specs.declared.entry.Reply.TheVariants.{Cut, Held, Moved, Turned}
+use Rattle.fr_core.specs.Machine.{Outcome, bound_of, decides, goes_on, load_neighbour, neighbour_at, phase_unheld}
+use Rattle.fr_core.specs.Targets.{node_of}
+use Rattle.fr_core.specs.declared.entry.Reply.TheVariants.{Cut, Held, Moved, Sink, Turned}
 use Rattle.fr_core.specs.declared.targets.Target.{Target}
-use Rattle.fr_core.specs.declared.targets.Target.TheVariants.{Turn}
+use Rattle.fr_core.specs.declared.targets.Target.TheVariants.{Look, Turn}
 use Rattle.fr_core.specs.declared.worker.Phase.{Phase}
-use Rattle.fr_core.specs.declared.worker.Phase.TheVariants.{Idle, Looking, Swapping}
+use Rattle.fr_core.specs.declared.worker.Phase.TheVariants.{Idle, Looking}
 use Rattle.fr_round.specs.declared.view.View.{View}
 use Rattle.fr_round.specs.Histories.{entry}
-use Rattle.fr_round.specs.Laws.{ComesToTheSame, ExchangeIsTheMachines, NeighbourLoadIsTheMachines, OwnLoadIsTheMachines, more_of, phase_past}
+use Rattle.fr_round.specs.Laws.{ComesToTheSame, ExchangeIsTheMachines, LookBeginsAsTheMachines, LookEndsAsTheMachines, NeighbourLoadIsTheMachines, OwnLoadIsTheMachines, more_of, phase_past}
 use Rattle.fr_round.specs.Steps.{Extends}
 use Rattle.fr_round.proofs.Entries.{set_same_value}
 
@@ -25,8 +26,8 @@ pub own_load_same : OwnLoadIsTheMachines
 own_load_same s me me' found first words rest at (up, low, goes, ends, same) =
     let n = me.0.setup.nodes in
     let targets = Turn s.word ∷ rest in
-    by_test (ComesToTheSame me.0 me'.0 words targets (Looking me'.0.node me'.0.count 0)) (eqb (slice_index words s.word) n)
-    (decides words targets s.word Cut) (goes_on words targets (Looking s.word (slice_index words s.word) 0))
+    by_test (ComesToTheSame me.0 me'.0 words targets (Looking (Turn me'.0.node) me'.0.count 0)) (eqb (slice_index words s.word) n)
+    (decides words targets s.word Cut) (goes_on words targets (Looking (Turn s.word) (slice_index words s.word) 0))
     (λ e. let d = ends (sym at ∙ eqb-true (slice_index words s.word) n e) in record { counts = refl; decided = d.extends; worker = refl })
     (λ e.
     let begun = goes (λ is. eqb-false (slice_index words s.word) n e (at ∙ is)) in
@@ -34,7 +35,7 @@ own_load_same s me me' found first words rest at (up, low, goes, ends, same) =
     record {
       counts = refl;
       decided = ap (λ (v : View). v.known) begun;
-      worker = λ i. record { left = targets; phase = Looking ((sym begun i).node) (count i) 0 };
+      worker = λ i. record { left = targets; phase = Looking (Turn ((sym begun i).node)) (count i) 0 };
     })
 
 -- the test of the machine's load is that of the bound
@@ -49,20 +50,40 @@ goes_past v w words targets true one other stays = record { counts = refl; decid
 goes_past v w words targets false one other stays = record { counts = refl; decided = stays; worker = refl }
 
 pub neighbour_load_same : NeighbourLoadIsTheMachines
-neighbour_load_same s me me' found j f first words targets at here (up, meets, misses, same) =
-    let v = me.0 in
-    let c = v.count in
-    let neighbours = row v.setup.nodes first v.node in
-    let last = eqb (j + 1) (length neighbours) in
-    let past : Outcome = if last then goes_on words targets (Swapping v.node c) else goes_on words targets (Looking v.node c (j + 1)) in
-    let P : Outcome → Type 0 = ComesToTheSame v me'.0 words targets (phase_past neighbours me'.0.node me'.0.count j) in
-    subst (λ (p : ℕ × First). P (if (ltb (slice_index words p.0) (bound_of p.1 c)) then decides words targets v.node (Held p.0) else past)) (sym here)
-    (by_test P (ltb (slice_index words s.word) (bound_of f c)) (decides words targets v.node (Held s.word)) past
-    (λ e. let d = misses (omega (arith, ltb-true (slice_index words s.word) (bound_of f c) e, at, bound_is f c)) in record { counts = refl; decided = d.extends; worker = refl })
+neighbour_load_same s me me' found j f t first words targets at on here (up, meets, misses, same) =
+    subst (λ (x : ℕ). ComesToTheSame v me'.0 words targets (phase_past (row v.setup.nodes first x) t me'.0.count j) (load_neighbour (row v.setup.nodes first (node_of t)) words targets t c j)) on
+    (subst (λ (p : ℕ × First). P (if (ltb (slice_index words p.0) (bound_of p.1 c)) then decides words targets (node_of t) (Held p.0) else past)) (sym here_on)
+    (by_test P (ltb (slice_index words s.word) (bound_of f c)) (decides words targets (node_of t) (Held s.word)) past
+    (λ e. let d = misses (omega (arith, ltb-true (slice_index words s.word) (bound_of f c) e, at, bound_is f c)) in record {
+      counts = refl;
+      decided = subst (λ (x : ℕ). Extends v.setup v.number v.known (entry v.number x (Held s.word)) me'.0.known) (sym on) d.extends;
+      worker = refl;
+    })
     (λ e.
     let noted = meets (omega (arith, ltb-false (slice_index words s.word) (bound_of f c) e, at, bound_is f c)) in
-    subst (λ (w : View). ComesToTheSame v me'.0 words targets (phase_past neighbours w.node w.count j) past) (sym noted)
-    (goes_past v me'.0 words targets last (Swapping v.node c) (Looking v.node c (j + 1)) (ap (λ (w : View). w.known) noted))))
+    subst (λ (w : View). ComesToTheSame v me'.0 words targets (phase_past neighbours t w.count j) past) (sym noted)
+    (goes_past v me'.0 words targets last (phase_unheld t c) (Looking t c (j + 1)) (ap (λ (w : View). w.known) noted)))))
+  where
+    v : View
+    v = me.0
+
+    c : ℕ
+    c = v.count
+
+    neighbours : List (ℕ × First)
+    neighbours = row v.setup.nodes first (node_of t)
+
+    last : Bool
+    last = eqb (j + 1) (length neighbours)
+
+    past : Outcome
+    past = if last then goes_on words targets (phase_unheld t c) else goes_on words targets (Looking t c (j + 1))
+
+    P : Outcome → Type 0
+    P = ComesToTheSame v me'.0 words targets (phase_past neighbours t me'.0.count j)
+
+    here_on : neighbour_at neighbours j ≡ (s.word, f)
+    here_on = ap (λ (x : ℕ). neighbour_at (row v.setup.nodes first x) j) on ∙ here
 
 pub exchange_same : ExchangeIsTheMachines
 exchange_same s me me' found first words targets at (up, wins, loses, same) =
@@ -85,4 +106,31 @@ exchange_same s me me' found first words targets at (up, wins, loses, same) =
             worker = refl;
           }),
       by_test (λ (o : Outcome). IsSome o.decided) (eqb word c) turned moved (λ _. refl) (λ _. refl),
+    )
+
+pub look_begins_same : LookBeginsAsTheMachines
+look_begins_same s me me' found first words rest at (up, low, begun, same) =
+    let targets = Look s.word ∷ rest in
+    let count : slice_index words s.word ≡ me'.0.count = at ∙ sym (ap (λ (v : View). v.count) begun) in
+    record {
+      counts = refl;
+      decided = ap (λ (v : View). v.known) begun;
+      worker = λ i. record { left = targets; phase = Looking (Look ((sym begun i).node)) (count i) 0 };
+    }
+
+pub look_ends_same : LookEndsAsTheMachines
+look_ends_same s me me' found first words targets at (up, stays, moves, same) =
+    let x = s.word in
+    let c = me.0.count in
+    let word = slice_index words x in
+    let sink = decides words targets x Sink in
+    let moved = decides words targets x (Moved c word) in (
+      by_test (ComesToTheSame me.0 me'.0 words targets Idle) (eqb word c) sink moved
+          (λ e. let d = stays (sym at ∙ eqb-true word c e) in record { counts = refl; decided = d.extends; worker = refl })
+          (λ e. let d = moves (λ is. eqb-false word c e (at ∙ is)) in record {
+            counts = refl;
+            decided = subst (λ (k : ℕ). Extends me.0.setup me.0.number me.0.known (entry me.0.number x (Moved c k)) me'.0.known) (sym at) d.extends;
+            worker = refl;
+          }),
+      by_test (λ (o : Outcome). IsSome o.decided) (eqb word c) sink moved (λ _. refl) (λ _. refl),
     )

@@ -7,7 +7,7 @@ use Rattle.fr_core.proofs.Runs.{lawful_sum, run_sum}
 use Rattle.fr_core.specs.History.{is_turned, part, turn_count}
 use Rattle.fr_core.specs.declared.entry.Entry.{Entry}
 use Rattle.fr_core.specs.declared.entry.Reply.{Reply}
-use Rattle.fr_core.specs.declared.entry.Reply.TheVariants.{Turned, Held, Moved, Cut}
+use Rattle.fr_core.specs.declared.entry.Reply.TheVariants.{Turned, Held, Moved, Cut, Sink}
 use Rattle.fr_round.specs.declared.view.Setup.{Setup}
 use Rattle.fr_round.specs.Histories.{IsHistory, moment, start}
 use Rattle.fr_round.proofs.Entries.{lawful_after}
@@ -49,3 +49,4 @@ not_turned (Turned k) other = absurd (other k refl)
 not_turned (Held w) other = refl
 not_turned (Moved had k) other = refl
 not_turned Cut other = refl
+not_turned Sink other = refl

@@ -7,7 +7,7 @@ use Rattle.fr_net.specs.Rows.{row}
 use Rattle.fr_net.specs.declared.rows.First.{First}
 use Rattle.fr_core.specs.Machine.{bound_of, neighbour_at}
 use Rattle.fr_core.specs.declared.entry.Reply.{Reply}
-use Rattle.fr_core.specs.declared.entry.Reply.TheVariants.{Turned, Held, Moved, Cut}
+use Rattle.fr_core.specs.declared.entry.Reply.TheVariants.{Turned, Held, Moved, Cut, Sink}
 use Rattle.fr_round.specs.declared.view.Setup.{Setup}
 use Rattle.fr_round.specs.declared.view.View.{View}
 use Rattle.fr_round.specs.declared.seen.Seen.{Seen}
@@ -25,19 +25,13 @@ pub record IsWorker (b : Setup) (v : View) : Type 0 where
   pub works : v.works ≡ true
   pub setup : v.setup ≡ b
 
--- the kinds of reply that a call to turn a node has
-abbrev pub IsReplyToTurn : Reply → Type 0
-IsReplyToTurn (Turned k) = Unit {0}
-IsReplyToTurn (Held w) = Unit {0}
-IsReplyToTurn (Moved had k) = Unit {0}
-IsReplyToTurn Cut = Unit {0}
-
 -- a count of x that the worker has seen once it has the reply
 abbrev pub ShowsCount : ℕ → List ℕ → List ℕ → ℕ → Reply → Type 0
 ShowsCount n before after x (Turned k) = slice_index after x ≡ k
 ShowsCount n before after x (Held w) = Unit {0}
 ShowsCount n before after x (Moved had k) = (slice_index after x ≡ k) × (slice_index before x ≤ had)
 ShowsCount n before after x Cut = slice_index after x ≡ n
+ShowsCount n before after x Sink = Unit {0}
 
 -- a decided call on x
 pub record IsCallMade (v : View) (x : ℕ) (reply : Reply) (w : View) : Type 0 where

@@ -42,6 +42,12 @@ Refuses b x NoNode = b.nodes ≤ x
 Refuses b x Destination = (x < b.nodes) × (x ≡ b.dest)
 Refuses b x Alone = (x < b.nodes) × (x ≢ b.dest) × IsAlone b.links x
 
+-- the same for a look, which the destination takes as well
+abbrev pub RefusesLook : Setup → ℕ → Refusal → Type 0
+RefusesLook b x NoNode = b.nodes ≤ x
+RefusesLook b x Destination = ⊥
+RefusesLook b x Alone = (x < b.nodes) × IsAlone b.links x
+
 -- worker k before its first call
 abbrev pub new_worker : TableId → Setup → ℕ → Knowledge
 new_worker t b k = record { table = t; setup = b; number = k; known = []; seen = replicate b.nodes 0 }

@@ -7,19 +7,20 @@ use Rattle.fr_net.specs.Rows.{row}
 use Rattle.fr_net.specs.declared.rows.First.{First}
 use Rattle.fr_net.specs.declared.rows.First.TheVariants.{Outward, Inward}
 use Rattle.fr_core.specs.History.{part}
-use Rattle.fr_core.specs.Machine.{Outcome, WorkerState, all_but_first, outcome, neighbour_at}
+use Rattle.fr_core.specs.Machine.{Outcome, WorkerState, all_but_first, outcome, neighbour_at, phase_unheld}
 use Rattle.fr_core.specs.Runs.{IsRunTo}
+use Rattle.fr_core.specs.Targets.{node_of}
 use Rattle.fr_core.specs.declared.entry.Entry.{Entry}
 use Rattle.fr_core.specs.declared.entry.Reply.{Reply}
 use Rattle.fr_core.specs.declared.targets.Target.{Target}
-use Rattle.fr_core.specs.declared.targets.Target.TheVariants.{Turn}
+use Rattle.fr_core.specs.declared.targets.Target.TheVariants.{Turn, Look}
 use Rattle.fr_core.specs.declared.worker.Phase.{Phase}
-use Rattle.fr_core.specs.declared.worker.Phase.TheVariants.{Idle, Looking, Swapping}
+use Rattle.fr_core.specs.declared.worker.Phase.TheVariants.{Idle, Looking, Swapping, Confirming}
 use Rattle.fr_round.specs.declared.view.Setup.{Setup}
 use Rattle.fr_round.specs.declared.view.View.{View}
 use Rattle.fr_round.specs.Histories.{StartsWith, AreApart, entry}
 use Rattle.fr_round.specs.Rule.{KeepsRule, opening_view}
-use Rattle.fr_round.specs.Steps.{Extends, own_loaded, neighbour_loaded, exchange_made}
+use Rattle.fr_round.specs.Steps.{Extends, own_loaded, neighbour_loaded, exchange_made, look_begun, look_ended}
 
 -- One history behind all
 
@@ -87,23 +88,23 @@ pub record ComesToTheSame (v w : View) (words : List ℕ) (targets : List Target
 abbrev pub OwnLoadIsTheMachines : Type 0
 OwnLoadIsTheMachines = (s : Step (Unit {0})) (me me' : Me (Unit {0}) View) (found : ℕ) (first : List (ℕ × ℕ)) (words : List ℕ) (rest : List Target) → slice_index words s.word ≡ found
     → own_loaded s me found me'
-    → ComesToTheSame me.0 me'.0 words (Turn s.word ∷ rest) (Looking me'.0.node me'.0.count 0) (outcome me.0.setup.nodes first words (Turn s.word ∷ rest) Idle)
+    → ComesToTheSame me.0 me'.0 words (Turn s.word ∷ rest) (Looking (Turn me'.0.node) me'.0.count 0) (outcome me.0.setup.nodes first words (Turn s.word ∷ rest) Idle)
 
 -- how far the bound of a neighbour is above the own count
 abbrev pub more_of : First → ℕ
 more_of Outward = 1
 more_of Inward = 0
 
--- the phase once neighbour j of a row met its bound: the next neighbour, and after the last one the exchange
-abbrev pub phase_past : List (ℕ × First) → ℕ → ℕ → ℕ → Phase
-phase_past neighbours x c j = if j + 1 == length neighbours then Swapping x c else Looking x c (j + 1)
+-- the phase once neighbour j of a row met its bound: the next neighbour, and after the last one the step that ends the call
+abbrev pub phase_past : List (ℕ × First) → Target → ℕ → ℕ → Phase
+phase_past neighbours t c j = if j + 1 == length neighbours then phase_unheld t c else Looking t c (j + 1)
 
--- the load of a neighbour's count is the machine's load of it: the words stay, and where nothing is decided the machine goes
--- past this neighbour, with the node and the count of the view
+-- the load of a neighbour's count is the machine's load of it, in a turn and in a look: the words stay, and where nothing is
+-- decided the machine goes past this neighbour, with the node and the count of the view
 abbrev pub NeighbourLoadIsTheMachines : Type 0
-NeighbourLoadIsTheMachines = (s : Step (Unit {0})) (me me' : Me (Unit {0}) View) (found j : ℕ) (f : First) (first : List (ℕ × ℕ)) (words : List ℕ) (targets : List Target) → slice_index words s.word ≡ found
-    → neighbour_at (row me.0.setup.nodes first me.0.node) j ≡ (s.word, f) → neighbour_loaded (more_of f) s me found me'
-    → ComesToTheSame me.0 me'.0 words targets (phase_past (row me.0.setup.nodes first me.0.node) me'.0.node me'.0.count j) (outcome me.0.setup.nodes first words targets (Looking me.0.node me.0.count j))
+NeighbourLoadIsTheMachines = (s : Step (Unit {0})) (me me' : Me (Unit {0}) View) (found j : ℕ) (f : First) (t : Target) (first : List (ℕ × ℕ)) (words : List ℕ) (targets : List Target) → slice_index words s.word ≡ found
+    → node_of t ≡ me.0.node → neighbour_at (row me.0.setup.nodes first me.0.node) j ≡ (s.word, f) → neighbour_loaded (more_of f) s me found me'
+    → ComesToTheSame me.0 me'.0 words targets (phase_past (row me.0.setup.nodes first me.0.node) t me'.0.count j) (outcome me.0.setup.nodes first words targets (Looking t me.0.count j))
 
 -- the exchange of a count for the next one is the machine's exchange: where the word was that count it becomes the next one, and
 -- else it stays; and the call is decided
@@ -112,3 +113,17 @@ ExchangeIsTheMachines = (s : Step (Unit {0})) (me me' : Me (Unit {0}) View) (fou
     → exchange_made s me found me'
     → ComesToTheSame me.0 me'.0 (slice_set words s.word (if found == s.first then s.first + 1 else found)) targets Idle (outcome me.0.setup.nodes first words targets (Swapping s.word s.first))
     × IsSome (outcome me.0.setup.nodes first words targets (Swapping s.word s.first)).decided
+
+-- the first load of a look is the first step of the machine's look: the words stay, and the machine looks at neighbour 0 next, with
+-- the node and the count of the view
+abbrev pub LookBeginsAsTheMachines : Type 0
+LookBeginsAsTheMachines = (s : Step (Unit {0})) (me me' : Me (Unit {0}) View) (found : ℕ) (first : List (ℕ × ℕ)) (words : List ℕ) (rest : List Target) → slice_index words s.word ≡ found
+    → look_begun s me found me'
+    → ComesToTheSame me.0 me'.0 words (Look s.word ∷ rest) (Looking (Look me'.0.node) me'.0.count 0) (outcome me.0.setup.nodes first words (Look s.word ∷ rest) Idle)
+
+-- its second load is the machine's: the words stay, and the call is decided
+abbrev pub LookEndsAsTheMachines : Type 0
+LookEndsAsTheMachines = (s : Step (Unit {0})) (me me' : Me (Unit {0}) View) (found : ℕ) (first : List (ℕ × ℕ)) (words : List ℕ) (targets : List Target) → slice_index words s.word ≡ found
+    → look_ended s me found me'
+    → ComesToTheSame me.0 me'.0 words targets Idle (outcome me.0.setup.nodes first words targets (Confirming s.word me.0.count))
+    × IsSome (outcome me.0.setup.nodes first words targets (Confirming s.word me.0.count)).decided

@@ -4,7 +4,7 @@ use Rattle.atomic_table.specs.Table.{Me, Step}
 use Rattle.fr_core.specs.History.{part}
 use Rattle.fr_core.specs.declared.entry.Entry.{Entry}
 use Rattle.fr_core.specs.declared.entry.Reply.{Reply}
-use Rattle.fr_core.specs.declared.entry.Reply.TheVariants.{Turned, Held, Moved, Cut}
+use Rattle.fr_core.specs.declared.entry.Reply.TheVariants.{Turned, Held, Moved, Cut, Sink}
 use Rattle.fr_round.specs.declared.view.Setup.{Setup}
 use Rattle.fr_round.specs.declared.view.View.{View}
 use Rattle.fr_round.specs.Rule.{closing_view}
@@ -57,6 +57,21 @@ module _ {S : Type 0} where
       (slice_index me.0.seen s.word ≤ found)
       × (found ≡ s.first → EndsCall me.0 s.word (Turned (s.first + 1)) s.word (s.first + 1) me'.0)
       × (found ≢ s.first → EndsCall me.0 s.word (Moved s.first found) s.word found me'.0)
+      × (me'.1 ≡ me.1)
+
+  -- the first load of a look, of the own count, which begins the call at the cap as well
+  abbrev pub look_begun : Step S → Me S View → ℕ → Me S View → Type 0
+  look_begun s me found me' =
+      (slice_index me.0.seen s.word ≤ found) × (found ≤ me.0.setup.nodes)
+      × (me'.0 ≡ begun me.0 s.word found)
+      × (me'.1 ≡ me.1)
+
+  -- its second load of the own count: Sink where it was still there, and else Moved
+  abbrev pub look_ended : Step S → Me S View → ℕ → Me S View → Type 0
+  look_ended s me found me' =
+      (slice_index me.0.seen s.word ≤ found)
+      × (found ≡ me.0.count → EndsCall me.0 s.word Sink s.word found me'.0)
+      × (found ≢ me.0.count → EndsCall me.0 s.word (Moved me.0.count found) s.word found me'.0)
       × (me'.1 ≡ me.1)
 
   -- the load with which a closing seat comes

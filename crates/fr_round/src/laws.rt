@@ -2,6 +2,7 @@
 
 ghost use Rattle.fr_round.specs.Laws.{OneHistoryStandsBehindAll, RuleHoldsAtFirst};
 ghost use Rattle.fr_round.specs.Laws.{OwnLoadIsTheMachines, NeighbourLoadIsTheMachines, ExchangeIsTheMachines};
+ghost use Rattle.fr_round.specs.Laws.{LookBeginsAsTheMachines, LookEndsAsTheMachines};
 
 /// At each moment of a round the calls so far stand in one list, in which each reply is the one that full reversal on one
 /// thread (E. Gafni and D. Bertsekas, 1981) gives at that point: its counts are the words, its links are those that the
@@ -20,4 +21,6 @@ pub fn step_law()
     ensures own { OwnLoadIsTheMachines }
     ensures neighbour { NeighbourLoadIsTheMachines }
     ensures exchange { ExchangeIsTheMachines }
+    ensures look_begins { LookBeginsAsTheMachines }
+    ensures look_ends { LookEndsAsTheMachines }
 {}

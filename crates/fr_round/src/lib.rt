@@ -10,6 +10,7 @@
 mod closing;
 mod faults;
 mod laws;
+mod looks;
 mod opening;
 mod round;
 mod rule;

@@ -2,11 +2,12 @@
 
 ghost use Rattle.std.specs.Prelude.{◌≡◌, ◌≤◌, ◌<◌, ℕ, MatchResult, IfOk, IfErr, length, slice_index};
 ghost use Rattle.std.specs.List.{AllByRecursion as Each};
-ghost use Rattle.fr_core.specs.Targets.{IsTurnable};
+ghost use Rattle.fr_core.specs.Replies.{IsReplyToTurn, IsReplyToLook};
+ghost use Rattle.fr_core.specs.Targets.{IsTurnable, IsLookable};
 ghost use Rattle.fr_round.specs.Histories.{entry};
 ghost use Rattle.fr_round.specs.Steps.{Extends};
-ghost use Rattle.fr_round.specs.Calls.{ShowsCount, IsReplyToTurn};
-ghost use Rattle.fr_round.specs.Knowledge.{IsOwn, IsKnowledge, IsOpenable, Refuses, IsWhyNotOpened, new_workers};
+ghost use Rattle.fr_round.specs.Calls.{ShowsCount};
+ghost use Rattle.fr_round.specs.Knowledge.{IsOwn, IsKnowledge, IsOpenable, Refuses, RefusesLook, IsWhyNotOpened, new_workers};
 ghost use Rattle.fr_round.specs.Closing.{Closes};
 
 use crate::closing::{Closed, read_counts, take_over};
@@ -147,6 +148,37 @@ impl Round {
             return Err(Refusal::Alone);
         }
         Ok(worker.turn(&self.terms, &self.table.shared, x))
+    }
+
+    /// Looks where a link of node `x` points, and turns nothing: loads of the counts alone, by the steps of a call to turn it.
+    /// It takes no memory, and waits for nobody, whatever other threads do or leave undone.
+    ///
+    /// The worker has to be one of this round. A look at what is no node or at a node with no link is refused, in this order,
+    /// with no step, and nothing changes; the destination and a node that turns no more are looked at like any other. Every
+    /// other look is decided: `Held` by a neighbour to which a link points, `Sink` where all links point to the node, and
+    /// `Moved` where another worker turned the node meanwhile. Each reply holds at one point of a history that goes on from
+    /// all that the worker knew, the point of its entry; with it, the history is what the worker knows now.
+    pub fn look(&self, worker: &mut Worker, x: u32) -> Result<Reply, Refusal>
+        requires { IsOwn self.now worker.old }
+        ensures own { IsOwn self.now worker.new }
+        ensures number { worker.new.number ≡ worker.old.number }
+        ensures decided { IfOk result (λ _. IsLookable self.now.setup.nodes self.now.setup.links x) }
+        ensures refused { IfErr result (λ refusal. RefusesLook self.now.setup x refusal × (worker.new ≡ worker.old)) }
+        ensures kind { IfOk result IsReplyToLook }
+        ensures history { IfOk result
+            (λ reply. Extends self.now.setup worker.old.number worker.old.known (entry worker.old.number x reply) worker.new.known) }
+        ensures seen { (z : ℕ) → slice_index worker.old.seen z ≤ slice_index worker.new.seen z }
+        ensures count { IfOk result (λ reply. ShowsCount self.now.setup.nodes worker.old.seen worker.new.seen x reply) }
+        ensures known { IfOk result (λ _. IsKnowledge worker.new) }
+    {
+        let net = &self.terms.net;
+        if x >= net.nodes() {
+            return Err(Refusal::NoNode);
+        }
+        if net.row(x).is_empty() {
+            return Err(Refusal::Alone);
+        }
+        Ok(worker.look(&self.terms, &self.table.shared, x))
     }
 
     /// Ends the round: the network, the counts at the end, and the number and turns of each worker that is handed back. The

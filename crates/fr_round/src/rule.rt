@@ -52,6 +52,24 @@ impl Play<(), View> for Exchange {
     ghost then = { exchange_made };
 }
 
+/// A look's first load of its node's own count.
+pub struct LoadToLook;
+
+impl Play<(), View> for LoadToLook {
+    ghost use Rattle.fr_round.specs.Steps.{look_begun};
+
+    ghost then = { look_begun };
+}
+
+/// A look's second load of it.
+pub struct LoadAgain;
+
+impl Play<(), View> for LoadAgain {
+    ghost use Rattle.fr_round.specs.Steps.{look_ended};
+
+    ghost then = { look_ended };
+}
+
 /// How the opening seat gives out a number.
 pub struct NumberWorker;
 

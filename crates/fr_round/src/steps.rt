@@ -5,6 +5,7 @@ ghost use Rattle.std.specs.Prelude.{◌≡◌, ◌<◌, ◌≤◌, MatchBool, sl
 ghost use Rattle.std.specs.List.{Contains};
 ghost use Rattle.fr_net.specs.Rows.{row};
 ghost use Rattle.fr_core.specs.Machine.{bound_of};
+ghost use Rattle.fr_core.specs.Replies.{IsReplyToTurn};
 ghost use Rattle.fr_core.specs.Targets.{IsTurnable};
 ghost use Rattle.fr_core.specs.declared.entry.Reply.TheVariants.{Held};
 ghost use Rattle.fr_round.specs.Setups.{setup_of};
@@ -51,7 +52,7 @@ fn load_neighbour(
 
 /// Whether a neighbour of `x` meets its bound for the count `c` of `x`: by what was seen, or else by a load. If not, the call
 /// is decided.
-fn is_met(
+pub(crate) fn is_met(
     terms: &Terms,
     words: &RoundWords,
     seat: &mut RoundSeat,
@@ -97,6 +98,7 @@ fn exchange(
     ensures seat { IsSameSeat seat.old seat.new }
     ensures seen { ShowsSeen terms.now seat.new seen.new }
     ensures call { IsCallMade seat.old.me.0 x result seat.new.me.0 }
+    ensures kind { IsReplyToTurn result }
 {
     let found = words.compare_exchange::<Exchange>(seat, x as usize, c, c + 1);
     if found == c {
@@ -128,6 +130,7 @@ pub(crate) fn turn_at(
     ensures seat { IsSameSeat seat.old seat.new }
     ensures seen { ShowsSeen terms.now seat.new seen.new }
     ensures call { IsCallMade seat.old.me.0 x result seat.new.me.0 }
+    ensures kind { IsReplyToTurn result }
 {
     let nodes = u64::from(terms.net.nodes());
     let had = seen.count(x);

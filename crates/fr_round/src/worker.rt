@@ -2,7 +2,8 @@
 
 ghost use Rattle.std.specs.Prelude.{◌≡◌, ◌<◌, ◌≤◌, ℕ, [], true, slice_index};
 ghost use Rattle.fr_core.specs.History.{part, turn_count};
-ghost use Rattle.fr_core.specs.Targets.{IsTurnable};
+ghost use Rattle.fr_core.specs.Replies.{IsReplyToTurn, IsReplyToLook};
+ghost use Rattle.fr_core.specs.Targets.{IsTurnable, IsLookable};
 ghost use Rattle.fr_round.specs.Setups.{setup_of};
 ghost use Rattle.fr_round.specs.Histories.{entry};
 ghost use Rattle.fr_round.specs.Steps.{Extends};
@@ -11,6 +12,7 @@ ghost use Rattle.fr_round.specs.Calls.{ShowsCount, IsNewView};
 ghost use Rattle.fr_round.specs.Knowledge.{IsKnowledge, new_worker};
 ghost use Rattle.fr_round.specs.Closing.{number_and_known};
 
+use crate::looks::look_at;
 use crate::seen::Seen;
 use crate::steps::{RoundSeat, RoundWords, turn_at};
 use crate::terms::Terms;
@@ -91,7 +93,7 @@ impl Worker {
         self.seen.count(x)
     }
 
-    /// One call on node `x`, on the words of its own round.
+    /// One call to turn node `x`, on the words of its own round.
     pub(crate) fn turn(&mut self, terms: &Terms, words: &RoundWords, x: u32) -> Reply
         requires table { (self.old.table ≡ words.now.table_id) × (words.now.table_id.words ≡ terms.now.net.nodes) × (words.now.key ≡ terms.now) }
         requires setup { self.old.setup ≡ setup_of terms.now }
@@ -99,6 +101,7 @@ impl Worker {
         ensures same { self.new ≡ record self.old { known = self.new.known; seen = self.new.seen } }
         ensures history { Extends self.old.setup self.old.number self.old.known (entry self.old.number x result) self.new.known }
         ensures up { (z : ℕ) → slice_index self.old.seen z ≤ slice_index self.new.seen z }
+        ensures kind { IsReplyToTurn result }
         ensures shows { ShowsCount self.old.setup.nodes self.old.seen self.new.seen x result }
         ensures known { IsKnowledge self.new }
     {
@@ -108,5 +111,19 @@ impl Worker {
             self.turned += 1;
         }
         reply
+    }
+    /// One look at node `x`, on the words of its own round.
+    pub(crate) fn look(&mut self, terms: &Terms, words: &RoundWords, x: u32) -> Reply
+        requires table { (self.old.table ≡ words.now.table_id) × (words.now.table_id.words ≡ terms.now.net.nodes) × (words.now.key ≡ terms.now) }
+        requires setup { self.old.setup ≡ setup_of terms.now }
+        requires node { IsLookable terms.now.net.nodes terms.now.net.links x }
+        ensures same { self.new ≡ record self.old { known = self.new.known; seen = self.new.seen } }
+        ensures history { Extends self.old.setup self.old.number self.old.known (entry self.old.number x result) self.new.known }
+        ensures up { (z : ℕ) → slice_index self.old.seen z ≤ slice_index self.new.seen z }
+        ensures kind { IsReplyToLook result }
+        ensures shows { ShowsCount self.old.setup.nodes self.old.seen self.new.seen x result }
+        ensures known { IsKnowledge self.new }
+    {
+        look_at(terms, words, &mut self.seat, &mut self.seen, x)
     }
 }

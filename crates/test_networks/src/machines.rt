@@ -3,18 +3,19 @@
 ghost use Rattle.std.specs.Prelude.{IfOk};
 ghost use Rattle.fr_core.specs.Runs.{IsRunTo};
 
+use fr_core::Target::{Look, Turn};
 use fr_core::{CheckFault, Entry, Machine, PlayFault, Target, Why, check_run, play};
 use fr_net::Net;
 use std::alloc::{AllocError, Global};
 use std::fmt::Write;
 use std::test::Fail;
 
-/// Nodes, links, the destination, the nodes that each worker is to turn, a schedule, and what is played.
+/// Nodes, links, the destination, the targets of each worker, a schedule, and what is played.
 type Play = (
     u32,
     &'static [(u32, u32)],
     u32,
-    &'static [&'static [u32]],
+    &'static [&'static [Target]],
     &'static [u32],
     &'static str,
 );
@@ -25,16 +26,16 @@ const PLAYS: &[Play] = &[
         2,
         &[(0, 1)],
         0,
-        &[&[1], &[1]],
+        &[&[Turn(1)], &[Turn(1)]],
         &[0, 1, 0, 1, 0, 1],
         "0 1 Turned { count: 1 }, 1 1 Moved { had: 0, count: 1 }, ",
     ),
-    (2, &[(1, 0)], 0, &[&[1]], &[0, 0], "0 1 Held { by: 0 }, "),
+    (2, &[(1, 0)], 0, &[&[Turn(1)]], &[0, 0], "0 1 Held { by: 0 }, "),
     (
         2,
         &[(0, 1)],
         0,
-        &[&[1, 1, 1, 1, 1, 1]],
+        &[&[Turn(1), Turn(1), Turn(1), Turn(1), Turn(1), Turn(1)]],
         &[0; 6],
         "0 1 Turned { count: 1 }, 0 1 Held { by: 0 }, ",
     ),
@@ -42,7 +43,7 @@ const PLAYS: &[Play] = &[
         3,
         &[(0, 1), (1, 2)],
         0,
-        &[&[1, 2, 1, 2, 1, 2]],
+        &[&[Turn(1), Turn(2), Turn(1), Turn(2), Turn(1), Turn(2)]],
         &[0; 6],
         "0 1 Held { by: 2 }, 0 2 Turned { count: 1 }, ",
     ),
@@ -50,7 +51,7 @@ const PLAYS: &[Play] = &[
         3,
         &[(0, 1), (1, 2)],
         0,
-        &[&[2], &[1]],
+        &[&[Turn(2)], &[Turn(1)]],
         &[0, 0, 0, 1, 1, 1, 1],
         "0 2 Turned { count: 1 }, 1 1 Turned { count: 1 }, ",
     ),
@@ -58,12 +59,12 @@ const PLAYS: &[Play] = &[
         3,
         &[(1, 2)],
         0,
-        &[&[2, 1, 2, 1, 2, 1, 2, 1]],
+        &[&[Turn(2), Turn(1), Turn(2), Turn(1), Turn(2), Turn(1), Turn(2), Turn(1)]],
         &[0; 24],
         "0 2 Turned { count: 1 }, 0 1 Turned { count: 1 }, 0 2 Turned { count: 2 }, 0 1 Turned { count: 2 }, \
             0 2 Turned { count: 3 }, 0 1 Turned { count: 3 }, 0 2 Cut, 0 1 Cut, ",
     ),
-    (2, &[(0, 1)], 0, &[&[], &[1]], &[0, 0, 1, 1, 0], ""),
+    (2, &[(0, 1)], 0, &[&[], &[Turn(1)]], &[0, 0, 1, 1, 0], ""),
     (1, &[], 0, &[], &[], ""),
     // Targets that cannot be turned: the destination, a node with no link, and no node. The schedule and the destination are
     // tested before them.
@@ -71,7 +72,7 @@ const PLAYS: &[Play] = &[
         4,
         &[(0, 1), (1, 2)],
         0,
-        &[&[1], &[1, 0]],
+        &[&[Turn(1)], &[Turn(1), Turn(0)]],
         &[],
         "BadTarget { worker: 1, at: 1 }",
     ),
@@ -79,7 +80,7 @@ const PLAYS: &[Play] = &[
         4,
         &[(0, 1), (1, 2)],
         0,
-        &[&[1], &[1, 0]],
+        &[&[Turn(1)], &[Turn(1), Turn(0)]],
         &[0, 1, 1, 0],
         "BadTarget { worker: 1, at: 1 }",
     ),
@@ -87,7 +88,7 @@ const PLAYS: &[Play] = &[
         4,
         &[(0, 1), (1, 2)],
         0,
-        &[&[1, 2, 4], &[0]],
+        &[&[Turn(1), Turn(2), Turn(4)], &[Turn(0)]],
         &[0],
         "BadTarget { worker: 0, at: 2 }",
     ),
@@ -95,7 +96,7 @@ const PLAYS: &[Play] = &[
         4,
         &[(0, 1), (1, 2)],
         0,
-        &[&[], &[3, 0]],
+        &[&[], &[Turn(3), Turn(0)]],
         &[0],
         "BadTarget { worker: 1, at: 0 }",
     ),
@@ -103,30 +104,54 @@ const PLAYS: &[Play] = &[
         4,
         &[(0, 1), (1, 2)],
         2,
-        &[&[1, 2]],
+        &[&[Turn(1), Turn(2)]],
         &[0],
         "BadTarget { worker: 0, at: 1 }",
     ),
-    (4, &[(0, 1), (1, 2)], 0, &[&[1], &[1, 0]], &[2], "Range"),
-    (4, &[(0, 1), (1, 2)], 4, &[&[1], &[1, 0]], &[0], "Range"),
+    (4, &[(0, 1), (1, 2)], 0, &[&[Turn(1)], &[Turn(1), Turn(0)]], &[2], "Range"),
+    (4, &[(0, 1), (1, 2)], 4, &[&[Turn(1)], &[Turn(1), Turn(0)]], &[0], "Range"),
     (4, &[(0, 1), (1, 2)], 0, &[], &[0], "Range"),
-    (4, &[(0, 1), (1, 2)], 2, &[&[1, 0]], &[0], ""),
+    (4, &[(0, 1), (1, 2)], 2, &[&[Turn(1), Turn(0)]], &[0], ""),
+    // Looks. Another worker turns the node before the second load of the look, or nobody does.
+    (
+        2,
+        &[(0, 1)],
+        0,
+        &[&[Look(1)], &[Turn(1)]],
+        &[0, 0, 1, 1, 1, 0],
+        "1 1 Turned { count: 1 }, 0 1 Moved { had: 0, count: 1 }, ",
+    ),
+    (2, &[(0, 1)], 0, &[&[Look(1)], &[Turn(1)]], &[0, 0, 0], "0 1 Sink, "),
+    // The destination is looked at, and nodes at the cap are.
+    (
+        2,
+        &[(0, 1)],
+        0,
+        &[&[Look(0), Turn(1), Look(0), Look(1)]],
+        &[0; 10],
+        "0 0 Held { by: 1 }, 0 1 Turned { count: 1 }, 0 0 Sink, 0 1 Held { by: 0 }, ",
+    ),
+    (
+        3,
+        &[(1, 2)],
+        0,
+        &[&[Turn(2), Turn(1), Turn(2), Turn(1), Turn(2), Turn(1), Look(2), Look(1)]],
+        &[0; 23],
+        "0 2 Turned { count: 1 }, 0 1 Turned { count: 1 }, 0 2 Turned { count: 2 }, 0 1 Turned { count: 2 }, \
+            0 2 Turned { count: 3 }, 0 1 Turned { count: 3 }, 0 2 Sink, 0 1 Held { by: 2 }, ",
+    ),
+    // A node with no link and no node are no targets of a look.
+    (4, &[(0, 1), (1, 2)], 0, &[&[Look(0), Look(1), Look(2)]], &[], ""),
+    (4, &[(0, 1), (1, 2)], 0, &[&[Look(0)], &[Look(1), Look(3)]], &[], "BadTarget { worker: 1, at: 1 }"),
+    (4, &[(0, 1), (1, 2)], 0, &[&[Look(4)], &[Look(3)]], &[], "BadTarget { worker: 0, at: 0 }"),
+    (4, &[(0, 1), (1, 2)], 0, &[&[Look(0), Turn(0)], &[Look(4)]], &[], "BadTarget { worker: 0, at: 1 }"),
 ];
 
-/// The turns of these nodes.
-fn turns_of(alloc: Global, list: &[u32]) -> Result<Vec<Target>, AllocError> {
-    let mut nodes = Vec::new(alloc);
-    for node in list {
-        nodes.push(Target::Turn(*node))?;
-    }
-    Ok(nodes)
-}
-
-/// For each worker the turns of these nodes.
-fn turns(alloc: Global, lists: &[&[u32]]) -> Result<Vec<Vec<Target>>, AllocError> {
+/// The targets of each worker.
+fn targets_of(alloc: Global, lists: &[&[Target]]) -> Result<Vec<Vec<Target>>, AllocError> {
     let mut targets = Vec::new(alloc);
     for list in lists {
-        targets.push(turns_of(alloc, list)?)?;
+        targets.push(list.to_vec(alloc)?)?;
     }
     Ok(targets)
 }
@@ -149,7 +174,7 @@ fn told(alloc: Global, played: &Result<Vec<Entry>, PlayFault>) -> Result<String,
 fn plays_schedules(rt: HostRuntime) -> Result<(), Fail> {
     for (nodes, links, dest, lists, schedule, wanted) in PLAYS {
         let net = Net::new(rt.alloc(), *nodes, links)?;
-        let targets = turns(rt.alloc(), lists)?;
+        let targets = targets_of(rt.alloc(), lists)?;
         let text = told(
             rt.alloc(),
             &play(rt.alloc(), &net, *dest, targets, schedule),
@@ -190,7 +215,7 @@ fn step_by_hand(
 #[test]
 fn stepped_by_hand_it_makes_a_run(rt: HostRuntime) -> Result<(), Fail> {
     let net = Net::new(rt.alloc(), 3, &[(0, 1), (1, 2)])?;
-    let targets = turns(rt.alloc(), &[&[2], &[1]])?;
+    let targets = targets_of(rt.alloc(), &[&[Turn(2)], &[Turn(1)]])?;
     let order = [0, 0, 2, 0, 1, 1, 7, 1, 1];
     let (entries, counts) = step_by_hand(rt.alloc(), &net, 0, targets, &order)?;
     let checked = check_run(rt.alloc(), &net, 0, &entries);
@@ -223,7 +248,7 @@ fn steps(
 #[test]
 fn two_workers_at_one_node_step_by_step(rt: HostRuntime) -> Result<(), Fail> {
     let net = Net::new(rt.alloc(), 2, &[(0, 1)])?;
-    let targets = turns(rt.alloc(), &[&[1], &[1]])?;
+    let targets = targets_of(rt.alloc(), &[&[Turn(1)], &[Turn(1)]])?;
     let text = steps(rt.alloc(), &net, targets, &[0, 1, 0, 1, 0, 1, 0])?;
     let wanted = "None [0, 0], None [0, 0], None [0, 0], None [0, 0], Turned { count: 1 } [0, 1], \
         Moved { had: 0, count: 1 } [0, 1], None [0, 1], 2";

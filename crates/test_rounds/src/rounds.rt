@@ -3,11 +3,11 @@
 ghost use Rattle.std.specs.Prelude.{IfOk};
 ghost use Rattle.fr_round.specs.Knowledge.{IsOwn};
 
-use fr_core::Reply;
+use fr_core::Target::{Look, Turn};
+use fr_core::{Reply, Target};
 use fr_net::Net;
 use fr_round::{Round, Worker};
 use std::alloc::Global;
-use std::fmt::Write;
 use std::test::*;
 use std::thread::{Threads, join};
 
@@ -25,11 +25,11 @@ enum Back {
     None,
 }
 
-/// Nodes and links with destination 0, worker and node of each call, who comes back, the replies, and what the round closes with.
+/// Nodes and links with destination 0, worker and target of each call, who comes back, the replies, and what the round closes with.
 type Calls = (
     u32,
     &'static [(u32, u32)],
-    &'static [(u32, u32)],
+    &'static [(u32, Target)],
     Back,
     &'static str,
     &'static str,
@@ -40,7 +40,7 @@ const CALLS: &[Calls] = &[
     (
         2,
         &[(0, 1)],
-        &[(0, 1), (1, 1), (1, 1), (1, 0), (1, 2)],
+        &[(0, Turn(1)), (1, Turn(1)), (1, Turn(1)), (1, Turn(0)), (1, Turn(2))],
         Back::Both,
         "Turned { count: 1 }, Moved { had: 0, count: 1 }, Held { by: 0 }, Destination, NoNode, ",
         "[0, 1] [(0, 1), (1, 0)]",
@@ -49,7 +49,7 @@ const CALLS: &[Calls] = &[
     (
         4,
         &[(0, 1), (0, 2), (1, 3), (2, 3)],
-        &[(0, 3), (1, 3), (0, 1), (1, 1), (1, 2), (0, 3)],
+        &[(0, Turn(3)), (1, Turn(3)), (0, Turn(1)), (1, Turn(1)), (1, Turn(2)), (0, Turn(3))],
         Back::Both,
         "Turned { count: 1 }, Moved { had: 0, count: 1 }, Turned { count: 1 }, Moved { had: 0, count: 1 }, \
             Turned { count: 1 }, Turned { count: 2 }, ",
@@ -59,7 +59,7 @@ const CALLS: &[Calls] = &[
     (
         3,
         &[(1, 0), (1, 2)],
-        &[(0, 1)],
+        &[(0, Turn(1))],
         Back::Both,
         "Held { by: 0 }, ",
         "[0, 0, 0] [(0, 0), (1, 0)]",
@@ -68,7 +68,7 @@ const CALLS: &[Calls] = &[
     (
         4,
         &[(0, 1), (1, 2)],
-        &[(0, 1), (0, 2), (1, 1), (0, 4), (0, 0), (0, 3)],
+        &[(0, Turn(1)), (0, Turn(2)), (1, Turn(1)), (0, Turn(4)), (0, Turn(0)), (0, Turn(3))],
         Back::Both,
         "Held { by: 2 }, Turned { count: 1 }, Turned { count: 1 }, NoNode, Destination, Alone, ",
         "[0, 1, 1, 0] [(0, 1), (1, 1)]",
@@ -78,15 +78,15 @@ const CALLS: &[Calls] = &[
         4,
         &[(0, 1), (1, 2), (2, 3)],
         &[
-            (0, 3),
-            (0, 2),
-            (0, 1),
-            (0, 3),
-            (0, 2),
-            (0, 3),
-            (0, 1),
-            (0, 2),
-            (0, 3),
+            (0, Turn(3)),
+            (0, Turn(2)),
+            (0, Turn(1)),
+            (0, Turn(3)),
+            (0, Turn(2)),
+            (0, Turn(3)),
+            (0, Turn(1)),
+            (0, Turn(2)),
+            (0, Turn(3)),
         ],
         Back::Both,
         "Turned { count: 1 }, Turned { count: 1 }, Turned { count: 1 }, Turned { count: 2 }, Turned { count: 2 }, \
@@ -98,14 +98,14 @@ const CALLS: &[Calls] = &[
         3,
         &[(1, 2)],
         &[
-            (0, 2),
-            (0, 1),
-            (0, 2),
-            (0, 1),
-            (0, 2),
-            (0, 1),
-            (0, 2),
-            (0, 1),
+            (0, Turn(2)),
+            (0, Turn(1)),
+            (0, Turn(2)),
+            (0, Turn(1)),
+            (0, Turn(2)),
+            (0, Turn(1)),
+            (0, Turn(2)),
+            (0, Turn(1)),
         ],
         Back::Both,
         "Turned { count: 1 }, Turned { count: 1 }, Turned { count: 2 }, Turned { count: 2 }, Turned { count: 3 }, \
@@ -116,7 +116,7 @@ const CALLS: &[Calls] = &[
     (
         2,
         &[(0, 1)],
-        &[(0, 1)],
+        &[(0, Turn(1))],
         Back::Swapped,
         "Turned { count: 1 }, ",
         "[0, 1] [(1, 0), (0, 1)]",
@@ -124,7 +124,7 @@ const CALLS: &[Calls] = &[
     (
         2,
         &[(0, 1)],
-        &[(0, 1)],
+        &[(0, Turn(1))],
         Back::Second,
         "Turned { count: 1 }, ",
         "[0, 1] [(1, 0)]",
@@ -132,10 +132,60 @@ const CALLS: &[Calls] = &[
     (
         2,
         &[(0, 1)],
-        &[(0, 1)],
+        &[(0, Turn(1))],
         Back::None,
         "Turned { count: 1 }, ",
         "[0, 1] []",
+    ),
+    // Looks beside a turn, also at the destination.
+    (
+        2,
+        &[(0, 1)],
+        &[(0, Look(1)), (0, Look(0)), (1, Turn(1)), (0, Look(1)), (0, Look(0)), (0, Look(2)), (0, Look(u32::MAX))],
+        Back::Both,
+        "Sink, Held { by: 1 }, Turned { count: 1 }, Held { by: 0 }, Sink, NoNode, NoNode, ",
+        "[0, 1] [(0, 0), (1, 1)]",
+    ),
+    // Node 3 has no link.
+    (
+        4,
+        &[(1, 0)],
+        &[(0, Look(3)), (0, Look(0)), (0, Look(1))],
+        Back::None,
+        "Alone, Sink, Held { by: 0 }, ",
+        "[0, 0, 0, 0] []",
+    ),
+    // A node at the cap is looked at.
+    (
+        3,
+        &[(1, 2)],
+        &[(0, Turn(2)), (0, Turn(1)), (0, Turn(2)), (0, Turn(1)), (0, Turn(2)), (0, Turn(1)), (0, Look(2)), (0, Look(1))],
+        Back::None,
+        "Turned { count: 1 }, Turned { count: 1 }, Turned { count: 2 }, Turned { count: 2 }, Turned { count: 3 }, \
+            Turned { count: 3 }, Sink, Held { by: 2 }, ",
+        "[0, 3, 3] []",
+    ),
+    // A look loads its own count first, whatever was seen before: the other worker's turns show in it at once.
+    (
+        4,
+        &[(0, 1), (0, 2), (1, 3), (2, 3)],
+        &[
+            (1, Look(3)),
+            (0, Turn(3)),
+            (1, Look(3)),
+            (1, Look(1)),
+            (0, Turn(2)),
+            (0, Turn(1)),
+            (1, Look(1)),
+            (1, Look(2)),
+            (1, Look(3)),
+            (1, Turn(3)),
+            (0, Turn(3)),
+        ],
+        Back::Both,
+        "Sink, Turned { count: 1 }, Held { by: 1 }, Sink, Turned { count: 1 }, Turned { count: 1 }, Held { by: 0 }, \
+            Held { by: 0 }, Sink, Turned { count: 2 }, Moved { had: 1, count: 2 }, ",
+        "[0, 1, 1, 2] [(0, 3), (1, 1)]",
     ),
 ];
 
@@ -151,28 +201,40 @@ fn opened(alloc: Global, nodes: u32, links: &[(u32, u32)]) -> Result<(Round, Wor
     Ok((round, a, b))
 }
 
-/// The replies to the calls, each of a worker and a node.
+/// The reply to a call, or why it was refused.
+fn reply_text(alloc: Global, round: &Round, worker: &mut Worker, target: Target) -> Result<String, Fail>
+    requires { IsOwn round.now worker.old }
+    ensures { IsOwn round.now worker.new }
+{
+    let replied = match target {
+        Target::Turn(x) => round.try_turn(worker, x),
+        Target::Look(x) => round.look(worker, x),
+    };
+    match replied {
+        Ok(reply) => Ok(format!(in alloc; "{reply:?}, ")?),
+        Err(refusal) => Ok(format!(in alloc; "{refusal:?}, ")?),
+    }
+}
+
+/// The replies to the calls, each of a worker and a target.
 fn replies(
     alloc: Global,
     round: &Round,
     a: &mut Worker,
     b: &mut Worker,
-    calls: &[(u32, u32)],
+    calls: &[(u32, Target)],
 ) -> Result<String, Fail>
     requires { IsOwn round.now a.old × IsOwn round.now b.old }
     ensures { IsOwn round.now a.new × IsOwn round.now b.new }
 {
     let mut text = String::new(alloc);
-    for (worker, node) in calls {
+    for (worker, target) in calls {
         let reply = if *worker == 0 {
-            round.try_turn(a, *node)
+            reply_text(alloc, round, a, *target)?
         } else {
-            round.try_turn(b, *node)
+            reply_text(alloc, round, b, *target)?
         };
-        match reply {
-            Ok(reply) => write!(text, "{reply:?}, ")?,
-            Err(refusal) => write!(text, "{refusal:?}, ")?,
-        }
+        text.push_str(&reply)?;
     }
     Ok(text)
 }

@@ -120,6 +120,7 @@ fn write_entry(text: &mut String, entry: Entry) -> Result<(), AllocError> {
             return writeln!(text, "{worker} {node} moved {had} {count}");
         }
         Reply::Cut => return writeln!(text, "{worker} {node} cut"),
+        Reply::Sink => return writeln!(text, "{worker} {node} sink"),
     };
     writeln!(text, "{worker} {node} {word} {number}")
 }

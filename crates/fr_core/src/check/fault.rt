@@ -15,7 +15,7 @@ pub enum Why {
     Destination,
     /// A turn of a node that has turned as often as there are nodes.
     Capped,
-    /// A turn of a node that is no sink.
+    /// A turn of a node that is no sink, or the answer of a look that it is one.
     NotSink,
     /// A turn to a count that is not one more than the node's.
     WrongCount,

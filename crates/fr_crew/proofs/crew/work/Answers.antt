@@ -4,7 +4,7 @@ use Rattle.fr_crew.specs.Candidates.{IsCandidate}
 use Rattle.fr_crew.proofs.Candidates.{candidate_not_refused}
 use Rattle.fr_crew.proofs.crew.work.Goals as goal
 
-pub unreachable-requires : goal.unreachable-requires
-unreachable-requires g c =
+pub unreachable-requires-in-Err : goal.unreachable-requires-in-Err
+unreachable-requires-in-Err g c =
     let candidate = subst (λ (s : Setup). IsCandidate s c.in-Some.x) (sym c.requires.named) c.in-Some.ensures in
     candidate_not_refused c.args.job.now.round.setup c.in-Some.x c.in-Err.field-0 candidate c.in-Err.ensures.refused.0
