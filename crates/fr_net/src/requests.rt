@@ -42,6 +42,25 @@ pub enum Request {
     Ask(Question),
 }
 
+/// One change to the links of a network.
+#[derive(Clone, Copy, Debug, PartialEq, Eq)]
+pub enum Edit {
+    /// Take out the link between two nodes, whichever way it points.
+    Cut {
+        /// One end of the link.
+        u: u32,
+        /// The other end.
+        v: u32,
+    },
+    /// Add a link.
+    Add {
+        /// The tail of the link.
+        u: u32,
+        /// Its head.
+        v: u32,
+    },
+}
+
 /// What can be asked of the network in use.
 #[derive(Clone, Copy, Debug, PartialEq, Eq)]
 pub enum Question {
