@@ -1,5 +1,5 @@
 -- Edits made one after the other.
-use Rattle.std.proofs.Common.{List, [], arith, get_or, length, refl, subst, suc, take, zero, ℕ, ◌+◌, ◌<◌, ◌∷◌, ◌≡◌}
+use Rattle.std.proofs.Common.{List, [], arith, get_or, length, refl, subst, suc, take, zero, ℕ, ◌<◌, ◌∷◌}
 use Rattle.fr_net.specs.Batches.{AreMade, IsMade}
 use Rattle.fr_net.specs.Network.{Network}
 use Rattle.fr_net.specs.declared.requests.Edit.{Edit}

@@ -1,4 +1,4 @@
-use Rattle.std.proofs.Common.{List, ap, arith, refl, ℕ, ◌+◌, ◌-◌, ◌<◌, ◌∙◌, ◌≡◌}
+use Rattle.std.proofs.Common.{List, ap, arith, refl, ℕ, ◌+◌, ◌-◌, ◌∙◌}
 use Rattle.std.specs.List.{remove}
 use Rattle.std.proofs.lemmas.List.{take_rest}
 use Rattle.fr_net.proofs.EditedNets.{AreSortedEnds, IsCutting, cut_places, cut_positive, cutting_at, joined_ends, rows_cut}
