@@ -33,6 +33,16 @@ pub enum Request {
         /// Its head.
         v: u32,
     },
+    /// Make these edits, one after the other: `["batch", [["cut", u, v], ["add", u, v], ..]]`.
+    Batch {
+        /// The edits in the order of the line.
+        edits: Vec<Edit>,
+    },
+    /// Take another destination: `["dest", dest]`.
+    Destination {
+        /// The destination.
+        dest: u32,
+    },
     /// Tell the way from a node to the destination, and change nothing: `["walk", x]`.
     Walk {
         /// Where the way begins.
