@@ -15,16 +15,12 @@ use Rattle.fr_net.proofs.Neighbours.{row_of_in, row_of_out, row_rises}
 use Rattle.fr_net.proofs.RowsInPlace.{starts_up}
 use Rattle.fr_net.proofs.Places.{filter_one, neighbour_at, without_back}
 use Rattle.fr_net.specs.Edits.{without}
-use Rattle.fr_net.specs.Halves.{ShowsRow}
+use Rattle.fr_net.specs.Halves.{AreRows, IsPlaceIn, IsPlaceOf, ShowsLink, ShowsNoLink, ShowsRow}
 use Rattle.fr_net.specs.Links.{IsNet, Joins, is_between}
+use Rattle.fr_net.specs.Network.{Network}
 use Rattle.fr_net.specs.Rows.{row}
 use Rattle.fr_net.specs.declared.rows.First.{First}
 use Rattle.fr_net.specs.declared.rows.First.TheVariants.{Inward, Outward}
-
--- the neighbours of a row before place j are below w, and the others are not
-pub record IsPlaceIn (es : List (ℕ × First)) (w j : ℕ) : Type 0 where
-  pub before : (k : ℕ) (d : ℕ × First) → k < j → (get_or es k d).0 < w
-  pub stops : (k : ℕ) (d : ℕ × First) → j ≤ k → k < length es → w ≤ (get_or es k d).0
 
 pub shows : (n : ℕ) (links : List (ℕ × ℕ)) (starts : List ℕ) (entries : List (ℕ × First)) → ((x : ℕ) → x < n → ShowsRow n links starts entries x) → AreShown n (row n links) (start_in starts) entries
 shows n links starts entries at = λ z lt. let here = at z lt in (here.low, (here.high, here.is_row))
@@ -143,18 +139,21 @@ joined_ends n links u v low high net joins is_min is_max =
     let below = joined_below n links u v net joins in
     sorted_ends n u v low high is_min is_max (joined_apart n links u v net joins) below.0 below.1
 
-pub cutting : (n : ℕ) (links : List (ℕ × ℕ)) (u v low high j k : ℕ) (starts : List ℕ) (entries : List (ℕ × First)) → IsNet n links → Joins links u v → AreSortedEnds n u v low high
-    → IsPlaceIn (row n links low) high j → IsPlaceIn (row n links high) low k → ((x : ℕ) → x < n → ShowsRow n links starts entries x) → length starts ≡ n + 1 → IsCutting n links low high j k starts entries
-cutting n links u v low high j k starts entries net joins ends at_low at_high shown one_each = record {
-  net = net;
-  joins = joins_sorted links u v low high ends.are joins;
-  order = ends.order;
-  inside = ends.inside;
-  at_low = at_low;
-  at_high = at_high;
-  shown = shown;
-  one_each = one_each;
-}
+-- the link and the places of its entries, as they are found
+pub cutting_at : (net : Network) (u v low high first second : ℕ) (starts : List ℕ) (entries : List (ℕ × First)) → ShowsLink net u v starts entries → low ≡ min u v → high ≡ max u v
+    → (p : IsPlaceOf net low high starts first) (q : IsPlaceOf net high low starts second) → IsCutting net.nodes net.links low high p.0 q.0 starts entries
+cutting_at net u v low high first second starts entries shown is_low is_high p q =
+    let ends = joined_ends net.nodes net.links u v low high shown.is_net shown.joins is_low is_high in
+    record {
+      net = shown.is_net;
+      joins = joins_sorted net.links u v low high ends.are shown.joins;
+      order = ends.order;
+      inside = ends.inside;
+      at_low = p.2;
+      at_high = q.2;
+      shown = shown.rows.shown;
+      one_each = shown.rows.one_each;
+    }
 
 -- the places of two entries, one in the row of each end
 pub places_apart : (n : ℕ) (rows : ℕ → List (ℕ × First)) (low high j k : ℕ) (starts : List ℕ) (entries : List (ℕ × First)) → AreShown n rows (start_in starts) entries → low < high → high < n → j ≤ length (rows low) → k ≤ length (rows high)
@@ -206,8 +205,6 @@ pub record IsAdding (n : ℕ) (links : List (ℕ × ℕ)) (u v low high j k : �
   pub ends : AreSortedEnds n u v low high
   pub at_low : IsPlaceIn (row n links low) high j
   pub at_high : IsPlaceIn (row n links high) low k
-  pub low_inside : j ≤ length (row n links low)
-  pub high_inside : k ≤ length (row n links high)
   pub shown : (x : ℕ) → x < n → ShowsRow n links starts entries x
   pub one_each : length starts ≡ n + 1
 
@@ -242,7 +239,7 @@ high_put n links u low high k = with_row (row n links) high (insert (row n links
 pub put_once : (n : ℕ) (links : List (ℕ × ℕ)) (u v low high j k : ℕ) (starts one : List ℕ) (entries : List (ℕ × First)) → IsAdding n links u v low high j k starts entries → one ≡ moved (λ start. start + 1) (high + 1) starts
     → AreShown n (high_put n links u low high k) (start_in one) (insert entries (start_in starts high + k) (low, seen high u))
 put_once n links u v low high j k starts one entries a first =
-    put_at n high k (low, seen high u) (row n links) starts one entries (shows n links starts entries a.shown) a.ends.inside a.high_inside a.one_each first
+    put_at n high k (low, seen high u) (row n links) starts one entries (shows n links starts entries a.shown) a.ends.inside a.at_high.inside a.one_each first
 
 pub put_twice : (n : ℕ) (links : List (ℕ × ℕ)) (u v low high j k : ℕ) (starts one two : List ℕ) (entries : List (ℕ × First)) → IsAdding n links u v low high j k starts entries → one ≡ moved (λ start. start + 1) (high + 1) starts → two ≡ moved (λ start. start + 1) (low + 1) one
     → (x : ℕ) → x < n → ShowsRow n (added links u v) two (insert (insert entries (start_in starts high + k) (low, seen high u)) (start_in starts low + j) (high, seen low u)) x
@@ -250,15 +247,15 @@ put_twice n links u v low high j k starts one two entries a first second =
     let apart : low ≢ high = λ e. omega (arith, e, a.ends.order) in
     let more = added links u v in
     let half = high_put n links u low high k in
-    let at_low = put_end n links u v low high j a.tail a.head a.apart a.free a.ends.are a.at_low a.low_inside in
-    let at_high = put_end n links u v high low k a.tail a.head a.apart a.free (turned_ends a.ends.are) a.at_high a.high_inside in
+    let at_low = put_end n links u v low high j a.tail a.head a.apart a.free a.ends.are a.at_low a.at_low.inside in
+    let at_high = put_end n links u v high low k a.tail a.head a.apart a.free (turned_ends a.ends.are) a.at_high a.at_high.inside in
     let same_low : half low ≡ row n links low = row_beside (row n links) high (insert (row n links high) k (low, seen high u)) low apart in
     let size : length one ≡ n + 1 = ap length first ∙ length-moved (λ start. start + 1) (high + 1) starts (omega (arith, a.one_each, a.ends.inside)) ∙ a.one_each in
     let start_low : start_in one low ≡ start_in starts low =
     ap (λ (xs : List ℕ). start_in xs low) first ∙ moved_below (λ start. start + 1) (high + 1) starts low (omega (arith, a.one_each, a.ends.inside)) (omega (arith, a.ends.order)) in
     let e : ℕ × First = (high, seen low u) in
     let wide = insert entries (start_in starts high + k) (low, seen high u) in
-    let shown = put_at n low j e half one two wide (put_once n links u v low high j k starts one entries a first) (omega (arith, a.ends.order, a.ends.inside)) (omega (arith, a.low_inside, ap length same_low)) size second in
+    let shown = put_at n low j e half one two wide (put_once n links u v low high j k starts one entries a first) (omega (arith, a.ends.order, a.ends.inside)) (omega (arith, a.at_low.inside, ap length same_low)) size second in
     let same : (z : ℕ) → z < n → with_row half low (insert (half low) j e) z ≡ row n more z = λ z lt.
     elim (cases_eq z low) [
       | inl is ↦ rw is (row_at half low (insert (half low) j e) ∙ ap (λ (es : List (ℕ × First)). insert es j e) same_low ∙ sym at_low)
@@ -275,7 +272,7 @@ put_twice n links u v low high j k starts one two entries a first second =
 
 pub put_places : (n : ℕ) (links : List (ℕ × ℕ)) (u v low high j k : ℕ) (starts : List ℕ) (entries : List (ℕ × First)) → IsAdding n links u v low high j k starts entries → (start_in starts low + j ≤ start_in starts high + k) × (start_in starts high + k ≤ length entries)
 put_places n links u v low high j k starts entries a =
-    let parts = places_apart n (row n links) low high j k starts entries (shows n links starts entries a.shown) a.ends.order a.ends.inside a.low_inside a.high_inside in
+    let parts = places_apart n (row n links) low high j k starts entries (shows n links starts entries a.shown) a.ends.order a.ends.inside a.at_low.inside a.at_high.inside in
     (parts.0, parts.1)
 
 -- the starts that move up stand inside the entries
@@ -289,3 +286,44 @@ put_inside n links u v low high j k starts one entries a first =
       moved_inside n high (row n links) starts entries (shows n links starts entries a.shown) a.ends.inside a.one_each,
       λ i d l. omega (arith, second i d l, wide),
     )
+
+-- the link and the places of its entries, as they are found
+pub adding_at : (net : Network) (u v low high first second : ℕ) (starts : List ℕ) (entries : List (ℕ × First)) → ShowsNoLink net u v starts entries → low ≡ min u v → high ≡ max u v
+    → (p : IsPlaceOf net low high starts first) (q : IsPlaceOf net high low starts second) → IsAdding net.nodes net.links u v low high p.0 q.0 starts entries
+adding_at net u v low high first second starts entries shown is_low is_high p q = record {
+  tail = shown.tail;
+  head = shown.head;
+  apart = shown.apart;
+  free = shown.free;
+  ends = sorted_ends net.nodes u v low high is_low is_high shown.apart shown.tail shown.head;
+  at_low = p.2;
+  at_high = q.2;
+  shown = shown.rows.shown;
+  one_each = shown.rows.one_each;
+}
+
+-- the rows without the link, and with it
+pub rows_cut : (net : Network) (u v low high first second : ℕ) (starts one two : List ℕ) (entries left : List (ℕ × First)) → ShowsLink net u v starts entries → low ≡ min u v → high ≡ max u v
+    → IsPlaceOf net low high starts first → IsPlaceOf net high low starts second → one ≡ moved (λ start. start - 1) (high + 1) starts → two ≡ moved (λ start. start - 1) (low + 1) one → left ≡ remove (remove entries second) first → AreRows net.nodes (without u v net.links) two left
+rows_cut net u v low high first second starts one two entries left shown is_low is_high p q once twice is =
+    let n = net.nodes in
+    let ends = joined_ends n net.links u v low high shown.is_net shown.joins is_low is_high in
+    let c = cutting_at net u v low high first second starts entries shown is_low is_high p q in
+    let places : left ≡ remove (remove entries (start_in starts high + q.0)) (start_in starts low + p.0) = is ∙ rw (p.1, q.1) refl in
+    let one_long : length one ≡ n + 1 = ap length once ∙ length-moved (λ start. start - 1) (high + 1) starts (omega (arith, shown.rows.one_each, ends.inside)) ∙ shown.rows.one_each in
+    record {
+      one_each = ap length twice ∙ length-moved (λ start. start - 1) (low + 1) one (omega (arith, one_long, ends.order, ends.inside)) ∙ one_long;
+      shown = rw (places, ← without_sorted net.links n u v low high ends) (cut_twice n net.links low high p.0 q.0 starts one two entries c once twice);
+    }
+
+pub rows_added : (net : Network) (u v low high first second : ℕ) (starts one two : List ℕ) (entries wide : List (ℕ × First)) → ShowsNoLink net u v starts entries → low ≡ min u v → high ≡ max u v
+    → IsPlaceOf net low high starts first → IsPlaceOf net high low starts second → one ≡ moved (λ start. start + 1) (high + 1) starts → two ≡ moved (λ start. start + 1) (low + 1) one → wide ≡ insert (insert entries second (low, seen high u)) first (high, seen low u) → AreRows net.nodes (added net.links u v) two wide
+rows_added net u v low high first second starts one two entries wide shown is_low is_high p q once twice is =
+    let n = net.nodes in
+    let a = adding_at net u v low high first second starts entries shown is_low is_high p q in
+    let places : wide ≡ insert (insert entries (start_in starts high + q.0) (low, seen high u)) (start_in starts low + p.0) (high, seen low u) = is ∙ rw (p.1, q.1) refl in
+    let one_long : length one ≡ n + 1 = ap length once ∙ length-moved (λ start. start + 1) (high + 1) starts (omega (arith, shown.rows.one_each, a.ends.inside)) ∙ shown.rows.one_each in
+    record {
+      one_each = ap length twice ∙ length-moved (λ start. start + 1) (low + 1) one (omega (arith, one_long, a.ends.order, a.ends.inside)) ∙ one_long;
+      shown = rw places (put_twice n net.links u v low high p.0 q.0 starts one two entries a once twice);
+    }

@@ -1,8 +1,8 @@
 -- Rows in one list, of which one has an entry more or less.
-use Rattle.std.proofs.Common.{All, List, [], ap, append_assoc, arith, cond, drop, eq-eqb, eqb, get_or, inl, inr, length, length-append, length-drop, map, ne_eqb, refl, slice_range, suc, sym, take, ℕ, ◌++◌, ◌+◌, ◌-◌, ◌<◌, ◌∙◌, ◌∷◌, ◌≡◌, ◌≢◌, ◌≤◌}
+use Rattle.std.proofs.Common.{All, List, [], ap, arith, cond, drop, eq-eqb, eqb, get_or, inl, inr, length, length-append, length-drop, map, ne_eqb, refl, slice_range, sym, take, ℕ, ◌++◌, ◌+◌, ◌-◌, ◌<◌, ◌∙◌, ◌≡◌, ◌≢◌, ◌≤◌}
 use Rattle.std.specs.List.{insert, remove}
 use Rattle.std.proofs.lemmas.Bool.{cases_eq, cases_lt, cond-false, cond-true}
-use Rattle.std.proofs.lemmas.List.{append-nil, drop-append-le, drop_all, take_rest, drop-drop, drop_at, get_or-append_right, get_or-drop, get_or_default, get_or-map, get_or-take, get_or_append_left, length-map, length-take-le, take-append-le, take-take, take_at}
+use Rattle.std.proofs.lemmas.List.{append-nil, drop_all, take_rest, drop-drop, drop_at, get_or-append_right, get_or-drop, get_or_default, get_or-map, get_or-take, get_or_append_left, length-map, length-take-le, take-append-le, take-take, take_at}
 use Rattle.std.proofs.lemmas.List.Edits.{insert-append_left, insert-append_right, length-between, length-insert, length-remove, remove-append_left, remove-append_right, split_between}
 use Rattle.std.proofs.lemmas.Slice.{between_is}
 use Rattle.std.proofs.Math.Seq.{drop-append-add}
@@ -163,30 +163,6 @@ moved_inside n x rows starts entries at lt size k d l =
     let same : x + 1 + k ≡ x + k + 1 = omega arith in
     let is : get_or (drop (x + 1) starts) k d ≡ start_in starts (x + k + 1) = get_or-drop (x + 1) starts k d ∙ get_or_default starts (x + 1 + k) d 0 inside ∙ ap (start_in starts) same in
     omega (arith, is, (at (x + k) (omega (arith, inside, size))).1.0)
-
--- two elements taken out of a list, or put in
-pub remove_both : {X : Type 0} (xs : List X) (low high : ℕ) → low < high → high < length xs → remove (remove xs high) low ≡ take low xs ++ (slice_range xs (low + 1) high ++ drop (high + 1) xs)
-remove_both {X} xs low high lt l =
-    let first : length (take high xs) ≡ high = length-take-le high xs (omega (arith, l)) in
-    let next : low + 1 ≡ suc low = omega arith in
-    let after : high + 1 ≡ suc high = omega arith in
-    let front : take low (remove xs high) ≡ take low xs = take-append-le low (take high xs) (drop (suc high) xs) (omega (arith, lt, first)) ∙ take-take low high xs (omega (arith, lt)) in
-    let back : drop (suc low) (remove xs high) ≡ slice_range xs (suc low) high ++ drop (suc high) xs =
-    drop-append-le (suc low) (take high xs) (drop (suc high) xs) (omega (arith, lt, first)) ∙ ap (λ (ys : List X). ys ++ drop (suc high) xs) (sym (between_is xs (suc low) high)) in
-    rw (next, after) (ap (λ (ys : List X). ys ++ drop (suc low) (remove xs high)) front ∙ ap (λ (ys : List X). take low xs ++ ys) back)
-
-pub insert_both : {X : Type 0} (xs : List X) (low high : ℕ) (x y : X) → low ≤ high → high ≤ length xs → insert (insert xs high y) low x ≡ take low xs ++ x ∷ (slice_range xs low high ++ y ∷ drop high xs)
-insert_both {X} xs low high x y le l =
-    let first : length (take high xs) ≡ high = length-take-le high xs l in
-    let front : take low (insert xs high y) ≡ take low xs = take-append-le low (take high xs) (y ∷ drop high xs) (omega (arith, le, first)) ∙ take-take low high xs le in
-    let back : drop low (insert xs high y) ≡ slice_range xs low high ++ y ∷ drop high xs =
-    drop-append-le low (take high xs) (y ∷ drop high xs) (omega (arith, le, first)) ∙ ap (λ (ys : List X). ys ++ y ∷ drop high xs) (sym (between_is xs low high)) in
-    ap (λ (ys : List X). ys ++ x ∷ drop low (insert xs high y)) front ∙ ap (λ (ys : List X). take low xs ++ x ∷ ys) back
-
--- the blocks of a list with two elements put in, joined one after the other
-pub blocks_join : {X : Type 0} (front mid back : List X) (x y : X) → (((front ++ x ∷ []) ++ mid) ++ y ∷ []) ++ back ≡ front ++ x ∷ (mid ++ y ∷ back)
-blocks_join front mid back x y =
-    append_assoc ((front ++ x ∷ []) ++ mid) (y ∷ []) back ∙ append_assoc (front ++ x ∷ []) mid (y ∷ back) ∙ append_assoc front (x ∷ []) (mid ++ y ∷ back)
 
 -- what a call that moves the starts from a place on leaves
 pub put_rest : (f : ℕ → ℕ) (a : ℕ) (xs ys : List ℕ) → ys ≡ map f (take (length xs - a) (drop a xs)) → put_mid a (length xs - a) xs ys ≡ moved f a xs

@@ -1,12 +1,12 @@
 -- The items of an array, as values and as data.
-use Rattle.std.proofs.Common.{List, None, Some, [], ap, arith, drop, get_or, length, map, option_map, refl, suc, take, take_all, zero, ℕ, ◌++◌, ◌-◌, ◌<◌, ◌∷◌, ◌≡◌, ◌≤◌}
+use Rattle.std.proofs.Common.{List, None, Option, Some, option_and_then, [], ap, arith, drop, get_or, length, map, option_map, refl, suc, take, take_all, zero, ℕ, ◌++◌, ◌-◌, ◌<◌, ◌∷◌, ◌≡◌, ◌≤◌}
 use Rattle.std.proofs.Math.Seq.{drop-nil}
 use Rattle.std.proofs.lemmas.List.{append-nil}
 use Rattle.serde_json.specs.Data.{Data}
 use Rattle.serde_json.specs.Find.{as_array, as_str}
 use Rattle.serde_json.specs.View.{items_of, items_view, view}
 use Rattle.serde_json.specs.declared.value.Value.{Value}
-use Rattle.fr_net.specs.Requests.{item_list, items_in, link_in, links_of, request_of, request_of_word}
+use Rattle.fr_net.specs.Requests.{item_list, items_in, read_all, read_by_word}
 
 list_again : (ds : List Data) → item_list (items_of ds) ≡ ds
 list_again [] = refl
@@ -16,22 +16,22 @@ list_again (d ∷ ds) = ap (λ rest. d ∷ rest) (list_again ds)
 pub items_viewed : (d : Data) (vs : List Value) → as_array d ≡ Some (items_view vs) → items_in d ≡ Some (map view vs)
 items_viewed d vs e = rw e (ap Some (list_again (map view vs)))
 
--- an item that is no link ends the reading
-pub links_stop : (vs : List Value) (i : ℕ) (v : Value) → i < length vs → link_in (view (get_or vs i v)) ≡ None → links_of (map view (drop i vs)) ≡ None
-links_stop [] i v h e = absurd (omega arith)
-links_stop (x ∷ xs) zero v h e = rw e
-links_stop (x ∷ xs) (suc i) v h e = links_stop xs i v (omega arith) e
+-- an item that cannot be read ends the reading
+pub reading_stops : {X : Type 0} (one : Data → Option X) (vs : List Value) (i : ℕ) (v : Value) → i < length vs → one (view (get_or vs i v)) ≡ None → read_all one (map view (drop i vs)) ≡ None
+reading_stops one [] i v h e = absurd (omega arith)
+reading_stops one (x ∷ xs) zero v h e = rw e
+reading_stops one (x ∷ xs) (suc i) v h e = reading_stops one xs i v (omega arith) e
 
--- past the last item the links so far are all
-pub links_end : (vs : List Value) (i : ℕ) (links : List (ℕ × ℕ)) → length vs ≤ i → option_map (λ more. links ++ more) (links_of (map view (drop i vs))) ≡ Some links
-links_end [] i links h = rw drop-nil (ap Some (append-nil links))
-links_end (x ∷ xs) zero links h = absurd (omega arith)
-links_end (x ∷ xs) (suc i) links h = links_end xs i links (omega arith)
+-- past the last item what was read so far is all
+pub reading_ends : {X : Type 0} (one : Data → Option X) (vs : List Value) (i : ℕ) (read : List X) → length vs ≤ i → option_map (λ more. read ++ more) (read_all one (map view (drop i vs))) ≡ Some read
+reading_ends one [] i read h = rw drop-nil (ap Some (append-nil read))
+reading_ends one (x ∷ xs) zero read h = absurd (omega arith)
+reading_ends one (x ∷ xs) (suc i) read h = reading_ends one xs i read (omega arith)
 
--- the word and the items after it settle what an array asks for
-pub word_settles : (d : Data) (vs : List Value) (first : Value) (word : List ℕ) → as_array d ≡ Some (items_view vs) → 1 ≤ length vs → first ≡ get_or vs 0 first → as_str (view first) ≡ Some word
-    → request_of d ≡ request_of_word word (map view (take (length vs - 1) (drop 1 vs)))
-word_settles d [] first word array some is says = absurd (omega arith)
-word_settles d (x ∷ xs) first word array some is says =
+-- the word and the items after it settle what an array is
+pub word_settles : {X : Type 0} (by_word : List ℕ → List Data → Option X) (d : Data) (vs : List Value) (first : Value) (word : List ℕ) → as_array d ≡ Some (items_view vs) → 1 ≤ length vs → first ≡ get_or vs 0 first → as_str (view first) ≡ Some word
+    → option_and_then (read_by_word by_word) (items_in d) ≡ by_word word (map view (take (length vs - 1) (drop 1 vs)))
+word_settles by_word d [] first word array some is says = absurd (omega arith)
+word_settles by_word d (x ∷ xs) first word array some is says =
     let whole : take (length (x ∷ xs) - 1) xs ≡ xs = take_all (length (x ∷ xs) - 1) xs (omega arith) in
     rw (whole, items_viewed d (x ∷ xs) array, ← is, says)

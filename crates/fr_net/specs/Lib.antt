@@ -7,6 +7,7 @@ pub mod Network
 pub mod Rows
 pub mod Faults
 pub mod Edits
+pub mod Batches
 pub mod RowLists
 pub mod Halves
 pub mod CycleSearch

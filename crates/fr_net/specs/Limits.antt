@@ -7,6 +7,9 @@ most_nodes = 1024
 abbrev pub most_links : ℕ
 most_links = 8192
 
+abbrev pub most_edits : ℕ
+most_edits = 1024
+
 -- there are no more nodes and links than the limits admit
 pub record IsWithinLimits (n : ℕ) (links : List (ℕ × ℕ)) : Type 0 where
   pub nodes_few : n ≤ most_nodes

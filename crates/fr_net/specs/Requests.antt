@@ -3,6 +3,8 @@
 --     ["net", n, d, [[u, v], ..]]    take the network of n nodes, with destination d and the links from u to v
 --     ["cut", u, v]                  take out the link between u and v
 --     ["add", u, v]                  add the link from u to v
+--     ["batch", [EDIT, ..]]          make these edits, of which each is an array as for "cut" or "add"
+--     ["dest", d]                    take the destination d
 --     ["walk", x]                    ask how one gets from x to the destination
 --     ["links"]                      ask which links there are
 --     ["counts"]                     ask how often each node has turned
@@ -16,14 +18,18 @@ use Rattle.fr_net.specs.declared.requests.LineFault.{LineFault}
 use Rattle.fr_net.specs.declared.requests.LineFault.TheVariants.{NotJson, NotRequest}
 use Rattle.fr_net.specs.declared.requests.Question.{Question}
 use Rattle.fr_net.specs.declared.requests.Question.TheVariants.{Links, Counts, Hops}
+use Rattle.fr_net.specs.declared.requests.Edit.{Edit}
+use Rattle.fr_net.specs.declared.requests.Edit.TheVariants as edit
 use Rattle.fr_net.specs.declared.requests.Request.{Request}
-use Rattle.fr_net.specs.declared.requests.Request.TheVariants.{Network, Cut, Add, Walk, Ask}
+use Rattle.fr_net.specs.declared.requests.Request.TheVariants.{Network, Cut, Add, Batch, Destination, Walk, Ask}
 
--- a request, with its links as a list
+-- a request, with its links or edits as a list
 pub data PlainRequest : Type 0 where
   new_network : ℕ → ℕ → List (ℕ × ℕ) → PlainRequest
   cut_link : ℕ → ℕ → PlainRequest
   add_link : ℕ → ℕ → PlainRequest
+  make_edits : List Edit → PlainRequest
+  move_dest : ℕ → PlainRequest
   walk_from : ℕ → PlainRequest
   ask : Question → PlainRequest
 
@@ -32,6 +38,8 @@ abbrev pub plain : Request → PlainRequest
 plain (Network nodes dest links) = new_network nodes dest links.items
 plain (Cut u v) = cut_link u v
 plain (Add u v) = add_link u v
+plain (Batch edits) = make_edits edits.items
+plain (Destination d) = move_dest d
 plain (Walk x) = walk_from x
 plain (Ask question) = ask question
 
@@ -69,14 +77,34 @@ number_pair (d ∷ e ∷ f ∷ rest) = None
 abbrev pub link_in : Data → Option (ℕ × ℕ)
 link_in d = option_and_then number_pair (items_in d)
 
--- links, of which each item is one
-abbrev pub links_of : List Data → Option (List (ℕ × ℕ))
-links_of [] = Some []
-links_of (d ∷ ds) = option_and_then (λ link. option_map (λ links. link ∷ links) (links_of ds)) (link_in d)
+-- what all items are, where each is one
+abbrev pub read_all : {X : Type 0} → (Data → Option X) → List Data → Option (List X)
+read_all read_one [] = Some []
+read_all read_one (d ∷ ds) = option_and_then (λ x. option_map (λ xs. x ∷ xs) (read_all read_one ds)) (read_one d)
 
 -- links: an array of them
 abbrev pub links_in : Data → Option (List (ℕ × ℕ))
-links_in d = option_and_then links_of (items_in d)
+links_in d = option_and_then (read_all link_in) (items_in d)
+
+-- what items are, by the first of them, which is a word, and the items after it
+abbrev pub read_by_word : {X : Type 0} → (List ℕ → List Data → Option X) → List Data → Option X
+read_by_word read_rest [] = None
+read_by_word read_rest (d ∷ rest) = option_and_then (λ word. read_rest word rest) (as_str d)
+
+-- the edit of a word and the items after it
+unfoldable pub edit_of_word : List ℕ → List Data → Option Edit
+edit_of_word word rest =
+    if bytes_eq word (codes "cut") then option_map (λ pair. edit.Cut pair.0 pair.1) (number_pair rest)
+    else (if bytes_eq word (codes "add") then option_map (λ pair. edit.Add pair.0 pair.1) (number_pair rest)
+    else None)
+
+-- an edit: an array of just its word and the two ends of its link
+abbrev pub edit_in : Data → Option Edit
+edit_in d = option_and_then (read_by_word edit_of_word) (items_in d)
+
+-- edits: an array of them
+abbrev pub edits_in : Data → Option (List Edit)
+edits_in d = option_and_then (read_all edit_in) (items_in d)
 
 -- the network of just three items: how many nodes, the destination, the links
 abbrev pub network_request : List Data → Option PlainRequest
@@ -92,9 +120,15 @@ network_request (n ∷ d ∷ ls ∷ x ∷ rest) = None
 abbrev pub pair_request : (ℕ → ℕ → PlainRequest) → List Data → Option PlainRequest
 pair_request request rest = option_map (λ pair. request pair.0 pair.1) (number_pair rest)
 
--- the walk from a number, where just this is left
-abbrev pub walk_request : List Data → Option PlainRequest
-walk_request rest = option_map walk_from (single_number rest)
+-- the batch of edits, where just an array of these is left
+abbrev pub batch_request : List Data → Option PlainRequest
+batch_request [] = None
+batch_request (d ∷ []) = option_map make_edits (edits_in d)
+batch_request (d ∷ e ∷ rest) = None
+
+-- the request of one number, where just this is left
+abbrev pub node_request : (ℕ → PlainRequest) → List Data → Option PlainRequest
+node_request request rest = option_map request (single_number rest)
 
 -- the question, where no item is left
 abbrev pub ask_request : Question → List Data → Option PlainRequest
@@ -107,20 +141,17 @@ request_of_word word rest =
     if bytes_eq word (codes "net") then network_request rest
     else (if bytes_eq word (codes "cut") then pair_request cut_link rest
     else (if bytes_eq word (codes "add") then pair_request add_link rest
-    else (if bytes_eq word (codes "walk") then walk_request rest
+    else (if bytes_eq word (codes "batch") then batch_request rest
+    else (if bytes_eq word (codes "dest") then node_request move_dest rest
+    else (if bytes_eq word (codes "walk") then node_request walk_from rest
     else (if bytes_eq word (codes "links") then ask_request Links rest
     else (if bytes_eq word (codes "counts") then ask_request Counts rest
     else (if bytes_eq word (codes "hops") then ask_request Hops rest
-    else None))))))
-
--- the request of an array's items, the first of which is its word
-abbrev pub request_of_items : List Data → Option PlainRequest
-request_of_items [] = None
-request_of_items (d ∷ rest) = option_and_then (λ word. request_of_word word rest) (as_str d)
+    else None))))))))
 
 -- the request that a value is
 abbrev pub request_of : Data → Option PlainRequest
-request_of d = option_and_then request_of_items (items_in d)
+request_of d = option_and_then (read_by_word request_of_word) (items_in d)
 
 -- the value that a line is: UTF-8, JSON, and nesting at most 127
 abbrev pub value_of_line : List ℕ → Option Data

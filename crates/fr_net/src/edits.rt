@@ -1,15 +1,16 @@
-//! The links and rows of a network with one link taken out or added.
+//! The links and rows of a network with one link taken out or added, each where it stands.
 
-ghost use Rattle.std.specs.Prelude.{◌≡◌, ℕ, ◌<◌, ◌≤◌, ◌+◌, ◌-◌, ◌^◌, ◌==◌, if◌then◌else◌, length, map, slice_index_or, All, IfOk};
-ghost use Rattle.std.specs.List.{insert, remove};
+ghost use Rattle.std.specs.Prelude.{◌≡◌, ℕ, ◌<◌, ◌≤◌, ◌+◌, ◌-◌, ◌^◌, ◌==◌, ◌++◌, [], ◌∷◌, if◌then◌else◌, length, map, slice_index_or, All, OnOk};
 ghost use Rattle.std.specs.List.Sorted.{IsNonDecreasingBy};
 ghost use Rattle.fr_net.specs.Links.{AreSingle, Points};
+ghost use Rattle.fr_net.specs.Network.{Network};
+ghost use Rattle.fr_net.specs.Halves.{AreRows, IsPlaceOf, ShowsLink, ShowsNoLink, ShowsRowOf};
 ghost use Rattle.fr_net.specs.Edits.{without};
 ghost use Rattle.fr_net.specs.Order.{AreInOrder, IsBefore, IsNotAfter, with_in_order};
 ghost use Rattle.fr_net.specs.declared.rows.First.TheVariants.{Outward, Inward};
 
 use crate::rows::First;
-use std::alloc::{AllocError, Global};
+use std::alloc::AllocFailed;
 
 /// The first place among the links, which are in order, whose link is not before the one from `u` to `v`.
 fn place_of_link(links: &[(u32, u32)], u: u32, v: u32) -> usize
@@ -21,41 +22,29 @@ fn place_of_link(links: &[(u32, u32)], u: u32, v: u32) -> usize
     links.partition_point(|(tail, head)| *tail < u || (*tail == u && *head < v))
 }
 
-/// The links, which are in order, but for the one from `u` to `v`.
-pub(crate) fn cut_links(
-    alloc: Global,
-    links: &[(u32, u32)],
-    u: u32,
-    v: u32,
-) -> Result<Vec<(u32, u32)>, AllocError>
-    requires order { AreInOrder links.now }
-    requires single { AreSingle links.now }
-    requires stands { Points links.now u v }
-    ensures { IfOk result (λ kept. kept.items ≡ without u v links.now) }
+/// Takes the link from `u` to `v` out of the links, which are in order.
+pub(crate) fn cut_link(links: &mut Vec<(u32, u32)>, u: u32, v: u32)
+    requires order { AreInOrder links.old.items }
+    requires single { AreSingle links.old.items }
+    requires stands { Points links.old.items u v }
+    ensures { links.new.items ≡ without u v links.old.items }
 {
     let place = place_of_link(links, u, v);
-    let mut kept = Vec::with_capacity(alloc, links.len() - 1)?;
-    kept.extend_from_slice(&links[..place])?;
-    kept.extend_from_slice(&links[place + 1..])?;
-    Ok(kept)
+    links.remove(place);
 }
 
-/// The links, which are in order, and at its place among them the one from `u` to `v`.
-pub(crate) fn added_links(
-    alloc: Global,
-    links: &[(u32, u32)],
+/// Puts the link from `u` to `v` at its place among the links, which are in order.
+pub(crate) fn add_link(
+    links: &mut Vec<(u32, u32)>,
     u: u32,
     v: u32,
-) -> Result<Vec<(u32, u32)>, AllocError>
-    requires { AreInOrder links.now }
-    ensures { IfOk result (λ added. added.items ≡ with_in_order (u, v) links.now) }
+) -> Result<(), AllocFailed<(u32, u32)>>
+    requires { AreInOrder links.old.items }
+    ensures { OnOk result (links.new.items ≡ with_in_order (u, v) links.old.items) }
 {
     let place = place_of_link(links, u, v);
-    let mut added = Vec::with_capacity(alloc, links.len() + 1)?;
-    added.extend_from_slice(&links[..place])?;
-    added.push((u, v))?;
-    added.extend_from_slice(&links[place..])?;
-    Ok(added)
+    links.insert(place, (u, v))?;
+    Ok(())
 }
 
 /// The first place in the row, which is in rising order of the neighbour, whose neighbour is not below `w`.
@@ -68,44 +57,14 @@ pub(crate) fn place_in_row(row: &[(u32, First)], w: u32) -> usize
     row.partition_point(|entry| entry.0 < w)
 }
 
-/// The entries but for those at two places.
-pub(crate) fn cut_entries(
-    alloc: Global,
-    entries: &[(u32, First)],
-    low: usize,
-    high: usize,
-) -> Result<Vec<(u32, First)>, AllocError>
-    requires order { low < high }
-    requires inside { high < length entries.now }
-    ensures { IfOk result (λ kept. kept.items ≡ remove (remove entries.now high) low) }
+/// Where the entry of `w` stands in the row of `x`, or would stand, as a place among the entries of all rows.
+fn place_of_entry(starts: &[usize], entries: &[(u32, First)], x: u32, w: u32) -> usize
+    requires { (net : Network) × ShowsRowOf net x starts.now entries.now }
+    ensures { (net : Network) → ShowsRowOf net x starts.now entries.now → IsPlaceOf net x w starts.now result }
 {
-    let mut kept = Vec::with_capacity(alloc, entries.len() - 2)?;
-    kept.extend_from_slice(&entries[..low])?;
-    kept.extend_from_slice(&entries[low + 1..high])?;
-    kept.extend_from_slice(&entries[high + 1..])?;
-    Ok(kept)
-}
-
-/// The entries with two more, `first` before what stands at `low` and `second` before what stands at `high`.
-pub(crate) fn added_entries(
-    alloc: Global,
-    entries: &[(u32, First)],
-    low: usize,
-    first: (u32, First),
-    high: usize,
-    second: (u32, First),
-) -> Result<Vec<(u32, First)>, AllocError>
-    requires order { low ≤ high }
-    requires inside { high ≤ length entries.now }
-    ensures { IfOk result (λ added. added.items ≡ insert (insert entries.now high second) low first) }
-{
-    let mut added = Vec::with_capacity(alloc, entries.len() + 2)?;
-    added.extend_from_slice(&entries[..low])?;
-    added.push(first)?;
-    added.extend_from_slice(&entries[low..high])?;
-    added.push(second)?;
-    added.extend_from_slice(&entries[high..])?;
-    Ok(added)
+    let start = starts[x as usize];
+    let row = &entries[start..starts[x as usize + 1]];
+    start + place_in_row(row, w)
 }
 
 /// The direction of a link with this tail as seen from `x`, which is one of its ends.
@@ -137,4 +96,43 @@ pub(crate) fn move_down(starts: &mut [usize])
     for start in starts.iter_mut() {
         *start -= 1;
     }
+}
+
+/// Takes the entries of the link between two nodes, whichever way it points, out of the rows of both.
+pub(crate) fn cut_from_rows(starts: &mut [usize], entries: &mut Vec<(u32, First)>, u: u32, v: u32)
+    requires { (net : Network) × ShowsLink net u v starts.old entries.old.items }
+    ensures { (net : Network) → ShowsLink net u v starts.old entries.old.items
+        → AreRows net.nodes (without u v net.links) starts.new entries.new.items }
+{
+    let low = u.min(v);
+    let high = u.max(v);
+    let first = place_of_entry(starts, entries, low, high);
+    let second = place_of_entry(starts, entries, high, low);
+    // The later one first, so that the other stays where it is.
+    entries.remove(second);
+    entries.remove(first);
+    move_down(&mut starts[high as usize + 1..]);
+    move_down(&mut starts[low as usize + 1..]);
+}
+
+/// Puts the entries of a link into the rows of both its ends, which no link has joined yet.
+pub(crate) fn add_to_rows(
+    starts: &mut [usize],
+    entries: &mut Vec<(u32, First)>,
+    tail: u32,
+    head: u32,
+) -> Result<(), AllocFailed<(u32, First)>>
+    requires { (net : Network) × ShowsNoLink net tail head starts.old entries.old.items }
+    ensures { OnOk result ((net : Network) → ShowsNoLink net tail head starts.old entries.old.items
+        → AreRows net.nodes (net.links ++ (tail, head) ∷ []) starts.new entries.new.items) }
+{
+    let low = tail.min(head);
+    let high = tail.max(head);
+    let first = place_of_entry(starts, entries, low, high);
+    let second = place_of_entry(starts, entries, high, low);
+    entries.insert(second, (low, seen_from(high, tail)))?;
+    entries.insert(first, (high, seen_from(low, tail)))?;
+    move_up(&mut starts[high as usize + 1..]);
+    move_up(&mut starts[low as usize + 1..]);
+    Ok(())
 }

@@ -33,6 +33,27 @@ pub enum NetFault {
     Memory,
 }
 
+/// The first edit of a batch that is refused, and why. Where the fault is `Memory`, `at` says nothing.
+#[derive(Debug, Drop, Error, PartialEq, Eq)]
+#[error("edit {at} is refused: {fault}")]
+pub struct EditFault {
+    /// Its place among the edits, counted from 0; where there are too many edits, how many there may be.
+    pub at: usize,
+    /// Why it is refused.
+    pub fault: NetFault,
+}
+
+impl From<AllocError> for EditFault {
+    ghost from_gives = { λ _ refused. refused.fault ≡ Memory };
+
+    fn from(_refused: AllocError) -> EditFault {
+        EditFault {
+            at: 0,
+            fault: NetFault::Memory,
+        }
+    }
+}
+
 // By hand, since clauses say which fault a `?` gives.
 impl From<AllocError> for NetFault {
     ghost from_gives = { λ _ fault. fault ≡ Memory };

@@ -19,9 +19,9 @@ mod requests;
 mod rows;
 mod turned;
 
-pub use fault::NetFault;
-pub use limits::{MAX_LINKS, MAX_NODES};
+pub use fault::{EditFault, NetFault};
+pub use limits::{MAX_EDITS, MAX_LINKS, MAX_NODES};
 pub use network::Net;
 pub use read::read_line;
-pub use requests::{LineFault, Question, Request};
+pub use requests::{Edit, LineFault, Question, Request};
 pub use rows::First;

@@ -5,3 +5,6 @@ pub const MAX_NODES: u32 = 1024;
 
 /// The most links of a network.
 pub const MAX_LINKS: usize = 8192;
+
+/// The most edits of a batch.
+pub const MAX_EDITS: usize = 1024;

@@ -1,6 +1,6 @@
 //! Networks.
 
-ghost use Rattle.std.specs.Prelude.{◌≡◌, ◌≢◌, ℕ, ◌<◌, ◌+◌, ◌++◌, [], ◌∷◌, length, slice_get, slice_index, Some, IfOk, IfErr, IfSome, IfNone, OnOk, All, ◌⊎◌};
+ghost use Rattle.std.specs.Prelude.{◌≡◌, ◌≢◌, ℕ, ◌<◌, ◌≤◌, ◌+◌, ◌++◌, [], ◌∷◌, length, slice_get, slice_index, Some, IfOk, IfErr, IfSome, IfNone, OnOk, All, ◌⊎◌};
 ghost use Rattle.std.specs.List.{HoldsAt};
 ghost use Rattle.fr_net.specs.Links.{Joins, Points};
 ghost use Rattle.fr_net.specs.Order.{AreRising};
@@ -9,17 +9,18 @@ ghost use Rattle.fr_net.specs.Rows.{row};
 ghost use Rattle.fr_net.specs.declared.fault.NetFault.TheVariants.{Memory};
 ghost use Rattle.fr_net.specs.Faults.{IsFaultless, IsFirstFault, IsNetworkOf};
 ghost use Rattle.fr_net.specs.Edits.{IsCutFault, without};
+ghost use Rattle.fr_net.specs.Batches.{AreMade, IsBatchFault, IsEditFault, IsMade};
+ghost use Rattle.fr_net.specs.Limits.{most_edits};
 
 use crate::checks::{first_outside, first_self_link};
 use crate::cycle::{find_cycle, find_cycle_from};
-use crate::edits::{
-    added_entries, added_links, cut_entries, cut_links, move_down, move_up, place_in_row, seen_from,
-};
-use crate::fault::NetFault;
-use crate::limits::{MAX_LINKS, MAX_NODES};
+use crate::edits::{add_link, add_to_rows, cut_from_rows, cut_link, place_in_row};
+use crate::fault::{EditFault, NetFault};
+use crate::limits::{MAX_EDITS, MAX_LINKS, MAX_NODES};
+use crate::requests::Edit;
 use crate::rows::{First, entries_of, first_twice, outward_links, sorted_halves};
 use crate::turned::{push_out_links, turn_row};
-use std::alloc::Global;
+use std::alloc::{AllocError, Global};
 use std::marker::Model;
 
 /// A network: nodes, and links among which no closed walk stands. Contracts see the number of nodes and the links in
@@ -152,6 +153,24 @@ impl Net {
         }
     }
 
+    /// A copy, with room for so many links more.
+    fn copied(&self, alloc: Global, more: usize) -> Result<Net, AllocError>
+        requires { more ≤ most_edits }
+        ensures { IfOk result (λ net. net ≡ self.now) }
+    {
+        let mut links = Vec::with_capacity(alloc, self.links.len() + more)?;
+        links.extend_from_slice(&self.links)?;
+        let starts = self.starts.to_vec(alloc)?;
+        let mut entries = Vec::with_capacity(alloc, self.entries.len() + 2 * more)?;
+        entries.extend_from_slice(&self.entries)?;
+        Ok(Net {
+            nodes: self.nodes,
+            links,
+            starts,
+            entries,
+        })
+    }
+
     /// The network without the link between `u` and `v`, whichever way it points. `NoLink` exactly where there is none, as
     /// where one of them is no node or both are the same; `Memory` where no room could be had. It is linear.
     pub fn with_cut(&self, alloc: Global, u: u32, v: u32) -> Result<Net, NetFault>
@@ -159,24 +178,7 @@ impl Net {
         ensures ok { IfOk result (IsNetworkOf self.now.nodes (without u v self.now.links)) }
         ensures refused { IfErr result (λ fault. fault ≢ Memory → IsCutFault self.now.links u v fault) }
     {
-        let Some((tail, head)) = self.link_between(u, v) else {
-            return Err(NetFault::NoLink);
-        };
-        let links = cut_links(alloc, &self.links, tail, head)?;
-        let low = u.min(v);
-        let high = u.max(v);
-        let first = self.starts[low as usize] + place_in_row(self.row(low), high);
-        let second = self.starts[high as usize] + place_in_row(self.row(high), low);
-        let entries = cut_entries(alloc, &self.entries, first, second)?;
-        let mut starts = self.starts.to_vec(alloc)?;
-        move_down(&mut starts[high as usize + 1..]);
-        move_down(&mut starts[low as usize + 1..]);
-        Ok(Net {
-            nodes: self.nodes,
-            links,
-            starts,
-            entries,
-        })
+        self.copied(alloc, 0)?.into_cut(u, v)
     }
 
     /// The network with the link from `u` to `v` as well; or the first fault that then stands, in the order of
@@ -186,6 +188,75 @@ impl Net {
         ensures ok { IfOk result (IsNetworkOf self.now.nodes (self.now.links ++ (u, v) ∷ [])) }
         ensures refused { IfErr result (λ fault. fault ≢ Memory
             → IsFirstFault self.now.nodes (self.now.links ++ (u, v) ∷ []) fault) }
+    {
+        self.copied(alloc, 1)?.into_linked(alloc, u, v)
+    }
+
+    /// The network after these edits, each made on the links that those before it left; or the first edit that is refused, with
+    /// the fault that `with_cut` or `with_link` names. More than [`MAX_EDITS`] are `TooMany` at `MAX_EDITS`, and none
+    /// is tried. `Memory` where no room could be had, at any edit. The network is copied once.
+    pub fn with_edits(&self, alloc: Global, edits: &[Edit]) -> Result<Net, EditFault>
+        ensures few { OnOk result (length edits.now ≤ most_edits) }
+        ensures ok { IfOk result (AreMade self.now edits.now) }
+        ensures refused { IfErr result (λ refused. refused.fault ≢ Memory → IsBatchFault self.now edits.now refused) }
+    {
+        if edits.len() > MAX_EDITS {
+            return Err(EditFault {
+                at: MAX_EDITS,
+                fault: NetFault::TooMany,
+            });
+        }
+        let mut net = self.copied(alloc, edits.len())?;
+        for (at, edit) in edits.iter().enumerate() {
+            net = match net.into_edited(alloc, *edit) {
+                Ok(edited) => edited,
+                Err(fault) => return Err(EditFault { at, fault }),
+            };
+        }
+        Ok(net)
+    }
+
+    /// The network after an edit, made in the place of this one.
+    fn into_edited(self, alloc: Global, edit: Edit) -> Result<Net, NetFault>
+        ensures ok { IfOk result (IsMade self edit) }
+        ensures refused { IfErr result (λ fault. fault ≢ Memory → IsEditFault self edit fault) }
+    {
+        match edit {
+            Edit::Cut { u, v } => self.into_cut(u, v),
+            Edit::Add { u, v } => self.into_linked(alloc, u, v),
+        }
+    }
+
+    /// The network without the link between `u` and `v`, made in the place of this one: it takes no memory.
+    fn into_cut(self, u: u32, v: u32) -> Result<Net, NetFault>
+        ensures joined { OnOk result (Joins self.links u v) }
+        ensures ok { IfOk result (IsNetworkOf self.nodes (without u v self.links)) }
+        ensures refused { IfErr result (IsCutFault self.links u v) }
+    {
+        let Some((tail, head)) = self.link_between(u, v) else {
+            return Err(NetFault::NoLink);
+        };
+        let Net {
+            nodes,
+            mut links,
+            mut starts,
+            mut entries,
+        } = self;
+        cut_link(&mut links, tail, head);
+        cut_from_rows(&mut starts, &mut entries, tail, head);
+        Ok(Net {
+            nodes,
+            links,
+            starts,
+            entries,
+        })
+    }
+
+    /// The network with the link from `u` to `v` as well, made in the place of this one.
+    fn into_linked(self, alloc: Global, u: u32, v: u32) -> Result<Net, NetFault>
+        ensures ok { IfOk result (IsNetworkOf self.nodes (self.links ++ (u, v) ∷ [])) }
+        ensures refused { IfErr result (λ fault. fault ≢ Memory
+            → IsFirstFault self.nodes (self.links ++ (u, v) ∷ []) fault) }
     {
         if self.links.len() >= MAX_LINKS {
             return Err(NetFault::TooMany);
@@ -199,21 +270,19 @@ impl Net {
         if self.link_between(u, v).is_some() {
             return Err(NetFault::Twice(u, v));
         }
-        let links = added_links(alloc, &self.links, u, v)?;
-        if let Some(walk) = find_cycle_from(alloc, self.nodes, &links, v)? {
+        let Net {
+            nodes,
+            mut links,
+            mut starts,
+            mut entries,
+        } = self;
+        add_link(&mut links, u, v)?;
+        if let Some(walk) = find_cycle_from(alloc, nodes, &links, v)? {
             return Err(NetFault::Cycle(walk));
         }
-        let low = u.min(v);
-        let high = u.max(v);
-        let first = self.starts[low as usize] + place_in_row(self.row(low), high);
-        let second = self.starts[high as usize] + place_in_row(self.row(high), low);
-        let (at_low, at_high) = ((high, seen_from(low, u)), (low, seen_from(high, u)));
-        let entries = added_entries(alloc, &self.entries, first, at_low, second, at_high)?;
-        let mut starts = self.starts.to_vec(alloc)?;
-        move_up(&mut starts[high as usize + 1..]);
-        move_up(&mut starts[low as usize + 1..]);
+        add_to_rows(&mut starts, &mut entries, u, v)?;
         Ok(Net {
-            nodes: self.nodes,
+            nodes,
             links,
             starts,
             entries,
@@ -229,13 +298,7 @@ impl Net {
         ensures ok { IfOk result (IsNetworkOf self.now.nodes (links_at self.now.links counts.now)) }
         ensures memory { IfErr result (λ fault. fault ≡ Memory) }
     {
-        let copy = Net {
-            nodes: self.nodes,
-            links: self.links.to_vec(alloc)?,
-            starts: self.starts.to_vec(alloc)?,
-            entries: self.entries.to_vec(alloc)?,
-        };
-        Ok(copy.into_turned(counts))
+        Ok(self.copied(alloc, 0)?.into_turned(counts))
     }
 
     /// The network of the links that the counts give, as by `turned_by`, made in the place of this one: it takes no memory

@@ -3,9 +3,9 @@
 ghost use Rattle.std.specs.Prelude.{◌≡◌, ◌≢◌, Ok, Err, Some, IfOk, IfErr, map, ok_or};
 ghost use Rattle.serde_json.specs.View.{view};
 ghost use Rattle.fr_net.specs.declared.requests.LineFault.TheVariants.{NotRequest, Memory};
-ghost use Rattle.fr_net.specs.Requests.{plain, reading, request_of, request_of_word, cut_link, add_link, network_request, pair_request, walk_request, ask_request, links_in, link_in, number_pair, single_number, number_in};
+ghost use Rattle.fr_net.specs.Requests.{plain, reading, request_of, request_of_word, cut_link, add_link, move_dest, walk_from, network_request, pair_request, batch_request, node_request, ask_request, links_in, link_in, edits_in, edit_in, edit_of_word, number_pair, single_number, number_in};
 
-use crate::requests::{LineFault, Question, Request};
+use crate::requests::{Edit, LineFault, Question, Request};
 use serde_json::Value;
 use std::alloc::Global;
 
@@ -51,6 +51,8 @@ fn request_by_word(alloc: Global, word: &str, rest: &[Value]) -> Result<Request,
         "net" => network(alloc, rest),
         "cut" => cut(rest),
         "add" => add(rest),
+        "batch" => batch(alloc, rest),
+        "dest" => destination(rest),
         "walk" => walk(rest),
         "links" => ask(Question::Links, rest),
         "counts" => ask(Question::Counts, rest),
@@ -79,11 +81,33 @@ fn add(rest: &[Value]) -> Result<Request, LineFault>
 
 /// A walk, where just its first node stands after the word.
 fn walk(rest: &[Value]) -> Result<Request, LineFault>
-    ensures ok { IfOk result (λ request. walk_request (map view rest.now) ≡ Some (plain request)) }
-    ensures refused { IfErr result (λ fault. ok_or (walk_request (map view rest.now)) NotRequest ≡ Err fault) }
+    ensures ok { IfOk result (λ request. node_request walk_from (map view rest.now) ≡ Some (plain request)) }
+    ensures refused { IfErr result (λ fault. ok_or (node_request walk_from (map view rest.now)) NotRequest ≡ Err fault) }
 {
     let x = one_number(rest).ok_or(LineFault::NotRequest)?;
     Ok(Request::Walk { x })
+}
+
+/// A batch, where just an array of its edits stands after the word.
+fn batch(alloc: Global, rest: &[Value]) -> Result<Request, LineFault>
+    ensures ok { IfOk result (λ request. batch_request (map view rest.now) ≡ Some (plain request)) }
+    ensures refused { IfErr result (λ fault. fault ≢ Memory
+        → ok_or (batch_request (map view rest.now)) NotRequest ≡ Err fault) }
+{
+    let [edits] = rest else {
+        return Err(LineFault::NotRequest);
+    };
+    let edits = edit_list(alloc, edits)?;
+    Ok(Request::Batch { edits })
+}
+
+/// Another destination, where just its number stands after the word.
+fn destination(rest: &[Value]) -> Result<Request, LineFault>
+    ensures ok { IfOk result (λ request. node_request move_dest (map view rest.now) ≡ Some (plain request)) }
+    ensures refused { IfErr result (λ fault. ok_or (node_request move_dest (map view rest.now)) NotRequest ≡ Err fault) }
+{
+    let dest = one_number(rest).ok_or(LineFault::NotRequest)?;
+    Ok(Request::Destination { dest })
 }
 
 /// A question, where no item stands after its word.
@@ -136,6 +160,53 @@ fn link(value: &Value) -> Option<(u32, u32)>
     ensures { result ≡ link_in (view value.now) }
 {
     two_numbers(value.as_array()?)
+}
+
+/// The edits that an array lists.
+fn edit_list(alloc: Global, value: &Value) -> Result<Vec<Edit>, LineFault>
+    ensures ok { IfOk result (λ edits. edits_in (view value.now) ≡ Some edits.items) }
+    ensures refused { IfErr result (λ fault. fault ≢ Memory
+        → ok_or (edits_in (view value.now)) NotRequest ≡ Err fault) }
+{
+    let Some(items) = value.as_array() else {
+        return Err(LineFault::NotRequest);
+    };
+    let mut edits = Vec::new(alloc);
+    for item in items {
+        let Some(edit) = edit(item) else {
+            return Err(LineFault::NotRequest);
+        };
+        edits.push(edit)?;
+    }
+    Ok(edits)
+}
+
+/// An edit: an array of its word and the two ends of its link.
+fn edit(value: &Value) -> Option<Edit>
+    ensures { result ≡ edit_in (view value.now) }
+{
+    let [first, rest @ ..] = value.as_array()?.as_slice() else {
+        return None;
+    };
+    edit_by_word(first.as_str()?, rest)
+}
+
+/// The edit of a word and the items after it: an arm for each word.
+#[tactic(auto, unfolding(crate::specs::Requests::edit_of_word))]
+fn edit_by_word(word: &str, rest: &[Value]) -> Option<Edit>
+    ensures { result ≡ edit_of_word word.now (map view rest.now) }
+{
+    match word {
+        "cut" => {
+            let (u, v) = two_numbers(rest)?;
+            Some(Edit::Cut { u, v })
+        }
+        "add" => {
+            let (u, v) = two_numbers(rest)?;
+            Some(Edit::Add { u, v })
+        }
+        _ => None,
+    }
 }
 
 /// Just one item, a number.

@@ -33,6 +33,16 @@ pub enum Request {
         /// Its head.
         v: u32,
     },
+    /// Make these edits, one after the other: `["batch", [["cut", u, v], ["add", u, v], ..]]`.
+    Batch {
+        /// The edits in the order of the line.
+        edits: Vec<Edit>,
+    },
+    /// Take another destination: `["dest", dest]`.
+    Destination {
+        /// The destination.
+        dest: u32,
+    },
     /// Tell the way from a node to the destination, and change nothing: `["walk", x]`.
     Walk {
         /// Where the way begins.
@@ -40,6 +50,25 @@ pub enum Request {
     },
     /// Answer a question, and change nothing.
     Ask(Question),
+}
+
+/// One change to the links of a network.
+#[derive(Clone, Copy, Debug, PartialEq, Eq)]
+pub enum Edit {
+    /// Take out the link between two nodes, whichever way it points.
+    Cut {
+        /// One end of the link.
+        u: u32,
+        /// The other end.
+        v: u32,
+    },
+    /// Add a link.
+    Add {
+        /// The tail of the link.
+        u: u32,
+        /// Its head.
+        v: u32,
+    },
 }
 
 /// What can be asked of the network in use.

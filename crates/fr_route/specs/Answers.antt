@@ -1,15 +1,17 @@
 -- The answer to each request and to each line, from the state before it.
 use Rattle.std.specs.Prelude.{◌≡◌, ℕ, ◌<◌, ◌≤◌, ◌⊎◌, List, ◌∷◌, Option, Some, None, Result, Ok, Err}
+use Rattle.fr_net.specs.Batches.{IsBatchFault}
 use Rattle.fr_net.specs.Faults.{IsFirstFault, IsFaultless}
-use Rattle.fr_net.specs.Requests.{PlainRequest, new_network, cut_link, add_link, walk_from, ask}
+use Rattle.fr_net.specs.Requests.{PlainRequest, new_network, cut_link, add_link, make_edits, move_dest, walk_from, ask}
 use Rattle.fr_net.specs.declared.requests.Question.TheVariants.{Links, Counts, Hops}
 use Rattle.fr_net.specs.declared.requests.LineFault.{LineFault}
 use Rattle.fr_net.specs.declared.requests.LineFault.TheVariants.{NotJson, NotRequest, Memory as LineMemory}
+use Rattle.fr_net.specs.declared.fault.EditFault.{EditFault}
 use Rattle.fr_net.specs.declared.fault.NetFault.{NetFault}
 use Rattle.fr_net.specs.declared.fault.NetFault.TheVariants.{TooMany, Range, SelfLink, Twice, Cycle, NoLink, Memory}
-use Rattle.fr_route.specs.States.{State, IsRound, IsReport, IsCutOff}
+use Rattle.fr_route.specs.States.{State, IsRound, IsReport, IsCutOff, net_at}
 use Rattle.fr_route.specs.Routes.{IsRoute, AreHops}
-use Rattle.fr_route.specs.Changes.{IsChanged, IsChangeFault}
+use Rattle.fr_route.specs.Changes.{IsBatch, IsChanged, IsChangeFault, IsMoved}
 use Rattle.fr_route.specs.Texts.{counts_text, links_text, hops_text, walk_text, no_walk_text, report_text, refusal_text}
 use Rattle.fr_route.specs.declared.change.Change.TheVariants.{Cut, Add}
 use Rattle.fr_route.specs.declared.hops.Hop.{Hop}
@@ -25,8 +27,8 @@ fault_number NoLink = 8
 fault_number Memory = 0
 
 -- the request is refused in this state, by this number: a network for the first fault of its links, or else for a
--- destination that is no node; every other request where there is no network yet; a change for its fault; and a walk from
--- what is no node
+-- destination that is no node; every other request where there is no network yet; a change for its fault; and a destination
+-- or the start of a walk that is no node
 abbrev pub IsRefused : Option State → PlainRequest → ℕ → Type 0
 IsRefused s (new_network n d links) number =
     ((fault : NetFault) × IsFirstFault n links fault × (number ≡ fault_number fault))
@@ -34,6 +36,8 @@ IsRefused s (new_network n d links) number =
 IsRefused None request number = number ≡ 3
 IsRefused (Some s) (cut_link u v) number = (fault : NetFault) × IsChangeFault s (Cut u v) fault × (number ≡ fault_number fault)
 IsRefused (Some s) (add_link u v) number = (fault : NetFault) × IsChangeFault s (Add u v) fault × (number ≡ fault_number fault)
+IsRefused (Some s) (make_edits edits) number = (refused : EditFault) × IsBatchFault (net_at s) edits refused × (number ≡ fault_number refused.fault)
+IsRefused (Some s) (move_dest d) number = (s.nodes ≤ d) × (number ≡ 4)
 IsRefused (Some s) (walk_from x) number = (s.nodes ≤ x) × (number ≡ 4)
 IsRefused (Some s) (ask question) number = ⊥
 
@@ -43,6 +47,8 @@ IsAccepted s (new_network n d links) new = IsFaultless n links × (d < n) × IsR
 IsAccepted None request new = ⊥
 IsAccepted (Some s) (cut_link u v) new = IsChanged s (Cut u v) new
 IsAccepted (Some s) (add_link u v) new = IsChanged s (Add u v) new
+IsAccepted (Some s) (make_edits edits) new = IsBatch s edits new
+IsAccepted (Some s) (move_dest d) new = IsMoved s d new
 IsAccepted (Some s) (walk_from x) new = (x < s.nodes) × (new ≡ s)
 IsAccepted (Some s) (ask question) new = new ≡ s
 
@@ -65,6 +71,8 @@ abbrev pub IsText : State → PlainRequest → List ℕ → Type 0
 IsText s (new_network n d links) text = IsReportLine s text
 IsText s (cut_link u v) text = IsReportLine s text
 IsText s (add_link u v) text = IsReportLine s text
+IsText s (make_edits edits) text = IsReportLine s text
+IsText s (move_dest d) text = IsReportLine s text
 IsText s (walk_from x) text = IsWalkLine s x text
 IsText s (ask Links) text = text ≡ links_text s.links
 IsText s (ask Counts) text = text ≡ counts_text s.counts

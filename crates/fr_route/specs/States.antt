@@ -19,6 +19,10 @@ pub record State : Type 0 where
 abbrev pub state_with : Network → ℕ → List ℕ → State
 state_with net d counts = record { nodes = net.nodes; dest = d; links = net.links; counts = counts }
 
+-- the network of a state
+abbrev pub net_at : State → Network
+net_at s = record { nodes = s.nodes; links = s.links }
+
 -- the state after a round on these first links: their settled counts, and the links that those give
 pub record IsRound (n d : ℕ) (first : List (ℕ × ℕ)) (s : State) : Type 0 where
   pub nodes : s.nodes ≡ n

@@ -1,7 +1,9 @@
 //! Changes of a network, and what the round after one reports.
 
+use fr_net::Edit;
+
 /// A change of the network, made between two rounds.
-#[derive(Clone, Copy, Debug, PartialEq, Eq)]
+#[derive(Debug, Drop, PartialEq, Eq)]
 pub enum Change {
     /// The link between two nodes is taken out, whichever way it points.
     Cut {
@@ -16,6 +18,13 @@ pub enum Change {
         u: u32,
         /// Its head.
         v: u32,
+    },
+    /// These edits are made one after the other, and one round follows the last of them. Where one is refused none is made.
+    Batch(Vec<Edit>),
+    /// The destination moves to another node.
+    Destination {
+        /// The destination from now on.
+        dest: u32,
     },
 }
 

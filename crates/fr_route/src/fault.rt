@@ -6,14 +6,14 @@ ghost use Rattle.fr_route.specs.declared.fault.AnswerFault.TheVariants.{Memory a
 ghost use Rattle.fr_route.specs.Faults.{of_net_fault, of_crew_fault};
 
 use fr_crew::CrewFault;
-use fr_net::NetFault;
+use fr_net::{EditFault, NetFault};
 use std::alloc::{AllocError, AllocFailed};
 use thiserror::Error;
 
 /// Why a router could not be opened or changed, or could not answer.
 #[derive(Debug, Drop, Error, PartialEq, Eq)]
 pub enum RouteFault {
-    /// The changed links make no network. The fault is never `Memory`.
+    /// The changed links make no network, or one edit of a batch is refused for this. The fault is never `Memory`.
     #[error("{0}")]
     Net(NetFault),
     /// The destination is no node of the network.
@@ -52,6 +52,14 @@ impl From<NetFault> for RouteFault {
             NetFault::Memory => RouteFault::Memory,
             fault => RouteFault::Net(fault),
         }
+    }
+}
+
+impl From<EditFault> for RouteFault {
+    ghost from_gives = { λ refused fault. fault ≡ of_net_fault refused.fault };
+
+    fn from(refused: EditFault) -> RouteFault {
+        RouteFault::from(refused.fault)
     }
 }
 

@@ -80,23 +80,27 @@ impl Router {
         &self,
         rt: &R,
         alloc: Global,
-        change: Change,
+        change: &Change,
         plan: &Plan,
         gate: &G,
     ) -> Result<Router, RouteFault>
-        ensures changed { IfOk result (IsChanged self.now change) }
-        ensures fault { IfErr result (IsRouteFault self.now change) }
+        ensures changed { IfOk result (IsChanged self.now change.now) }
+        ensures fault { IfErr result (IsRouteFault self.now change.now) }
     {
-        let net = match change {
-            Change::Cut { u, v } => self.net.with_cut(alloc, u, v)?,
-            Change::Add { u, v } => self.net.with_link(alloc, u, v)?,
+        let (net, dest) = match change {
+            Change::Cut { u, v } => (self.net.with_cut(alloc, *u, *v)?, self.dest),
+            Change::Add { u, v } => (self.net.with_link(alloc, *u, *v)?, self.dest),
+            Change::Batch(edits) => (self.net.with_edits(alloc, edits)?, self.dest),
+            Change::Destination { dest } => (self.net.with_edits(alloc, &[])?, *dest),
         };
-        Router::open(rt, alloc, net, self.dest, plan, gate)
+        Router::open(rt, alloc, net, dest, plan, gate)
     }
 
-    /// Changes the network and settles it anew by a crew, by the plan and under the gate, and answers what the round
-    /// reports. `Net` with the fault for which the change is refused: a cut for `NoLink` alone, an added link for what
-    /// `Net::with_link` names; `Start` and `Memory` as in `open`; never `Range`. Any fault leaves the router as it was.
+    /// Changes the network or its destination and settles it anew by a crew, by the plan and under the gate, and answers what
+    /// the round reports. A batch is one round, after its last edit. `Net` with the fault for which the change is refused: a cut
+    /// for `NoLink` alone, an added link for what `Net::with_link` names, and a batch for the first edit that `Net::with_edits`
+    /// refuses, or its length; `Range` for a destination that is no node, and only there; `Start` and `Memory` as in `open`. Any
+    /// fault leaves the router as it was.
     pub fn change<R: Threads + Wait + Sync, G: Gate + Sync>(
         &mut self,
         rt: &R,
@@ -110,7 +114,7 @@ impl Router {
         ensures fault { IfErr result (IsRouteFault self.old change) }
         ensures unchanged { OnErr result (self.new ≡ self.old) }
     {
-        let router = self.changed(rt, alloc, change, plan, gate)?;
+        let router = self.changed(rt, alloc, &change, plan, gate)?;
         let report = router.report();
         *self = router;
         Ok(report)

@@ -95,6 +95,13 @@ impl Session {
             Request::Add { u, v } => {
                 self.change(rt, alloc, Change::Add { u: *u, v: *v }, plan, gate)
             }
+            Request::Batch { edits } => {
+                let edits = edits.to_vec(alloc)?;
+                self.change(rt, alloc, Change::Batch(edits), plan, gate)
+            }
+            Request::Destination { dest } => {
+                self.change(rt, alloc, Change::Destination { dest: *dest }, plan, gate)
+            }
             Request::Walk { x } => self.walk(alloc, *x),
             Request::Ask(question) => self.tell(alloc, *question),
         }
@@ -139,7 +146,7 @@ impl Session {
         let Some(router) = &self.router else {
             return Ok(refusal_line(alloc, 3)?);
         };
-        match router.changed(rt, alloc, change, plan, gate) {
+        match router.changed(rt, alloc, &change, plan, gate) {
             Ok(router) => self.put(alloc, router),
             Err(fault) => refusal(alloc, &fault),
         }

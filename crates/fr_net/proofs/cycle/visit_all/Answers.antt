@@ -1,8 +1,7 @@
-use Rattle.std.proofs.Common.{◌≡◌, ◌≢◌, ℕ, ◌+◌, ◌<◌, [], length, arith, subst, rules}
+use Rattle.std.proofs.Common.{◌≡◌, ◌≢◌, ℕ, ◌<◌, [], length, arith, subst, rules}
 use Rattle.std.proofs.lemmas.List.{with_items_is}
 use Rattle.std.specs.Vec.{with_items}
 use Rattle.fr_net.specs.CycleSearch.{IsCycleSearch, KeepsSeen, mark_of}
-use Rattle.fr_net.specs.declared.cycle.Mark.{Mark}
 use Rattle.fr_net.specs.declared.cycle.Mark.TheVariants.{Fresh}
 use borrow.Author.Count.{below_more}
 use Rattle.fr_net.proofs.cycle.visit_all.Goals as goal
