@@ -6,6 +6,8 @@
 #[cfg(test)]
 mod crews;
 #[cfg(test)]
+mod failing;
+#[cfg(test)]
 mod finishing;
 #[cfg(test)]
 mod histories;

@@ -7,8 +7,6 @@ use rand_core::utils::NextWord;
 use rand_pcg::Lcg64Xsh32;
 use std::alloc::{AllocError, Global};
 use std::fmt::Write as FmtWrite;
-use std::io;
-use std::io::{Read, Write};
 use std::test::Fail;
 
 /// What a play prints for an input, and how many entries it has.
@@ -138,95 +136,6 @@ fn plays_the_schedule_that_is_drawn(rt: HostRuntime) -> Result<(), Fail> {
         let (out, count) = printed(alloc, DIAMOND, draw)?;
         assert!(rt; out.as_slice() == text.as_bytes(), "{seed}");
         assert_eq!(rt; count, entries.len() as u64);
-    }
-    Ok(())
-}
-
-const SMALL: &[u8] = b"[\"net\",2,0,[[0,1]]]";
-
-const SMALL_TEXT: &[u8] = b"0 1 turned 1\n0 1 held 0\nlinks 1>0\ncounts 0 1\n";
-
-/// Gives what it has in one read, and fails at the next.
-#[derive(Drop)]
-struct BrokenReader<'a> {
-    rest: Option<&'a [u8]>,
-}
-
-impl Read for BrokenReader<'_> {
-    fn read(&mut self, buf: &mut [u8]) -> io::Result<usize> {
-        match self.rest.take() {
-            Some(bytes) => {
-                let count = bytes.len().min(buf.len());
-                buf[..count].copy_from_slice(&bytes[..count]);
-                Ok(count)
-            }
-            None => Err(io::Error::from(io::ErrorKind::Other)),
-        }
-    }
-}
-
-#[test]
-fn stops_where_a_read_fails(rt: HostRuntime) -> Result<(), Fail> {
-    let mut reader = BrokenReader { rest: Some(SMALL) };
-    let mut out = Vec::new(rt.alloc());
-    let Some(draw) = Draw::new(1, 7, 6) else {
-        return Err(Fail::from("no draw"));
-    };
-    let end = play_drawn(rt.alloc(), &mut reader, &mut out, draw);
-    assert!(rt; end == Err(RunFault::Read) && out.is_empty());
-    Ok(())
-}
-
-/// Takes three bytes at most, and fails once so many calls went well.
-#[derive(Drop)]
-struct BrokenWriter {
-    out: Vec<u8>,
-    good: u32,
-    flushed: bool,
-}
-
-impl Write for BrokenWriter {
-    fn write(&mut self, buf: &[u8]) -> io::Result<usize> {
-        if self.good == 0 {
-            return Err(io::Error::from(io::ErrorKind::Other));
-        }
-        self.good -= 1;
-        let count = buf.len().min(3);
-        self.out.extend_from_slice(&buf[..count])?;
-        Ok(count)
-    }
-
-    fn flush(&mut self) -> io::Result<()> {
-        if self.good == 0 {
-            return Err(io::Error::from(io::ErrorKind::Other));
-        }
-        self.flushed = true;
-        Ok(())
-    }
-}
-
-#[test]
-fn stops_where_a_write_or_the_flush_fails(rt: HostRuntime) -> Result<(), Fail> {
-    let Some(draw) = Draw::new(1, 7, 6) else {
-        return Err(Fail::from("no draw"));
-    };
-    for good in 0..20 {
-        let mut reader = SMALL;
-        let mut writer = BrokenWriter {
-            out: Vec::new(rt.alloc()),
-            good,
-            flushed: false,
-        };
-        match play_drawn(rt.alloc(), &mut reader, &mut writer, draw) {
-            Ok(count) => assert!(rt;
-                good > 15 && count == 2 && writer.flushed && writer.out.as_slice() == SMALL_TEXT
-            ),
-            Err(fault) => assert!(rt;
-                good <= 15
-                    && fault == RunFault::Write
-                    && SMALL_TEXT.starts_with(writer.out.as_slice())
-            ),
-        }
     }
     Ok(())
 }

@@ -1,11 +1,8 @@
-//! What a run writes for worked examples, that its networks are settled by threads under the gate, and what no clause says:
-//! readers and writers that fail.
+//! What a run writes for worked examples, that its networks are settled by threads under the gate, and how it ends.
 
 use fr_crew::{Gate, OpenGate, Plan};
 use fr_run::{RunFault, run, run_end};
 use std::alloc::{AllocError, Global};
-use std::io;
-use std::io::{Read, Write};
 use std::sync::Wait;
 use std::sync::atomic::{AtomicBool, AtomicU64, Ordering};
 use std::test::Fail;
@@ -378,122 +375,6 @@ fn bounds_the_input(rt: HostRuntime) -> Result<(), Fail> {
     let end = run(&rt, rt.alloc(), &mut reader, &mut out, &plan, &OpenGate);
     assert!(rt; end == Err(RunFault::TooLong));
     assert!(rt; out.is_empty());
-    Ok(())
-}
-
-/// Gives one byte at a time, and fails once so many reads went well.
-#[derive(Drop)]
-struct SlowReader<'a> {
-    rest: &'a [u8],
-    good: u32,
-}
-
-impl Read for SlowReader<'_> {
-    fn read(&mut self, buf: &mut [u8]) -> io::Result<usize> {
-        if self.good == 0 {
-            return Err(io::Error::from(io::ErrorKind::Other));
-        }
-        self.good -= 1;
-        match (self.rest.split_first(), buf.first_mut()) {
-            (Some((byte, after)), Some(place)) => {
-                *place = *byte;
-                self.rest = after;
-                Ok(1)
-            }
-            _ => Ok(0),
-        }
-    }
-}
-
-#[test]
-fn stops_where_a_read_fails(rt: HostRuntime) -> Result<(), Fail> {
-    let reads = SESSION.len() as u32 + 1;
-    for good in 0..=reads {
-        let mut reader = SlowReader {
-            rest: SESSION,
-            good,
-        };
-        let mut out = Vec::new(rt.alloc());
-        match run(
-            &rt,
-            rt.alloc(),
-            &mut reader,
-            &mut out,
-            &plan(1, 0)?,
-            &OpenGate,
-        ) {
-            Ok(count) => assert!(rt; good == reads && count == 7 && out.as_slice() == ANSWERS),
-            Err(fault) => assert!(rt; good < reads && fault == RunFault::Read && out.is_empty()),
-        }
-    }
-    Ok(())
-}
-
-/// Takes three bytes at most. Once so many calls went well it fails, or takes none.
-#[derive(Drop)]
-struct NarrowWriter {
-    out: Vec<u8>,
-    good: u32,
-    fails: bool,
-    flushed: bool,
-}
-
-impl Write for NarrowWriter {
-    fn write(&mut self, buf: &[u8]) -> io::Result<usize> {
-        if self.good == 0 {
-            return if self.fails {
-                Err(io::Error::from(io::ErrorKind::Other))
-            } else {
-                Ok(0)
-            };
-        }
-        self.good -= 1;
-        let count = buf.len().min(3);
-        self.out.extend_from_slice(&buf[..count])?;
-        Ok(count)
-    }
-
-    fn flush(&mut self) -> io::Result<()> {
-        if self.good == 0 && self.fails {
-            return Err(io::Error::from(io::ErrorKind::Other));
-        }
-        self.flushed = true;
-        Ok(())
-    }
-}
-
-#[test]
-fn stops_where_a_write_fails(rt: HostRuntime) -> Result<(), Fail> {
-    for fails in [false, true] {
-        for good in 0..40 {
-            let mut reader = SESSION;
-            let mut writer = NarrowWriter {
-                out: Vec::new(rt.alloc()),
-                good,
-                fails,
-                flushed: false,
-            };
-            match run(
-                &rt,
-                rt.alloc(),
-                &mut reader,
-                &mut writer,
-                &plan(1, 0)?,
-                &OpenGate,
-            ) {
-                Ok(count) => assert!(rt;
-                    count == 7 && writer.flushed && writer.out.as_slice() == ANSWERS
-                ),
-                Err(fault) => assert!(rt;
-                    !writer.flushed
-                        && fault == RunFault::Write
-                        && ANSWERS.starts_with(writer.out.as_slice())
-                ),
-            }
-            let done = writer.out.as_slice() == ANSWERS;
-            assert!(rt; done || good < 30, "after {good} calls");
-        }
-    }
     Ok(())
 }
 
