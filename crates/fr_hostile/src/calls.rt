@@ -13,6 +13,26 @@ use std::thread::Threads;
 /// A chain that points away from the destination, node 0.
 const CHAIN: [(u32, u32); 3] = [(0, 1), (1, 2), (2, 3)];
 
+/// A link from each of the nodes 0 to 3 to each of the nodes 4 to 7.
+const LEFT_TO_RIGHT: [(u32, u32); 16] = [
+    (0, 4),
+    (0, 5),
+    (0, 6),
+    (0, 7),
+    (1, 4),
+    (1, 5),
+    (1, 6),
+    (1, 7),
+    (2, 4),
+    (2, 5),
+    (2, 6),
+    (2, 7),
+    (3, 4),
+    (3, 5),
+    (3, 6),
+    (3, 7),
+];
+
 /// The answer of a call, or `None` where memory or a thread was missing, which is told.
 pub fn answer_of<R: Threads + Wait + Sync + Alloc<A = Global> + Print + Eprint>(
     rt: &R,
@@ -29,6 +49,7 @@ pub fn answer_of<R: Threads + Wait + Sync + Alloc<A = Global> + Print + Eprint>(
         7 => machine(rt),
         8 => opened(rt),
         9 => settled(rt),
+        10 => settled_with_growth(rt),
         _ => routed(rt),
     }
 }
@@ -137,6 +158,21 @@ fn settled<R: Threads + Wait + Sync + Alloc<A = Global> + Eprint>(rt: &R) -> Opt
     let net = chain(rt)?;
     let settled = told(rt, settle(rt, rt.alloc(), net, 0, &plan, &OpenGate))?;
     told(rt, counts_line(rt.alloc(), &settled.counts))
+}
+
+/// A worker that turns a node on the right makes all on the left candidates, so its deque has to grow. A candidate that finds no
+/// memory is left to the finisher.
+fn settled_with_growth<R: Threads + Wait + Sync + Alloc<A = Global> + Eprint>(
+    rt: &R,
+) -> Option<String> {
+    let alloc = rt.alloc();
+    let plan = Plan::new(1, 0, 1000)?;
+    let net = told(rt, Net::new(alloc, 8, &LEFT_TO_RIGHT))?;
+    let settled = told(rt, settle(rt, alloc, net, 0, &plan, &OpenGate))?;
+    let turned = settled.by_workers.saturating_add(settled.by_finisher);
+    let counts = told(rt, counts_line(alloc, &settled.counts))?;
+    let links = told(rt, links_line(alloc, settled.net.links()))?;
+    told(rt, format!(in alloc; "turned {turned} {counts} {links}"))
 }
 
 /// A router that changes and walks. Where a change finds no memory or no thread, the router has to be as it was.
