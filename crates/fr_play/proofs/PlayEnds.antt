@@ -24,6 +24,7 @@ module _ (draw : Draw) (bytes out : List ℕ) (count : ℕ) (output : IsPlayOutp
     count = count;
     out = out;
     output = output;
+    only = λ other number is. play_output_unique draw bytes other out number count is output;
     begins = ([], sym (append-nil out));
     writes = Appends-kept old mid new out whole kept;
   }
@@ -35,6 +36,7 @@ module _ (draw : Draw) (bytes out : List ℕ) (count : ℕ) (output : IsPlayOutp
     count = count;
     out = take n out;
     output = output;
+    only = λ other number is. play_output_unique draw bytes other out number count is output;
     begins = (drop n out, sym (take-append-drop n out));
     writes = part;
   }

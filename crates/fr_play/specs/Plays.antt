@@ -116,11 +116,12 @@ pub record WritesPlay (draw : Draw) (bytes : List ℕ) (old new : Option (List �
   pub only : (other : List ℕ) (number : ℕ) → IsPlayOutput draw bytes other number → (other ≡ out) × (number ≡ count)
   pub writes : Appends old new out
 
--- what was written is a beginning of it
+-- what was written is a beginning of the one output text of the play of these bytes
 pub record WritesPlayBeginning (draw : Draw) (bytes : List ℕ) (old new : Option (List ℕ)) : Type 0 where
   pub whole : List ℕ
   pub count : ℕ
   pub out : List ℕ
   pub output : IsPlayOutput draw bytes whole count
+  pub only : (other : List ℕ) (number : ℕ) → IsPlayOutput draw bytes other number → (other ≡ whole) × (number ≡ count)
   pub begins : IsBeginning out whole
   pub writes : Appends old new out

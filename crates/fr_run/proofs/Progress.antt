@@ -8,13 +8,11 @@ use Rattle.std.proofs.Math.Seq.{take-append_seam}
 use Rattle.std.proofs.lemmas.List.{take_all}
 use Rattle.std.proofs.KnownBytes.{Appends-nil, Appends-trans, Appends-kept}
 use Rattle.std.specs.Io.KnownBytes.{Appends, Keeps}
-use Rattle.fr_net.specs.Requests.{reading}
-use Rattle.fr_route.specs.Answers.{IsLineAnswer}
 use Rattle.fr_route.specs.Blank.{is_blank}
 use Rattle.fr_route.specs.States.{State}
 use Rattle.fr_run.specs.Lines.{lines_of, asking_count}
 use Rattle.fr_run.specs.Answers.{AreAnswers, IsOutput}
-use Rattle.fr_run.proofs.Determined.{output_unique}
+use Rattle.fr_run.proofs.Determined.{Answered, output_unique, output_begins_with, begins-trans}
 use Rattle.fr_run.specs.Outputs.{IsBeginning, WritesOutput, WritesBeginning, StopsAtLine}
 
 -- the lines of what is left
@@ -37,10 +35,6 @@ pub record HasAnswered (whole : List ℕ) (rest : Option (List ℕ)) (now : Opti
   pub within : count + left rest ≤ length whole + 1
 
 -- a line that is not blank, and those after it
-abbrev Answered : Option State → List ℕ → List (List ℕ) → List ℕ → Option State → Type 0
-Answered s line rest out last =
-    (text : List ℕ) × (between : Option State) × (more : List ℕ) × IsLineAnswer s (reading line) text between × AreAnswers between rest more last × (out ≡ (text ++ 10 ∷ []) ++ more)
-
 either_way : (b : Bool) (P Q R S : Type 0) → (P → R) → (Q → S) → MatchBool b P Q → MatchBool b R S
 either_way true P Q R S f g h = f h
 either_way false P Q R S f g h = g h
@@ -104,22 +98,28 @@ module _ (whole text line : List ℕ) (rest : Option (Bor (List ℕ))) (now : Op
 
   -- a write failed within the line's answer
   pub stops_writing : (last : Option State) (new : Option (List ℕ)) (answer out : List ℕ) → AreAnswers now (line ∷ []) answer last → IsBeginning out answer → Appends mid new out → WritesBeginning whole old new
-  stops_writing last new answer out are begins more = record {
-    lines = length (h.done ++ line ∷ []);
-    answers = h.out ++ answer;
-    last = last;
-    out = h.out ++ out;
-    are_answers =
-        let front : take (length (h.done ++ line ∷ [])) (lines_of whole) ≡ h.done ++ line ∷ [] = rw whole_is (take-append_seam (h.done ++ line ∷ []) (lines_left (option_copied rest))) in
-        subst (λ (ls : List (List ℕ)). AreAnswers None ls (h.out ++ answer) last) (sym front) (answers_append None now last h.done (line ∷ []) h.out answer h.are_answers are);
-    begins = (begins.0, ap (λ (o : List ℕ). h.out ++ o) begins.1 ∙ sym (append_assoc h.out out begins.0));
-    writes = Appends-trans old mid new h.out out h.writes more;
-  }
+  stops_writing last new answer out are begins more =
+      let front : take (length (h.done ++ line ∷ [])) (lines_of whole) ≡ h.done ++ line ∷ [] = rw whole_is (take-append_seam (h.done ++ line ∷ []) (lines_left (option_copied rest))) in
+      let answers : AreAnswers None (take (length (h.done ++ line ∷ [])) (lines_of whole)) (h.out ++ answer) last =
+      subst (λ (ls : List (List ℕ)). AreAnswers None ls (h.out ++ answer) last) (sym front) (answers_append None now last h.done (line ∷ []) h.out answer h.are_answers are) in
+      let part : IsBeginning (h.out ++ out) (h.out ++ answer) = (begins.0, ap (λ (o : List ℕ). h.out ++ o) begins.1 ∙ sym (append_assoc h.out out begins.0)) in
+      record {
+        lines = length (h.done ++ line ∷ []);
+        answers = h.out ++ answer;
+        last = last;
+        out = h.out ++ out;
+        are_answers = answers;
+        begins = part;
+        begins_output = λ all is. begins-trans (h.out ++ out) (h.out ++ answer) all part (output_begins_with whole (h.out ++ answer) all (length (h.done ++ line ∷ [])) last answers is);
+        writes = Appends-trans old mid new h.out out h.writes more;
+      }
 
   -- the line failed
   pub stops_at_line : (new : Option (List ℕ)) → is_blank line ≡ false → Keeps mid new → StopsAtLine whole old new
   stops_at_line new asks kept =
       let cut : lines_of whole ≡ h.done ++ line ∷ lines_left (option_copied rest) = h.cut ∙ ap (λ (ls : List (List ℕ)). h.done ++ ls) first in
+      let front : take (length h.done) (lines_of whole) ≡ h.done = rw cut (take-append_seam h.done (line ∷ lines_left (option_copied rest))) in
+      let answers : AreAnswers None (take (length h.done) (lines_of whole)) h.out now = subst (λ (ls : List (List ℕ)). AreAnswers None ls h.out now) (sym front) h.are_answers in
       record {
         place = length h.done;
         line = line;
@@ -127,9 +127,8 @@ module _ (whole text line : List ℕ) (rest : Option (Bor (List ℕ))) (now : Op
         last = now;
         is_line = ap (λ (ls : List (List ℕ)). slice_get ls (length h.done)) cut ∙ slice_get-at h.done line (lines_left (option_copied rest));
         asks = asks;
-        are_answers =
-            let front : take (length h.done) (lines_of whole) ≡ h.done = rw cut (take-append_seam h.done (line ∷ lines_left (option_copied rest))) in
-            subst (λ (ls : List (List ℕ)). AreAnswers None ls h.out now) (sym front) h.are_answers;
+        are_answers = answers;
+        begins_output = λ all is. output_begins_with whole h.out all (length h.done) now answers is;
         writes = Appends-kept old mid new h.out h.writes kept;
       }
 
@@ -155,6 +154,7 @@ output_begins whole old mid new count w kept = record {
   out = w.out;
   are_answers = subst (λ (ls : List (List ℕ)). AreAnswers None ls w.out w.output.0) (sym (take_all (length (lines_of whole)) (lines_of whole) (omega arith))) w.output.1;
   begins = ([], sym (append-nil w.out));
+  begins_output = λ all is. ([], w.only all is ∙ sym (append-nil w.out));
   writes = Appends-kept old mid new w.out w.writes kept;
 }
 

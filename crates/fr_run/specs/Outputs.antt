@@ -35,7 +35,7 @@ pub record WritesOutput (bytes : List ℕ) (old new : Option (List ℕ)) (count 
   pub writes : Appends old new out
   pub counted : count ≡ asking_count (lines_of bytes)
 
--- what was written is a beginning of the answers to the first lines
+-- what was written is a beginning of the answers to the first lines, and so of the output text of these bytes, whatever it is
 pub record WritesBeginning (bytes : List ℕ) (old new : Option (List ℕ)) : Type 0 where
   pub lines : ℕ
   pub answers : List ℕ
@@ -43,9 +43,11 @@ pub record WritesBeginning (bytes : List ℕ) (old new : Option (List ℕ)) : Ty
   pub out : List ℕ
   pub are_answers : AreAnswers None (take lines (lines_of bytes)) answers last
   pub begins : IsBeginning out answers
+  pub begins_output : (whole : List ℕ) → IsOutput bytes whole → IsBeginning out whole
   pub writes : Appends old new out
 
--- what was written is the answers to the lines before the one at this place, which is not blank
+-- what was written is the answers to the lines before the one at this place, which is not blank; it is a beginning of the
+-- output text of these bytes, whatever that is
 pub record StopsAtLine (bytes : List ℕ) (old new : Option (List ℕ)) : Type 0 where
   pub place : ℕ
   pub line : List ℕ
@@ -54,4 +56,5 @@ pub record StopsAtLine (bytes : List ℕ) (old new : Option (List ℕ)) : Type 0
   pub is_line : slice_get (lines_of bytes) place ≡ Some line
   pub asks : is_blank line ≡ false
   pub are_answers : AreAnswers None (take place (lines_of bytes)) out last
+  pub begins_output : (whole : List ℕ) → IsOutput bytes whole → IsBeginning out whole
   pub writes : Appends old new out

@@ -1,7 +1,8 @@
 //! Reading the whole input.
 
 ghost use Rattle.fr_run.specs.declared.input.TheConstants.{MAX_BYTES};
-ghost use Rattle.std.specs.Prelude.{◌≡◌, ◌≢◌, IfOk};
+ghost use Rattle.std.specs.Prelude.{◌≡◌, ◌≢◌, ◌<◌, ◌≤◌, length, take, IfOk, IfErr, OnErr};
+ghost use Rattle.std.specs.Io.KnownBytes.{Consumes, Keeps, IsAtEnd};
 ghost use Rattle.fr_run.specs.Outputs.{ReadsInput, ReadsOneTooMany, ReadsAtMostOneTooMany};
 
 use crate::fault::RunFault;
@@ -27,10 +28,7 @@ pub fn read_input<R: Read>(alloc: Global, reader: &mut R) -> Result<Vec<u8>, Run
     let mut piece = [0u8; PIECE];
     'reads: loop {
         let room = PIECE.min(MAX_BYTES + 1 - input.len());
-        let count = match reader.read(&mut piece[..room]) {
-            Ok(count) => count,
-            Err(_) => return Err(RunFault::Read),
-        };
+        let count = read_piece(reader, &mut piece[..room])?;
         if count == 0 {
             return Ok(input);
         }
@@ -40,5 +38,21 @@ pub fn read_input<R: Read>(alloc: Global, reader: &mut R) -> Result<Vec<u8>, Run
         if input.len() > MAX_BYTES {
             return Err(RunFault::TooLong);
         }
+    }
+}
+
+/// Reads once, into a piece with room, and tells how many bytes came. A read that succeeds brings a byte, or the reader is at its
+/// end; any other is `Read`.
+fn read_piece<R: Read>(reader: &mut R, piece: &mut [u8]) -> Result<usize, RunFault>
+    requires { 0 < length piece.old }
+    ensures brings { IfOk result (λ count. count ≡ 0 → IsAtEnd (R.remaining reader.new)) }
+    ensures bytes { IfOk result (λ count. Consumes (R.remaining reader.old) (R.remaining reader.new) (take count piece.new)) }
+    ensures bound { IfOk result (λ count. count ≤ length piece.old) }
+    ensures fault { IfErr result (λ fault. fault ≡ RunFault.Read) }
+    ensures kept { OnErr result (Keeps (R.remaining reader.old) (R.remaining reader.new)) }
+{
+    match reader.read(piece) {
+        Ok(count) => Ok(count),
+        Err(_) => Err(RunFault::Read),
     }
 }

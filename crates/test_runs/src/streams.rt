@@ -33,7 +33,8 @@ impl Read for MadeReader {
     }
 }
 
-/// Gives one byte at a time, and fails once so many reads went well.
+/// Gives one byte at a time. Once so many reads went well one fails, and later ones go well again, so that a loop shows that
+/// goes on.
 #[derive(Drop)]
 struct SlowReader {
     rest: &'static [u8],
@@ -43,7 +44,8 @@ struct SlowReader {
 impl Read for SlowReader {
     fn read(&mut self, buf: &mut [u8]) -> io::Result<usize> {
         if self.good == 0 {
-            return Err(io::Error::from(io::ErrorKind::Other));
+            self.good = u32::MAX;
+            return Err(io::Error::from(io::ErrorKind::Interrupted));
         }
         self.good -= 1;
         let room = buf.len().min(1);
@@ -51,12 +53,13 @@ impl Read for SlowReader {
     }
 }
 
-/// Takes three bytes at most. Once so many calls went well it fails, or takes none.
+/// Takes three bytes at most. Once so many calls went well one fails or takes none, and later ones go well again.
 #[derive(Drop)]
 struct NarrowWriter {
     out: Vec<u8>,
     good: u32,
     fails: bool,
+    failed: bool,
     flushed: bool,
 }
 
@@ -66,6 +69,7 @@ impl NarrowWriter {
             out: Vec::new(alloc),
             good,
             fails,
+            failed: false,
             flushed: false,
         }
     }
@@ -74,9 +78,14 @@ impl NarrowWriter {
     fn fits(&self, end: &Result<u64, RunFault>, count: u64, whole: &str) -> bool {
         let out = self.out.as_slice();
         match end {
-            Ok(answered) => self.flushed && *answered == count && out == whole.as_bytes(),
+            Ok(answered) => {
+                !self.failed && self.flushed && *answered == count && out == whole.as_bytes()
+            }
             Err(fault) => {
-                !self.flushed && *fault == RunFault::Write && whole.as_bytes().starts_with(out)
+                self.failed
+                    && !self.flushed
+                    && *fault == RunFault::Write
+                    && whole.as_bytes().starts_with(out)
             }
         }
     }
@@ -85,8 +94,10 @@ impl NarrowWriter {
 impl Write for NarrowWriter {
     fn write(&mut self, buf: &[u8]) -> io::Result<usize> {
         if self.good == 0 {
+            self.good = u32::MAX;
+            self.failed = true;
             return if self.fails {
-                Err(io::Error::from(io::ErrorKind::Other))
+                Err(io::Error::from(io::ErrorKind::Interrupted))
             } else {
                 Ok(0)
             };
@@ -98,8 +109,9 @@ impl Write for NarrowWriter {
     }
 
     fn flush(&mut self) -> io::Result<()> {
-        if self.good == 0 && self.fails {
-            return Err(io::Error::from(io::ErrorKind::Other));
+        if self.good == 0 {
+            self.failed = true;
+            return Err(io::Error::from(io::ErrorKind::Interrupted));
         }
         self.flushed = true;
         Ok(())

@@ -7,6 +7,6 @@ use Rattle.fr_run.proofs.input.read_input.Goals as goal
 -- the bytes that came last are not kept, but read
 pub returns-then-is_err-clause-limit : goal.returns-then-is_err-clause-limit
 returns-then-is_err-clause-limit g c =
-    let last : List ℕ = take c.in-Ok.count c.read.new.buf in
-    let few : length (c.reads.input.items ++ last) ≤ most_bytes + 1 = simp (length-append, length-take) (omega (arith, c.in-Ok.ensures.bound, length-take c.min-room.result c.reads.piece)) in
-    (c.reads.input.items ++ last, Consumes-trans _ _ _ _ _ c.reads.invariant.taken c.in-Ok.ensures.bytes.0, few)
+    let last : List ℕ = take c.in_ok-count.count c.read_piece.new.piece in
+    let few : length (c.reads.input.items ++ last) ≤ most_bytes + 1 = simp (length-append, length-take) (omega (arith, c.in_ok-count.ensures.bound, length-take c.min-room.result c.reads.piece)) in
+    (c.reads.input.items ++ last, Consumes-trans _ _ _ _ _ c.reads.invariant.taken c.in_ok-count.ensures.bytes, few)

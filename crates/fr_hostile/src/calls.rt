@@ -1,0 +1,207 @@
+//! The calls of the libraries, each on a small network.
+
+use crate::telling::{number_told, told};
+use fr_core::{Machine, Target, check_run, play};
+use fr_crew::{OpenGate, Plan, settle};
+use fr_net::{LineFault, Net, Request, read_line};
+use fr_round::{OpenWhy, Round};
+use fr_route::{Change, Report, Router, counts_line, links_line};
+use std::alloc::{AllocError, Global};
+use std::sync::Wait;
+use std::thread::Threads;
+
+/// A chain that points away from the destination, node 0.
+const CHAIN: [(u32, u32); 3] = [(0, 1), (1, 2), (2, 3)];
+
+/// A link from each of the nodes 0 to 3 to each of the nodes 4 to 7.
+const LEFT_TO_RIGHT: [(u32, u32); 16] = [
+    (0, 4),
+    (0, 5),
+    (0, 6),
+    (0, 7),
+    (1, 4),
+    (1, 5),
+    (1, 6),
+    (1, 7),
+    (2, 4),
+    (2, 5),
+    (2, 6),
+    (2, 7),
+    (3, 4),
+    (3, 5),
+    (3, 6),
+    (3, 7),
+];
+
+/// The answer of a call, or `None` where memory or a thread was missing, which is told.
+pub fn answer_of<R: Threads + Wait + Sync + Alloc<A = Global> + Print + Eprint>(
+    rt: &R,
+    call: u32,
+) -> Option<String> {
+    match call {
+        0 => network(rt),
+        1 => cut_network(rt),
+        2 => joined_network(rt),
+        3 => refused_networks(rt),
+        4 => request(rt),
+        5 => refused_line(rt),
+        6 => played(rt),
+        7 => machine(rt),
+        8 => opened(rt),
+        9 => settled(rt),
+        10 => settled_with_growth(rt),
+        _ => routed(rt),
+    }
+}
+
+/// The chain as a network.
+fn chain<R: Alloc<A = Global> + Eprint>(rt: &R) -> Option<Net> {
+    told(rt, Net::new(rt.alloc(), 4, &CHAIN))
+}
+
+fn network<R: Alloc<A = Global> + Eprint>(rt: &R) -> Option<String> {
+    let net = chain(rt)?;
+    told(rt, links_line(rt.alloc(), net.links()))
+}
+
+fn cut_network<R: Alloc<A = Global> + Eprint>(rt: &R) -> Option<String> {
+    let net = told(rt, chain(rt)?.with_cut(rt.alloc(), 2, 1))?;
+    told(rt, links_line(rt.alloc(), net.links()))
+}
+
+fn joined_network<R: Alloc<A = Global> + Eprint>(rt: &R) -> Option<String> {
+    let net = told(rt, chain(rt)?.with_link(rt.alloc(), 0, 3))?;
+    told(rt, links_line(rt.alloc(), net.links()))
+}
+
+/// The numbers of faults of links.
+fn refused_networks<R: Alloc<A = Global> + Eprint>(rt: &R) -> Option<String> {
+    let alloc = rt.alloc();
+    let net = chain(rt)?;
+    let walk = number_told(rt, Net::new(alloc, 3, &[(0, 1), (1, 2), (2, 0)]))?;
+    let twice = number_told(rt, Net::new(alloc, 2, &[(0, 1), (1, 0)]))?;
+    let closing = number_told(rt, net.with_link(alloc, 3, 0))?;
+    let no_link = number_told(rt, net.with_cut(alloc, 0, 3))?;
+    told(
+        rt,
+        format!(in alloc; "refused {walk} {twice} {closing} {no_link}"),
+    )
+}
+
+fn request<R: Alloc<A = Global> + Eprint>(rt: &R) -> Option<String> {
+    let line = br#"["net",4,0,[[0,1],[1,2],[2,3]]]"#;
+    match told(rt, read_line(rt.alloc(), line))? {
+        Request::Network { links, .. } => told(rt, links_line(rt.alloc(), &links)),
+        _ => told(rt, String::from_str(rt.alloc(), "another request")),
+    }
+}
+
+fn refused_line<R: Alloc<A = Global> + Eprint>(rt: &R) -> Option<String> {
+    let text = match read_line(rt.alloc(), br#"["net",4,0,[[0,1],[1,2],[2,3]"#) {
+        Ok(_) => "a request",
+        Err(LineFault::NotJson) => "not json",
+        Err(LineFault::NotRequest) => "not request",
+        Err(LineFault::Memory) => return told(rt, Err(LineFault::Memory)),
+    };
+    told(rt, String::from_str(rt.alloc(), text))
+}
+
+/// Two workers turn the ends of the chain, step by step; the entries are checked, and the links that they give made.
+fn played<R: Alloc<A = Global> + Eprint>(rt: &R) -> Option<String> {
+    let alloc = rt.alloc();
+    let net = chain(rt)?;
+    let targets = told(rt, targets(alloc))?;
+    let schedule = [0, 1, 0, 1, 0, 1, 0, 1, 0, 1];
+    let entries = told(rt, play(alloc, &net, 0, targets, &schedule))?;
+    let counts = match check_run(alloc, &net, 0, &entries) {
+        Ok(counts) => counts,
+        Err(fault) => return told(rt, Err(fault)),
+    };
+    let net = told(rt, net.turned_by(alloc, &counts))?;
+    told(rt, links_line(alloc, net.links()))
+}
+
+fn machine<R: Alloc<A = Global> + Eprint>(rt: &R) -> Option<String> {
+    let alloc = rt.alloc();
+    let net = chain(rt)?;
+    let targets = told(rt, targets(alloc))?;
+    let machine = told(rt, Machine::new(alloc, &net, 0, targets))?;
+    told(rt, counts_line(alloc, machine.counts()))
+}
+
+fn targets(alloc: Global) -> Result<Vec<Vec<Target>>, AllocError> {
+    Ok(vec![in alloc;
+        vec![in alloc; Target::Turn(3)]?,
+        vec![in alloc; Target::Turn(2)]?,
+    ]?)
+}
+
+/// A round that is opened and closed; where it is not opened, the network has to come back.
+fn opened<R: Alloc<A = Global> + Print + Eprint>(rt: &R) -> Option<String> {
+    let net = chain(rt)?;
+    match Round::open(rt.alloc(), net, 0, 3) {
+        Ok((round, workers)) => {
+            let closed = round.close(workers);
+            told(rt, links_line(rt.alloc(), closed.net.links()))
+        }
+        Err(fault) => {
+            if fault.net.nodes() != 4 || fault.net.links() != CHAIN.as_slice() {
+                let _ = rt.println("another network was handed back");
+            }
+            told(rt, Err(fault.why))
+        }
+    }
+}
+
+fn settled<R: Threads + Wait + Sync + Alloc<A = Global> + Eprint>(rt: &R) -> Option<String> {
+    let plan = Plan::new(3, 0, 1000)?;
+    let net = chain(rt)?;
+    let settled = told(rt, settle(rt, rt.alloc(), net, 0, &plan, &OpenGate))?;
+    told(rt, counts_line(rt.alloc(), &settled.counts))
+}
+
+/// A worker that turns a node on the right makes all on the left candidates, so its deque has to grow. A candidate that finds no
+/// memory is left to the finisher.
+fn settled_with_growth<R: Threads + Wait + Sync + Alloc<A = Global> + Eprint>(
+    rt: &R,
+) -> Option<String> {
+    let alloc = rt.alloc();
+    let plan = Plan::new(1, 0, 1000)?;
+    let net = told(rt, Net::new(alloc, 8, &LEFT_TO_RIGHT))?;
+    let settled = told(rt, settle(rt, alloc, net, 0, &plan, &OpenGate))?;
+    let turned = settled.by_workers.saturating_add(settled.by_finisher);
+    let counts = told(rt, counts_line(alloc, &settled.counts))?;
+    let links = told(rt, links_line(alloc, settled.net.links()))?;
+    told(rt, format!(in alloc; "turned {turned} {counts} {links}"))
+}
+
+/// A router that changes and walks. Where a change finds no memory or no thread, the router has to be as it was.
+fn routed<R: Threads + Wait + Sync + Alloc<A = Global> + Print + Eprint>(rt: &R) -> Option<String> {
+    let alloc = rt.alloc();
+    let plan = Plan::new(3, 0, 1000)?;
+    let net = chain(rt)?;
+    let mut router = told(rt, Router::open(rt, alloc, net, 0, &plan, &OpenGate))?;
+    let cut = Change::Cut { u: 2, v: 1 };
+    if told(rt, router.change(rt, alloc, cut, &plan, &OpenGate)).is_none() {
+        if !is_chain_home(&router) {
+            let _ = rt.println("the router has changed");
+        }
+        return None;
+    }
+    let add = Change::Add { u: 0, v: 3 };
+    told(rt, router.change(rt, alloc, add, &plan, &OpenGate))?;
+    if router.net().nodes() < 4 {
+        return None;
+    }
+    let walked = told(rt, router.walk(alloc, 2))?;
+    let links = told(rt, links_line(alloc, router.net().links()))?;
+    told(rt, format!(in alloc; "{links} {walked:?}"))
+}
+
+/// Whether the router is that of the chain once it leads home.
+fn is_chain_home(router: &Router) -> bool {
+    router.report() == Report { turned: 6, cut: 0 }
+        && router.dest() == 0
+        && router.counts() == [0, 1, 2, 3].as_slice()
+        && router.net().links() == [(1, 0), (2, 1), (3, 2)].as_slice()
+}

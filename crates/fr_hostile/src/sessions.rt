@@ -1,0 +1,89 @@
+//! The lines of one session. Where one finds no memory or no thread, the session has to answer as before, and the line, asked
+//! again, has its answer.
+
+use crate::telling::told;
+use fr_crew::{OpenGate, Plan};
+use fr_net::{Question, Request};
+use fr_route::Session;
+use std::alloc::Global;
+use std::sync::Wait;
+use std::thread::Threads;
+
+/// A chain that leads home is parted, and closed again from its other end.
+const LINES: [&str; 11] = [
+    r#"["net",4,0,[[1,0],[2,1],[3,2]]]"#,
+    r#"["links"]"#,
+    r#"["cut",1,0]"#,
+    r#"["links"]"#,
+    r#"["walk",3]"#,
+    r#"["add",3,0]"#,
+    r#"["counts"]"#,
+    r#"["links"]"#,
+    r#"["walk",1]"#,
+    r#"["add",0,1]"#,
+    r#"["hops"]"#,
+];
+
+/// Writes the answers to the lines.
+pub fn tell_session<R: Threads + Wait + Sync + Alloc<A = Global> + Print + Eprint>(rt: &R) {
+    let Some(plan) = Plan::new(3, 0, 1000) else {
+        return;
+    };
+    let mut session = Session::new();
+    for line in LINES {
+        tell_line(rt, &mut session, line, &plan);
+    }
+}
+
+/// Writes the answer to a line. Where memory or a thread was missing, the links have to be those from before.
+fn tell_line<R: Threads + Wait + Sync + Alloc<A = Global> + Print + Eprint>(
+    rt: &R,
+    session: &mut Session,
+    line: &str,
+    plan: &Plan,
+) {
+    let before = links(rt, session, plan);
+    let mut answer = answered(rt, session, line, plan);
+    if answer.is_none() {
+        if links(rt, session, plan) != before {
+            let _ = rt.println("the session has changed");
+        }
+        answer = answered(rt, session, line, plan);
+    }
+    let _ = match answer {
+        Some(text) => rt.println(text),
+        None => rt.println("no answer"),
+    };
+}
+
+/// The answer to a line that is not blank, or `None` where memory or a thread was missing, which is told.
+fn answered<R: Threads + Wait + Sync + Alloc<A = Global> + Eprint>(
+    rt: &R,
+    session: &mut Session,
+    line: &str,
+    plan: &Plan,
+) -> Option<String> {
+    told(
+        rt,
+        session.answer_line(rt, rt.alloc(), line.as_bytes(), plan, &OpenGate),
+    )?
+}
+
+/// What the session answers when it is asked for its links, once more if need be.
+fn links<R: Threads + Wait + Sync + Alloc<A = Global> + Eprint>(
+    rt: &R,
+    session: &mut Session,
+    plan: &Plan,
+) -> Option<String> {
+    let request = Request::Ask(Question::Links);
+    match told(
+        rt,
+        session.answer(rt, rt.alloc(), &request, plan, &OpenGate),
+    ) {
+        Some(text) => Some(text),
+        None => told(
+            rt,
+            session.answer(rt, rt.alloc(), &request, plan, &OpenGate),
+        ),
+    }
+}
