@@ -1,4 +1,4 @@
-//! A session that answers lines and one that answers requests, and a router that opens, changes and is asked.
+//! A session that answers lines and one that answers requests, a router that opens, changes and is asked, and what faults are told as.
 
 use crate::texts::check_text;
 use fr_crew::{OpenGate, Plan};
@@ -6,153 +6,150 @@ use fr_net::{Net, read_line};
 use fr_route::{AnswerFault, Change, RouteFault, Router, Session};
 use fr_run::{RunFault, run_end};
 use std::alloc::{AllocError, Global};
-use std::fmt::Write;
+use std::io::Write;
 use std::sync::Wait;
 use std::test::Fail;
 use std::thread::Threads;
 
-/// The lines of a session, two of them blank.
-const LINES: &[&str] = &[
-    r#"["net",4,0,[[0,1],[1,2],[2,3]]]"#,
-    r#"["links"]"#,
-    r#"["counts"]"#,
-    r#"["hops"]"#,
-    "",
-    r#"["walk",3]"#,
-    r#"["cut",1,2]"#,
-    " \t\r",
-    r#"["add",2,0]"#,
+/// The lines of one session, each with its answer. A blank line has none.
+const LINES: &[(&str, &str)] = &[
+    (
+        r#"["net",4,0,[[0,1],[1,2],[2,3]]]"#,
+        r#"Ok(Some("turned 6 cut 0"))"#,
+    ),
+    (r#"["links"]"#, r#"Ok(Some("links 1>0 2>1 3>2"))"#),
+    (r#"["counts"]"#, r#"Ok(Some("counts 0 1 2 3"))"#),
+    (r#"["hops"]"#, r#"Ok(Some("hops here 0 1 2"))"#),
+    ("", "Ok(None)"),
+    (r#"["walk",3]"#, r#"Ok(Some("walk 3 2 1 0"))"#),
+    (r#"["cut",1,2]"#, r#"Ok(Some("turned 8 cut 2"))"#),
+    (" \t\r", "Ok(None)"),
+    (r#"["add",2,0]"#, r#"Ok(Some("turned 0 cut 0"))"#),
 ];
 
-/// The answers to the lines, and to the requests that are read from them. A blank line has none, and is no request.
-const ANSWERS: &str = r#"Some("turned 6 cut 0") turned 6 cut 0
-Some("links 1>0 2>1 3>2") links 1>0 2>1 3>2
-Some("counts 0 1 2 3") counts 0 1 2 3
-Some("hops here 0 1 2") hops here 0 1 2
-None
-Some("walk 3 2 1 0") walk 3 2 1 0
-Some("turned 8 cut 2") turned 8 cut 2
-None
-Some("turned 0 cut 0") turned 0 cut 0
-"#;
-
-/// Writes the answer that a session gives to a line.
-fn write_answer<T: Threads + Wait + Sync>(
+/// The answer to a line, or to the request that is read from it before.
+fn answer<T: Threads + Wait + Sync>(
     rt: &T,
     alloc: Global,
-    text: &mut String,
     session: &mut Session,
     line: &str,
-    plan: &Plan,
-) -> Result<(), Fail> {
-    let answer = session.answer_line(rt, alloc, line.as_bytes(), plan, &OpenGate)?;
-    write!(text, "{answer:?}")?;
-    Ok(())
+    read: bool,
+) -> Result<Option<String>, AnswerFault> {
+    let Some(plan) = Plan::new(2, 0, 1_000) else {
+        return Ok(None);
+    };
+    if !read {
+        return session.answer_line(rt, alloc, line.as_bytes(), &plan, &OpenGate);
+    }
+    match read_line(alloc, line.as_bytes()) {
+        Ok(request) => Ok(Some(session.answer(rt, alloc, &request, &plan, &OpenGate)?)),
+        Err(_) => Ok(None),
+    }
 }
 
-/// Writes the answer that a session gives to the request that a line is, if it is one.
-fn write_request_answer<T: Threads + Wait + Sync>(
+/// The same as a text.
+fn answer_text<T: Threads + Wait + Sync>(
     rt: &T,
     alloc: Global,
-    text: &mut String,
     session: &mut Session,
     line: &str,
-    plan: &Plan,
-) -> Result<(), Fail> {
-    if let Ok(request) = read_line(alloc, line.as_bytes()) {
-        let answer = session.answer(rt, alloc, &request, plan, &OpenGate)?;
-        write!(text, " {answer}")?;
-    }
-    text.push('\n')?;
-    Ok(())
+    read: bool,
+) -> Vec<u8> {
+    let answer = answer(rt, alloc, session, line, read);
+    let mut text = Vec::new(alloc);
+    let _ = write!(text, "{answer:?}");
+    text
 }
 
-/// The answers of two sessions, of which one takes lines and the other requests.
-fn session_text<T: Threads + Wait + Sync>(
-    rt: &T,
-    alloc: Global,
-    plan: &Plan,
-) -> Result<String, Fail> {
-    let mut text = String::new(alloc);
-    let mut first = Session::new();
-    let mut second = Session::new();
-    for line in LINES {
-        write_answer(rt, alloc, &mut text, &mut first, line, plan)?;
-        write_request_answer(rt, alloc, &mut text, &mut second, line, plan)?;
+#[test]
+fn sessions_answer(rt: HostRuntime) {
+    for read in [false, true] {
+        let mut session = Session::new();
+        for (line, wanted) in LINES {
+            let text = answer_text(&rt, rt.alloc(), &mut session, line, read);
+            check_text(&rt, line, &text, wanted);
+        }
     }
-    Ok(text)
 }
 
-/// How a router is changed. Two of the changes are refused.
-const CHANGES: &[Change] = &[
-    Change::Cut { u: 1, v: 2 },
-    Change::Cut { u: 0, v: 2 },
-    Change::Add { u: 3, v: 0 },
-    Change::Add { u: 2, v: 2 },
+/// The state of a router on a chain that points away from the destination: the report, the destination, the links, the counts,
+/// and the next hop and the route of the last node.
+const OPENED: &str =
+    "Report { turned: 6, cut: 0 } 0 [(1, 0), (2, 1), (3, 2)] [0, 1, 2, 3] To(2) Ok(Route([3, 2, 1, 0]))";
+
+/// How it is changed, what each change comes to, and the state behind it. Two changes are refused.
+const CHANGES: &[(Change, &str, &str)] = &[
+    (
+        Change::Cut { u: 1, v: 2 },
+        "Ok(Report { turned: 8, cut: 2 })",
+        "Report { turned: 8, cut: 2 } 0 [(1, 0), (3, 2)] [0, 0, 4, 4] CutOff Ok(CutOff)",
+    ),
+    (
+        Change::Cut { u: 0, v: 2 },
+        "Err(Net(NoLink))",
+        "Report { turned: 8, cut: 2 } 0 [(1, 0), (3, 2)] [0, 0, 4, 4] CutOff Ok(CutOff)",
+    ),
+    (
+        Change::Add { u: 3, v: 0 },
+        "Ok(Report { turned: 1, cut: 0 })",
+        "Report { turned: 1, cut: 0 } 0 [(1, 0), (2, 3), (3, 0)] [0, 0, 1, 0] To(0) Ok(Route([3, 0]))",
+    ),
+    (
+        Change::Add { u: 2, v: 2 },
+        "Err(Net(SelfLink(2)))",
+        "Report { turned: 1, cut: 0 } 0 [(1, 0), (2, 3), (3, 0)] [0, 0, 1, 0] To(0) Ok(Route([3, 0]))",
+    ),
 ];
 
-/// What each change came to, and the state before the first and behind each: the report, the destination, the links, the
-/// counts, and the next hop and the route of node 3.
-const STATES: &str = "\
-Report { turned: 6, cut: 0 } 0 [(1, 0), (2, 1), (3, 2)] [0, 1, 2, 3] To(2) Route([3, 2, 1, 0])
-Ok(Report { turned: 8, cut: 2 })
-Report { turned: 8, cut: 2 } 0 [(1, 0), (3, 2)] [0, 0, 4, 4] CutOff CutOff
-Err(Net(NoLink))
-Report { turned: 8, cut: 2 } 0 [(1, 0), (3, 2)] [0, 0, 4, 4] CutOff CutOff
-Ok(Report { turned: 1, cut: 0 })
-Report { turned: 1, cut: 0 } 0 [(1, 0), (2, 3), (3, 0)] [0, 0, 1, 0] To(0) Route([3, 0])
-Err(Net(SelfLink(2)))
-Report { turned: 1, cut: 0 } 0 [(1, 0), (2, 3), (3, 0)] [0, 0, 1, 0] To(0) Route([3, 0])
-";
+/// A router on the chain.
+fn open<T: Threads + Wait + Sync>(rt: &T, alloc: Global, plan: &Plan) -> Result<Router, Fail> {
+    let net = Net::new(alloc, 4, &[(0, 1), (1, 2), (2, 3)])?;
+    Ok(Router::open(rt, alloc, net, 0, plan, &OpenGate)?)
+}
 
-/// Writes the state of a router in a line, with the next hop and the route of its last node.
-fn write_state(text: &mut String, alloc: Global, router: &Router) -> Result<(), Fail> {
+/// The state of a router.
+fn state_text(alloc: Global, router: &Router) -> Vec<u8> {
     let (net, dest) = (router.net(), router.dest());
-    write!(
-        text,
-        "{:?} {dest} {:?} {:?}",
-        router.report(),
-        net.links(),
-        router.counts()
-    )?;
     let last = net.nodes() - 1;
-    writeln!(
+    let (hop, walk) = (router.next_hop(last), router.walk(alloc, last));
+    let (report, links, counts) = (router.report(), net.links(), router.counts());
+    let mut text = Vec::new(alloc);
+    let _ = write!(
         text,
-        " {:?} {:?}",
-        router.next_hop(last),
-        router.walk(alloc, last)?
-    )?;
-    Ok(())
+        "{report:?} {dest} {links:?} {counts:?} {hop:?} {walk:?}"
+    );
+    text
 }
 
-/// Writes what a change came to.
-fn write_change<T: Threads + Wait + Sync>(
+/// What a change of a router comes to.
+fn change_text<T: Threads + Wait + Sync>(
     rt: &T,
     alloc: Global,
-    text: &mut String,
     router: &mut Router,
     change: Change,
     plan: &Plan,
-) -> Result<(), AllocError> {
+) -> Vec<u8> {
     let end = router.change(rt, alloc, change, plan, &OpenGate);
-    writeln!(text, "{end:?}")
+    let mut text = Vec::new(alloc);
+    let _ = write!(text, "{end:?}");
+    text
 }
 
-/// What comes of a router that is opened on a chain, and of its changes.
-fn router_text<T: Threads + Wait + Sync>(
-    rt: &T,
-    alloc: Global,
-    plan: &Plan,
-) -> Result<String, Fail> {
-    let net = Net::new(alloc, 4, &[(0, 1), (1, 2), (2, 3)])?;
-    let mut router = Router::open(rt, alloc, net, 0, plan, &OpenGate)?;
-    let mut text = String::new(alloc);
-    write_state(&mut text, alloc, &router)?;
-    for change in CHANGES {
-        write_change(rt, alloc, &mut text, &mut router, *change, plan)?;
-        write_state(&mut text, alloc, &router)?;
+#[test]
+fn routers_open_and_change(rt: HostRuntime) -> Result<(), Fail> {
+    let plan = Plan::new(2, 0, 1_000).ok_or("no plan")?;
+    let mut router = open(&rt, rt.alloc(), &plan)?;
+    check_text(&rt, "opened", &state_text(rt.alloc(), &router), OPENED);
+    for (change, end, state) in CHANGES {
+        check_text(
+            &rt,
+            end,
+            &change_text(&rt, rt.alloc(), &mut router, *change, &plan),
+            end,
+        );
+        check_text(&rt, end, &state_text(rt.alloc(), &router), state);
     }
-    Ok(text)
+    Ok(())
 }
 
 /// How runs end, and faults of routers and sessions.
@@ -185,20 +182,7 @@ no memory
 "#;
 
 #[test]
-fn sessions_and_routers_answer(rt: HostRuntime) -> Result<(), Fail> {
-    let plan = Plan::new(2, 0, 1_000).ok_or("no plan")?;
-    check_text(
-        &rt,
-        "session",
-        session_text(&rt, rt.alloc(), &plan)?.as_bytes(),
-        ANSWERS,
-    );
-    check_text(
-        &rt,
-        "router",
-        router_text(&rt, rt.alloc(), &plan)?.as_bytes(),
-        STATES,
-    );
+fn says_what_the_fault_is(rt: HostRuntime) -> Result<(), Fail> {
     check_text(&rt, "faults", fault_text(rt.alloc())?.as_bytes(), FAULTS);
     Ok(())
 }

@@ -57,10 +57,30 @@ const ROWS: &[(&[&str], &str, &str, &str)] = &[
     ),
     // Wrong words.
     (&["revroute"], "2 ", "try '--help'", ""),
-    (&["revroute", "run", "--workers", "0"], "2 ", "try '--help'", ""),
-    (&["revroute", "run", "--workers", "17"], "2 ", "try '--help'", ""),
-    (&["revroute", "play", "--steps", "10001"], "2 ", "try '--help'", ""),
-    (&["revroute", "run", "--budget", "1000000001"], "2 ", "try '--help'", ""),
+    (
+        &["revroute", "run", "--workers", "0"],
+        "2 ",
+        "try '--help'",
+        "",
+    ),
+    (
+        &["revroute", "run", "--workers", "17"],
+        "2 ",
+        "try '--help'",
+        "",
+    ),
+    (
+        &["revroute", "play", "--steps", "10001"],
+        "2 ",
+        "try '--help'",
+        "",
+    ),
+    (
+        &["revroute", "run", "--budget", "1000000001"],
+        "2 ",
+        "try '--help'",
+        "",
+    ),
     (&["revroute", "fly"], "2 ", "try '--help'", ""),
     // Help.
     (
