@@ -4,7 +4,8 @@ ghost use Rattle.std.specs.Prelude.{◌≡◌, All, IsTrue};
 ghost use Rattle.fr_net.specs.Counts.{IsKept};
 
 use fr_net::laws::rows_law;
-use fr_net::{LineFault, MAX_NODES, Net, NetFault};
+use fr_net::Edit::{Add, Cut};
+use fr_net::{Edit, EditFault, LineFault, MAX_EDITS, MAX_NODES, Net, NetFault};
 use std::alloc::{AllocError, Global};
 use std::fmt::Write;
 use std::test::Fail;
@@ -102,6 +103,54 @@ fn adds_links(rt: HostRuntime) -> Result<(), Fail> {
         let text = told(rt.alloc(), net.with_link(rt.alloc(), *u, *v))?;
         assert!(rt; text.as_str() == *wanted, "{links:?} {u} {v}: {text}");
     }
+    Ok(())
+}
+
+/// Edits of the links 0>3, 1>0 and 2>3 of four nodes, and what is made of them, or the place of the first that is refused and why.
+const EDITED: &[(&[Edit], &str)] = &[
+    (&[], "[(0, 3), (1, 0), (2, 3)]"),
+    (
+        &[Cut { u: 3, v: 0 }, Add { u: 1, v: 3 }, Cut { u: 1, v: 0 }, Add { u: 3, v: 0 }, Add { u: 1, v: 0 }],
+        "[(1, 0), (1, 3), (2, 3), (3, 0)]",
+    ),
+    (&[Cut { u: 0, v: 2 }, Add { u: 4, v: 0 }], "0 NoLink"),
+    (&[Cut { u: 0, v: 3 }, Cut { u: 0, v: 3 }], "1 NoLink"),
+    (&[Cut { u: 0, v: 3 }, Add { u: 4, v: 0 }, Add { u: 2, v: 2 }], "1 Range(4)"),
+    (
+        &[Cut { u: 0, v: 3 }, Add { u: 3, v: 0 }, Add { u: 2, v: 2 }, Cut { u: 0, v: 2 }],
+        "2 SelfLink(2)",
+    ),
+    (&[Cut { u: 0, v: 3 }, Add { u: 3, v: 0 }, Add { u: 0, v: 1 }], "2 Twice(0, 1)"),
+    (&[Add { u: 2, v: 0 }, Add { u: 3, v: 1 }], "1 Cycle of 4"),
+];
+
+/// What is made of edits, or the place of the first that is refused and why.
+fn edited(alloc: Global, net: &Net, edits: &[Edit]) -> Result<String, AllocError> {
+    match net.with_edits(alloc, edits) {
+        Ok(made) => told(alloc, Ok(made)),
+        Err(refused) => {
+            let why = told(alloc, Err(refused.fault))?;
+            format!(in alloc; "{} {why}", refused.at)
+        }
+    }
+}
+
+#[test]
+fn makes_edits_one_after_the_other(rt: HostRuntime) -> Result<(), Fail> {
+    let net = Net::new(rt.alloc(), 4, &[(0, 3), (1, 0), (2, 3)])?;
+    for (edits, wanted) in EDITED {
+        let text = edited(rt.alloc(), &net, edits)?;
+        assert!(rt; text.as_str() == *wanted, "{edits:?}: {text}");
+    }
+    Ok(())
+}
+
+#[test]
+fn tries_no_edit_of_too_many(rt: HostRuntime) -> Result<(), Fail> {
+    let net = Net::new(rt.alloc(), 2, &[(1, 0)])?;
+    let edits = vec![in rt.alloc(); Cut { u: 1, v: 1 }; MAX_EDITS + 1]?;
+    let text = edited(rt.alloc(), &net, &edits)?;
+    assert!(rt; text.as_str() == "1024 TooMany", "{text}");
     Ok(())
 }
 
@@ -234,10 +283,12 @@ fn says_what_the_fault_is(rt: HostRuntime) -> Result<(), Fail> {
         writeln!(text, "{fault}")?;
     }
     writeln!(text, "{}, {}", LineFault::NotJson, LineFault::NotRequest)?;
+    let (at, fault) = (2, NetFault::NoLink);
+    writeln!(text, "{}", EditFault { at, fault })?;
     let wanted =
         "too many nodes or links\nnode 7 is out of range\na link joins node 2 with itself\n\
         more than one link joins nodes 0 and 1\nthe links close a walk of 3 steps\nno link joins the two nodes\nno memory\n\
-        the line is no JSON, the line is no request\n";
+        the line is no JSON, the line is no request\nedit 2 is refused: no link joins the two nodes\n";
     assert!(rt; text.as_str() == wanted, "{text}");
     Ok(())
 }

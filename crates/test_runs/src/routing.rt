@@ -2,7 +2,7 @@
 
 use crate::texts::check_text;
 use fr_crew::{OpenGate, Plan};
-use fr_net::{Net, read_line};
+use fr_net::{Net, Request, read_line};
 use fr_route::{AnswerFault, Change, RouteFault, Router, Session};
 use fr_run::{RunFault, run_end};
 use std::alloc::{AllocError, Global};
@@ -77,29 +77,60 @@ fn sessions_answer(rt: HostRuntime) {
 const OPENED: &str =
     "Report { turned: 6, cut: 0 } 0 [(1, 0), (2, 1), (3, 2)] [0, 1, 2, 3] To(2) Ok(Route([3, 2, 1, 0]))";
 
-/// How it is changed, what each change comes to, and the state behind it. Two changes are refused.
-const CHANGES: &[(Change, &str, &str)] = &[
+/// How it is changed, what each change comes to, and the state behind it.
+const CHANGES: &[(&str, &str, &str)] = &[
     (
-        Change::Cut { u: 1, v: 2 },
+        r#"["cut",1,2]"#,
         "Ok(Report { turned: 8, cut: 2 })",
         "Report { turned: 8, cut: 2 } 0 [(1, 0), (3, 2)] [0, 0, 4, 4] CutOff Ok(CutOff)",
     ),
     (
-        Change::Cut { u: 0, v: 2 },
+        r#"["cut",0,2]"#,
         "Err(Net(NoLink))",
         "Report { turned: 8, cut: 2 } 0 [(1, 0), (3, 2)] [0, 0, 4, 4] CutOff Ok(CutOff)",
     ),
     (
-        Change::Add { u: 3, v: 0 },
+        r#"["add",3,0]"#,
         "Ok(Report { turned: 1, cut: 0 })",
         "Report { turned: 1, cut: 0 } 0 [(1, 0), (2, 3), (3, 0)] [0, 0, 1, 0] To(0) Ok(Route([3, 0]))",
     ),
     (
-        Change::Add { u: 2, v: 2 },
+        r#"["add",2,2]"#,
         "Err(Net(SelfLink(2)))",
         "Report { turned: 1, cut: 0 } 0 [(1, 0), (2, 3), (3, 0)] [0, 0, 1, 0] To(0) Ok(Route([3, 0]))",
     ),
+    (
+        r#"["batch",[["cut",3,0],["add",3,1]]]"#,
+        "Ok(Report { turned: 0, cut: 0 })",
+        "Report { turned: 0, cut: 0 } 0 [(1, 0), (2, 3), (3, 1)] [0, 0, 0, 0] To(1) Ok(Route([3, 1, 0]))",
+    ),
+    (
+        r#"["batch",[["cut",3,2],["cut",3,2]]]"#,
+        "Err(Net(NoLink))",
+        "Report { turned: 0, cut: 0 } 0 [(1, 0), (2, 3), (3, 1)] [0, 0, 0, 0] To(1) Ok(Route([3, 1, 0]))",
+    ),
+    (
+        r#"["dest",4]"#,
+        "Err(Range)",
+        "Report { turned: 0, cut: 0 } 0 [(1, 0), (2, 3), (3, 1)] [0, 0, 0, 0] To(1) Ok(Route([3, 1, 0]))",
+    ),
+    (
+        r#"["dest",3]"#,
+        "Ok(Report { turned: 3, cut: 0 })",
+        "Report { turned: 3, cut: 0 } 3 [(0, 1), (1, 3), (2, 3)] [2, 1, 0, 0] Here Ok(Route([3]))",
+    ),
 ];
+
+/// The change that a line asks for.
+fn change_of(alloc: Global, line: &str) -> Option<Change> {
+    match read_line(alloc, line.as_bytes()) {
+        Ok(Request::Cut { u, v }) => Some(Change::Cut { u, v }),
+        Ok(Request::Add { u, v }) => Some(Change::Add { u, v }),
+        Ok(Request::Batch { edits }) => Some(Change::Batch(edits)),
+        Ok(Request::Destination { dest }) => Some(Change::Destination { dest }),
+        _ => None,
+    }
+}
 
 /// A router on the chain.
 fn open<T: Threads + Wait + Sync>(rt: &T, alloc: Global, plan: &Plan) -> Result<Router, Fail> {
@@ -140,14 +171,11 @@ fn routers_open_and_change(rt: HostRuntime) -> Result<(), Fail> {
     let plan = Plan::new(2, 0, 1_000).ok_or("no plan")?;
     let mut router = open(&rt, rt.alloc(), &plan)?;
     check_text(&rt, "opened", &state_text(rt.alloc(), &router), OPENED);
-    for (change, end, state) in CHANGES {
-        check_text(
-            &rt,
-            end,
-            &change_text(&rt, rt.alloc(), &mut router, *change, &plan),
-            end,
-        );
-        check_text(&rt, end, &state_text(rt.alloc(), &router), state);
+    for (line, end, state) in CHANGES {
+        let change = change_of(rt.alloc(), line).ok_or("no change")?;
+        let text = change_text(&rt, rt.alloc(), &mut router, change, &plan);
+        check_text(&rt, line, &text, end);
+        check_text(&rt, line, &state_text(rt.alloc(), &router), state);
     }
     Ok(())
 }

@@ -361,6 +361,81 @@ links 1>0
 Ok(7)
 ",
     ),
+    // The destination moves to the other end of a chain, and batches part the chain and close it again.
+    (
+        r#"["net",4,0,[[1,0],[2,1],[3,2]]]
+["dest",3]
+["links"]
+["hops"]
+["walk",0]
+["batch",[["cut",1,2],["add",0,3]]]
+["counts"]
+["links"]
+["batch",[["cut",0,3],["add",3,0],["add",0,1]]]
+["links"]
+["batch",[["add",3,1]]]
+["batch",[["cut",0,2]]]
+["batch",[["walk",1]]]
+["dest",4]
+["batch",[]]
+"#,
+        "\
+turned 0 cut 0
+turned 6 cut 0
+links 0>1 1>2 2>3
+hops 1 2 3 here
+walk 0 1 2 3
+turned 1 cut 0
+counts 0 1 0 0
+links 0>3 1>0 2>3
+refused 6
+links 0>3 1>0 2>3
+refused 7
+refused 8
+refused 2
+refused 4
+turned 0 cut 0
+Ok(15)
+",
+    ),
+    // A round turns the nodes that are cut off again, whatever the change.
+    (
+        r#"["net",4,0,[[1,0],[2,3]]]
+["batch",[]]
+["dest",3]
+["links"]
+"#,
+        "\
+turned 8 cut 2
+turned 8 cut 2
+turned 8 cut 2
+links 1>0 2>3
+Ok(4)
+",
+    ),
+    // Batches and moves before there is a network, and refused ones.
+    (
+        r#"["batch",[]]
+["batch",[["cut",1,0],["cut",7,7]]]
+["dest",0]
+["net",2,0,[[1,0]]]
+["dest",2]
+["batch",[["add",0,2]]]
+["batch",[["add",1,1]]]
+["links"]
+"#,
+        "\
+refused 3
+refused 3
+refused 3
+turned 0 cut 0
+refused 4
+refused 4
+refused 5
+links 1>0
+Ok(8)
+",
+    ),
     // No input has no output.
     ("", "Ok(0)\n"),
 ];
@@ -465,6 +540,34 @@ fn settles_by_threads_under_the_gate(rt: HostRuntime) {
         check_text(&rt, "under the gate", &text, "turned 4 cut 0\nOk(1)\n");
         assert!(rt; gate.is_passed());
     }
+}
+
+/// A network and a batch of so many edits, which cut the link from 1 to 0 and add it again by turns.
+fn by_turns(alloc: Global, count: u32) -> Result<String, AllocError> {
+    let mut input = String::from_str(alloc, "[\"net\",2,0,[[1,0]]]\n[\"batch\",[")?;
+    for i in 0..count {
+        let word = if i % 2 == 0 { "cut" } else { "add" };
+        let comma = if i > 0 { "," } else { "" };
+        write!(input, "{comma}[\"{word}\",1,0]")?;
+    }
+    input.push_str("]]\n[\"links\"]\n")?;
+    Ok(input)
+}
+
+/// Numbers of edits, and what a run writes for them.
+const BATCHES: &[(u32, &str)] = &[
+    (1024, "turned 0 cut 0\nturned 0 cut 0\nlinks 1>0\nOk(3)\n"),
+    (1025, "turned 0 cut 0\nrefused 9\nlinks 1>0\nOk(3)\n"),
+];
+
+#[test]
+fn bounds_the_batches(rt: HostRuntime) -> Result<(), Fail> {
+    for (count, wanted) in BATCHES {
+        let input = by_turns(rt.alloc(), *count)?;
+        let text = run_text(&rt, rt.alloc(), &mut input.as_bytes(), (1, 0), &OpenGate);
+        check_text(&rt, "a batch", &text, wanted);
+    }
+    Ok(())
 }
 
 /// How net lines begin that have a link from each node to the next, of all 1,024 nodes and of all but the destination, and how
