@@ -10,6 +10,8 @@ mod finishing;
 #[cfg(test)]
 mod histories;
 #[cfg(test)]
+mod live_walks;
+#[cfg(test)]
 mod looks;
 #[cfg(test)]
 mod machine_looks;
