@@ -8,7 +8,7 @@ use Rattle.fr_net.specs.Rows.{row}
 use Rattle.fr_net.specs.declared.rows.First.{First}
 use Rattle.fr_core.proofs.MachineRuns.{machine_runs}
 use Rattle.fr_core.specs.History.{part}
-use Rattle.fr_core.specs.Machine.{Outcome, MachineState, WorkerState, all_but_first, begin_call, bound_of, confirm, decided_by, decides, entries_of, entry_of, exchange, fresh, goes_on, load_neighbour, load_own, load_to_look, neighbour_at, outcome, outcome_of, phase_unheld, start, state_after, step, step_idle, worker_of}
+use Rattle.fr_core.specs.Machine.{Outcome, MachineState, WorkerState, all_but_first, begin_call, bound_of, confirm, decided_by, decides, entries_of, entry_of, exchange, fresh, goes_on, load_neighbour, load_own, neighbour_at, outcome, outcome_of, phase_unheld, start, state_after, step, step_idle, worker_of}
 use Rattle.fr_core.specs.Played.{HasPart, IsPlay, answer_of}
 use Rattle.fr_core.specs.Replies.{AreAnswersTo, IsAnswerTo}
 use Rattle.fr_core.specs.Runs.{IsRunTo}

@@ -2,9 +2,9 @@
 //! finisher that goes there on one thread.
 //!
 //! [`lawful`] tests the counts of a network, [`sense`] and [`is_sink`] say what lawful counts make of its links, and
-//! [`finish`] goes to the counts at which every schedule ends. A [`Machine`] turns nodes by single atomic steps of its
-//! workers, in whatever order these come, [`play`] follows a schedule, and [`check_run`] checks a history, entry by entry.
-//! The laws behind them are in [`laws`].
+//! [`finish`] goes to the counts at which every schedule ends. A [`Machine`] turns nodes and looks at them by single atomic
+//! steps of its workers, in whatever order these come, [`play`] follows a schedule, and [`check_run`] checks a history, entry
+//! by entry. The laws behind them are in [`laws`].
 #![tactic(auto)]
 
 mod check;

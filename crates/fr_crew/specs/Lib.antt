@@ -1,3 +1,4 @@
 pub mod Candidates
 pub mod Crews
 pub mod Settlements
+pub mod LiveWalks

@@ -2,13 +2,14 @@
 //! answer is the same.
 //!
 //! [`settle`] opens a round, runs it by the workers of a [`Plan`], and finishes on one thread what these leave. A
-//! [`Gate`] is called round each call of a worker.
+//! [`Gate`] is called round each call of a worker. [`live_walk`] follows the links of an open round while workers turn.
 #![tactic(auto)]
 
 mod crew;
 mod deques;
 mod fault;
 mod gate;
+mod live_walks;
 mod members;
 mod naming;
 mod plan;
@@ -16,5 +17,6 @@ mod settlement;
 
 pub use fault::CrewFault;
 pub use gate::{Gate, OpenGate};
+pub use live_walks::{LiveEnd, LiveFault, LiveWalk, live_walk};
 pub use plan::Plan;
 pub use settlement::{Settled, settle};

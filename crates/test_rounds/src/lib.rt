@@ -7,4 +7,6 @@ mod crews;
 #[cfg(test)]
 mod gates;
 #[cfg(test)]
+mod live_walks;
+#[cfg(test)]
 mod rounds;

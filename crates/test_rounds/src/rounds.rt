@@ -189,8 +189,8 @@ const CALLS: &[Calls] = &[
     ),
 ];
 
-/// The two workers of a round of two, by number.
-fn opened(alloc: Global, nodes: u32, links: &[(u32, u32)]) -> Result<(Round, Worker, Worker), Fail>
+/// A round of two with destination 0, and its workers by number.
+pub fn opened(alloc: Global, nodes: u32, links: &[(u32, u32)]) -> Result<(Round, Worker, Worker), Fail>
     ensures { IfOk result (λ r. IsOwn r.0 r.1 × IsOwn r.0 r.2) }
 {
     let net = Net::new(alloc, nodes, links)?;

@@ -1,0 +1,75 @@
+-- A walk by looks, hop by hop, while workers turn.
+use Rattle.std.specs.Prelude.{◌≡◌, ◌≢◌, ℕ, ◌<◌, ◌≤◌, List, [], ◌∷◌, ◌++◌, length}
+use Rattle.std.specs.List.{flat_map}
+use Rattle.fr_net.specs.Links.{IsAlone}
+use Rattle.fr_core.specs.History.{part}
+use Rattle.fr_core.specs.Replies.{IsReplyToLook}
+use Rattle.fr_core.specs.Targets.{IsLookable}
+use Rattle.fr_core.specs.declared.entry.Entry.{Entry}
+use Rattle.fr_core.specs.declared.entry.Reply.{Reply}
+use Rattle.fr_core.specs.declared.entry.Reply.TheVariants.{Turned, Held, Moved, Cut, Sink}
+use Rattle.fr_round.specs.declared.view.Setup.{Setup}
+use Rattle.fr_round.specs.Histories.{StartsWith}
+use Rattle.fr_round.specs.Knowledge.{Knowledge}
+use Rattle.fr_crew.specs.declared.live_walks.LiveEnd.{LiveEnd}
+use Rattle.fr_crew.specs.declared.live_walks.LiveEnd.TheVariants.{Here, AtSink, Limit}
+use Rattle.fr_crew.specs.declared.live_walks.LiveFault.{LiveFault}
+use Rattle.fr_crew.specs.declared.live_walks.LiveFault.TheVariants.{NoNode, Alone, Memory}
+use Rattle.fr_crew.specs.declared.live_walks.LiveWalk.{LiveWalk}
+
+-- where a look at x leaves a walk: at the neighbour that holds x, and else at x
+abbrev pub node_after : ℕ → Reply → ℕ
+node_after x (Held w) = w
+node_after x (Turned k) = x
+node_after x (Moved had k) = x
+node_after x Cut = x
+node_after x Sink = x
+
+-- the node to which it hops, if it hops
+abbrev pub hop_of : Reply → List ℕ
+hop_of (Held w) = w ∷ []
+hop_of (Turned k) = []
+hop_of (Moved had k) = []
+hop_of Cut = []
+hop_of Sink = []
+
+-- these are the looks of a walk from x: each is at the node where the walk stands then, which is not the destination, and none
+-- comes after one that finds a sink
+abbrev pub AreLooksFrom : ℕ → ℕ → List Entry → Type 0
+AreLooksFrom d x [] = Unit {0}
+AreLooksFrom d x (e ∷ es) = (e.node ≡ x) × (x ≢ d) × IsReplyToLook e.reply × (e.reply ≡ Sink → es ≡ []) × AreLooksFrom d (node_after x e.reply) es
+
+-- the nodes of such a walk: the first, and each to which it hops
+abbrev pub trail : ℕ → List Entry → List ℕ
+trail x looks = x ∷ flat_map (λ (e : Entry). hop_of e.reply) looks
+
+-- how it ends at this last node
+abbrev pub EndsBy : ℕ → ℕ → ℕ → List Entry → LiveEnd → Type 0
+EndsBy d limit last looks Here = last ≡ d
+EndsBy d limit last looks AtSink = (before : List Entry) × (e : Entry) × (looks ≡ before ++ e ∷ []) × (e.node ≡ last) × (e.reply ≡ Sink)
+EndsBy d limit last looks Limit = (last ≢ d) × (length looks ≡ limit)
+
+-- a worker has walked from x along these nodes:
+pub record HasWalked (old new : Knowledge) (d x limit : ℕ) (nodes : List ℕ) (end : LiveEnd) : Type 0 where
+  -- its history goes on, and its own part of that by these looks alone,
+  pub looks : List Entry
+  pub begins : StartsWith new.known old.known
+  pub own : part old.number new.known ≡ part old.number old.known ++ looks
+  -- which are those of the walk, no more than the limit,
+  pub along : AreLooksFrom d x looks
+  pub few : length looks ≤ limit
+  -- and it ends at the last of its nodes
+  pub nodes_are : nodes ≡ trail x looks
+  pub front : List ℕ
+  pub last : ℕ
+  pub parted : nodes ≡ front ++ last ∷ []
+  pub ends : EndsBy d limit last looks end
+
+abbrev pub IsLiveWalk : Knowledge → Knowledge → ℕ → ℕ → ℕ → LiveWalk → Type 0
+IsLiveWalk old new d x limit walk = HasWalked old new d x limit walk.nodes.items walk.end
+
+-- why no walk from x was begun
+abbrev pub IsLiveFault : Setup → ℕ → LiveFault → Type 0
+IsLiveFault b x NoNode = b.nodes ≤ x
+IsLiveFault b x Alone = (x < b.nodes) × IsAlone b.links x
+IsLiveFault b x Memory = IsLookable b.nodes b.links x

@@ -1,0 +1,134 @@
+//! Walks along the links of an open round, while workers turn its nodes.
+
+ghost use Rattle.std.specs.Prelude.{◌≡◌, ◌≢◌, ◌≤◌, ◌+◌, ℕ, [], ◌∷◌, IfOk, IfErr, slice_index, vec_len, vec_capacity};
+ghost use Rattle.fr_core.specs.Targets.{IsLookable};
+ghost use Rattle.fr_round.specs.Knowledge.{IsOwn, IsKnowledge};
+ghost use Rattle.fr_crew.specs.LiveWalks.{IsLiveWalk, IsLiveFault, HasWalked};
+ghost use Rattle.fr_crew.specs.declared.live_walks.LiveFault.TheVariants.{Memory};
+
+use fr_core::Reply;
+use fr_round::{Round, Worker};
+use std::alloc::{AllocError, Global};
+use thiserror::Error;
+
+/// How a walk ended.
+#[derive(Clone, Copy, Debug, Drop, PartialEq, Eq)]
+pub enum LiveEnd {
+    /// It came to the destination.
+    Here,
+    /// The last node was a sink when it was looked at.
+    AtSink,
+    /// It made as many looks as it might, and had not come to the destination.
+    Limit,
+}
+
+/// A walk: its nodes from the first to the last, and how it ended.
+#[derive(Debug, Drop, PartialEq, Eq)]
+pub struct LiveWalk {
+    pub nodes: Vec<u32>,
+    pub end: LiveEnd,
+}
+
+/// Why a walk was not begun. The variants stand in the order in which they are tested.
+#[derive(Clone, Copy, Debug, Drop, Error, PartialEq, Eq)]
+pub enum LiveFault {
+    /// The network has no such node.
+    #[error("there is no such node")]
+    NoNode,
+    /// The node has no link.
+    #[error("the node has no link")]
+    Alone,
+    /// An allocation was refused.
+    #[error("no memory")]
+    Memory,
+}
+
+// By hand, since a clause says which fault a `?` gives.
+impl From<AllocError> for LiveFault {
+    ghost from_gives = { λ _ fault. fault ≡ Memory };
+
+    fn from(_refused: AllocError) -> LiveFault {
+        LiveFault::Memory
+    }
+}
+
+/// Walks on from node `x`, which is the only one in `nodes`, and pushes each node to which it hops.
+fn walk_on(round: &Round, worker: &mut Worker, nodes: &mut Vec<u32>, x: u32, limit: u32) -> LiveEnd
+    requires own { IsOwn round.now worker.old }
+    requires knows { IsKnowledge worker.old }
+    requires node { IsLookable round.now.setup.nodes round.now.setup.links x }
+    requires nodes { nodes.old.items ≡ x ∷ [] }
+    requires room { (vec_len nodes.old ≡ 1) × (limit + 1 ≤ vec_capacity nodes.old) }
+    ensures own { IsOwn round.now worker.new }
+    ensures number { worker.new.number ≡ worker.old.number }
+    ensures walked { HasWalked worker.old worker.new round.now.setup.dest x limit nodes.new.items result }
+    ensures seen { (z : ℕ) → slice_index worker.old.seen z ≤ slice_index worker.new.seen z }
+    ensures known { IsKnowledge worker.new }
+{
+    // By the law a link joins two nodes of the network.
+    round.net().network_law();
+    let dest = round.dest();
+    let mut here = x;
+    for _made in 0..limit {
+        if here == dest {
+            return LiveEnd::Here;
+        }
+        let Ok(reply) = round.look(worker, here) else {
+            // Each node of a walk has a link.
+            unreachable!()
+        };
+        match reply {
+            Reply::Held { by } => {
+                nodes.push_reserved(by);
+                here = by;
+            }
+            // It turned meanwhile, and is looked at again.
+            Reply::Moved { .. } => {}
+            Reply::Sink => return LiveEnd::AtSink,
+            Reply::Turned { .. } | Reply::Cut => unreachable!(),
+        }
+    }
+    if here == dest {
+        LiveEnd::Here
+    } else {
+        LiveEnd::Limit
+    }
+}
+
+/// Walks from node `x` by looks, while other workers turn: it hops to the neighbour that holds the node where it stands,
+/// looks again where the node moved meanwhile, and ends at the destination, at a sink, or after `limit` looks. Each look is
+/// true at its own moment, and no two need be true at one: the walk may come to a node twice. It waits for nobody.
+///
+/// The worker has to be one of this round. A walk from what is no node or from a node with no link is refused, in this order;
+/// then room for `limit` and one nodes is taken, before the first look, and `Memory` answered where there is none. After a
+/// fault nothing has changed, and the worker knows what it knew.
+pub fn live_walk(
+    alloc: Global,
+    round: &Round,
+    worker: &mut Worker,
+    x: u32,
+    limit: u32,
+) -> Result<LiveWalk, LiveFault>
+    requires { IsOwn round.now worker.old }
+    ensures own { IsOwn round.now worker.new }
+    ensures number { worker.new.number ≡ worker.old.number }
+    ensures begun { IfOk result (λ _. IsLookable round.now.setup.nodes round.now.setup.links x) }
+    ensures refused { IfErr result (λ fault. IsLiveFault round.now.setup x fault × (worker.new ≡ worker.old)) }
+    ensures walked { IfOk result (λ walk. IsLiveWalk worker.old worker.new round.now.setup.dest x limit walk) }
+    ensures seen { (z : ℕ) → slice_index worker.old.seen z ≤ slice_index worker.new.seen z }
+    ensures known { IfOk result (λ _. IsKnowledge worker.new) }
+{
+    let net = round.net();
+    if x >= net.nodes() {
+        return Err(LiveFault::NoNode);
+    }
+    if net.degree(x) == 0 {
+        return Err(LiveFault::Alone);
+    }
+    let mut nodes = Vec::with_capacity(alloc, limit as usize + 1)?;
+    nodes.push_reserved(x);
+    // That what it knows is true is said of a worker by what it has seen, also where the walk makes no look.
+    let _seen = worker.seen(x);
+    let end = walk_on(round, worker, &mut nodes, x, limit);
+    Ok(LiveWalk { nodes, end })
+}
