@@ -167,9 +167,24 @@ const CHECKED: &[(Network, u32, &[Line], &str)] = &[
     // A sink, also where it is the destination; a node that turned, one with no link, and no node.
     (PAIR, 0, &[(0, 1, Sink)], "Ok([0, 0])"),
     (PAIR, 0, &[(0, 1, ONE), (5, 0, Sink)], "Ok([0, 1])"),
-    (PAIR, 0, &[(0, 1, ONE), (0, 1, Sink)], "Err(BadAt { index: 1, why: NotSink })"),
-    (APART, 0, &[(0, 0, Sink)], "Err(BadAt { index: 0, why: NotSink })"),
-    (PAIR, 0, &[(0, 1, Sink), (0, 2, Sink), (0, 1, Cut)], "Err(BadAt { index: 1, why: NoNode })"),
+    (
+        PAIR,
+        0,
+        &[(0, 1, ONE), (0, 1, Sink)],
+        "Err(BadAt { index: 1, why: NotSink })",
+    ),
+    (
+        APART,
+        0,
+        &[(0, 0, Sink)],
+        "Err(BadAt { index: 0, why: NotSink })",
+    ),
+    (
+        PAIR,
+        0,
+        &[(0, 1, Sink), (0, 2, Sink), (0, 1, Cut)],
+        "Err(BadAt { index: 1, why: NoNode })",
+    ),
     // The first of two is named, and the destination is tested before both.
     (
         CHAIN,

@@ -3,8 +3,8 @@
 ghost use Rattle.std.specs.Prelude.{◌≡◌, All, IsTrue};
 ghost use Rattle.fr_net.specs.Counts.{IsKept};
 
-use fr_net::laws::rows_law;
 use fr_net::Edit::{Add, Cut};
+use fr_net::laws::rows_law;
 use fr_net::{Edit, EditFault, LineFault, MAX_EDITS, MAX_NODES, Net, NetFault};
 use std::alloc::{AllocError, Global};
 use std::fmt::Write;
@@ -110,17 +110,34 @@ fn adds_links(rt: HostRuntime) -> Result<(), Fail> {
 const EDITED: &[(&[Edit], &str)] = &[
     (&[], "[(0, 3), (1, 0), (2, 3)]"),
     (
-        &[Cut { u: 3, v: 0 }, Add { u: 1, v: 3 }, Cut { u: 1, v: 0 }, Add { u: 3, v: 0 }, Add { u: 1, v: 0 }],
+        &[
+            Cut { u: 3, v: 0 },
+            Add { u: 1, v: 3 },
+            Cut { u: 1, v: 0 },
+            Add { u: 3, v: 0 },
+            Add { u: 1, v: 0 },
+        ],
         "[(1, 0), (1, 3), (2, 3), (3, 0)]",
     ),
     (&[Cut { u: 0, v: 2 }, Add { u: 4, v: 0 }], "0 NoLink"),
     (&[Cut { u: 0, v: 3 }, Cut { u: 0, v: 3 }], "1 NoLink"),
-    (&[Cut { u: 0, v: 3 }, Add { u: 4, v: 0 }, Add { u: 2, v: 2 }], "1 Range(4)"),
     (
-        &[Cut { u: 0, v: 3 }, Add { u: 3, v: 0 }, Add { u: 2, v: 2 }, Cut { u: 0, v: 2 }],
+        &[Cut { u: 0, v: 3 }, Add { u: 4, v: 0 }, Add { u: 2, v: 2 }],
+        "1 Range(4)",
+    ),
+    (
+        &[
+            Cut { u: 0, v: 3 },
+            Add { u: 3, v: 0 },
+            Add { u: 2, v: 2 },
+            Cut { u: 0, v: 2 },
+        ],
         "2 SelfLink(2)",
     ),
-    (&[Cut { u: 0, v: 3 }, Add { u: 3, v: 0 }, Add { u: 0, v: 1 }], "2 Twice(0, 1)"),
+    (
+        &[Cut { u: 0, v: 3 }, Add { u: 3, v: 0 }, Add { u: 0, v: 1 }],
+        "2 Twice(0, 1)",
+    ),
     (&[Add { u: 2, v: 0 }, Add { u: 3, v: 1 }], "1 Cycle of 4"),
 ];
 

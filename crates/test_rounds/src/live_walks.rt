@@ -14,6 +14,7 @@ use std::thread::{Threads, join};
 type Links = &'static [(u32, u32)];
 
 const HOME: Links = &[(1, 0), (2, 1), (3, 2)];
+
 const AWAY: Links = &[(0, 1), (1, 2), (2, 3)];
 
 /// Nodes and links with destination 0, the first node and the limit of a walk, and what comes of it.
@@ -43,7 +44,10 @@ fn told(alloc: Global, walked: Result<LiveWalk, LiveFault>) -> Result<String, Al
 fn walks_where_nobody_turns(rt: HostRuntime) -> Result<(), Fail> {
     for (nodes, links, x, limit, wanted) in WALKS {
         let (round, mut a, _b) = opened(rt.alloc(), *nodes, links)?;
-        let text = told(rt.alloc(), live_walk(rt.alloc(), &round, &mut a, *x, *limit))?;
+        let text = told(
+            rt.alloc(),
+            live_walk(rt.alloc(), &round, &mut a, *x, *limit),
+        )?;
         assert!(rt; text.as_str() == *wanted, "{links:?} from {x}: {text}");
     }
     Ok(())
@@ -142,7 +146,12 @@ fn walk_beside<R: Threads + Sync>(
 }
 
 /// The turns of all three workers, the last walk of the third, and what the round closes with.
-fn ended(alloc: Global, round: Round, turning: (Worker, Worker), mut walking: Worker) -> Result<String, Fail>
+fn ended(
+    alloc: Global,
+    round: Round,
+    turning: (Worker, Worker),
+    mut walking: Worker,
+) -> Result<String, Fail>
     requires { IsOwn round turning.0 × IsOwn round turning.1 × IsOwn round walking }
 {
     let last = told(alloc, live_walk(alloc, &round, &mut walking, 4, 4))?;
@@ -166,6 +175,9 @@ fn walks_beside_two_threads_that_turn(rt: HostRuntime) -> Result<(), Fail> {
     };
     let (turning, (c, right)) = walk_beside(&rt, rt.alloc(), &round, (a, b), c);
     let text = ended(rt.alloc(), round, turning, c)?;
-    assert!(rt; right && text.as_str() == "10 10 [4, 3, 2, 1, 0] Here [0, 1, 2, 3, 4]", "{text}");
+    assert!(rt;
+        right && text.as_str() == "10 10 [4, 3, 2, 1, 0] Here [0, 1, 2, 3, 4]",
+        "{text}"
+    );
     Ok(())
 }

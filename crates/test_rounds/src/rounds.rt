@@ -40,7 +40,13 @@ const CALLS: &[Calls] = &[
     (
         2,
         &[(0, 1)],
-        &[(0, Turn(1)), (1, Turn(1)), (1, Turn(1)), (1, Turn(0)), (1, Turn(2))],
+        &[
+            (0, Turn(1)),
+            (1, Turn(1)),
+            (1, Turn(1)),
+            (1, Turn(0)),
+            (1, Turn(2)),
+        ],
         Back::Both,
         "Turned { count: 1 }, Moved { had: 0, count: 1 }, Held { by: 0 }, Destination, NoNode, ",
         "[0, 1] [(0, 1), (1, 0)]",
@@ -49,7 +55,14 @@ const CALLS: &[Calls] = &[
     (
         4,
         &[(0, 1), (0, 2), (1, 3), (2, 3)],
-        &[(0, Turn(3)), (1, Turn(3)), (0, Turn(1)), (1, Turn(1)), (1, Turn(2)), (0, Turn(3))],
+        &[
+            (0, Turn(3)),
+            (1, Turn(3)),
+            (0, Turn(1)),
+            (1, Turn(1)),
+            (1, Turn(2)),
+            (0, Turn(3)),
+        ],
         Back::Both,
         "Turned { count: 1 }, Moved { had: 0, count: 1 }, Turned { count: 1 }, Moved { had: 0, count: 1 }, \
             Turned { count: 1 }, Turned { count: 2 }, ",
@@ -68,7 +81,14 @@ const CALLS: &[Calls] = &[
     (
         4,
         &[(0, 1), (1, 2)],
-        &[(0, Turn(1)), (0, Turn(2)), (1, Turn(1)), (0, Turn(4)), (0, Turn(0)), (0, Turn(3))],
+        &[
+            (0, Turn(1)),
+            (0, Turn(2)),
+            (1, Turn(1)),
+            (0, Turn(4)),
+            (0, Turn(0)),
+            (0, Turn(3)),
+        ],
         Back::Both,
         "Held { by: 2 }, Turned { count: 1 }, Turned { count: 1 }, NoNode, Destination, Alone, ",
         "[0, 1, 1, 0] [(0, 1), (1, 1)]",
@@ -141,7 +161,15 @@ const CALLS: &[Calls] = &[
     (
         2,
         &[(0, 1)],
-        &[(0, Look(1)), (0, Look(0)), (1, Turn(1)), (0, Look(1)), (0, Look(0)), (0, Look(2)), (0, Look(u32::MAX))],
+        &[
+            (0, Look(1)),
+            (0, Look(0)),
+            (1, Turn(1)),
+            (0, Look(1)),
+            (0, Look(0)),
+            (0, Look(2)),
+            (0, Look(u32::MAX)),
+        ],
         Back::Both,
         "Sink, Held { by: 1 }, Turned { count: 1 }, Held { by: 0 }, Sink, NoNode, NoNode, ",
         "[0, 1] [(0, 0), (1, 1)]",
@@ -159,7 +187,16 @@ const CALLS: &[Calls] = &[
     (
         3,
         &[(1, 2)],
-        &[(0, Turn(2)), (0, Turn(1)), (0, Turn(2)), (0, Turn(1)), (0, Turn(2)), (0, Turn(1)), (0, Look(2)), (0, Look(1))],
+        &[
+            (0, Turn(2)),
+            (0, Turn(1)),
+            (0, Turn(2)),
+            (0, Turn(1)),
+            (0, Turn(2)),
+            (0, Turn(1)),
+            (0, Look(2)),
+            (0, Look(1)),
+        ],
         Back::None,
         "Turned { count: 1 }, Turned { count: 1 }, Turned { count: 2 }, Turned { count: 2 }, Turned { count: 3 }, \
             Turned { count: 3 }, Sink, Held { by: 2 }, ",
@@ -190,7 +227,11 @@ const CALLS: &[Calls] = &[
 ];
 
 /// A round of two with destination 0, and its workers by number.
-pub fn opened(alloc: Global, nodes: u32, links: &[(u32, u32)]) -> Result<(Round, Worker, Worker), Fail>
+pub fn opened(
+    alloc: Global,
+    nodes: u32,
+    links: &[(u32, u32)],
+) -> Result<(Round, Worker, Worker), Fail>
     ensures { IfOk result (λ r. IsOwn r.0 r.1 × IsOwn r.0 r.2) }
 {
     let net = Net::new(alloc, nodes, links)?;
@@ -202,7 +243,12 @@ pub fn opened(alloc: Global, nodes: u32, links: &[(u32, u32)]) -> Result<(Round,
 }
 
 /// The reply to a call, or why it was refused.
-fn reply_text(alloc: Global, round: &Round, worker: &mut Worker, target: Target) -> Result<String, Fail>
+fn reply_text(
+    alloc: Global,
+    round: &Round,
+    worker: &mut Worker,
+    target: Target,
+) -> Result<String, Fail>
     requires { IsOwn round.now worker.old }
     ensures { IsOwn round.now worker.new }
 {
