@@ -1,5 +1,5 @@
 use Rattle.std.proofs.lemmas.Bool.Decides.{nat_tests}
-use Rattle.std.proofs.Common.{List, ap, arith, length, refl, subst, ℕ, ◌≡◌, ◌∙◌}
+use Rattle.std.proofs.Common.{List, ap, arith, length, refl, subst, ℕ, ◌≡◌}
 use Rattle.fr_net.proofs.Neighbours.{row_alone, row_linked}
 use Rattle.fr_net.specs.Rows.{row}
 use Rattle.fr_net.specs.declared.rows.First.{First}
