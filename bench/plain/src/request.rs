@@ -16,19 +16,24 @@ pub enum Refusal {
     TooMany = 9,
 }
 
+#[derive(Clone, Copy)]
+pub enum Edit {
+    Cut { u: u32, v: u32 },
+    Add { u: u32, v: u32 },
+}
+
 pub enum Request {
     Network {
         nodes: u32,
         dest: u32,
         links: Vec<(u32, u32)>,
     },
-    Cut {
-        u: u32,
-        v: u32,
+    Edit(Edit),
+    Batch {
+        edits: Vec<Edit>,
     },
-    Add {
-        u: u32,
-        v: u32,
+    Destination {
+        dest: u32,
     },
     Walk {
         x: u32,
@@ -54,20 +59,30 @@ fn request_in(value: &Value) -> Option<Request> {
             dest: number(dest)?,
             links: links.as_array()?.iter().map(link).collect::<Option<_>>()?,
         },
-        ("cut", [u, v]) => Request::Cut {
-            u: number(u)?,
-            v: number(v)?,
+        ("batch", [edits]) => Request::Batch {
+            edits: edits.as_array()?.iter().map(edit).collect::<Option<_>>()?,
         },
-        ("add", [u, v]) => Request::Add {
-            u: number(u)?,
-            v: number(v)?,
+        ("dest", [dest]) => Request::Destination {
+            dest: number(dest)?,
         },
         ("walk", [x]) => Request::Walk { x: number(x)? },
         ("links", []) => Request::Links,
         ("counts", []) => Request::Counts,
         ("hops", []) => Request::Hops,
-        _ => return None,
+        _ => Request::Edit(edit(value)?),
     })
+}
+
+fn edit(value: &Value) -> Option<Edit> {
+    let [word, u, v] = value.as_array()?.as_slice() else {
+        return None;
+    };
+    let (u, v) = (number(u)?, number(v)?);
+    match word.as_str()? {
+        "cut" => Some(Edit::Cut { u, v }),
+        "add" => Some(Edit::Add { u, v }),
+        _ => None,
+    }
 }
 
 fn link(value: &Value) -> Option<(u32, u32)> {

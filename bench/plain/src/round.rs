@@ -1,7 +1,7 @@
 //! The network as the last round left it.
 
 use crate::net::Net;
-use crate::request::Refusal;
+use crate::request::{Edit, Refusal};
 use crate::settle::{settled_counts, Method};
 use std::cell::OnceCell;
 
@@ -35,14 +35,26 @@ impl Round {
         Ok(round)
     }
 
-    pub fn cut(&mut self, u: u32, v: u32, method: Method) -> Result<(), Refusal> {
-        self.net.cut(u, v)?;
+    pub fn edit(&mut self, edit: Edit, method: Method) -> Result<(), Refusal> {
+        match edit {
+            Edit::Cut { u, v } => self.net.cut(u, v)?,
+            Edit::Add { u, v } => self.net.add(u, v)?,
+        }
         self.settle(method);
         Ok(())
     }
 
-    pub fn add(&mut self, u: u32, v: u32, method: Method) -> Result<(), Refusal> {
-        self.net.add(u, v)?;
+    pub fn batch(&mut self, edits: &[Edit], method: Method) -> Result<(), Refusal> {
+        self.net = self.net.edited(edits)?;
+        self.settle(method);
+        Ok(())
+    }
+
+    pub fn move_to(&mut self, dest: u32, method: Method) -> Result<(), Refusal> {
+        if dest >= self.net.nodes() {
+            return Err(Refusal::Range);
+        }
+        self.dest = dest;
         self.settle(method);
         Ok(())
     }

@@ -34,11 +34,14 @@ fn answer(
             report(opened.map(|opened| &*round.insert(opened)), out)
         }
         (_, None) => refused(Refusal::NoNetwork, out),
-        (Request::Cut { u, v }, Some(round)) => {
-            report(round.cut(u, v, method).map(|()| &*round), out)
+        (Request::Edit(edit), Some(round)) => {
+            report(round.edit(edit, method).map(|()| &*round), out)
         }
-        (Request::Add { u, v }, Some(round)) => {
-            report(round.add(u, v, method).map(|()| &*round), out)
+        (Request::Batch { edits }, Some(round)) => {
+            report(round.batch(&edits, method).map(|()| &*round), out)
+        }
+        (Request::Destination { dest }, Some(round)) => {
+            report(round.move_to(dest, method).map(|()| &*round), out)
         }
         (Request::Walk { x }, Some(round)) => walk(round, x, out),
         (Request::Links, Some(round)) => links(round, out),

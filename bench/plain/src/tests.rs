@@ -97,6 +97,35 @@ fn refused_changes_change_nothing() {
 }
 
 #[test]
+fn a_batch_is_one_round_and_all_or_nothing() {
+    check(
+        r#"["net",4,0,[[1,0],[2,1],[3,2]]] / ["dest",3] / ["links"] / ["hops"] / ["walk",0] / ["batch",[["cut",1,2],["add",0,3]]] / ["counts"] / ["links"] / ["batch",[["cut",0,3],["add",3,0],["add",0,1]]] / ["links"]"#,
+        "turned 0 cut 0 / turned 6 cut 0 / links 0>1 1>2 2>3 / hops 1 2 3 here / walk 0 1 2 3 / turned 1 cut 0 / counts 0 1 0 0 / links 0>3 1>0 2>3 / refused 6 / links 0>3 1>0 2>3",
+    );
+    check(
+        r#"["net",4,3,[[0,3],[1,0],[2,3]]] / ["batch",[["add",3,1]]] / ["batch",[["cut",0,2]]] / ["batch",[["walk",1]]] / ["dest",4] / ["batch",[]]"#,
+        "turned 0 cut 0 / refused 7 / refused 8 / refused 2 / refused 4 / turned 0 cut 0",
+    );
+    check(
+        r#"["batch",[]] / ["net",4,0,[[1,0],[2,3]]] / ["batch",[]] / ["dest",3] / ["links"]"#,
+        "refused 3 / turned 8 cut 2 / turned 8 cut 2 / turned 8 cut 2 / links 1>0 2>3",
+    );
+}
+
+#[test]
+fn a_batch_has_at_most_1024_edits() {
+    for (count, answer) in [(1024, "turned 0 cut 0"), (1025, "refused 9")] {
+        let edits: Vec<&str> = (0..count)
+            .map(|i| if i % 2 == 0 { r#"["cut",1,0]"# } else { r#"["add",1,0]"# })
+            .collect();
+        check(
+            &format!(r#"["net",4,0,[[1,0],[2,1],[3,2]]] / ["batch",[{}]]"#, edits.join(",")),
+            &format!("turned 0 cut 0 / {answer}"),
+        );
+    }
+}
+
+#[test]
 fn each_fault_of_a_network_has_its_number() {
     check(r#"["net",2,0,[[1,0],[0,1]]]"#, "refused 6");
     check(

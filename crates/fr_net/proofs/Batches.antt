@@ -1,5 +1,5 @@
 -- Edits made one after the other: one list of edits makes one network, or has one first edit that is refused.
-use Rattle.std.proofs.Common.{List, [], arith, get_or, inl, inr, length, refl, subst, suc, sym, take, zero, ℕ, ◌++◌, ◌+◌, ◌<◌, ◌∙◌, ◌∷◌, ◌≡◌, ◌≤◌}
+use Rattle.std.proofs.Common.{List, [], arith, get_or, inl, inr, length, refl, subst, suc, sym, take, zero, ℕ, ◌++◌, ◌<◌, ◌∙◌, ◌∷◌, ◌≡◌, ◌≤◌}
 use Rattle.fr_net.proofs.Refusing.{fault_place, first_fault_place, no_first_fault}
 use Rattle.fr_net.specs.Batches.{AreMade, IsBatchFault, IsEditFault, IsMade}
 use Rattle.fr_net.specs.Edits.{IsCutFault}

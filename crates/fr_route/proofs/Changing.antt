@@ -1,5 +1,5 @@
 -- What a change makes, by the network and the destination with which the round after it begins.
-use Rattle.std.proofs.Common.{List, [], ap, arith, refl, subst, sym, ℕ, ◌++◌, ◌<◌, ◌∙◌, ◌∷◌, ◌≡◌, ◌≤◌, length}
+use Rattle.std.proofs.Common.{List, [], ap, arith, subst, ℕ, ◌++◌, ◌<◌, ◌∙◌, ◌∷◌, ◌≡◌, ◌≤◌, length}
 use Rattle.fr_net.specs.Batches.{AreMade, IsMade}
 use Rattle.fr_net.specs.Edits.{without}
 use Rattle.fr_net.specs.Faults.{IsNetworkOf}
@@ -8,10 +8,10 @@ use Rattle.fr_net.specs.Links.{Joins}
 use Rattle.fr_net.specs.Network.{Network}
 use Rattle.fr_net.specs.declared.requests.Edit.{Edit}
 use Rattle.fr_net.specs.declared.requests.Edit.TheVariants as edit
-use Rattle.fr_route.specs.Changes.{IsBatch, IsChanged, IsMoved, IsOpenFault, IsRouteFault, NamesNoNode}
+use Rattle.fr_route.specs.Changes.{IsBatch, IsChanged, IsOpenFault, IsRouteFault, NamesNoNode}
 use Rattle.fr_route.specs.States.{State, IsRound, net_at}
 use Rattle.fr_route.specs.declared.change.Change.{Change}
-use Rattle.fr_route.specs.declared.change.Change.TheVariants.{Add, Batch, Cut, Destination}
+use Rattle.fr_route.specs.declared.change.Change.TheVariants.{Add, Cut, Destination}
 use Rattle.fr_route.specs.declared.fault.RouteFault.{RouteFault}
 use Rattle.fr_route.specs.declared.fault.RouteFault.TheVariants.{Memory, Net, Range, Start}
 use Rattle.fr_route.proofs.RoundEnds.{round_listed}

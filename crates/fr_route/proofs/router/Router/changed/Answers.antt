@@ -1,10 +1,9 @@
-use Rattle.std.proofs.Common.{IfErr, IfOk, subst, sym, ℕ, ◌≡◌}
+use Rattle.std.proofs.Common.{IfErr, IfOk, subst, sym, ℕ}
 use Rattle.std.proofs.lemmas.Result.{IfErr-weaker, IfOk-weaker}
-use Rattle.fr_net.specs.Batches.{AreMade}
 use Rattle.fr_net.specs.Network.{Network}
 use Rattle.fr_route.specs.Changes.{IsChanged, IsRouteFault}
 use Rattle.fr_route.specs.RouterInside.{state_of}
-use Rattle.fr_route.specs.States.{State, net_at}
+use Rattle.fr_route.specs.States.{State}
 use Rattle.fr_route.specs.declared.change.Change.{Change}
 use Rattle.fr_route.proofs.Changing.{Begins, add_begins, batch_begins, begins_fault, cut_begins, dest_begins}
 use Rattle.fr_route.proofs.router.Router.changed.Given.{Over}
