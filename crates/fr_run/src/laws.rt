@@ -1,4 +1,4 @@
-//! The law of outputs. The function does nothing: its contract is what is known.
+//! The law of outputs: each clause here is a law of `specs/Laws.antt`, proved. The function does nothing.
 
 ghost use Rattle.fr_run.specs.Laws.{EachInputHasAnOutput, OutputIsUnique};
 
