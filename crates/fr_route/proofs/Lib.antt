@@ -5,3 +5,5 @@ pub mod CutNodes
 pub mod Walking
 pub mod Changing
 pub mod Determined
+pub mod FirstFaults
+pub mod EachAnswer

@@ -1,4 +1,5 @@
 pub mod Pieces
 pub mod Cutting
 pub mod Determined
+pub mod EachOutput
 pub mod Progress

@@ -5,13 +5,13 @@ use Rattle.std.specs.Prelude.{slice_get}
 use Rattle.std.specs.Option.{option_copied, option_map_or}
 use Rattle.std.proofs.lemmas.List.Sums.{sum_by-append, sum_by-cons}
 use Rattle.std.proofs.Math.Seq.{take-append_seam}
-use Rattle.std.proofs.lemmas.List.{take_all}
 use Rattle.std.proofs.KnownBytes.{Appends-nil, Appends-trans, Appends-kept}
 use Rattle.std.specs.Io.KnownBytes.{Appends, Keeps}
 use Rattle.fr_route.specs.Blank.{is_blank}
 use Rattle.fr_route.specs.States.{State}
 use Rattle.fr_run.specs.Lines.{lines_of, asking_count}
 use Rattle.fr_run.specs.Answers.{AreAnswers, IsOutput}
+use Rattle.fr_run.proofs.EachOutput.{each_output}
 use Rattle.fr_run.proofs.Determined.{Answered, output_unique, output_begins_with, begins-trans}
 use Rattle.fr_run.specs.Outputs.{IsBeginning, WritesOutput, WritesBeginning, StopsAtLine}
 
@@ -103,14 +103,13 @@ module _ (whole text line : List ℕ) (rest : Option (Bor (List ℕ))) (now : Op
       let answers : AreAnswers None (take (length (h.done ++ line ∷ [])) (lines_of whole)) (h.out ++ answer) last =
       subst (λ (ls : List (List ℕ)). AreAnswers None ls (h.out ++ answer) last) (sym front) (answers_append None now last h.done (line ∷ []) h.out answer h.are_answers are) in
       let part : IsBeginning (h.out ++ out) (h.out ++ answer) = (begins.0, ap (λ (o : List ℕ). h.out ++ o) begins.1 ∙ sym (append_assoc h.out out begins.0)) in
+      let all = each_output whole in
       record {
-        lines = length (h.done ++ line ∷ []);
-        answers = h.out ++ answer;
-        last = last;
+        whole = all.0;
         out = h.out ++ out;
-        are_answers = answers;
-        begins = part;
-        begins_output = λ all is. begins-trans (h.out ++ out) (h.out ++ answer) all part (output_begins_with whole (h.out ++ answer) all (length (h.done ++ line ∷ [])) last answers is);
+        output = all.1;
+        only = λ other is. output_unique whole other all.0 is all.1;
+        begins = begins-trans (h.out ++ out) (h.out ++ answer) all.0 part (output_begins_with whole (h.out ++ answer) all.0 (length (h.done ++ line ∷ [])) last answers all.1);
         writes = Appends-trans old mid new h.out out h.writes more;
       }
 
@@ -128,7 +127,7 @@ module _ (whole text line : List ℕ) (rest : Option (Bor (List ℕ))) (now : Op
         is_line = ap (λ (ls : List (List ℕ)). slice_get ls (length h.done)) cut ∙ slice_get-at h.done line (lines_left (option_copied rest));
         asks = asks;
         are_answers = answers;
-        begins_output = λ all is. output_begins_with whole h.out all (length h.done) now answers is;
+        begins = λ all is. output_begins_with whole h.out all (length h.done) now answers is;
         writes = Appends-kept old mid new h.out h.writes kept;
       }
 
@@ -148,13 +147,11 @@ all_answered whole now old new count h =
 -- the whole was answered, and what came then wrote nothing
 pub output_begins : (whole : List ℕ) (old mid new : Option (List ℕ)) (count : ℕ) → WritesOutput whole old mid count → Keeps mid new → WritesBeginning whole old new
 output_begins whole old mid new count w kept = record {
-  lines = length (lines_of whole);
-  answers = w.out;
-  last = w.output.0;
+  whole = w.out;
   out = w.out;
-  are_answers = subst (λ (ls : List (List ℕ)). AreAnswers None ls w.out w.output.0) (sym (take_all (length (lines_of whole)) (lines_of whole) (omega arith))) w.output.1;
+  output = w.output;
+  only = w.only;
   begins = ([], sym (append-nil w.out));
-  begins_output = λ all is. ([], w.only all is ∙ sym (append-nil w.out));
   writes = Appends-kept old mid new w.out w.writes kept;
 }
 

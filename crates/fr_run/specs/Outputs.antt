@@ -35,19 +35,17 @@ pub record WritesOutput (bytes : List ℕ) (old new : Option (List ℕ)) (count 
   pub writes : Appends old new out
   pub counted : count ≡ asking_count (lines_of bytes)
 
--- what was written is a beginning of the answers to the first lines, and so of the output text of these bytes, whatever it is
+-- what was written is a beginning of the one output text of these bytes
 pub record WritesBeginning (bytes : List ℕ) (old new : Option (List ℕ)) : Type 0 where
-  pub lines : ℕ
-  pub answers : List ℕ
-  pub last : Option State
+  pub whole : List ℕ
   pub out : List ℕ
-  pub are_answers : AreAnswers None (take lines (lines_of bytes)) answers last
-  pub begins : IsBeginning out answers
-  pub begins_output : (whole : List ℕ) → IsOutput bytes whole → IsBeginning out whole
+  pub output : IsOutput bytes whole
+  pub only : (other : List ℕ) → IsOutput bytes other → other ≡ whole
+  pub begins : IsBeginning out whole
   pub writes : Appends old new out
 
--- what was written is the answers to the lines before the one at this place, which is not blank; it is a beginning of the
--- output text of these bytes, whatever that is
+-- what was written is the answers to the lines before the one at this place, which is not blank, and so a beginning of the output
+-- text of these bytes
 pub record StopsAtLine (bytes : List ℕ) (old new : Option (List ℕ)) : Type 0 where
   pub place : ℕ
   pub line : List ℕ
@@ -56,5 +54,5 @@ pub record StopsAtLine (bytes : List ℕ) (old new : Option (List ℕ)) : Type 0
   pub is_line : slice_get (lines_of bytes) place ≡ Some line
   pub asks : is_blank line ≡ false
   pub are_answers : AreAnswers None (take place (lines_of bytes)) out last
-  pub begins_output : (whole : List ℕ) → IsOutput bytes whole → IsBeginning out whole
+  pub begins : (whole : List ℕ) → IsOutput bytes whole → IsBeginning out whole
   pub writes : Appends old new out

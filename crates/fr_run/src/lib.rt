@@ -7,6 +7,7 @@
 mod answers;
 mod fault;
 mod input;
+pub mod laws;
 mod lines;
 mod output;
 mod runs;

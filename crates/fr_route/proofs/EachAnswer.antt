@@ -1,0 +1,197 @@
+-- Each line has an answer in each state after a round, and in the state before any.
+use Rattle.std.proofs.Common.{◌≡◌, ℕ, zero, suc, ◌+◌, ◌<◌, ◌++◌, ◌⊎◌, List, [], ◌∷◌, Contains, length, ap, arith, inl, inr, refl, subst, ⊎_elim, Option, Some, None, Result}
+use Rattle.std.specs.Prelude.{slice_get, slice_index, ok_or, sum}
+use Rattle.std.proofs.lemmas.Bool.{cases_eq, cases_lt}
+use Rattle.fr_net.proofs.Building.{faultless_sorted, permuted_net}
+use Rattle.fr_net.proofs.Editing.{faultless_cut}
+use Rattle.fr_net.proofs.Linking.{link_below}
+use Rattle.fr_net.proofs.Members.{cases_some}
+use Rattle.fr_net.proofs.Ordering.{in_order_permutes}
+use Rattle.fr_net.proofs.TurnedLinks.{turned_faultless}
+use Rattle.fr_net.specs.Counts.{links_at}
+use Rattle.fr_net.specs.Edits.{without}
+use Rattle.fr_net.specs.Faults.{IsFaultless}
+use Rattle.fr_net.specs.Links.{IsNet, Joins, Points}
+use Rattle.fr_net.specs.Order.{in_order}
+use Rattle.fr_net.specs.Requests.{PlainRequest, new_network, cut_link, add_link, walk_from, ask, reading, reading_of_value, request_of, value_of_line}
+use Rattle.fr_net.specs.declared.fault.NetFault.TheVariants.{NoLink}
+use Rattle.fr_net.specs.declared.requests.LineFault.{LineFault}
+use Rattle.fr_net.specs.declared.requests.LineFault.TheVariants.{NotRequest}
+use Rattle.fr_net.specs.declared.requests.Question.{Question}
+use Rattle.fr_net.specs.declared.requests.Question.TheVariants.{Links, Counts, Hops}
+use Rattle.fr_core.proofs.Finishing.{settled_exists}
+use Rattle.fr_core.proofs.Searching.{cases_below}
+use Rattle.fr_core.proofs.Unique.{settled_lawful}
+use Rattle.fr_route.specs.States.{State, IsRound}
+use Rattle.fr_route.specs.Routes.{IsHop, AreHops, is_cut_off}
+use Rattle.fr_route.specs.Answers.{fault_number, IsReportLine, IsHopsLine, IsWalkLine, IsAnswer, IsLineAnswer}
+use Rattle.fr_route.specs.Texts.{counts_text, links_text, hops_text, walk_text, no_walk_text, report_text, refusal_text}
+use Rattle.fr_route.specs.declared.hops.Hop.{Hop}
+use Rattle.fr_route.specs.declared.hops.Hop.TheVariants.{Here, To, CutOff}
+use Rattle.std.specs.List.{count_by}
+use Rattle.fr_route.proofs.CutNodes.{hops_cut_count}
+use Rattle.fr_route.proofs.FirstFaults.{faultless_or_fault}
+use Rattle.fr_route.proofs.RoundEnds.{capped_cut_off, hop_leads_on, still_cut_off}
+
+-- the state after a round on some network, whose links can be changed
+pub record IsSettledState (s : State) : Type 0 where
+  pub first : List (ℕ × ℕ)
+  pub net : IsNet s.nodes first
+  pub dest : s.dest < s.nodes
+  pub round : IsRound s.nodes s.dest first s
+  pub faultless : IsFaultless s.nodes s.links
+
+-- no state, or one after a round
+abbrev pub IsReached : Option State → Type 0
+IsReached None = Unit {0}
+IsReached (Some s) = IsSettledState s
+
+-- each round ends
+settled_state : (n d : ℕ) (first : List (ℕ × ℕ)) → IsFaultless n first → d < n → (s : State) × IsRound n d first s × IsSettledState s
+settled_state n d first clear below =
+    let made = settled_exists n d first clear.is_net below in
+    let listed : List (ℕ × ℕ) = links_at first made.0 in
+    let turned : IsFaultless n listed = turned_faultless n first made.0 (settled_lawful n d first clear.is_net below made.0 made.1).kept clear in
+    let sorted = permuted_net n listed (in_order listed) (in_order_permutes listed) turned.is_net in
+    let s : State = record { nodes = n; dest = d; links = in_order listed; counts = made.0 } in
+    let round : IsRound n d first s = record { nodes = refl; dest = refl; counts = made.1; links = refl } in
+    (s, round, record { first = first; net = clear.is_net; dest = below; round = round; faultless = faultless_sorted n listed (in_order listed) (in_order_permutes listed) sorted.acyclic turned })
+
+points_or_not : (links : List (ℕ × ℕ)) (x y : ℕ) → Points links x y ⊎ ¬ Points links x y
+points_or_not links x y = ⊎_elim
+    (λ s. inl (subst (λ (l : ℕ × ℕ). Contains links l) (λ i. (s.2.0 i, s.2.1 i)) s.1))
+    (λ none. inr (λ h. none (x, y) h (refl, refl)))
+    (cases_some (λ (l : ℕ × ℕ). (l.0 ≡ x) × (l.1 ≡ y)) (λ l. both (l.0 ≡ x) (l.1 ≡ y) (cases_eq l.0 x) (cases_eq l.1 y)) links)
+  where
+    both : (P Q : Type 0) → P ⊎ ¬ P → Q ⊎ ¬ Q → (P × Q) ⊎ ¬ (P × Q)
+    both P Q (inl p) (inl q) = inl (p, q)
+    both P Q (inl p) (inr q) = inr (λ h. q h.1)
+    both P Q (inr p) q = inr (λ h. p h.0)
+
+joins_or_not : (links : List (ℕ × ℕ)) (u v : ℕ) → Joins links u v ⊎ ¬ Joins links u v
+joins_or_not links u v = ⊎_elim
+    (λ p. inl (inl p))
+    (λ a. ⊎_elim (λ p. inl (inr p)) (λ b. inr (λ h. ⊎_elim a b h)) (points_or_not links v u))
+    (points_or_not links u v)
+
+module _ (s : State) (good : IsSettledState s) where
+  -- each node has a hop
+  hop_of : (x : ℕ) → (hop : Hop) × IsHop s x hop
+  hop_of x = ⊎_elim
+      (λ e. (Here, e))
+      (λ apart. ⊎_elim
+      (λ capped. (CutOff, capped_cut_off s.nodes s.dest good.first s good.net good.dest good.round x apart capped))
+      (λ free. ⊎_elim
+      (λ f. (To f.0, hop_leads_on s.nodes s.dest good.first s good.net good.dest good.round x f.0 apart free (record { link = f.2; least = f.3 })))
+      (λ none. (CutOff, still_cut_off s.nodes s.dest good.first s good.net good.dest good.round x apart (λ w p. none w (link_below s.nodes s.links x w good.faultless.is_net p).1 p)))
+      (cases_below (Points s.links x) (points_or_not s.links x) s.nodes))
+      (cases_eq (slice_index s.counts x) s.nodes))
+      (cases_eq x s.dest)
+
+  hops_from : ℕ → ℕ → List Hop
+  hops_from zero a = []
+  hops_from (suc k) a = (hop_of a).0 ∷ hops_from k (suc a)
+
+  long_from : (k a : ℕ) → length (hops_from k a) ≡ k
+  unfolding hops_from
+  long_from zero a = refl
+  long_from (suc k) a = ap suc (long_from k (suc a))
+
+  each_from : (k a x : ℕ) (hop : Hop) → slice_get (hops_from k a) x ≡ Some hop → IsHop s (a + x) hop
+  unfolding hops_from
+  each_from zero a x hop e = let no : ⊥ = cc in absurd no
+  each_from (suc k) a zero hop e =
+      let same : (hop_of a).0 ≡ hop = cc in
+      let at : a ≡ a + 0 = omega arith in
+      subst (λ (h : Hop). IsHop s (a + 0) h) same (subst (λ (y : ℕ). IsHop s y (hop_of a).0) at (hop_of a).1)
+  each_from (suc k) a (suc x) hop e =
+      let at : suc a + x ≡ a + suc x = omega arith in
+      subst (λ (y : ℕ). IsHop s y hop) at (each_from k (suc a) x hop e)
+
+  hops : AreHops s s.nodes (hops_from s.nodes 0)
+  hops = record { one_each = long_from s.nodes 0; each = λ x hop e. let at : 0 + x ≡ x = omega arith in subst (λ (y : ℕ). IsHop s y hop) at (each_from s.nodes 0 x hop e) }
+
+  report_line : (text : List ℕ) × IsReportLine s text
+  report_line =
+      let cut = count_by is_cut_off (hops_from s.nodes 0) in
+      (report_text (sum s.counts) cut, (sum s.counts, cut, record { turns = refl; cut_off = hops_cut_count s s.nodes (hops_from s.nodes 0) hops }, refl))
+
+  hops_line : (text : List ℕ) × IsHopsLine s text
+  hops_line = (hops_text (hops_from s.nodes 0), (hops_from s.nodes 0, hops, refl))
+
+  walk_by : (x : ℕ) (hop : Hop) → IsHop s x hop → (text : List ℕ) × IsWalkLine s x text
+  walk_by x Here h = (walk_text (x ∷ []), inl ([], h, refl))
+  walk_by x (To y) h = (walk_text (x ∷ y ∷ h.0), inl (y ∷ h.0, h.1, refl))
+  walk_by x CutOff h = (no_walk_text x, inr (h, refl))
+
+  walk_line : (x : ℕ) → (text : List ℕ) × IsWalkLine s x text
+  walk_line x = let hop = hop_of x in walk_by x hop.0 hop.1
+
+abbrev HasAnswer : Option State → PlainRequest → Type 0
+HasAnswer s r = (text : List ℕ) × (next : Option State) × IsAnswer s r text next × IsReached next
+
+network_answer : (s : Option State) → IsReached s → (n d : ℕ) (links : List (ℕ × ℕ)) → HasAnswer s (new_network n d links)
+network_answer s reached n d links = ⊎_elim
+    (λ clear. ⊎_elim
+    (λ below.
+    let new = settled_state n d links clear below in
+    let line = report_line new.0 new.2 in
+    (line.0, Some new.0, inr (new.0, (clear, below, new.1), line.1, refl), new.2))
+    (λ past. (refusal_text 4, s, inl (4, inr (clear, past, refl), refl, refl), reached))
+    (cases_lt d n))
+    (λ f. (refusal_text (fault_number f.0), s, inl (fault_number f.0, inl (f.0, f.1, refl), refl, refl), reached))
+    (faultless_or_fault n links)
+
+cut_answer : (s : State) → IsSettledState s → (u v : ℕ) → HasAnswer (Some s) (cut_link u v)
+cut_answer s good u v = ⊎_elim
+    (λ joined.
+    let new = settled_state s.nodes s.dest (without u v s.links) (faultless_cut s.nodes s.links u v good.faultless) good.dest in
+    let line = report_line new.0 new.2 in
+    (line.0, Some new.0, inr (new.0, (joined, new.1), line.1, refl), new.2))
+    (λ none. (refusal_text (fault_number NoLink), Some s, inl (fault_number NoLink, (NoLink, none, refl), refl, refl), good))
+    (joins_or_not s.links u v)
+
+add_answer : (s : State) → IsSettledState s → (u v : ℕ) → HasAnswer (Some s) (add_link u v)
+add_answer s good u v = ⊎_elim
+    (λ clear.
+    let new = settled_state s.nodes s.dest (s.links ++ (u, v) ∷ []) clear good.dest in
+    let line = report_line new.0 new.2 in
+    (line.0, Some new.0, inr (new.0, (clear, new.1), line.1, refl), new.2))
+    (λ f. (refusal_text (fault_number f.0), Some s, inl (fault_number f.0, (f.0, f.1, refl), refl, refl), good))
+    (faultless_or_fault s.nodes (s.links ++ (u, v) ∷ []))
+
+walk_answer : (s : State) → IsSettledState s → (x : ℕ) → HasAnswer (Some s) (walk_from x)
+walk_answer s good x = ⊎_elim
+    (λ below. let line = walk_line s good x in (line.0, Some s, inr (s, (below, refl), line.1, refl), good))
+    (λ past. (refusal_text 4, Some s, inl (4, (past, refl), refl, refl), good))
+    (cases_lt x s.nodes)
+
+ask_answer : (s : State) → IsSettledState s → (question : Question) → HasAnswer (Some s) (ask question)
+ask_answer s good Links = (links_text s.links, Some s, inr (s, refl, refl, refl), good)
+ask_answer s good Counts = (counts_text s.counts, Some s, inr (s, refl, refl, refl), good)
+ask_answer s good Hops = let line = hops_line s good in (line.0, Some s, inr (s, refl, line.1, refl), good)
+
+each_answer : (s : Option State) → IsReached s → (r : PlainRequest) → HasAnswer s r
+each_answer s reached (new_network n d links) = network_answer s reached n d links
+each_answer None reached (cut_link u v) = (refusal_text 3, None, inl (3, refl, refl, refl), tt)
+each_answer None reached (add_link u v) = (refusal_text 3, None, inl (3, refl, refl, refl), tt)
+each_answer None reached (walk_from x) = (refusal_text 3, None, inl (3, refl, refl, refl), tt)
+each_answer None reached (ask question) = (refusal_text 3, None, inl (3, refl, refl, refl), tt)
+each_answer (Some s) good (cut_link u v) = cut_answer s good u v
+each_answer (Some s) good (add_link u v) = add_answer s good u v
+each_answer (Some s) good (walk_from x) = walk_answer s good x
+each_answer (Some s) good (ask question) = ask_answer s good question
+
+abbrev pub HasLineAnswer : Option State → Result PlainRequest LineFault → Type 0
+HasLineAnswer s line = (text : List ℕ) × (next : Option State) × IsLineAnswer s line text next × IsReached next
+
+by_request : (s : Option State) → IsReached s → (r : Option PlainRequest) → HasLineAnswer s (ok_or r NotRequest)
+by_request s reached None = (refusal_text 2, s, (refl, refl), reached)
+by_request s reached (Some r) = each_answer s reached r
+
+-- each line has an answer
+pub each_line : (s : Option State) → IsReached s → (line : List ℕ) → HasLineAnswer s (reading line)
+each_line s reached line = elim (value_of_line line) as (λ v. HasLineAnswer s (reading_of_value v)) [
+  | None ↦ (refusal_text 1, s, (refl, refl), reached)
+  | Some d ↦ by_request s reached (request_of d)
+]
