@@ -44,7 +44,7 @@ edited_nodes : (net : Network) (e : Edit) (after : Network) → IsMade net e aft
 edited_nodes net (edit.Cut u v) after made = nodes_of net.nodes (without u v net.links) after made.1
 edited_nodes net (edit.Add u v) after made = nodes_of net.nodes (net.links ++ (u, v) ∷ []) after made
 
-made_nodes : (net : Network) (edits : List Edit) (after : Network) → AreMade net edits after → after.nodes ≡ net.nodes
+pub made_nodes : (net : Network) (edits : List Edit) (after : Network) → AreMade net edits after → after.nodes ≡ net.nodes
 made_nodes net [] after made = ap (λ (m : Network). m.nodes) made
 made_nodes net (e ∷ es) after made = made_nodes made.0 es after made.1.1 ∙ edited_nodes net e made.0 made.1.0
 

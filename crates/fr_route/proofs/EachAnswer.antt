@@ -10,11 +10,18 @@ use Rattle.fr_net.proofs.Ordering.{in_order_permutes}
 use Rattle.fr_net.proofs.TurnedLinks.{turned_faultless}
 use Rattle.fr_net.specs.Counts.{links_at}
 use Rattle.fr_net.specs.Edits.{without}
-use Rattle.fr_net.specs.Faults.{IsFaultless}
+use Rattle.fr_net.specs.Batches.{AreMade, IsEditFault, IsMade, IsRefusedAt}
+use Rattle.fr_net.specs.Faults.{IsFaultless, IsNetworkOf}
+use Rattle.fr_net.specs.Limits.{most_edits}
 use Rattle.fr_net.specs.Links.{IsNet, Joins, Points}
+use Rattle.fr_net.specs.Network.{Network, net_of}
 use Rattle.fr_net.specs.Order.{in_order}
-use Rattle.fr_net.specs.Requests.{PlainRequest, new_network, cut_link, add_link, walk_from, ask, reading, reading_of_value, request_of, value_of_line}
-use Rattle.fr_net.specs.declared.fault.NetFault.TheVariants.{NoLink}
+use Rattle.fr_net.specs.Requests.{PlainRequest, new_network, cut_link, add_link, make_edits, move_dest, walk_from, ask, reading, reading_of_value, request_of, value_of_line}
+use Rattle.fr_net.specs.declared.fault.EditFault.{EditFault}
+use Rattle.fr_net.specs.declared.fault.NetFault.{NetFault}
+use Rattle.fr_net.specs.declared.fault.NetFault.TheVariants.{NoLink, TooMany}
+use Rattle.fr_net.specs.declared.requests.Edit.{Edit}
+use Rattle.fr_net.specs.declared.requests.Edit.TheVariants.{Cut, Add}
 use Rattle.fr_net.specs.declared.requests.LineFault.{LineFault}
 use Rattle.fr_net.specs.declared.requests.LineFault.TheVariants.{NotRequest}
 use Rattle.fr_net.specs.declared.requests.Question.{Question}
@@ -22,13 +29,14 @@ use Rattle.fr_net.specs.declared.requests.Question.TheVariants.{Links, Counts, H
 use Rattle.fr_core.proofs.Finishing.{settled_exists}
 use Rattle.fr_core.proofs.Searching.{cases_below}
 use Rattle.fr_core.proofs.Unique.{settled_lawful}
-use Rattle.fr_route.specs.States.{State, IsRound}
+use Rattle.fr_route.specs.States.{State, IsRound, net_at}
 use Rattle.fr_route.specs.Routes.{IsHop, AreHops, is_cut_off}
 use Rattle.fr_route.specs.Answers.{fault_number, IsReportLine, IsHopsLine, IsWalkLine, IsAnswer, IsLineAnswer}
 use Rattle.fr_route.specs.Texts.{counts_text, links_text, hops_text, walk_text, no_walk_text, report_text, refusal_text}
 use Rattle.fr_route.specs.declared.hops.Hop.{Hop}
 use Rattle.fr_route.specs.declared.hops.Hop.TheVariants.{Here, To, CutOff}
 use Rattle.std.specs.List.{count_by}
+use Rattle.fr_route.proofs.Changing.{made_nodes}
 use Rattle.fr_route.proofs.CutNodes.{hops_cut_count}
 use Rattle.fr_route.proofs.FirstFaults.{faultless_or_fault}
 use Rattle.fr_route.proofs.RoundEnds.{capped_cut_off, hop_leads_on, still_cut_off}
@@ -46,16 +54,22 @@ abbrev pub IsReached : Option State → Type 0
 IsReached None = Unit {0}
 IsReached (Some s) = IsSettledState s
 
+-- faultless links make a network, whose links in rising order are faultless as well
+made_network : (n : ℕ) (listed : List (ℕ × ℕ)) → IsFaultless n listed → IsNetworkOf n listed (net_of n listed) × IsFaultless n (in_order listed)
+made_network n listed clear =
+    let same = in_order_permutes listed in
+    let sorted = permuted_net n listed (in_order listed) same clear.is_net in
+    (record { is = refl; same_links = same; faultless = clear }, faultless_sorted n listed (in_order listed) same sorted.acyclic clear)
+
 -- each round ends
 settled_state : (n d : ℕ) (first : List (ℕ × ℕ)) → IsFaultless n first → d < n → (s : State) × IsRound n d first s × IsSettledState s
 settled_state n d first clear below =
     let made = settled_exists n d first clear.is_net below in
     let listed : List (ℕ × ℕ) = links_at first made.0 in
     let turned : IsFaultless n listed = turned_faultless n first made.0 (settled_lawful n d first clear.is_net below made.0 made.1).kept clear in
-    let sorted = permuted_net n listed (in_order listed) (in_order_permutes listed) turned.is_net in
     let s : State = record { nodes = n; dest = d; links = in_order listed; counts = made.0 } in
     let round : IsRound n d first s = record { nodes = refl; dest = refl; counts = made.1; links = refl } in
-    (s, round, record { first = first; net = clear.is_net; dest = below; round = round; faultless = faultless_sorted n listed (in_order listed) (in_order_permutes listed) sorted.acyclic turned })
+    (s, round, record { first = first; net = clear.is_net; dest = below; round = round; faultless = (made_network n listed turned).1 })
 
 points_or_not : (links : List (ℕ × ℕ)) (x y : ℕ) → Points links x y ⊎ ¬ Points links x y
 points_or_not links x y = ⊎_elim
@@ -160,6 +174,60 @@ add_answer s good u v = ⊎_elim
     (λ f. (refusal_text (fault_number f.0), Some s, inl (fault_number f.0, (f.0, f.1, refl), refl, refl), good))
     (faultless_or_fault s.nodes (s.links ++ (u, v) ∷ []))
 
+-- each edit is made, or refused for a fault
+edit_made : (net : Network) → IsFaultless net.nodes net.links → (edit : Edit)
+    → ((after : Network) × IsMade net edit after × IsFaultless after.nodes after.links) ⊎ ((fault : NetFault) × IsEditFault net edit fault)
+edit_made net clear (Cut u v) = ⊎_elim
+    (λ joined.
+    let made = made_network net.nodes (without u v net.links) (faultless_cut net.nodes net.links u v clear) in
+    inl (net_of net.nodes (without u v net.links), (joined, made.0), made.1))
+    (λ none. inr (NoLink, none))
+    (joins_or_not net.links u v)
+edit_made net clear (Add u v) = ⊎_elim
+    (λ added.
+    let made = made_network net.nodes (net.links ++ (u, v) ∷ []) added in
+    inl (net_of net.nodes (net.links ++ (u, v) ∷ []), made.0, made.1))
+    (λ f. inr f)
+    (faultless_or_fault net.nodes (net.links ++ (u, v) ∷ []))
+
+-- and all of several are, one after the other, or one is refused first
+edits_made : (net : Network) → IsFaultless net.nodes net.links → (edits : List Edit)
+    → ((after : Network) × AreMade net edits after × IsFaultless after.nodes after.links) ⊎ ((at : ℕ) × (fault : NetFault) × IsRefusedAt net edits at fault)
+edits_made net clear [] = inl (net, refl, clear)
+edits_made net clear (edit ∷ rest) = ⊎_elim
+    (λ one. ⊎_elim
+    (λ all. inl (all.0, (one.0, (one.1, all.1)), all.2))
+    (λ r. inr (suc r.0, r.1, record { inside = omega (arith, r.2.inside); before = r.2.before; made = (one.0, (one.1, r.2.made)); refused = λ d. r.2.refused d }))
+    (edits_made one.0 one.2 rest))
+    (λ f. inr (0, f.0, record { inside = omega arith; before = net; made = refl; refused = λ d. f.1 }))
+    (edit_made net clear edit)
+
+batch_answer : (s : State) → IsSettledState s → (edits : List Edit) → HasAnswer (Some s) (make_edits edits)
+batch_answer s good edits = ⊎_elim
+    (λ many.
+    let refused : EditFault = record { at = most_edits; fault = TooMany } in
+    (refusal_text (fault_number TooMany), Some s, inl (fault_number TooMany, (refused, inl (many, refl, refl), refl), refl, refl), good))
+    (λ few. ⊎_elim
+    (λ all.
+    let nodes : all.0.nodes ≡ s.nodes = made_nodes (net_at s) edits all.0 all.1 in
+    let new = settled_state all.0.nodes s.dest all.0.links all.2 (omega (arith, nodes, good.dest)) in
+    let line = report_line new.0 new.2 in
+    (line.0, Some new.0, inr (new.0, (few, (all.0, (all.1, new.1))), line.1, refl), new.2))
+    (λ r.
+    let refused : EditFault = record { at = r.0; fault = r.1 } in
+    (refusal_text (fault_number r.1), Some s, inl (fault_number r.1, (refused, inr (few, r.2), refl), refl, refl), good))
+    (edits_made (net_at s) good.faultless edits))
+    (cases_lt most_edits (length edits))
+
+dest_answer : (s : State) → IsSettledState s → (d : ℕ) → HasAnswer (Some s) (move_dest d)
+dest_answer s good d = ⊎_elim
+    (λ below.
+    let new = settled_state s.nodes d s.links good.faultless below in
+    let line = report_line new.0 new.2 in
+    (line.0, Some new.0, inr (new.0, (below, new.1), line.1, refl), new.2))
+    (λ past. (refusal_text 4, Some s, inl (4, (past, refl), refl, refl), good))
+    (cases_lt d s.nodes)
+
 walk_answer : (s : State) → IsSettledState s → (x : ℕ) → HasAnswer (Some s) (walk_from x)
 walk_answer s good x = ⊎_elim
     (λ below. let line = walk_line s good x in (line.0, Some s, inr (s, (below, refl), line.1, refl), good))
@@ -175,10 +243,14 @@ each_answer : (s : Option State) → IsReached s → (r : PlainRequest) → HasA
 each_answer s reached (new_network n d links) = network_answer s reached n d links
 each_answer None reached (cut_link u v) = (refusal_text 3, None, inl (3, refl, refl, refl), tt)
 each_answer None reached (add_link u v) = (refusal_text 3, None, inl (3, refl, refl, refl), tt)
+each_answer None reached (make_edits edits) = (refusal_text 3, None, inl (3, refl, refl, refl), tt)
+each_answer None reached (move_dest d) = (refusal_text 3, None, inl (3, refl, refl, refl), tt)
 each_answer None reached (walk_from x) = (refusal_text 3, None, inl (3, refl, refl, refl), tt)
 each_answer None reached (ask question) = (refusal_text 3, None, inl (3, refl, refl, refl), tt)
 each_answer (Some s) good (cut_link u v) = cut_answer s good u v
 each_answer (Some s) good (add_link u v) = add_answer s good u v
+each_answer (Some s) good (make_edits edits) = batch_answer s good edits
+each_answer (Some s) good (move_dest d) = dest_answer s good d
 each_answer (Some s) good (walk_from x) = walk_answer s good x
 each_answer (Some s) good (ask question) = ask_answer s good question
 
