@@ -6,7 +6,7 @@ use Rattle.std.specs.Result.{IsErrAnd}
 use Rattle.std.proofs.lemmas.List.{append-nil, append_assoc}
 use Rattle.std.proofs.lemmas.List.Elements.{All-contains}
 use Rattle.std.proofs.lemmas.Grind.{flat_map-append}
-use Rattle.fr_net.specs.Links.{IsNet, Joins, Points}
+use Rattle.fr_net.specs.Links.{IsNet, Points}
 use Rattle.fr_net.specs.Rows.{row}
 use Rattle.fr_net.proofs.Giving.{Points-links_at_from}
 use Rattle.fr_net.proofs.Neighbours.{row_linked}
@@ -15,7 +15,7 @@ use Rattle.fr_core.specs.Replies.{IsReplyToLook}
 use Rattle.fr_core.specs.Targets.{IsLookable}
 use Rattle.fr_core.specs.declared.entry.Entry.{Entry}
 use Rattle.fr_core.specs.declared.entry.Reply.{Reply}
-use Rattle.fr_core.specs.declared.entry.Reply.TheVariants.{Cut, Held, Moved, Sink, Turned}
+use Rattle.fr_core.specs.declared.entry.Reply.TheVariants.{Held, Moved, Sink}
 use Rattle.fr_core.proofs.Rounds.{run_parts}
 use Rattle.fr_round.specs.declared.faults.Refusal.{Refusal}
 use Rattle.fr_round.specs.declared.faults.Refusal.TheVariants.{Alone, Destination, NoNode}
@@ -26,7 +26,7 @@ use Rattle.fr_round.specs.Steps.{Extends}
 use Rattle.fr_round.proofs.Entries.{lawful_after}
 use Rattle.fr_round.proofs.Keeping.{each_snoc}
 use Rattle.fr_crew.specs.Crews.{IsSameWorker}
-use Rattle.fr_crew.specs.LiveWalks.{AreLooksFrom, EndsBy, FindsNoSink, HasWalked, hop_of, node_after, trail}
+use Rattle.fr_crew.specs.LiveWalks.{AreLooksFrom, FindsNoSink, HasWalked, hop_of, node_after, trail}
 use Rattle.fr_crew.specs.declared.live_walks.LiveEnd.TheVariants.{AtSink, Here, Limit}
 use Rattle.fr_crew.specs.declared.live_walks.LiveFault.{LiveFault}
 use Rattle.fr_crew.specs.declared.live_walks.LiveFault.TheVariants.{Memory}
