@@ -6,14 +6,16 @@ use Rattle.std.specs.Result.{IsErrAnd}
 use Rattle.std.proofs.lemmas.List.{append-nil, append_assoc}
 use Rattle.std.proofs.lemmas.List.Elements.{All-contains}
 use Rattle.std.proofs.lemmas.Grind.{flat_map-append}
-use Rattle.fr_net.specs.Links.{IsNet, Joins, Points}
+use Rattle.fr_net.specs.Links.{IsNet, Points}
+use Rattle.fr_net.specs.Rows.{row}
 use Rattle.fr_net.proofs.Giving.{Points-links_at_from}
+use Rattle.fr_net.proofs.Neighbours.{row_linked}
 use Rattle.fr_core.specs.History.{part}
 use Rattle.fr_core.specs.Replies.{IsReplyToLook}
 use Rattle.fr_core.specs.Targets.{IsLookable}
 use Rattle.fr_core.specs.declared.entry.Entry.{Entry}
 use Rattle.fr_core.specs.declared.entry.Reply.{Reply}
-use Rattle.fr_core.specs.declared.entry.Reply.TheVariants.{Cut, Held, Moved, Sink, Turned}
+use Rattle.fr_core.specs.declared.entry.Reply.TheVariants.{Held, Moved, Sink}
 use Rattle.fr_core.proofs.Rounds.{run_parts}
 use Rattle.fr_round.specs.declared.faults.Refusal.{Refusal}
 use Rattle.fr_round.specs.declared.faults.Refusal.TheVariants.{Alone, Destination, NoNode}
@@ -24,7 +26,7 @@ use Rattle.fr_round.specs.Steps.{Extends}
 use Rattle.fr_round.proofs.Entries.{lawful_after}
 use Rattle.fr_round.proofs.Keeping.{each_snoc}
 use Rattle.fr_crew.specs.Crews.{IsSameWorker}
-use Rattle.fr_crew.specs.LiveWalks.{AreLooksFrom, EndsBy, HasWalked, hop_of, node_after, trail}
+use Rattle.fr_crew.specs.LiveWalks.{AreLooksFrom, FindsNoSink, HasWalked, hop_of, node_after, trail}
 use Rattle.fr_crew.specs.declared.live_walks.LiveEnd.TheVariants.{AtSink, Here, Limit}
 use Rattle.fr_crew.specs.declared.live_walks.LiveFault.{LiveFault}
 use Rattle.fr_crew.specs.declared.live_walks.LiveFault.TheVariants.{Memory}
@@ -37,9 +39,6 @@ stands_after x (e ∷ es) = stands_after (node_after x e.reply) es
 stands_after-push : (x : ℕ) (es : List Entry) (e : Entry) → stands_after x (es ++ e ∷ []) ≡ node_after (stands_after x es) e.reply
 stands_after-push x [] e = refl
 stands_after-push x (f ∷ es) e = stands_after-push (node_after x f.reply) es e
-
-abbrev FindsNoSink : Entry → Type 0
-FindsNoSink e = e.reply ≢ Sink
 
 -- one look more, where none so far found a sink
 looks_more : (d x : ℕ) (es : List Entry) (e : Entry) → AreLooksFrom d x es → Each FindsNoSink es → e.node ≡ stands_after x es → stands_after x es ≢ d → IsReplyToLook e.reply → AreLooksFrom d x (es ++ e ∷ [])
@@ -192,7 +191,7 @@ ends_at_limit old now d x made limit nodes here w all other = record {
   front = w.front;
   last = here;
   parted = w.parted;
-  ends = (other, w.count ∙ all);
+  ends = (other, w.count ∙ all, w.no_sink);
 }
 
 pub ends_at_sink : (b : Setup) (old now next : Knowledge) (d x made limit : ℕ) (nodes : List ℕ) (here : ℕ) → IsWalking old now d x made nodes here → HasLooked b now next here Sink → here ≢ d → made < limit → HasWalked old next d x limit nodes AtSink
@@ -229,6 +228,12 @@ pub look_not_refused : (b : Setup) (x : ℕ) (r : Refusal) → IsLookable b.node
 look_not_refused b x NoNode is refused = absurd (omega (arith, is.inside, refused))
 look_not_refused b x Destination is refused = refused
 look_not_refused b x Alone is refused = refused.1 is.linked.0 is.linked.1
+
+-- a node of the round's network that has a degree can be looked at
+pub lookable_in : (b : Setup) (n : ℕ) (links : List (ℕ × ℕ)) (x degree : ℕ) → n ≡ b.nodes → links ≡ b.links → x < n → degree ≡ length (row n links x) → ¬ (degree ≡ 0) → IsLookable b.nodes b.links x
+lookable_in b n links x degree nodes same inside is some =
+    subst (λ (p : ℕ × List (ℕ × ℕ)). IsLookable p.0 p.1 x) (λ k. (nodes k, same k))
+    (record { inside = inside; linked = row_linked n links x (omega (arith, some, is)) })
 
 -- where the fault of a `?` is want of memory
 pub if_memory : {A : Type 0} (P : LiveFault → Type 0) (r : Result A LiveFault) → IsErrAnd r (λ fault. fault ≡ Memory) → P Memory → IfErr r P

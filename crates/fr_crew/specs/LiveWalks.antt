@@ -1,6 +1,6 @@
 -- A walk by looks, hop by hop, while workers turn.
 use Rattle.std.specs.Prelude.{◌≡◌, ◌≢◌, ℕ, ◌<◌, ◌≤◌, List, [], ◌∷◌, ◌++◌, length}
-use Rattle.std.specs.List.{flat_map}
+use Rattle.std.specs.List.{AllByRecursion as Each, flat_map}
 use Rattle.fr_net.specs.Links.{IsAlone}
 use Rattle.fr_core.specs.History.{part}
 use Rattle.fr_core.specs.Replies.{IsReplyToLook}
@@ -43,11 +43,14 @@ AreLooksFrom d x (e ∷ es) = (e.node ≡ x) × (x ≢ d) × IsReplyToLook e.rep
 abbrev pub trail : ℕ → List Entry → List ℕ
 trail x looks = x ∷ flat_map (λ (e : Entry). hop_of e.reply) looks
 
+abbrev pub FindsNoSink : Entry → Type 0
+FindsNoSink e = e.reply ≢ Sink
+
 -- how it ends at this last node
 abbrev pub EndsBy : ℕ → ℕ → ℕ → List Entry → LiveEnd → Type 0
 EndsBy d limit last looks Here = last ≡ d
 EndsBy d limit last looks AtSink = (before : List Entry) × (e : Entry) × (looks ≡ before ++ e ∷ []) × (e.node ≡ last) × (e.reply ≡ Sink)
-EndsBy d limit last looks Limit = (last ≢ d) × (length looks ≡ limit)
+EndsBy d limit last looks Limit = (last ≢ d) × (length looks ≡ limit) × Each FindsNoSink looks
 
 -- a worker has walked from x along these nodes:
 pub record HasWalked (old new : Knowledge) (d x limit : ℕ) (nodes : List ℕ) (end : LiveEnd) : Type 0 where

@@ -3,7 +3,6 @@ use Rattle.std.specs.Prelude.{vec_capacity, vec_len}
 use Rattle.fr_net.specs.Links.{IsNet}
 use Rattle.fr_core.specs.Targets.{IsLookable}
 use Rattle.fr_core.specs.declared.entry.Reply.{Reply}
-use Rattle.fr_core.specs.declared.entry.Reply.TheVariants.{Held, Moved, Sink}
 use Rattle.fr_crew.specs.LiveWalks.{HasWalked}
 use Rattle.fr_crew.specs.declared.live_walks.LiveEnd.TheVariants.{AtSink}
 use Rattle.fr_crew.proofs.Walking.{HasLooked, IsWalking, ends_at_sink, held_lookable, look_not_refused, looked_by, walk_begins, walks_held, walks_moved}
