@@ -2,8 +2,8 @@
 
 use crate::telling::{number_told, told};
 use fr_core::{Machine, Target, check_run, play};
-use fr_crew::{OpenGate, Plan, settle};
-use fr_net::{LineFault, Net, Request, read_line};
+use fr_crew::{OpenGate, Plan, live_walk, settle};
+use fr_net::{Edit, LineFault, Net, Request, read_line};
 use fr_round::{OpenWhy, Round};
 use fr_route::{Change, Report, Router, counts_line, links_line};
 use std::alloc::{AllocError, Global};
@@ -50,7 +50,9 @@ pub fn answer_of<R: Threads + Wait + Sync + Alloc<A = Global> + Print + Eprint>(
         8 => opened(rt),
         9 => settled(rt),
         10 => settled_with_growth(rt),
-        _ => routed(rt),
+        11 => routed(rt),
+        12 => edited_network(rt),
+        _ => walked_live(rt),
     }
 }
 
@@ -71,6 +73,16 @@ fn cut_network<R: Alloc<A = Global> + Eprint>(rt: &R) -> Option<String> {
 
 fn joined_network<R: Alloc<A = Global> + Eprint>(rt: &R) -> Option<String> {
     let net = told(rt, chain(rt)?.with_link(rt.alloc(), 0, 3))?;
+    told(rt, links_line(rt.alloc(), net.links()))
+}
+
+/// The chain with a link in another place.
+fn edited_network<R: Alloc<A = Global> + Eprint>(rt: &R) -> Option<String> {
+    let edits = [Edit::Cut { u: 1, v: 2 }, Edit::Add { u: 0, v: 3 }];
+    let net = match chain(rt)?.with_edits(rt.alloc(), &edits) {
+        Ok(net) => net,
+        Err(refused) => return told(rt, Err(refused.fault)),
+    };
     told(rt, links_line(rt.alloc(), net.links()))
 }
 
@@ -196,6 +208,21 @@ fn routed<R: Threads + Wait + Sync + Alloc<A = Global> + Print + Eprint>(rt: &R)
     let walked = told(rt, router.walk(alloc, 2))?;
     let links = told(rt, links_line(alloc, router.net().links()))?;
     told(rt, format!(in alloc; "{links} {walked:?}"))
+}
+
+/// A walk in an open round on a chain that leads home.
+fn walked_live<R: Alloc<A = Global> + Eprint>(rt: &R) -> Option<String> {
+    let alloc = rt.alloc();
+    let net = told(rt, Net::new(alloc, 4, &[(1, 0), (2, 1), (3, 2)]))?;
+    let (round, mut workers) = match Round::open(alloc, net, 0, 1) {
+        Ok(opened) => opened,
+        Err(fault) => return told(rt, Err(fault.why)),
+    };
+    let mut worker = workers.pop()?;
+    match live_walk(alloc, &round, &mut worker, 3, 10) {
+        Ok(walk) => told(rt, format!(in alloc; "{:?} {:?}", walk.nodes, walk.end)),
+        Err(fault) => told(rt, Err(fault)),
+    }
 }
 
 /// Whether the router is that of the chain once it leads home.

@@ -9,8 +9,8 @@ use std::alloc::Global;
 use std::sync::Wait;
 use std::thread::Threads;
 
-/// A chain that leads home is parted, and closed again from its other end.
-const LINES: [&str; 11] = [
+/// A chain that leads home is parted, and closed again from its other end; a batch moves a link, and then the destination moves.
+const LINES: [&str; 14] = [
     r#"["net",4,0,[[1,0],[2,1],[3,2]]]"#,
     r#"["links"]"#,
     r#"["cut",1,0]"#,
@@ -22,6 +22,9 @@ const LINES: [&str; 11] = [
     r#"["walk",1]"#,
     r#"["add",0,1]"#,
     r#"["hops"]"#,
+    r#"["batch",[["cut",3,0],["add",1,0]]]"#,
+    r#"["dest",3]"#,
+    r#"["links"]"#,
 ];
 
 /// Writes the answers to the lines.

@@ -1,9 +1,9 @@
 //! Networks for link reversal: nodes and directed links among which no closed walk stands, and the lines of JSON that
 //! ask for them.
 //!
-//! A [`Net`] is made by [`Net::new`] alone, which names the first fault of links that make no network. Layers above
-//! read it by `nodes`, `links`, `degree`, `neighbour` and `row`, and make the network of turned links by `turned_by`, or in
-//! its place by `into_turned`. What its rows show is the law [`rows_law`](laws::rows_law).
+//! A [`Net`] is made by [`Net::new`], which names the first fault of links that make no network. Layers above
+//! read it by `nodes`, `links`, `degree`, `neighbour` and `row`, make one network of another by `with_cut`, `with_link` and
+//! `with_edits`, and make the network of turned links by `turned_by`, or in its place by `into_turned`. What its rows show is the law [`rows_law`](laws::rows_law).
 //! [`read_line`] reads a request.
 #![tactic(auto)]
 

@@ -1,8 +1,8 @@
 //! Routing by full link reversal: a network that is settled again after each change, the way from each node to the
 //! destination, and the answers to request lines.
 //!
-//! A [`Router`] keeps a settled network, and answers next hops and walks. [`Router::change`] cuts or adds a link, and
-//! settles what comes of it by a crew. A [`Session`] answers request after request by a router. The laws of routes and
+//! A [`Router`] keeps a settled network, and answers next hops and walks. [`Router::change`] cuts or adds a link, makes a batch of
+//! edits or moves the destination, and settles what comes of it by a crew. A [`Session`] answers request after request by a router. The laws of routes and
 //! answers are in [`laws`].
 //!
 //! For those who answer lines in another way there are the parts of an answer: [`is_blank`], [`fault_number`],
