@@ -94,11 +94,13 @@ fn check_answers<R: Threads + Wait + Abort + Sync>(
     Ok(())
 }
 
-/// So many edits, which cut the link from 1 to 0 and add it again by turns.
-fn by_turns(alloc: Global, count: usize) -> Result<Vec<Edit>, AllocError> {
-    let mut edits = Vec::with_capacity(alloc, count)?;
+/// So many edits: one that cuts a link of node 0, and then those that add the link from 1 to 0 and cut it again by turns.
+fn by_turns(alloc: Global, first: u32, count: usize) -> Result<Vec<Edit>, AllocError> {
+    let mut edits = Vec::new(alloc);
     for i in 0..count {
-        edits.push(if i % 2 == 0 {
+        edits.push(if i == 0 {
+            Edit::Cut { u: first, v: 0 }
+        } else if i % 2 == 0 {
             Edit::Cut { u: 1, v: 0 }
         } else {
             Edit::Add { u: 1, v: 0 }
@@ -218,17 +220,16 @@ fn too_many_edits_are_not_tried(rt: HostRuntime) -> Result<(), Fail> {
     let alloc = rt.alloc();
     let net = Net::new(alloc, 2, &[(1, 0)])?;
     assert_eq!(rt; MAX_EDITS, 1024);
-    let most = by_turns(alloc, 1024)?;
+    let most = by_turns(alloc, 1, 1024)?;
     assert_eq!(rt; net.with_edits(alloc, &most)?.links(), [(1, 0)].as_slice());
-    let mut over = by_turns(alloc, 1025)?;
-    let too_many = EditFault {
-        at: 1024,
-        fault: NetFault::TooMany,
-    };
-    assert_eq!(rt; net.with_edits(alloc, &over).err(), Some(too_many));
-    over[0] = Edit::Cut { u: 1, v: 1 };
-    let refused = net.with_edits(alloc, &over).err().ok_or("not refused")?;
-    assert_eq!(rt; refused.fault, NetFault::TooMany);
+    for first in [1, 7] {
+        let over = by_turns(alloc, first, 1025)?;
+        let too_many = EditFault {
+            at: 1024,
+            fault: NetFault::TooMany,
+        };
+        assert_eq!(rt; net.with_edits(alloc, &over).err(), Some(too_many));
+    }
     Ok(())
 }
 
