@@ -145,6 +145,15 @@ fn walk_beside<R: Threads + Sync>(
     )
 }
 
+/// The turns of all workers.
+fn all_turns(turned: &[(u32, u64)]) -> u64 {
+    let mut sum = 0u64;
+    for (_, turns) in turned {
+        sum = sum.saturating_add(*turns);
+    }
+    sum
+}
+
 /// The turns of all three workers, the last walk of the third, and what the round closes with.
 fn ended(
     alloc: Global,
@@ -161,7 +170,7 @@ fn ended(
         return Err(Fail::from("too many workers"));
     }
     let closed = round.close(workers);
-    let sum = closed.turned.iter().map(|(_, turns)| *turns).sum::<u64>();
+    let sum = all_turns(&closed.turned);
     Ok(format!(in alloc; "{turned} {sum} {last} {:?}", closed.counts)?)
 }
 
