@@ -17,6 +17,7 @@ pub mod laws;
 mod router;
 mod session;
 mod texts;
+mod version;
 
 pub use blank::is_blank;
 pub use change::{Change, Report};
@@ -25,3 +26,4 @@ pub use hops::{Hop, Walked};
 pub use router::Router;
 pub use session::{Session, fault_number};
 pub use texts::{counts_line, links_line};
+pub use version::VERSION;

@@ -4,7 +4,7 @@ use Rattle.std.specs.Str.Parse.{ParsesUnsigned}
 use Rattle.clap.specs.Words.{Text, rows_of, one_text, ReadsOne}
 use Rattle.clap.proofs.WalkLemmas.{one_text-rows}
 use Rattle.clap.specs.declared.parser.matches.Found.{Found}
-use Rattle.revroute.specs.Commands.{number_of}
+use Rattle.fr_command.specs.Commands.{number_of}
 
 pub number_read : (E : Type 0) (k : ℕ) (G : List ℕ → Result ℕ E → Type 0) (f : Found) (name : Text) → ((u : List ℕ) (x : Result ℕ E) → G u x → ParsesUnsigned k 10 u x)
     → (r : Option ℕ) → (one_text f name ≡ None → r ≡ None) → ((t : List ℕ) → one_text f name ≡ Some t → ReadsOne G t r) → IfSome r (λ n. number_of name (rows_of f) ≡ Some n)

@@ -1,18 +1,18 @@
 -- What a command line asks for.
-use Rattle.std.specs.Prelude.{◌≡◌, ◌≢◌, ◌≤◌, ◌↔◌, ⊤, IsTrue, List, [], Some, codes}
+use Rattle.std.specs.Prelude.{◌≡◌, ◌≢◌, ◌≤◌, ◌↔◌, ◌⊎◌, ⊤, IsTrue, List, [], Some, codes}
 use Rattle.clap.specs.Walk.{Row, Text}
 use Rattle.clap.specs.Simple.{subcommand_of}
 use Rattle.clap.specs.Faults.{fault_of}
 use Rattle.clap.specs.Kinds.{IsAmong}
 use Rattle.clap.specs.declared.error.kind.ErrorKind.{ErrorKind}
-use Rattle.clap.specs.declared.error.kind.ErrorKind.TheVariants.{DisplayHelp, OutOfMemory}
+use Rattle.clap.specs.declared.error.kind.ErrorKind.TheVariants.{DisplayHelp, DisplayVersion, OutOfMemory}
 use Rattle.fr_core.specs.Limits.{most_workers}
 use Rattle.fr_play.specs.Draws.{most_steps}
-use Rattle.revroute.specs.Commands.{command, number_of}
-use Rattle.revroute.specs.declared.task.Task.{Task}
-use Rattle.revroute.specs.declared.task.Task.TheVariants.{Run, Play}
-use Rattle.revroute.specs.declared.task.TaskFault.{TaskFault}
-use Rattle.revroute.specs.declared.task.TaskFault.TheVariants.{Usage, Memory}
+use Rattle.fr_command.specs.Commands.{command, number_of}
+use Rattle.fr_command.specs.declared.task.Task.{Task}
+use Rattle.fr_command.specs.declared.task.Task.TheVariants.{Run, Play}
+use Rattle.fr_command.specs.declared.task.TaskFault.{TaskFault}
+use Rattle.fr_command.specs.declared.task.TaskFault.TheVariants.{Usage, Memory}
 
 -- the task is that of the subcommand of this name, with the numbers of its options, each in its range
 abbrev pub IsTaskOf : Text → List Row → Task → Type 0
@@ -34,12 +34,16 @@ IsTaskIn words task =
     (fault_of command words ≡ [])
     × ((name : Text) × (rows : List Row) × (subcommand_of command words ≡ Some (name, rows)) × IsTaskOf name rows task)
 
--- what is said of an error of this kind: that help was asked for, where it was
+-- the words ask for a text: help or the version
+abbrev pub IsAsking : ErrorKind → Type 0
+IsAsking kind = (kind ≡ DisplayHelp) ⊎ (kind ≡ DisplayVersion)
+
+-- what is said of an error of this kind: that a text was asked for, where it was
 abbrev pub IsUsageOf : ErrorKind → TaskFault → Type 0
-IsUsageOf kind (Usage text asked) = (kind ≢ OutOfMemory) × (IsTrue asked ↔ (kind ≡ DisplayHelp))
+IsUsageOf kind (Usage text asked) = (kind ≢ OutOfMemory) × (IsTrue asked ↔ IsAsking kind)
 IsUsageOf kind Memory = ⊤
 
 -- the words are not those of the command, by one of the kinds of error that `clap` has for them; want of memory may come at all words
 abbrev pub IsFaultOf : List Text → TaskFault → Type 0
-IsFaultOf words (Usage text asked) = (kind : ErrorKind) × IsAmong kind (fault_of command words) × (IsTrue asked ↔ (kind ≡ DisplayHelp))
+IsFaultOf words (Usage text asked) = (kind : ErrorKind) × IsAmong kind (fault_of command words) × (IsTrue asked ↔ IsAsking kind)
 IsFaultOf words Memory = ⊤

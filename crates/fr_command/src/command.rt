@@ -6,12 +6,13 @@ ghost use Rattle.clap.specs.Words.{HasKind, app_of, fault_of, new_app, rule_of, 
 ghost use Rattle.clap.specs.declared.builder.command.Command.TheViews.{out-Command};
 ghost use Rattle.fr_core.specs.Limits.{most_workers};
 ghost use Rattle.fr_play.specs.Draws.{most_steps};
-ghost use Rattle.revroute.specs.Commands.{command, needs_subcommand, run_command as run_command_of, play_command as play_command_of, option as option_of};
+ghost use Rattle.fr_command.specs.Commands.{command, program, run_command as run_command_of, play_command as play_command_of, option as option_of};
 
 use clap::builder::ValueParser;
 use clap::{Arg, ArgMatches, Command, Error, value_parser};
 use fr_core::MAX_WORKERS;
 use fr_play::MAX_STEPS;
+use fr_route::VERSION;
 use std::alloc::{AllocError, Global};
 
 const ABOUT: &str =
@@ -57,12 +58,14 @@ pub(crate) fn matches_of<'a>(alloc: Global, words: &'a [&'a str]) -> Result<ArgM
     whole.try_get_matches_from(words)
 }
 
-/// The program, before its subcommands: one of them has to be given.
+/// The program, before its subcommands: one of them has to be given, and it tells its version.
 fn whole_command<'a>(alloc: Global) -> Command<'a>
-    ensures app { app_of result ≡ on_top needs_subcommand (new_app (codes "revroute")) }
+    ensures app { app_of result ≡ on_top program (new_app (codes "revroute")) }
     ensures local { (out-Command result).has_globals ≡ false }
 {
-    described(alloc, "revroute", ABOUT, EXAMPLE).subcommand_required(true)
+    described(alloc, "revroute", ABOUT, EXAMPLE)
+        .version(VERSION)
+        .subcommand_required(true)
 }
 
 /// The subcommand that answers requests.

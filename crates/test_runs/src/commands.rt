@@ -1,4 +1,7 @@
-use super::*;
+//! What the words of a command line come to.
+
+use fr_command::{TaskFault, task_end, task_of};
+use std::alloc::{AllocError, Global};
 use std::test::Fail;
 
 /// What the words come to: the task, or the exit status and the text.
@@ -82,7 +85,7 @@ const ROWS: &[(&[&str], &str, &str, &str)] = &[
         "",
     ),
     (&["revroute", "fly"], "2 ", "try '--help'", ""),
-    // Help.
+    // Help and the version.
     (
         &["revroute", "--help"],
         "0 Keeps a network of directed links free of loops",
@@ -95,6 +98,7 @@ const ROWS: &[(&[&str], &str, &str, &str)] = &[
         "How many workers turn the network, 1 to 16 [default: 4]",
         "| revroute run --workers 2",
     ),
+    (&["revroute", "--version"], "0 revroute 0.1.0", "", ""),
     (
         &["revroute", "help", "play"],
         "0 Plays a drawn schedule",

@@ -1,8 +1,8 @@
 use Rattle.std.proofs.Common.{codes}
 use Rattle.std.specs.Str.Parse.{ParsesUnsigned, ExplainsUnsignedError, HasUnsignedDigitsIfOk}
 use Rattle.clap.specs.Words.{found_of}
-use Rattle.revroute.proofs.OptionNumbers.{number_read}
-use Rattle.revroute.proofs.task.seed_in.Goals as goal
+use Rattle.fr_command.proofs.OptionNumbers.{number_read}
+use Rattle.fr_command.proofs.task.seed_in.Goals as goal
 
 pub returns : goal.returns
 returns c =

@@ -1,8 +1,8 @@
 use Rattle.std.proofs.Common.{Some, arith}
 use Rattle.std.specs.Str.Parse.{ParsesUnsigned, ExplainsUnsignedError, HasUnsignedDigitsIfOk}
 use Rattle.clap.specs.Words.{found_of}
-use Rattle.revroute.proofs.OptionNumbers.{number_read}
-use Rattle.revroute.proofs.task.number_in.Goals as goal
+use Rattle.fr_command.proofs.OptionNumbers.{number_read}
+use Rattle.fr_command.proofs.task.number_in.Goals as goal
 
 pub returns-in-Some : goal.returns-in-Some
 returns-in-Some c =

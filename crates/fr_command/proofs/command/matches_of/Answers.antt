@@ -1,8 +1,8 @@
 use Rattle.std.proofs.Common.{◌≡◌, map, rules}
 use Rattle.clap.specs.Simple.{app_of}
-use Rattle.revroute.specs.Commands.{command}
-use Rattle.revroute.proofs.Faulting.{refused_kinds, taken_faultless}
-use Rattle.revroute.proofs.command.matches_of.Goals as goal
+use Rattle.fr_command.specs.Commands.{command}
+use Rattle.fr_command.proofs.Faulting.{refused_kinds, taken_faultless}
+use Rattle.fr_command.proofs.command.matches_of.Goals as goal
 
 pub returns-clause-taken : goal.returns-clause-taken
 returns-clause-taken c =

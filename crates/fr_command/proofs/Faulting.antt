@@ -6,10 +6,10 @@ use Rattle.clap.specs.Simple.{App}
 use Rattle.clap.specs.Values.{kind_of}
 use Rattle.clap.specs.Walk.{Text}
 use Rattle.clap.specs.declared.error.Error.{Error}
-use Rattle.revroute.specs.Commands.{command}
-use Rattle.revroute.specs.Tasks.{IsUsageOf, IsFaultOf}
-use Rattle.revroute.specs.declared.task.TaskFault.{TaskFault}
-use Rattle.revroute.specs.declared.task.TaskFault.TheVariants.{Usage, Memory}
+use Rattle.fr_command.specs.Commands.{command}
+use Rattle.fr_command.specs.Tasks.{IsUsageOf, IsFaultOf}
+use Rattle.fr_command.specs.declared.task.TaskFault.{TaskFault}
+use Rattle.fr_command.specs.declared.task.TaskFault.TheVariants.{Usage, Memory}
 
 module _ {T : Type 0} where
   -- words that the command takes have no fault

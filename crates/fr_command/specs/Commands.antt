@@ -35,12 +35,13 @@ run_command = with_rule (with_rule (with_rule (new_app (codes "run")) (workers_o
 abbrev pub play_command : App
 play_command = with_rule (with_rule (with_rule (new_app (codes "play")) (workers_option (codes "2"))) seed_option) steps_option
 
-abbrev pub needs_subcommand : Shape → Shape
-needs_subcommand s = record s { subcommand_required = true }
+-- a command that tells its version, and one of whose subcommands has to be given
+abbrev pub program : Shape → Shape
+program s = record s { has_version = true; subcommand_required = true }
 
--- the program's command: one of the two has to be given
+-- the program's command
 abbrev pub command : App
-command = with_subcommand (with_subcommand (on_top needs_subcommand (new_app (codes "revroute"))) run_command.top) play_command.top
+command = with_subcommand (with_subcommand (on_top program (new_app (codes "revroute"))) run_command.top) play_command.top
 
 -- the number that an option of the words has
 abbrev pub number_of : Text → List Row → Option ℕ

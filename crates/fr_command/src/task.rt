@@ -3,8 +3,8 @@
 ghost use Rattle.std.specs.Prelude.{◌≡◌, ◌≤◌, Some, IfOk, IfErr, IfSome, map, codes};
 ghost use Rattle.clap.specs.Values.{kind_of};
 ghost use Rattle.clap.specs.Words.{found_of, rows_of};
-ghost use Rattle.revroute.specs.Commands.{number_of};
-ghost use Rattle.revroute.specs.Tasks.{IsTaskIn, IsTaskOf, IsUsageOf, IsFaultOf};
+ghost use Rattle.fr_command.specs.Commands.{number_of};
+ghost use Rattle.fr_command.specs.Tasks.{IsTaskIn, IsTaskOf, IsUsageOf, IsFaultOf};
 
 use crate::command::matches_of;
 use clap::error::ErrorKind;
@@ -27,7 +27,8 @@ pub enum Task {
 /// Why the words of a command line ask for no task.
 #[derive(Debug, Drop, FaultError, PartialEq, Eq)]
 pub enum TaskFault {
-    /// Help was asked for, or the words are not those of the command line. The text is the help, or says what is wrong.
+    /// Help or the version was asked for (`asked`), and the text is that; or the words are not those of the command line, and the
+    /// text says what is wrong with them.
     #[error("{text}")]
     Usage { text: String, asked: bool },
     /// An allocation was refused.
@@ -38,7 +39,7 @@ pub enum TaskFault {
 /// The task that the words of a command line ask for, the program's name first: `run`, with 1 to 16 workers, 4 if no number
 /// is given, any seed, or 0, and a budget of at most 1,000,000,000 calls, or 1,000,000; or `play`, with 1 to 16 workers, or
 /// 2, any seed, or 0, and at most 10,000 steps, or 100. `specs/Commands.antt` has the command line as `clap` reads it. `Usage`
-/// where `clap` does not take the words: because they ask for help, or are not those of the command line.
+/// where `clap` does not take the words: because they ask for help or the version, or are not those of the command line.
 pub fn task_of<'a>(alloc: Global, words: &'a [&'a str]) -> Result<Task, TaskFault>
     ensures ok { IfOk result (IsTaskIn (map (λ s. s.now) words.entry.now)) }
     ensures fault { IfErr result (IsFaultOf (map (λ s. s.now) words.entry.now)) }
@@ -96,7 +97,7 @@ fn usage_of(alloc: Global, error: &Error) -> TaskFault
 {
     let asked = match error.kind() {
         ErrorKind::OutOfMemory => return TaskFault::Memory,
-        ErrorKind::DisplayHelp => true,
+        ErrorKind::DisplayHelp | ErrorKind::DisplayVersion => true,
         _ => false,
     };
     match error.to_string(alloc) {
@@ -113,6 +114,3 @@ pub fn task_end(fault: &TaskFault) -> (u8, &str) {
         TaskFault::Memory => (1, "revroute: no memory"),
     }
 }
-
-#[cfg(test)]
-mod tests;
