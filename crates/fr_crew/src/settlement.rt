@@ -83,8 +83,8 @@ pub fn settle_alone(alloc: Global, net: Net, dest: u32) -> Result<Settled, CrewF
     }
 }
 
-/// Turns a network until no node can turn, in a way that is passed in: one that calls [`settle`] or [`settle_alone`]. What is
-/// promised of each way is promised of the answer, and a way that never answers `Start` is told by the third clause.
+/// Turns a network until no node can turn, in a way that is passed in, as a closure over [`settle`] or [`settle_alone`]. The answer
+/// is that of the way, and so `Range` where the destination is no node, and never `Start` where the way never answers it.
 pub fn settle_by<F: Fn(Net, u32) -> Result<Settled, CrewFault>>(
     way: &F,
     net: Net,

@@ -2,8 +2,10 @@
 //! destination, and the answers to request lines.
 //!
 //! A [`Router`] keeps a settled network, and answers next hops and walks. [`Router::change`] cuts or adds a link, makes a batch of
-//! edits or moves the destination, and settles what comes of it by a crew. A [`Session`] answers request after request by a router. The laws of routes and
-//! answers are in [`laws`].
+//! edits or moves the destination, and settles what comes of it by a crew. A [`Session`] answers request after request by a
+//! router. Beside each call that settles stands one that comes to the same on the thread that calls, with no crew:
+//! [`Router::open_alone`], [`Router::change_alone`], [`Session::answer_line_alone`], [`Session::answer_alone`]. The laws of routes
+//! and answers are in [`laws`].
 //!
 //! For those who answer lines in another way there are the parts of an answer: [`is_blank`], [`fault_number`],
 //! [`links_line`] and [`counts_line`].
@@ -17,6 +19,7 @@ pub mod laws;
 mod router;
 mod session;
 mod texts;
+mod version;
 
 pub use blank::is_blank;
 pub use change::{Change, Report};
@@ -25,3 +28,4 @@ pub use hops::{Hop, Walked};
 pub use router::Router;
 pub use session::{Session, fault_number};
 pub use texts::{counts_line, links_line};
+pub use version::VERSION;

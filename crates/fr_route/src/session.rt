@@ -1,10 +1,11 @@
 //! What the requests so far have made, and the answer to the next one.
 
-ghost use Rattle.std.specs.Prelude.{◌≡◌, ◌≢◌, ℕ, ◌<◌, true, false, Some, None, IfOk, IfErr, OnErr, IfSome, IfNone, string_bytes};
+ghost use Rattle.std.specs.Prelude.{◌≡◌, ◌≢◌, ℕ, ◌<◌, ◌≤◌, ◌⊎◌, length, true, false, Some, None, IfOk, IfErr, OnErr, IfSome, IfNone, string_bytes};
 ghost use Rattle.fr_net.specs.Requests.{ask, new_network, walk_from, plain, reading};
 ghost use Rattle.fr_crew.specs.Settlements.{Settles, NeverStarts};
 ghost use Rattle.fr_route.specs.Blank.{is_blank as is_blank_line};
 ghost use Rattle.fr_route.specs.Answers.{IsAnswer, IsLineAnswer, IsReportLine, fault_number as fault_number_of};
+ghost use Rattle.fr_route.specs.Texts.{longest_report};
 ghost use Rattle.fr_route.specs.Refusals.{request_of_change, IsRefusalOf};
 ghost use Rattle.fr_route.specs.declared.fault.AnswerFault.TheVariants.{Start, Memory};
 ghost use Rattle.fr_route.specs.declared.fault.RouteFault.TheVariants.{Start as RouteStart};
@@ -81,6 +82,7 @@ impl Session {
         ensures text { IfOk result (λ answer. IfSome answer (λ text. (is_blank_line line.now ≡ false)
             × IsLineAnswer self.old (reading line.now) (string_bytes text) self.new)) }
         ensures unchanged { OnErr result ((is_blank_line line.now ≡ false) × (self.new ≡ self.old)) }
+        ensures short { IfOk result (λ answer. IfSome answer (λ text. (self.new ≡ self.old) ⊎ (length (string_bytes text) ≤ longest_report))) }
         ensures no_start { IfErr result (λ fault. fault ≢ Start) }
     {
         self.answer_line_by(alloc, line, &|net, dest| settle_alone(alloc, net, dest))
@@ -98,6 +100,7 @@ impl Session {
         ensures text { IfOk result (λ answer. IfSome answer (λ text. (is_blank_line line.now ≡ false)
             × IsLineAnswer self.old (reading line.now) (string_bytes text) self.new)) }
         ensures unchanged { OnErr result ((is_blank_line line.now ≡ false) × (self.new ≡ self.old)) }
+        ensures short { IfOk result (λ answer. IfSome answer (λ text. (self.new ≡ self.old) ⊎ (length (string_bytes text) ≤ longest_report))) }
         ensures no_start { NeverStarts F.post way.now → IfErr result (λ fault. fault ≢ Start) }
     {
         if is_blank(line) {
@@ -134,6 +137,7 @@ impl Session {
     pub fn answer_alone(&mut self, alloc: Global, request: &Request) -> Result<String, AnswerFault>
         ensures text { IfOk result (λ text. IsAnswer self.old (plain request.now) (string_bytes text) self.new) }
         ensures unchanged { OnErr result (self.new ≡ self.old) }
+        ensures short { IfOk result (λ text. (self.new ≡ self.old) ⊎ (length (string_bytes text) ≤ longest_report)) }
         ensures no_start { IfErr result (λ fault. fault ≢ Start) }
     {
         self.answer_by(alloc, request, &|net, dest| settle_alone(alloc, net, dest))
@@ -149,6 +153,7 @@ impl Session {
         requires { Settles F.pre F.post way.now }
         ensures text { IfOk result (λ text. IsAnswer self.old (plain request.now) (string_bytes text) self.new) }
         ensures unchanged { OnErr result (self.new ≡ self.old) }
+        ensures short { IfOk result (λ text. (self.new ≡ self.old) ⊎ (length (string_bytes text) ≤ longest_report)) }
         ensures no_start { NeverStarts F.post way.now → IfErr result (λ fault. fault ≢ Start) }
     {
         match request {
@@ -179,6 +184,7 @@ impl Session {
         requires { Settles F.pre F.post way.now }
         ensures text { IfOk result (λ text. IsAnswer self.old (new_network nodes dest links.now) (string_bytes text) self.new) }
         ensures unchanged { OnErr result (self.new ≡ self.old) }
+        ensures short { IfOk result (λ text. (self.new ≡ self.old) ⊎ (length (string_bytes text) ≤ longest_report)) }
         ensures no_start { NeverStarts F.post way.now → IfErr result (λ fault. fault ≢ Start) }
     {
         let net = match Net::new(alloc, nodes, links) {
@@ -201,6 +207,7 @@ impl Session {
         requires { Settles F.pre F.post way.now }
         ensures text { IfOk result (λ text. IsAnswer self.old (request_of_change change) (string_bytes text) self.new) }
         ensures unchanged { OnErr result (self.new ≡ self.old) }
+        ensures short { IfOk result (λ text. (self.new ≡ self.old) ⊎ (length (string_bytes text) ≤ longest_report)) }
         ensures no_start { NeverStarts F.post way.now → IfErr result (λ fault. fault ≢ Start) }
     {
         let Some(router) = &self.router else {
@@ -216,6 +223,7 @@ impl Session {
     fn put(&mut self, alloc: Global, router: Router) -> Result<String, AnswerFault>
         ensures text { IfOk result (λ text. IsReportLine router (string_bytes text) × (self.new ≡ Some router)) }
         ensures unchanged { OnErr result (self.new ≡ self.old) }
+        ensures short { IfOk result (λ text. length (string_bytes text) ≤ longest_report) }
         ensures memory { IfErr result (λ fault. fault ≡ Memory) }
     {
         let text = report_line(alloc, router.report())?;
