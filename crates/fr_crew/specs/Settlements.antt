@@ -34,7 +34,7 @@ pub record Settles {F : Type 0} (pre : F → Network → ℕ → Type 0) (post :
 abbrev pub NeverStarts : {F : Type 0} (post : F → Network → ℕ → Result Settled CrewFault → Type 0) → F → Type 0
 NeverStarts post way = (net : Network) (d : ℕ) (answer : Result Settled CrewFault) → d < 2 ^ 32 → post way net d answer → IfErr answer (λ fault. fault ≢ Start)
 
--- what a first look at a network finds: it is settled as it is, or else it is handed on with lawful counts of 0
+-- what a first look at a network finds: it is settled and nobody turned, or else it is handed on with lawful counts of 0
 abbrev pub IsBegun : Network → ℕ → Begun → Type 0
-IsBegun first d (Still s) = IsSettlement first.nodes d first.links s
+IsBegun first d (Still s) = IsSettlement first.nodes d first.links s × (s.by_workers ≡ 0)
 IsBegun first d (Turning net counts) = (net ≡ first) × (d < net.nodes) × AreLawful net.nodes d net.links counts.items × (sum counts.items ≡ 0)

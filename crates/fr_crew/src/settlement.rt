@@ -75,6 +75,7 @@ pub fn settle<R: Threads + Wait + Sync, G: Gate + Sync>(
 pub fn settle_alone(alloc: Global, net: Net, dest: u32) -> Result<Settled, CrewFault>
     ensures settled { IfOk result (λ settled. IsSettlement net.nodes dest net.links settled) }
     ensures range { IfErr result (λ fault. (fault ≡ Range) ↔ (net.nodes ≤ dest)) }
+    ensures by_finisher { IfOk result (λ settled. settled.by_workers ≡ 0) }
     ensures no_start { IfErr result (λ fault. fault ≢ Start) }
 {
     match begin(alloc, net, dest)? {
@@ -202,7 +203,8 @@ fn finished(net: Net, dest: u32, mut counts: Vec<u64>, by_workers: u64) -> Settl
     requires node { dest < net.nodes }
     requires lawful { AreLawful net.nodes dest net.links counts.items }
     requires turned { by_workers ≡ sum counts.items }
-    ensures { IsSettlement net.nodes dest net.links result }
+    ensures settled { IsSettlement net.nodes dest net.links result }
+    ensures by_workers { result.by_workers ≡ by_workers }
 {
     net.network_law();
     let by_finisher = finish_rest(&net, dest, &mut counts);
