@@ -1,11 +1,9 @@
 -- What it is to have settled a network.
 use Rattle.std.specs.Prelude.{◌≡◌, ◌≢◌, ℕ, ◌<◌, ◌≤◌, ◌+◌, ◌*◌, ◌^◌, ◌↔◌, List, sum, Result, IfOk, IfErr}
 use Rattle.fr_net.specs.Network.{Network, net_of}
-use Rattle.fr_net.specs.Counts.{AreLawful, links_at}
+use Rattle.fr_net.specs.Counts.{links_at}
 use Rattle.fr_core.specs.Settled.{AreSettled}
 use Rattle.fr_crew.specs.declared.settlement.Settled.{Settled}
-use Rattle.fr_crew.specs.declared.settlement.Begun.{Begun}
-use Rattle.fr_crew.specs.declared.settlement.Begun.TheVariants.{Still, Turning}
 use Rattle.fr_crew.specs.declared.fault.CrewFault.{CrewFault}
 use Rattle.fr_crew.specs.declared.fault.CrewFault.TheVariants.{Range, Start}
 
@@ -33,8 +31,3 @@ pub record Settles {F : Type 0} (pre : F → Network → ℕ → Type 0) (post :
 -- a way that never answers `Start`
 abbrev pub NeverStarts : {F : Type 0} (post : F → Network → ℕ → Result Settled CrewFault → Type 0) → F → Type 0
 NeverStarts post way = (net : Network) (d : ℕ) (answer : Result Settled CrewFault) → d < 2 ^ 32 → post way net d answer → IfErr answer (λ fault. fault ≢ Start)
-
--- what a first look at a network finds: it is settled and nobody turned, or else it is handed on with lawful counts of 0
-abbrev pub IsBegun : Network → ℕ → Begun → Type 0
-IsBegun first d (Still s) = IsSettlement first.nodes d first.links s × (s.by_workers ≡ 0)
-IsBegun first d (Turning net counts) = (net ≡ first) × (d < net.nodes) × AreLawful net.nodes d net.links counts.items × (sum counts.items ≡ 0)

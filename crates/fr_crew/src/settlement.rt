@@ -5,7 +5,8 @@ ghost use Rattle.fr_net.specs.Counts.{AreLawful};
 ghost use Rattle.fr_core.specs.History.{moment_of};
 ghost use Rattle.fr_core.specs.Legal.{NoneCanTurn};
 ghost use Rattle.fr_core.specs.Settled.{AreSettled};
-ghost use Rattle.fr_crew.specs.Settlements.{IsSettlement, IsBegun, Settles, NeverStarts};
+ghost use Rattle.fr_crew.specs.Settlements.{IsSettlement, Settles, NeverStarts};
+ghost use Rattle.fr_crew.specs.Beginnings.{IsBegun};
 ghost use Rattle.fr_crew.specs.declared.fault.CrewFault.TheVariants.{Range, Start, Memory};
 
 use crate::crew::run_crew;

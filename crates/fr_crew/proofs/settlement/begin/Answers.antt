@@ -29,14 +29,16 @@ returns-clause-begun c =
     let lawful : AreLawful n d first none = zeros_lawful n d first in
     let left : NoneCanTurn n d (moment_of first none) = subst (λ (counts : List ℕ). NoneCanTurn n d (moment_of first counts)) (c.deref.ensures.value ∙ zeros) (c.can_any_turn.ensures c.if-can_any_turn.false) in
     let sorted : AreInOrder first = subst (λ (m : Network). AreInOrder m.links) c.net.view_is c.net.invariant.sorted in
-    let order : in_order (links_at first none) ≡ first = ap in_order (links_at-zeros n first) ∙ sym (order_of_listed first first (IsPermutation-refl first) sorted) in
-    (record {
-      destination = below;
-      counts = rw zeros (settled_from_none n d first c.nodes.ensures.faultless.is_net below none lawful left);
-      links = rw zeros (ap (λ (links : List (ℕ × ℕ)). record { nodes = n; links = links }) (sym order));
-      turns = rw zeros (sym (sum_by-replicate (λ (x : ℕ). x) n 0 ∙ mul-zero n));
-      most = rw zeros (lawful_sum n d first none lawful);
-    }, refl)
+    let order : in_order (links_at first none) ≡ first = ap in_order (links_at-zeros n first) ∙ sym (order_of_listed first first (IsPermutation-refl first) sorted) in (
+      record {
+        destination = below;
+        counts = rw zeros (settled_from_none n d first c.nodes.ensures.faultless.is_net below none lawful left);
+        links = rw zeros (ap (λ (links : List (ℕ × ℕ)). record { nodes = n; links = links }) (sym order));
+        turns = rw zeros (sym (sum_by-replicate (λ (x : ℕ). x) n 0 ∙ mul-zero n));
+        most = rw zeros (lawful_sum n d first none lawful);
+      },
+      refl,
+    )
 
 pub returns-then-can_any_turn-clause-begun : goal.returns-then-can_any_turn-clause-begun
 returns-then-can_any_turn-clause-begun c =
