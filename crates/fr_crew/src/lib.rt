@@ -2,7 +2,7 @@
 //! answer is the same.
 //!
 //! [`settle`] opens a round, runs it by the workers of a [`Plan`], and finishes on one thread what these leave. A
-//! [`Gate`] is called round each call of a worker. [`live_walk`] follows the links of an open round while workers turn.
+//! [`Gate`] is called round each call of a worker. [`settle_alone`] needs no thread and comes to the same. [`live_walk`] follows the links of an open round while workers turn.
 #![tactic(auto)]
 
 mod crew;
@@ -19,4 +19,4 @@ pub use fault::CrewFault;
 pub use gate::{Gate, OpenGate};
 pub use live_walks::{LiveEnd, LiveFault, LiveWalk, live_walk};
 pub use plan::Plan;
-pub use settlement::{Settled, settle};
+pub use settlement::{Settled, settle, settle_alone, settle_by};

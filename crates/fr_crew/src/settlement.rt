@@ -5,8 +5,9 @@ ghost use Rattle.fr_net.specs.Counts.{AreLawful};
 ghost use Rattle.fr_core.specs.History.{moment_of};
 ghost use Rattle.fr_core.specs.Legal.{NoneCanTurn};
 ghost use Rattle.fr_core.specs.Settled.{AreSettled};
-ghost use Rattle.fr_crew.specs.Settlements.{IsSettlement};
-ghost use Rattle.fr_crew.specs.declared.fault.CrewFault.TheVariants.{Range, Memory};
+ghost use Rattle.fr_crew.specs.Settlements.{IsSettlement, Settles, NeverStarts};
+ghost use Rattle.fr_crew.specs.Beginnings.{IsBegun};
+ghost use Rattle.fr_crew.specs.declared.fault.CrewFault.TheVariants.{Range, Start, Memory};
 
 use crate::crew::run_crew;
 use crate::fault::CrewFault;
@@ -58,22 +59,80 @@ pub fn settle<R: Threads + Wait + Sync, G: Gate + Sync>(
     ensures settled { IfOk result (λ settled. IsSettlement net.nodes dest net.links settled) }
     ensures range { IfErr result (λ fault. (fault ≡ Range) ↔ (net.nodes ≤ dest)) }
 {
+    if plan.budget() == 0 {
+        return settle_alone(alloc, net, dest);
+    }
+    match begin(alloc, net, dest)? {
+        Begun::Still(settled) => Ok(settled),
+        Begun::Turning { net, counts: _ } => settle_by_crew(rt, alloc, net, dest, plan, gate),
+    }
+}
+
+/// Turns a network until no node can turn, on the thread that calls: by [`finish`](fr_core::finish) alone. The answer is that
+/// of [`settle`], all turns being the finisher's. It starts no thread and waits for nobody.
+///
+/// `Range` where the destination is no node, which is tested first, or else `Memory`; never `Start`. Where there is a fault, the
+/// network is given up.
+pub fn settle_alone(alloc: Global, net: Net, dest: u32) -> Result<Settled, CrewFault>
+    ensures settled { IfOk result (λ settled. IsSettlement net.nodes dest net.links settled) }
+    ensures range { IfErr result (λ fault. (fault ≡ Range) ↔ (net.nodes ≤ dest)) }
+    ensures by_finisher { IfOk result (λ settled. settled.by_workers ≡ 0) }
+    ensures no_start { IfErr result (λ fault. fault ≢ Start) }
+{
+    match begin(alloc, net, dest)? {
+        Begun::Still(settled) => Ok(settled),
+        Begun::Turning { net, counts } => Ok(finished(net, dest, counts, 0)),
+    }
+}
+
+/// Turns a network until no node can turn, in a way that is passed in, as a closure over [`settle`] or [`settle_alone`]. The answer
+/// is that of the way, and so `Range` where the destination is no node, and never `Start` where the way never answers it.
+pub fn settle_by<F: Fn(Net, u32) -> Result<Settled, CrewFault>>(
+    way: &F,
+    net: Net,
+    dest: u32,
+) -> Result<Settled, CrewFault>
+    requires { Settles F.pre F.post way.now }
+    ensures settled { IfOk result (λ settled. IsSettlement net.nodes dest net.links settled) }
+    ensures range { IfErr result (λ fault. (fault ≡ Range) ↔ (net.nodes ≤ dest)) }
+    ensures no_start { NeverStarts F.post way.now → IfErr result (λ fault. fault ≢ Start) }
+{
+    way(net, dest)
+}
+
+/// What a first look at a network finds.
+#[derive(Drop)]
+enum Begun {
+    /// No node can turn, so the network is settled as it is.
+    Still(Settled),
+    /// Some node can turn. The network is as it was, and the counts are 0.
+    Turning {
+        /// The network.
+        net: Net,
+        /// How often each node turned: never.
+        counts: Vec<u64>,
+    },
+}
+
+/// Looks whether any node can turn in the first links. `Range` where the destination is no node, or else `Memory`.
+fn begin(alloc: Global, net: Net, dest: u32) -> Result<Begun, CrewFault>
+    ensures begun { IfOk result (IsBegun net dest) }
+    ensures range { IfErr result (λ fault. (fault ≡ Range) ↔ (net.nodes ≤ dest)) }
+    ensures no_start { IfErr result (λ fault. fault ≢ Start) }
+{
     if dest >= net.nodes() {
         return Err(CrewFault::Range);
     }
     let counts = vec![in alloc; 0u64; net.nodes() as usize]?;
-    if !can_any_turn(&net, dest, &counts) {
-        return Ok(Settled {
-            net,
-            counts,
-            by_workers: 0,
-            by_finisher: 0,
-        });
+    if can_any_turn(&net, dest, &counts) {
+        return Ok(Begun::Turning { net, counts });
     }
-    if plan.budget() == 0 {
-        return Ok(finished(net, dest, counts, 0));
-    }
-    settle_by_crew(rt, alloc, net, dest, plan, gate)
+    Ok(Begun::Still(Settled {
+        net,
+        counts,
+        by_workers: 0,
+        by_finisher: 0,
+    }))
 }
 
 /// Opens a round, lets a crew of threads turn its nodes, and finishes what they leave.
@@ -145,7 +204,8 @@ fn finished(net: Net, dest: u32, mut counts: Vec<u64>, by_workers: u64) -> Settl
     requires node { dest < net.nodes }
     requires lawful { AreLawful net.nodes dest net.links counts.items }
     requires turned { by_workers ≡ sum counts.items }
-    ensures { IsSettlement net.nodes dest net.links result }
+    ensures settled { IsSettlement net.nodes dest net.links result }
+    ensures by_workers { result.by_workers ≡ by_workers }
 {
     net.network_law();
     let by_finisher = finish_rest(&net, dest, &mut counts);

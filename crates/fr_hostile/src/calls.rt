@@ -2,10 +2,10 @@
 
 use crate::telling::{number_told, told};
 use fr_core::{Machine, Target, check_run, play};
-use fr_crew::{OpenGate, Plan, live_walk, settle};
-use fr_net::{Edit, LineFault, Net, Request, read_line};
+use fr_crew::{OpenGate, Plan, live_walk, settle, settle_alone};
+use fr_net::{Edit, LineFault, Net, Question, Request, read_line};
 use fr_round::{OpenWhy, Round};
-use fr_route::{Change, Report, Router, counts_line, links_line};
+use fr_route::{Change, Report, Router, Session, counts_line, links_line};
 use std::alloc::{AllocError, Global};
 use std::sync::Wait;
 use std::thread::Threads;
@@ -52,7 +52,10 @@ pub fn answer_of<R: Threads + Wait + Sync + Alloc<A = Global> + Print + Eprint>(
         10 => settled_with_growth(rt),
         11 => routed(rt),
         12 => edited_network(rt),
-        _ => walked_live(rt),
+        13 => walked_live(rt),
+        14 => settled_alone(rt),
+        15 => routed_alone(rt),
+        _ => answered_alone(rt),
     }
 }
 
@@ -208,6 +211,37 @@ fn routed<R: Threads + Wait + Sync + Alloc<A = Global> + Print + Eprint>(rt: &R)
     let walked = told(rt, router.walk(alloc, 2))?;
     let links = told(rt, links_line(alloc, router.net().links()))?;
     told(rt, format!(in alloc; "{links} {walked:?}"))
+}
+
+fn settled_alone<R: Alloc<A = Global> + Eprint>(rt: &R) -> Option<String> {
+    let net = chain(rt)?;
+    let settled = told(rt, settle_alone(rt.alloc(), net, 0))?;
+    told(rt, counts_line(rt.alloc(), &settled.counts))
+}
+
+/// A router on the calling thread alone. Where its change finds no memory, it has to be as it was.
+fn routed_alone<R: Alloc<A = Global> + Print + Eprint>(rt: &R) -> Option<String> {
+    let alloc = rt.alloc();
+    let mut router = told(rt, Router::open_alone(alloc, chain(rt)?, 0))?;
+    let cut = Change::Cut { u: 2, v: 1 };
+    if told(rt, router.change_alone(alloc, cut)).is_none() {
+        if !is_chain_home(&router) {
+            let _ = rt.println("the router has changed");
+        }
+        return None;
+    }
+    told(rt, links_line(alloc, router.net().links()))
+}
+
+/// A line and a request, answered on the calling thread alone.
+fn answered_alone<R: Alloc<A = Global> + Eprint>(rt: &R) -> Option<String> {
+    let alloc = rt.alloc();
+    let line = br#"["net",4,0,[[0,1],[1,2],[2,3]]]"#;
+    let mut session = Session::new();
+    let report = told(rt, session.answer_line_alone(alloc, line))??;
+    let request = Request::Ask(Question::Links);
+    let links = told(rt, session.answer_alone(alloc, &request))?;
+    told(rt, format!(in alloc; "{report} {links}"))
 }
 
 /// A walk in an open round on a chain that leads home.

@@ -1,5 +1,5 @@
 -- What a change makes, by the network and the destination with which the round after it begins.
-use Rattle.std.proofs.Common.{List, [], ap, arith, subst, ℕ, ◌++◌, ◌<◌, ◌∙◌, ◌∷◌, ◌≡◌, ◌≤◌, length}
+use Rattle.std.proofs.Common.{List, [], Some, ap, arith, inl, refl, subst, ℕ, ◌++◌, ◌<◌, ◌∙◌, ◌∷◌, ◌≡◌, ◌≤◌, length}
 use Rattle.fr_net.specs.Batches.{AreMade, IsMade}
 use Rattle.fr_net.specs.Edits.{without}
 use Rattle.fr_net.specs.Faults.{IsNetworkOf}
@@ -8,10 +8,12 @@ use Rattle.fr_net.specs.Links.{Joins}
 use Rattle.fr_net.specs.Network.{Network}
 use Rattle.fr_net.specs.declared.requests.Edit.{Edit}
 use Rattle.fr_net.specs.declared.requests.Edit.TheVariants as edit
+use Rattle.fr_route.specs.Answers.{IsAnswer, fault_number}
 use Rattle.fr_route.specs.Changes.{IsBatch, IsChanged, IsOpenFault, IsRouteFault, NamesNoNode}
+use Rattle.fr_route.specs.Refusals.{IsRefusalOf, request_of_change}
 use Rattle.fr_route.specs.States.{State, IsRound, net_at}
 use Rattle.fr_route.specs.declared.change.Change.{Change}
-use Rattle.fr_route.specs.declared.change.Change.TheVariants.{Add, Cut, Destination}
+use Rattle.fr_route.specs.declared.change.Change.TheVariants.{Add, Batch, Cut, Destination}
 use Rattle.fr_route.specs.declared.fault.RouteFault.{RouteFault}
 use Rattle.fr_route.specs.declared.fault.RouteFault.TheVariants.{Memory, Net, Range, Start}
 use Rattle.fr_route.proofs.RoundEnds.{round_listed}
@@ -71,3 +73,16 @@ begins_fault s change net d (Net fault) b h = absurd h
 begins_fault s change net d Range b h = b.no_node h
 begins_fault s change net d Start b h = b.a_node h
 begins_fault s change net d Memory b h = tt
+
+-- a change that is refused for this fault is answered by its text
+pub refused_change : (s : State) (change : Change) (fault : RouteFault) (text : List ℕ) → IsRouteFault s change fault → IsRefusalOf fault text → IsAnswer (Some s) (request_of_change change) text (Some s)
+refused_change s (Cut u v) (Net fault) text why is = inl (fault_number fault, (fault, why, refl), is, refl)
+refused_change s (Add u v) (Net fault) text why is = inl (fault_number fault, (fault, why, refl), is, refl)
+refused_change s (Batch edits) (Net fault) text why is = inl (fault_number fault, (why.0, why.1.0, ap fault_number why.1.1), is, refl)
+refused_change s (Destination d) (Net fault) text why is = absurd why
+refused_change s (Cut u v) Range text why is = absurd why
+refused_change s (Add u v) Range text why is = absurd why
+refused_change s (Batch edits) Range text why is = absurd why
+refused_change s (Destination d) Range text why is = inl (4, (why, refl), is, refl)
+refused_change s change Start text why is = absurd is
+refused_change s change Memory text why is = absurd is

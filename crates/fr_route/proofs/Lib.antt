@@ -7,3 +7,4 @@ pub mod Changing
 pub mod Determined
 pub mod FirstFaults
 pub mod EachAnswer
+pub mod ShortTexts

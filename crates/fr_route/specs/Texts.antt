@@ -42,5 +42,9 @@ no_walk_text node = codes "walk " ++ (decimal node ++ codes " cut")
 abbrev pub report_text : ℕ → ℕ → List ℕ
 report_text turned cut = codes "turned " ++ (decimal turned ++ (codes " cut " ++ decimal cut))
 
+-- a report has at most so many bytes: its words, and two numbers below 2 ^ 64
+abbrev pub longest_report : ℕ
+longest_report = 52
+
 abbrev pub refusal_text : ℕ → List ℕ
 refusal_text number = codes "refused " ++ decimal number

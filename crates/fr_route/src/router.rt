@@ -1,7 +1,8 @@
 //! Routers.
 
-ghost use Rattle.std.specs.Prelude.{◌≡◌, ◌<◌, IfOk, IfErr, OnErr};
-ghost use Rattle.fr_route.specs.declared.fault.RouteFault.TheVariants.{Memory};
+ghost use Rattle.std.specs.Prelude.{◌≡◌, ◌≢◌, ◌<◌, IfOk, IfErr, OnErr};
+ghost use Rattle.fr_crew.specs.Settlements.{Settles, NeverStarts};
+ghost use Rattle.fr_route.specs.declared.fault.RouteFault.TheVariants.{Start, Memory};
 ghost use Rattle.fr_route.specs.States.{IsRound, IsReport};
 ghost use Rattle.fr_route.specs.Routes.{IsHop, AreHops, IsWalked};
 ghost use Rattle.fr_route.specs.Changes.{IsOpenFault, IsChanged, IsRouteFault};
@@ -9,7 +10,7 @@ ghost use Rattle.fr_route.specs.Changes.{IsOpenFault, IsChanged, IsRouteFault};
 use crate::change::{Change, Report};
 use crate::fault::RouteFault;
 use crate::hops::{Hop, Walked, cut_count, hop_table};
-use fr_crew::{Gate, Plan, Settled, settle};
+use fr_crew::{CrewFault, Gate, Plan, Settled, settle, settle_alone, settle_by};
 use fr_net::Net;
 use std::alloc::Global;
 use std::marker::Model;
@@ -54,13 +55,47 @@ impl Router {
         ensures opened { IfOk result (λ router. (dest < net.nodes) × IsRound net.nodes dest net.links router) }
         ensures fault { IfErr result (IsOpenFault net.nodes dest) }
     {
+        Router::open_by(
+            alloc,
+            net,
+            dest,
+            &|net, dest| { settle(rt, alloc, net, dest, plan, gate) },
+        )
+    }
+
+    /// The same on the thread that calls, with no crew: it starts no thread, waits for nobody, and never answers `Start`.
+    pub fn open_alone(alloc: Global, net: Net, dest: u32) -> Result<Router, RouteFault>
+        ensures opened { IfOk result (λ router. (dest < net.nodes) × IsRound net.nodes dest net.links router) }
+        ensures fault { IfErr result (IsOpenFault net.nodes dest) }
+        ensures no_start { IfErr result (λ fault. fault ≢ Start) }
+    {
+        Router::open_by(
+            alloc,
+            net,
+            dest,
+            &|net, dest| settle_alone(alloc, net, dest),
+        )
+    }
+
+    /// Settles a network in a way that is passed in.
+    pub(crate) fn open_by<F: Fn(Net, u32) -> Result<Settled, CrewFault>>(
+        alloc: Global,
+        net: Net,
+        dest: u32,
+        way: &F,
+    ) -> Result<Router, RouteFault>
+        requires { Settles F.pre F.post way.now }
+        ensures opened { IfOk result (λ router. (dest < net.nodes) × IsRound net.nodes dest net.links router) }
+        ensures fault { IfErr result (IsOpenFault net.nodes dest) }
+        ensures no_start { NeverStarts F.post way.now → IfErr result (λ fault. fault ≢ Start) }
+    {
         net.network_law();
         let Settled {
             net,
             counts,
             by_workers,
             by_finisher,
-        } = settle(rt, alloc, net, dest, plan, gate)?;
+        } = settle_by(way, net, dest)?;
         let hops = hop_table(alloc, &net, dest, &counts)?;
         let report = Report {
             turned: by_workers + by_finisher,
@@ -75,17 +110,17 @@ impl Router {
         })
     }
 
-    /// The router of the changed network, settled anew by a crew. All that the change needs is made here.
-    pub(crate) fn changed<R: Threads + Wait + Sync, G: Gate + Sync>(
+    /// The router of the changed network, settled anew in a way that is passed in. All that the change needs is made here.
+    pub(crate) fn changed<F: Fn(Net, u32) -> Result<Settled, CrewFault>>(
         &self,
-        rt: &R,
         alloc: Global,
         change: &Change,
-        plan: &Plan,
-        gate: &G,
+        way: &F,
     ) -> Result<Router, RouteFault>
+        requires { Settles F.pre F.post way.now }
         ensures changed { IfOk result (IsChanged self.now change.now) }
         ensures fault { IfErr result (IsRouteFault self.now change.now) }
+        ensures no_start { NeverStarts F.post way.now → IfErr result (λ fault. fault ≢ Start) }
     {
         let (net, dest) = match change {
             Change::Cut { u, v } => (self.net.with_cut(alloc, *u, *v)?, self.dest),
@@ -93,7 +128,7 @@ impl Router {
             Change::Batch(edits) => (self.net.with_edits(alloc, edits)?, self.dest),
             Change::Destination { dest } => (self.net.with_edits(alloc, &[])?, *dest),
         };
-        Router::open(rt, alloc, net, dest, plan, gate)
+        Router::open_by(alloc, net, dest, way)
     }
 
     /// Changes the network or its destination and settles it anew by a crew, by the plan and under the gate, and answers what
@@ -114,7 +149,39 @@ impl Router {
         ensures fault { IfErr result (IsRouteFault self.old change) }
         ensures unchanged { OnErr result (self.new ≡ self.old) }
     {
-        let router = self.changed(rt, alloc, &change, plan, gate)?;
+        self.change_by(
+            alloc,
+            &change,
+            &|net, dest| { settle(rt, alloc, net, dest, plan, gate) },
+        )
+    }
+
+    /// The same on the thread that calls, with no crew: it starts no thread, waits for nobody, and never answers `Start`.
+    pub fn change_alone(&mut self, alloc: Global, change: Change) -> Result<Report, RouteFault>
+        ensures changed { IfOk result (λ _. IsChanged self.old change self.new) }
+        ensures report { IfOk result (λ report. IsReport self.new report.turned report.cut) }
+        ensures fault { IfErr result (IsRouteFault self.old change) }
+        ensures unchanged { OnErr result (self.new ≡ self.old) }
+        ensures no_start { IfErr result (λ fault. fault ≢ Start) }
+    {
+        self.change_by(alloc, &change, &|net, dest| settle_alone(alloc, net, dest))
+    }
+
+    /// Changes the network or its destination, settled anew in a way that is passed in.
+    fn change_by<F: Fn(Net, u32) -> Result<Settled, CrewFault>>(
+        &mut self,
+        alloc: Global,
+        change: &Change,
+        way: &F,
+    ) -> Result<Report, RouteFault>
+        requires { Settles F.pre F.post way.now }
+        ensures changed { IfOk result (λ _. IsChanged self.old change.now self.new) }
+        ensures report { IfOk result (λ report. IsReport self.new report.turned report.cut) }
+        ensures fault { IfErr result (IsRouteFault self.old change.now) }
+        ensures unchanged { OnErr result (self.new ≡ self.old) }
+        ensures no_start { NeverStarts F.post way.now → IfErr result (λ fault. fault ≢ Start) }
+    {
+        let router = self.changed(alloc, change, way)?;
         let report = router.report();
         *self = router;
         Ok(report)

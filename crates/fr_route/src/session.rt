@@ -1,11 +1,14 @@
 //! What the requests so far have made, and the answer to the next one.
 
-ghost use Rattle.std.specs.Prelude.{◌≡◌, ℕ, ◌<◌, true, false, Some, None, IfOk, IfErr, OnErr, IfSome, IfNone, string_bytes};
+ghost use Rattle.std.specs.Prelude.{◌≡◌, ◌≢◌, ℕ, ◌<◌, ◌≤◌, ◌⊎◌, length, true, false, Some, None, IfOk, IfErr, OnErr, IfSome, IfNone, string_bytes};
 ghost use Rattle.fr_net.specs.Requests.{ask, new_network, walk_from, plain, reading};
+ghost use Rattle.fr_crew.specs.Settlements.{Settles, NeverStarts};
 ghost use Rattle.fr_route.specs.Blank.{is_blank as is_blank_line};
 ghost use Rattle.fr_route.specs.Answers.{IsAnswer, IsLineAnswer, IsReportLine, fault_number as fault_number_of};
+ghost use Rattle.fr_route.specs.Texts.{longest_report};
 ghost use Rattle.fr_route.specs.Refusals.{request_of_change, IsRefusalOf};
-ghost use Rattle.fr_route.specs.declared.fault.AnswerFault.TheVariants.{Memory};
+ghost use Rattle.fr_route.specs.declared.fault.AnswerFault.TheVariants.{Start, Memory};
+ghost use Rattle.fr_route.specs.declared.fault.RouteFault.TheVariants.{Start as RouteStart};
 
 use crate::blank::is_blank;
 use crate::change::Change;
@@ -15,7 +18,7 @@ use crate::router::Router;
 use crate::texts::{
     counts_line, hops_line, links_line, no_walk_line, refusal_line, report_line, walk_line,
 };
-use fr_crew::{Gate, Plan};
+use fr_crew::{CrewFault, Gate, Plan, Settled, settle, settle_alone};
 use fr_net::{LineFault, Net, NetFault, Question, Request, read_line};
 use std::alloc::Global;
 use std::marker::Model;
@@ -62,11 +65,49 @@ impl Session {
             × IsLineAnswer self.old (reading line.now) (string_bytes text) self.new)) }
         ensures unchanged { OnErr result ((is_blank_line line.now ≡ false) × (self.new ≡ self.old)) }
     {
+        self.answer_line_by(
+            alloc,
+            line,
+            &|net, dest| { settle(rt, alloc, net, dest, plan, gate) },
+        )
+    }
+
+    /// The same on the thread that calls, with no crew: it starts no thread, waits for nobody, and never answers `Start`.
+    pub fn answer_line_alone(
+        &mut self,
+        alloc: Global,
+        line: &[u8],
+    ) -> Result<Option<String>, AnswerFault>
+        ensures blank { IfOk result (λ answer. IfNone answer ((is_blank_line line.now ≡ true) × (self.new ≡ self.old))) }
+        ensures text { IfOk result (λ answer. IfSome answer (λ text. (is_blank_line line.now ≡ false)
+            × IsLineAnswer self.old (reading line.now) (string_bytes text) self.new)) }
+        ensures unchanged { OnErr result ((is_blank_line line.now ≡ false) × (self.new ≡ self.old)) }
+        ensures short { IfOk result (λ answer. IfSome answer (λ text. (self.new ≡ self.old) ⊎ (length (string_bytes text) ≤ longest_report))) }
+        ensures no_start { IfErr result (λ fault. fault ≢ Start) }
+    {
+        self.answer_line_by(alloc, line, &|net, dest| settle_alone(alloc, net, dest))
+    }
+
+    /// The answer to a line, where networks are settled in a way that is passed in.
+    fn answer_line_by<F: Fn(Net, u32) -> Result<Settled, CrewFault>>(
+        &mut self,
+        alloc: Global,
+        line: &[u8],
+        way: &F,
+    ) -> Result<Option<String>, AnswerFault>
+        requires { Settles F.pre F.post way.now }
+        ensures blank { IfOk result (λ answer. IfNone answer ((is_blank_line line.now ≡ true) × (self.new ≡ self.old))) }
+        ensures text { IfOk result (λ answer. IfSome answer (λ text. (is_blank_line line.now ≡ false)
+            × IsLineAnswer self.old (reading line.now) (string_bytes text) self.new)) }
+        ensures unchanged { OnErr result ((is_blank_line line.now ≡ false) × (self.new ≡ self.old)) }
+        ensures short { IfOk result (λ answer. IfSome answer (λ text. (self.new ≡ self.old) ⊎ (length (string_bytes text) ≤ longest_report))) }
+        ensures no_start { NeverStarts F.post way.now → IfErr result (λ fault. fault ≢ Start) }
+    {
         if is_blank(line) {
             return Ok(None);
         }
         match read_line(alloc, line) {
-            Ok(request) => Ok(Some(self.answer(rt, alloc, &request, plan, gate)?)),
+            Ok(request) => Ok(Some(self.answer_by(alloc, &request, way)?)),
             Err(LineFault::NotJson) => Ok(Some(refusal_line(alloc, 1)?)),
             Err(LineFault::NotRequest) => Ok(Some(refusal_line(alloc, 2)?)),
             Err(LineFault::Memory) => Err(AnswerFault::Memory),
@@ -85,22 +126,46 @@ impl Session {
         ensures text { IfOk result (λ text. IsAnswer self.old (plain request.now) (string_bytes text) self.new) }
         ensures unchanged { OnErr result (self.new ≡ self.old) }
     {
+        self.answer_by(
+            alloc,
+            request,
+            &|net, dest| { settle(rt, alloc, net, dest, plan, gate) },
+        )
+    }
+
+    /// The same on the thread that calls, with no crew: it starts no thread, waits for nobody, and never answers `Start`.
+    pub fn answer_alone(&mut self, alloc: Global, request: &Request) -> Result<String, AnswerFault>
+        ensures text { IfOk result (λ text. IsAnswer self.old (plain request.now) (string_bytes text) self.new) }
+        ensures unchanged { OnErr result (self.new ≡ self.old) }
+        ensures short { IfOk result (λ text. (self.new ≡ self.old) ⊎ (length (string_bytes text) ≤ longest_report)) }
+        ensures no_start { IfErr result (λ fault. fault ≢ Start) }
+    {
+        self.answer_by(alloc, request, &|net, dest| settle_alone(alloc, net, dest))
+    }
+
+    /// The answer to a request, where networks are settled in a way that is passed in.
+    fn answer_by<F: Fn(Net, u32) -> Result<Settled, CrewFault>>(
+        &mut self,
+        alloc: Global,
+        request: &Request,
+        way: &F,
+    ) -> Result<String, AnswerFault>
+        requires { Settles F.pre F.post way.now }
+        ensures text { IfOk result (λ text. IsAnswer self.old (plain request.now) (string_bytes text) self.new) }
+        ensures unchanged { OnErr result (self.new ≡ self.old) }
+        ensures short { IfOk result (λ text. (self.new ≡ self.old) ⊎ (length (string_bytes text) ≤ longest_report)) }
+        ensures no_start { NeverStarts F.post way.now → IfErr result (λ fault. fault ≢ Start) }
+    {
         match request {
-            Request::Network { nodes, dest, links } => {
-                self.open(rt, alloc, *nodes, *dest, links, plan, gate)
-            }
-            Request::Cut { u, v } => {
-                self.change(rt, alloc, Change::Cut { u: *u, v: *v }, plan, gate)
-            }
-            Request::Add { u, v } => {
-                self.change(rt, alloc, Change::Add { u: *u, v: *v }, plan, gate)
-            }
+            Request::Network { nodes, dest, links } => self.open(alloc, *nodes, *dest, links, way),
+            Request::Cut { u, v } => self.change(alloc, Change::Cut { u: *u, v: *v }, way),
+            Request::Add { u, v } => self.change(alloc, Change::Add { u: *u, v: *v }, way),
             Request::Batch { edits } => {
                 let edits = edits.to_vec(alloc)?;
-                self.change(rt, alloc, Change::Batch(edits), plan, gate)
+                self.change(alloc, Change::Batch(edits), way)
             }
             Request::Destination { dest } => {
-                self.change(rt, alloc, Change::Destination { dest: *dest }, plan, gate)
+                self.change(alloc, Change::Destination { dest: *dest }, way)
             }
             Request::Walk { x } => self.walk(alloc, *x),
             Request::Ask(question) => self.tell(alloc, *question),
@@ -108,45 +173,47 @@ impl Session {
     }
 
     /// Takes a network, or says for which fault it is refused.
-    fn open<R: Threads + Wait + Sync, G: Gate + Sync>(
+    fn open<F: Fn(Net, u32) -> Result<Settled, CrewFault>>(
         &mut self,
-        rt: &R,
         alloc: Global,
         nodes: u32,
         dest: u32,
         links: &[(u32, u32)],
-        plan: &Plan,
-        gate: &G,
+        way: &F,
     ) -> Result<String, AnswerFault>
+        requires { Settles F.pre F.post way.now }
         ensures text { IfOk result (λ text. IsAnswer self.old (new_network nodes dest links.now) (string_bytes text) self.new) }
         ensures unchanged { OnErr result (self.new ≡ self.old) }
+        ensures short { IfOk result (λ text. (self.new ≡ self.old) ⊎ (length (string_bytes text) ≤ longest_report)) }
+        ensures no_start { NeverStarts F.post way.now → IfErr result (λ fault. fault ≢ Start) }
     {
         let net = match Net::new(alloc, nodes, links) {
             Ok(net) => net,
             Err(fault) => return refusal(alloc, &RouteFault::from(fault)),
         };
-        match Router::open(rt, alloc, net, dest, plan, gate) {
+        match Router::open_by(alloc, net, dest, way) {
             Ok(router) => self.put(alloc, router),
             Err(fault) => refusal(alloc, &fault),
         }
     }
 
     /// Changes the network, or says for which fault the change is refused.
-    fn change<R: Threads + Wait + Sync, G: Gate + Sync>(
+    fn change<F: Fn(Net, u32) -> Result<Settled, CrewFault>>(
         &mut self,
-        rt: &R,
         alloc: Global,
         change: Change,
-        plan: &Plan,
-        gate: &G,
+        way: &F,
     ) -> Result<String, AnswerFault>
+        requires { Settles F.pre F.post way.now }
         ensures text { IfOk result (λ text. IsAnswer self.old (request_of_change change) (string_bytes text) self.new) }
         ensures unchanged { OnErr result (self.new ≡ self.old) }
+        ensures short { IfOk result (λ text. (self.new ≡ self.old) ⊎ (length (string_bytes text) ≤ longest_report)) }
+        ensures no_start { NeverStarts F.post way.now → IfErr result (λ fault. fault ≢ Start) }
     {
         let Some(router) = &self.router else {
             return Ok(refusal_line(alloc, 3)?);
         };
-        match router.changed(rt, alloc, &change, plan, gate) {
+        match router.changed(alloc, &change, way) {
             Ok(router) => self.put(alloc, router),
             Err(fault) => refusal(alloc, &fault),
         }
@@ -156,6 +223,8 @@ impl Session {
     fn put(&mut self, alloc: Global, router: Router) -> Result<String, AnswerFault>
         ensures text { IfOk result (λ text. IsReportLine router (string_bytes text) × (self.new ≡ Some router)) }
         ensures unchanged { OnErr result (self.new ≡ self.old) }
+        ensures short { IfOk result (λ text. length (string_bytes text) ≤ longest_report) }
+        ensures memory { IfErr result (λ fault. fault ≡ Memory) }
     {
         let text = report_line(alloc, router.report())?;
         self.router = Some(router);
@@ -164,7 +233,8 @@ impl Session {
 
     /// Tells the route from a node, once there is a network.
     fn walk(&self, alloc: Global, x: u32) -> Result<String, AnswerFault>
-        ensures { IfOk result (λ text. IsAnswer self.now (walk_from x) (string_bytes text) self.now) }
+        ensures text { IfOk result (λ text. IsAnswer self.now (walk_from x) (string_bytes text) self.now) }
+        ensures memory { IfErr result (λ fault. fault ≡ Memory) }
     {
         let Some(router) = &self.router else {
             return Ok(refusal_line(alloc, 3)?);
@@ -181,7 +251,8 @@ impl Session {
 
     /// Answers a question, once there is a network.
     fn tell(&self, alloc: Global, question: Question) -> Result<String, AnswerFault>
-        ensures { IfOk result (λ text. IsAnswer self.now (ask question) (string_bytes text) self.now) }
+        ensures text { IfOk result (λ text. IsAnswer self.now (ask question) (string_bytes text) self.now) }
+        ensures memory { IfErr result (λ fault. fault ≡ Memory) }
     {
         let Some(router) = &self.router else {
             return Ok(refusal_line(alloc, 3)?);
@@ -196,7 +267,8 @@ impl Session {
 
 /// The answer to a request that is refused for this fault; a fault that is no refusal is handed on.
 fn refusal(alloc: Global, fault: &RouteFault) -> Result<String, AnswerFault>
-    ensures { IfOk result (λ text. IsRefusalOf fault.now (string_bytes text)) }
+    ensures text { IfOk result (λ text. IsRefusalOf fault.now (string_bytes text)) }
+    ensures start { IfErr result (λ why. why ≡ Start → fault.now ≡ RouteStart) }
 {
     match fault {
         RouteFault::Net(fault) => Ok(refusal_line(alloc, fault_number(fault))?),

@@ -1,7 +1,7 @@
 //! The texts of answers.
 
-ghost use Rattle.std.specs.Prelude.{◌≡◌, ◌++◌, IfOk, OnOk, codes, string_bytes};
-ghost use Rattle.fr_route.specs.Texts.{counts_text, links_text, hops_text, hop_word, walk_text, no_walk_text, report_text, refusal_text};
+ghost use Rattle.std.specs.Prelude.{◌≡◌, ◌≤◌, ◌++◌, length, IfOk, OnOk, codes, string_bytes};
+ghost use Rattle.fr_route.specs.Texts.{counts_text, links_text, hops_text, hop_word, walk_text, no_walk_text, report_text, longest_report, refusal_text};
 
 use crate::change::Report;
 use crate::hops::Hop;
@@ -85,7 +85,8 @@ pub(crate) fn no_walk_line(alloc: Global, node: u32) -> Result<String, AllocErro
 
 /// How many turns a round took, and how many nodes are cut off.
 pub(crate) fn report_line(alloc: Global, report: Report) -> Result<String, AllocError>
-    ensures { IfOk result (λ line. string_bytes line ≡ report_text report.turned report.cut) }
+    ensures text { IfOk result (λ line. string_bytes line ≡ report_text report.turned report.cut) }
+    ensures short { IfOk result (λ line. length (string_bytes line) ≤ longest_report) }
 {
     let Report { turned, cut } = report;
     let mut line = begun(alloc, "turned ", 4)?;

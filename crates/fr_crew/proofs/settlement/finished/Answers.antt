@@ -14,8 +14,8 @@ into_turned-net-requires-clause-kept c =
     let same : c.deref.result.now ≡ c.finish_rest-by_finisher.new.counts = c.deref.ensures.value ∙ with_items_is c.args.counts c.finish_rest-by_finisher.new.counts (omega (arith, settled.one_each, c.requires.lawful.one_each)) in
     rw same (settled_lawful c.args.net.nodes c.args.dest c.args.net.links c.network_law.ensures.is_net c.requires.node c.finish_rest-by_finisher.new.counts settled).kept
 
-pub returns : goal.returns
-returns c =
+pub returns-clause-settled : goal.returns-clause-settled
+returns-clause-settled c =
     let n = c.args.net.nodes in
     let d = c.args.dest in
     let first = c.args.net.links in

@@ -8,10 +8,10 @@ use Rattle.fr_route.specs.declared.change.Change.{Change}
 use Rattle.fr_route.proofs.Changing.{Begins, add_begins, batch_begins, begins_fault, cut_begins, dest_begins}
 use Rattle.fr_route.proofs.router.Router.changed.Given.{Over}
 use Rattle.fr_route.proofs.router.Router.changed.Goals as goal
-use Rattle.fr_route.proofs.router.Router.changed.Goals.{After-open, in-Cut+in_ok-with_cut-in-Cut, in-Add+in_ok-with_link-in-Add, in-Batch+in_ok-with_edits-in-Batch, in-Destination+in_ok-with_edits-in-Destination}
+use Rattle.fr_route.proofs.router.Router.changed.Goals.{After-open_by, in-Cut+in_ok-with_cut-in-Cut, in-Add+in_ok-with_link-in-Add, in-Batch+in_ok-with_edits-in-Batch, in-Destination+in_ok-with_edits-in-Destination}
 
 -- with what the round after the change begins
-begins : (g : Over) (c : After-open g) → Begins (state_of c.self.inside) c.args.change.now c.match-change.net.0 c.match-change.net.1
+begins : (g : Over) (c : After-open_by g) → Begins (state_of c.self.inside) c.args.change.now c.match-change.net.0 c.match-change.net.1
 begins g c =
     let s = state_of c.self.inside in
     let at : Change → Network × ℕ → Type 0 = λ change made. Begins s change made.0 made.1 in
@@ -38,10 +38,10 @@ begins g c =
 
 pub returns-clause-changed : goal.returns-clause-changed
 returns-clause-changed g c =
-    subst (λ (now : State). IfOk c.open.result (IsChanged now c.args.change.now)) c.self.view_is
-    (IfOk-weaker c.open.result _ _ (λ router o. (begins g c).round router o.0 o.1) c.open.ensures.opened)
+    subst (λ (now : State). IfOk c.open_by.result (IsChanged now c.args.change.now)) c.self.view_is
+    (IfOk-weaker c.open_by.result _ _ (λ router o. (begins g c).round router o.0 o.1) c.open_by.ensures.opened)
 
 pub returns-clause-fault : goal.returns-clause-fault
 returns-clause-fault g c =
-    subst (λ (now : State). IfErr c.open.result (IsRouteFault now c.args.change.now)) c.self.view_is
-    (IfErr-weaker c.open.result _ _ (λ fault o. begins_fault (state_of c.self.inside) c.args.change.now c.match-change.net.0 c.match-change.net.1 fault (begins g c) o) c.open.ensures.fault)
+    subst (λ (now : State). IfErr c.open_by.result (IsRouteFault now c.args.change.now)) c.self.view_is
+    (IfErr-weaker c.open_by.result _ _ (λ fault o. begins_fault (state_of c.self.inside) c.args.change.now c.match-change.net.0 c.match-change.net.1 fault (begins g c) o) c.open_by.ensures.fault)

@@ -1,0 +1,15 @@
+use Rattle.std.proofs.Common.{◌≡◌, ◌∙◌, Option, Some, string_bytes, subst, sym}
+use Rattle.std.proofs.lemmas.Result.{IfOk-weaker}
+use Rattle.fr_route.specs.Answers.{IsAnswer}
+use Rattle.fr_route.specs.Refusals.{request_of_change}
+use Rattle.fr_route.specs.States.{State}
+use Rattle.fr_route.proofs.Changing.{refused_change}
+use Rattle.fr_route.proofs.session.Session.change.Goals as goal
+
+pub returns-clause-text : goal.returns-clause-text
+returns-clause-text g c =
+    let router = c.in-Some.router in
+    let here : c.args.self.now ≡ Some router = sym c.self.view_is ∙ c.in-Some.is in
+    IfOk-weaker c.refusal.result _ _
+    (λ text is. subst (λ (s : Option State). IsAnswer s (request_of_change c.args.change) (string_bytes text) s) (sym here)
+    (refused_change router c.args.change c.in-Err.fault (string_bytes text) c.in-Err.ensures.fault is)) c.refusal.ensures.text
