@@ -22,7 +22,7 @@ pub record IsAnswered (old : Option State) (line : List ℕ) (new : Option State
   pub size_is : size ≡ length text
 
 -- the line has an answer of this length, which leaves the session as it was
-pub record IsAnswerOf (old : Option State) (line : List ℕ) (size : ℕ) : Type 0 where
+pub record IsAnswerLength (old : Option State) (line : List ℕ) (size : ℕ) : Type 0 where
   pub asks : is_blank line ≡ false
   pub text : List ℕ
   pub answer : IsLineAnswer old (reading line) text old
@@ -30,4 +30,4 @@ pub record IsAnswerOf (old : Option State) (line : List ℕ) (size : ℕ) : Type
 
 -- the room that is wanted in place of so much: the least room, or else that of the answer
 abbrev pub IsWanted : Option State → List ℕ → ℕ → ℕ → Type 0
-IsWanted old line room size = ((room < least_room) × (size ≡ least_room)) ⊎ ((least_room ≤ room) × IsAnswerOf old line size)
+IsWanted old line room size = ((room < least_room) × (size ≡ least_room)) ⊎ ((least_room ≤ room) × IsAnswerLength old line size)

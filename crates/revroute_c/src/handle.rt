@@ -1,6 +1,7 @@
 //! What C holds of a session.
 
 ghost use Rattle.std.specs.Prelude.{◌≡◌, MatchOption, Option, None, IfOk, OnErr};
+ghost use denote.RawPtr.{null_ptr};
 ghost use Rattle.fr_route.specs.States.{State};
 ghost use Rattle.revroute_c.specs.Holding.{holds};
 
@@ -28,9 +29,10 @@ impl Model for Handle {
 unsafe impl Send for Handle {}
 
 impl Handle {
-    /// The handle of a session that holds no network.
-    pub(crate) fn empty() -> Handle
-        ensures { result.session ≡ None }
+    /// The null handle, of a session that holds no network.
+    fn empty() -> Handle
+        ensures session { result.session ≡ None }
+        ensures null { result.at ≡ null_ptr }
     {
         Handle { at: null_mut() }
     }
@@ -64,6 +66,7 @@ impl Handle {
     pub(crate) fn taken(handle: &mut Handle, alloc: Global) -> Option<Box<Session>>
         ensures session { MatchOption result (handle.old.session ≡ None) (λ session. handle.old.session ≡ session.value) }
         ensures left { handle.new.session ≡ None }
+        ensures null { handle.new.at ≡ null_ptr }
     {
         let held = replace(handle, Handle::empty());
         match held.into_loose(alloc) {

@@ -4,7 +4,8 @@
 //! allocator takes no bytes, so C passes nothing for it.
 #![tactic(auto)]
 
-ghost use Rattle.std.specs.Prelude.{◌≡◌, ◌≤◌, ◌<◌, true, None, length};
+ghost use Rattle.std.specs.Prelude.{◌≡◌, ◌≤◌, ◌<◌, ◌⊎◌, true, None, length};
+ghost use denote.RawPtr.{null_ptr};
 ghost use Rattle.fr_route.specs.Blank.{is_blank};
 ghost use Rattle.revroute_c.specs.Replies.{least_room, IsAnswered, IsWanted, IsWritten};
 
@@ -54,7 +55,8 @@ pub extern "C" fn revroute_answer(
 /// Gives back all memory of the session behind the handle, which then is null again.
 #[unsafe(no_mangle)]
 pub extern "C" fn revroute_close(alloc: Global, handle: &mut Handle)
-    ensures { handle.new.session ≡ None }
+    ensures session { handle.new.session ≡ None }
+    ensures null { handle.new.at ≡ null_ptr }
 {
     drop(Handle::taken(handle, alloc));
 }
@@ -66,7 +68,7 @@ pub extern "C" fn revroute_version(text: &mut [u8], size: &mut usize) -> u32
     ensures written { result ≡ ANSWERED → IsWritten VERSION.now text.old text.new }
     ensures too_short { result ≡ TOO_SHORT → (length text.old < length VERSION.now) × (text.new ≡ text.old) }
     ensures size { size.new ≡ length VERSION.now }
-    ensures status { result ≤ TOO_SHORT }
+    ensures status { (result ≡ ANSWERED) ⊎ (result ≡ TOO_SHORT) }
 {
     hand_out(VERSION.as_bytes(), text, size)
 }

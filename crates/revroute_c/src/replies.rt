@@ -2,7 +2,7 @@
 
 ghost use Rattle.std.specs.Prelude.{◌≡◌, ◌≤◌, ◌<◌, ◌⊎◌, true, length};
 ghost use Rattle.fr_route.specs.Blank.{is_blank};
-ghost use Rattle.revroute_c.specs.Replies.{least_room, IsAnswered, IsAnswerOf, IsWritten};
+ghost use Rattle.revroute_c.specs.Replies.{least_room, IsAnswered, IsAnswerLength, IsWritten};
 
 use fr_route::{AnswerFault, Session};
 use std::alloc::Global;
@@ -50,7 +50,7 @@ pub(crate) fn reply(
     requires size { size.old ≡ 0 }
     ensures answered { result ≡ ANSWERED → IsAnswered session.old line.now session.new answer.old answer.new size.new }
     ensures blank { result ≡ BLANK → (is_blank line.now ≡ true) × (size.new ≡ 0) }
-    ensures too_short { result ≡ TOO_SHORT → (length answer.old < size.new) × IsAnswerOf session.old line.now size.new }
+    ensures too_short { result ≡ TOO_SHORT → (length answer.old < size.new) × IsAnswerLength session.old line.now size.new }
     ensures no_memory { result ≡ NO_MEMORY → size.new ≡ 0 }
     ensures unchanged { ¬ (result ≡ ANSWERED) → (session.new ≡ session.old) × (answer.new ≡ answer.old) }
     ensures status { result ≤ NO_MEMORY }
