@@ -93,7 +93,7 @@ IsWay links u v tail head closed =
     ((tail ≡ u) × (head ≡ v) × IsAcyclic (added links u v))
     (λ walk. (tail ≡ v) × (head ≡ u) × IsCycle (added links u v) walk.items)
 
-closes : (links : List (ℕ × ℕ)) (u v : ℕ) (walk : List ℕ) → IsCycle (added links u v) walk → ¬ IsAcyclic (added links u v)
+pub closes : (links : List (ℕ × ℕ)) (u v : ℕ) (walk : List ℕ) → IsCycle (added links u v) walk → ¬ IsAcyclic (added links u v)
 closes links u v walk cycle acyclic = no_cycle_stands (added links u v) walk acyclic cycle
 
 pub way_unjoined : (n : ℕ) (links : List (ℕ × ℕ)) (u v tail head : ℕ) (closed : Option (Vec ℕ Global)) → AreUnjoined n links u v → IsWay links u v tail head closed → AreUnjoined n links tail head

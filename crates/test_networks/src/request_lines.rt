@@ -30,6 +30,10 @@ const LINES: &[(&str, &str)] = &[
         r#" [ "add" , 3 , 4294967295 ] "#,
         "Add { u: 3, v: 4294967295 }",
     ),
+    (
+        r#"["join",4294967295,0]"#,
+        "Join { u: 4294967295, v: 0 }",
+    ),
     (r#"["walk",9]"#, "Walk { x: 9 }"),
     (r#"["links"]"#, "Ask(Links)"),
     (r#"["counts"]"#, "Ask(Counts)"),
@@ -37,6 +41,10 @@ const LINES: &[(&str, &str)] = &[
     (
         r#" ["batch", [["add",3,4294967295], ["cut",1,0]]] "#,
         "Batch { edits: [Add { u: 3, v: 4294967295 }, Cut { u: 1, v: 0 }] }",
+    ),
+    (
+        r#"["batch",[["join",2,0]]]"#,
+        "Batch { edits: [Join { u: 2, v: 0 }] }",
     ),
     (r#"["batch",[]]"#, "Batch { edits: [] }"),
     (r#"["dest",7]"#, "Destination { dest: 7 }"),
@@ -47,6 +55,7 @@ const LINES: &[(&str, &str)] = &[
     (r#"["batch",[["cut",1,0,0]]]"#, "NotRequest"),
     (r#"["batch",[["cut",1,0],["batch",[]]]]"#, "NotRequest"),
     (r#"["batch",[["walk",1]]]"#, "NotRequest"),
+    (r#"["batch",[["join",1]]]"#, "NotRequest"),
     (r#"["batch",[["cut",-1,0]]]"#, "NotRequest"),
     (r#"["dest"]"#, "NotRequest"),
     (r#"["dest",0,1]"#, "NotRequest"),
@@ -64,6 +73,8 @@ const LINES: &[(&str, &str)] = &[
     (r#"["cut",[1,0]]"#, "NotRequest"),
     (r#"["add",3]"#, "NotRequest"),
     (r#"["add",3,-1]"#, "NotRequest"),
+    (r#"["join",3]"#, "NotRequest"),
+    (r#"["join",3,0,1]"#, "NotRequest"),
     (r#"["hops",1]"#, "NotRequest"),
     (r#"["fly",1]"#, "NotRequest"),
     ("[]", "NotRequest"),
