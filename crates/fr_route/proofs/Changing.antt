@@ -90,10 +90,12 @@ begins_fault s change net d Memory b h = tt
 pub refused_change : (s : State) (change : Change) (fault : RouteFault) (text : List ℕ) → IsRouteFault s change fault → IsRefusalOf fault text → IsAnswer (Some s) (request_of_change change) text (Some s)
 refused_change s (Cut u v) (Net fault) text why is = inl (fault_number fault, (fault, why, refl), is, refl)
 refused_change s (Add u v) (Net fault) text why is = inl (fault_number fault, (fault, why, refl), is, refl)
+refused_change s (Join u v) (Net fault) text why is = inl (fault_number fault, (fault, why, refl), is, refl)
 refused_change s (Batch edits) (Net fault) text why is = inl (fault_number fault, (why.0, why.1.0, ap fault_number why.1.1), is, refl)
 refused_change s (Destination d) (Net fault) text why is = absurd why
 refused_change s (Cut u v) Range text why is = absurd why
 refused_change s (Add u v) Range text why is = absurd why
+refused_change s (Join u v) Range text why is = absurd why
 refused_change s (Batch edits) Range text why is = absurd why
 refused_change s (Destination d) Range text why is = inl (4, (why, refl), is, refl)
 refused_change s change Start text why is = absurd is
