@@ -63,7 +63,10 @@ fn settles_long_chains(rt: HostRuntime) -> Result<(), Fail> {
     for (nodes, first, turns) in LONG_CHAINS {
         let links = long_chain(rt.alloc(), *nodes, *first)?;
         let net = Net::new(rt.alloc(), *nodes, &links)?;
-        assert!(rt; finished(rt.alloc(), &net)?.starts_with(turns), "{nodes} {first}");
+        assert!(rt;
+            finished(rt.alloc(), &net)?.starts_with(turns),
+            "{nodes} {first}"
+        );
     }
     Ok(())
 }

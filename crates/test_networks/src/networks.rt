@@ -171,18 +171,12 @@ const EDITED: &[(&[Edit], &str)] = &[
     ),
     (&[Add { u: 2, v: 0 }, Add { u: 3, v: 1 }], "1 Cycle of 4"),
     // A link from 3 to 1 closes a walk, but none once the one from 0 to 3 is cut.
-    (
-        &[Join { u: 3, v: 1 }],
-        "[(0, 3), (1, 0), (1, 3), (2, 3)]",
-    ),
+    (&[Join { u: 3, v: 1 }], "[(0, 3), (1, 0), (1, 3), (2, 3)]"),
     (
         &[Cut { u: 3, v: 0 }, Join { u: 3, v: 1 }],
         "[(1, 0), (2, 3), (3, 1)]",
     ),
-    (
-        &[Join { u: 2, v: 0 }, Join { u: 0, v: 2 }],
-        "1 Twice(0, 2)",
-    ),
+    (&[Join { u: 2, v: 0 }, Join { u: 0, v: 2 }], "1 Twice(0, 2)"),
     (&[Join { u: 2, v: 4 }, Cut { u: 2, v: 0 }], "0 Range(4)"),
     (&[Cut { u: 0, v: 3 }, Join { u: 2, v: 2 }], "1 SelfLink(2)"),
 ];

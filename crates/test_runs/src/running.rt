@@ -613,21 +613,13 @@ const CHAINS: &[(&str, u32, &str)] = &[
         1024,
         "turned 523776 cut 0\n",
     ),
-    (
-        "[\"net\",1024,0,[[1,2]",
-        1024,
-        "turned 1047552 cut 1023\n",
-    ),
+    ("[\"net\",1024,0,[[1,2]", 1024, "turned 1047552 cut 1023\n"),
     (
         "[\"net\",4096,0,[[0,1],[1,2]",
         4096,
         "turned 8386560 cut 0\n",
     ),
-    (
-        "[\"net\",4096,0,[[1,2]",
-        4096,
-        "turned 16773120 cut 4095\n",
-    ),
+    ("[\"net\",4096,0,[[1,2]", 4096, "turned 16773120 cut 4095\n"),
 ];
 
 /// An input of a net line that begins so and goes on with the links from node 2 on each to the next of so many nodes, and of the
