@@ -41,7 +41,7 @@ pub fn answer_of<R: Threads + Wait + Sync + Alloc<A = Global> + Print + Eprint>(
     match call {
         0 => network(rt),
         1 => cut_network(rt),
-        2 => joined_network(rt),
+        2 => linked_network(rt),
         3 => refused_networks(rt),
         4 => request(rt),
         5 => refused_line(rt),
@@ -55,7 +55,8 @@ pub fn answer_of<R: Threads + Wait + Sync + Alloc<A = Global> + Print + Eprint>(
         13 => walked_live(rt),
         14 => settled_alone(rt),
         15 => routed_alone(rt),
-        _ => answered_alone(rt),
+        16 => answered_alone(rt),
+        _ => joined_network(rt),
     }
 }
 
@@ -74,8 +75,14 @@ fn cut_network<R: Alloc<A = Global> + Eprint>(rt: &R) -> Option<String> {
     told(rt, links_line(rt.alloc(), net.links()))
 }
 
-fn joined_network<R: Alloc<A = Global> + Eprint>(rt: &R) -> Option<String> {
+fn linked_network<R: Alloc<A = Global> + Eprint>(rt: &R) -> Option<String> {
     let net = told(rt, chain(rt)?.with_link(rt.alloc(), 0, 3))?;
+    told(rt, links_line(rt.alloc(), net.links()))
+}
+
+/// The chain with its ends joined: a link from 3 to 0 would close a walk.
+fn joined_network<R: Alloc<A = Global> + Eprint>(rt: &R) -> Option<String> {
+    let net = told(rt, chain(rt)?.with_join(rt.alloc(), 3, 0))?;
     told(rt, links_line(rt.alloc(), net.links()))
 }
 

@@ -23,6 +23,7 @@ pub mod EditedRows
 pub mod AddedLinks
 pub mod AddedRows
 pub mod EditedNets
+pub mod Joining
 pub mod Batches
 pub mod ByNode
 pub mod Cycles

@@ -2,8 +2,9 @@
 //! ask for them.
 //!
 //! A [`Net`] is made by [`Net::new`], which names the first fault of links that make no network. Layers above
-//! read it by `nodes`, `links`, `degree`, `neighbour` and `row`, make one network of another by `with_cut`, `with_link` and
-//! `with_edits`, and make the network of turned links by `turned_by`, or in its place by `into_turned`. What its rows show is the law [`rows_law`](laws::rows_law).
+//! read it by `nodes`, `links`, `degree`, `neighbour` and `row`, make one network of another by `with_cut`, `with_link`,
+//! `with_join` and `with_edits`, and make the network of turned links by `turned_by`, or in its place by `into_turned`. What its
+//! rows show is the law [`rows_law`](laws::rows_law), and which way a link can point the law [`join_law`](laws::join_law).
 //! [`read_line`] reads a request.
 #![tactic(auto)]
 

@@ -33,7 +33,14 @@ pub enum Request {
         /// Its head.
         v: u32,
     },
-    /// Make these edits, one after the other: `["batch", [["cut", u, v], ["add", u, v], ..]]`.
+    /// Join two nodes by a link, whichever way it can point: `["join", u, v]`.
+    Join {
+        /// The tail of the link, unless a closed walk would follow it.
+        u: u32,
+        /// Its head then.
+        v: u32,
+    },
+    /// Make these edits, one after the other: `["batch", [["cut", u, v], ["add", u, v], ["join", u, v], ..]]`.
     Batch {
         /// The edits in the order of the line.
         edits: Vec<Edit>,
@@ -67,6 +74,13 @@ pub enum Edit {
         /// The tail of the link.
         u: u32,
         /// Its head.
+        v: u32,
+    },
+    /// Join two nodes by a link: from `u` to `v`, or from `v` to `u` where the other would close a closed walk.
+    Join {
+        /// The tail of the link, unless a closed walk would follow it.
+        u: u32,
+        /// Its head then.
         v: u32,
     },
 }

@@ -160,6 +160,7 @@ impl Session {
             Request::Network { nodes, dest, links } => self.open(alloc, *nodes, *dest, links, way),
             Request::Cut { u, v } => self.change(alloc, Change::Cut { u: *u, v: *v }, way),
             Request::Add { u, v } => self.change(alloc, Change::Add { u: *u, v: *v }, way),
+            Request::Join { u, v } => self.change(alloc, Change::Join { u: *u, v: *v }, way),
             Request::Batch { edits } => {
                 let edits = edits.to_vec(alloc)?;
                 self.change(alloc, Change::Batch(edits), way)
