@@ -15,13 +15,13 @@ mod replies;
 
 use fr_route::VERSION;
 use handle::Handle;
-use replies::{ANSWERED, BLANK, NO_MEMORY, ROOM, TOO_SHORT, hand_out, reply};
+use replies::{ANSWERED, BLANK, LEAST_ROOM, NO_MEMORY, TOO_SHORT, hand_out, reply};
 use std::alloc::Global;
 
 /// Answers a line, without its line end, in the session behind the handle; a null handle is a session that holds no network yet.
 /// The answer goes to the front of the buffer, with no line end, and its length to `size`; a blank line has none, and `size` is
 /// then 0. `TOO_SHORT` says that nothing has changed and that `size` is the room that is wanted: the answer's length, or
-/// [`ROOM`] for a buffer that has less, which is tested first. `NO_MEMORY` says that an allocation was refused, and leaves the
+/// [`LEAST_ROOM`] for a buffer that has less, which is tested first. `NO_MEMORY` says that an allocation was refused, and leaves the
 /// session as it was.
 #[unsafe(no_mangle)]
 pub extern "C" fn revroute_answer(
@@ -40,8 +40,8 @@ pub extern "C" fn revroute_answer(
     ensures status { result ≤ NO_MEMORY }
 {
     *size = 0;
-    if answer.len() < ROOM {
-        *size = ROOM;
+    if answer.len() < LEAST_ROOM {
+        *size = LEAST_ROOM;
         return TOO_SHORT;
     }
     let Ok(mut session) = Handle::take(handle, alloc) else {

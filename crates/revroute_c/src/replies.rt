@@ -21,7 +21,7 @@ pub(crate) const NO_MEMORY: u32 = 3;
 
 /// The least room for an answer, in bytes: each answer that changes the session fits into it. So where a text is too long for a
 /// buffer of this room, it changes nothing.
-pub(crate) const ROOM: usize = 64;
+pub(crate) const LEAST_ROOM: usize = 64;
 
 /// Writes bytes to the front of a buffer that has room for them, and tells how many they are in any case.
 pub(crate) fn hand_out(bytes: &[u8], buffer: &mut [u8], size: &mut usize) -> u32
@@ -38,7 +38,7 @@ pub(crate) fn hand_out(bytes: &[u8], buffer: &mut [u8], size: &mut usize) -> u32
     ANSWERED
 }
 
-/// Answers a line in a buffer of at least [`ROOM`] bytes. `size` has to be 0, and stays so where there is no answer.
+/// Answers a line in a buffer of at least [`LEAST_ROOM`] bytes. `size` has to be 0, and stays so where there is no answer.
 pub(crate) fn reply(
     session: &mut Session,
     alloc: Global,
