@@ -1,0 +1,92 @@
+/* Answers the lines of standard input, each asked by itself, as `revroute run` answers them.
+ *
+ * usage: lines [--room N] [--threads N] [--time]
+ *
+ *   --room N      the room that each line is asked with first; where it is too short the line is asked again with what is wanted
+ *   --threads N   N threads answer all lines side by side, each in a session of its own, and have to agree
+ *   --time        prints on standard error how long the calls took, reading and writing not counted
+ */
+#include "lines.h"
+
+#include <pthread.h>
+#include <revroute.h>
+#include <time.h>
+
+enum { MOST_THREADS = 64 };
+
+static size_t first_room = 65536;
+static lines asked;
+
+/* Answers, each with its line end, and a buffer for the next. */
+typedef struct {
+    uint8_t *bytes;
+    size_t length, room;
+    uint8_t *answer;
+    size_t answer_room;
+    double seconds;
+} answers;
+
+static double now(void) {
+    struct timespec it;
+    clock_gettime(CLOCK_MONOTONIC, &it);
+    return (double)it.tv_sec + (double)it.tv_nsec / 1e9;
+}
+
+static void write_answer(answers *it, size_t length) {
+    if (it->room - it->length < length + 1) it->bytes = grown(it->bytes, it->room = 2 * it->room + length + 1);
+    memcpy(it->bytes + it->length, it->answer, length);
+    it->length += length;
+    it->bytes[it->length++] = '\n';
+}
+
+static void ask(revroute *session, line it, answers *all) {
+    size_t room = first_room, length;
+    for (;;) {
+        uint32_t status = revroute_answer(session, it.bytes, it.length, all->answer, room, &length);
+        if (status == REVROUTE_ANSWERED) write_answer(all, length);
+        if (status == REVROUTE_NO_MEMORY) stop("no memory");
+        if (status != REVROUTE_TOO_SHORT) return;
+        room = length;
+        if (room > all->answer_room) all->answer = grown(all->answer, all->answer_room = room);
+    }
+}
+
+static void *answer_all(void *given) {
+    answers *all = given;
+    revroute session = REVROUTE_NEW;
+    all->bytes = grown(NULL, all->room = 65536);
+    all->answer = grown(NULL, all->answer_room = first_room + 1);
+    double start = now();
+    for (size_t at = 0; at < asked.count; at++) ask(&session, asked.at[at], all);
+    all->seconds = now() - start;
+    revroute_close(&session);
+    free(all->answer);
+    return NULL;
+}
+
+int main(int count, char **words) {
+    size_t threads = 1;
+    int times = 0;
+    for (int at = 1; at < count; at++) {
+        if (!strcmp(words[at], "--time")) times = 1;
+        else if (!strcmp(words[at], "--room") && ++at < count) first_room = strtoul(words[at], NULL, 10);
+        else if (!strcmp(words[at], "--threads") && ++at < count) threads = strtoul(words[at], NULL, 10);
+        else stop("usage: lines [--room N] [--threads N] [--time]");
+    }
+    if (threads < 1 || threads > MOST_THREADS) stop("there are 1 to 64 threads");
+    asked = read_lines();
+    answers all[MOST_THREADS] = {{0}};
+    pthread_t started[MOST_THREADS];
+    for (size_t at = 1; at < threads; at++)
+        if (pthread_create(&started[at], NULL, answer_all, &all[at])) stop("no thread");
+    answer_all(&all[0]);
+    for (size_t at = 1; at < threads; at++) {
+        pthread_join(started[at], NULL);
+        if (all[at].length != all[0].length || memcmp(all[at].bytes, all[0].bytes, all[0].length)) stop("two threads answer differently");
+        free(all[at].bytes);
+    }
+    fwrite(all[0].bytes, 1, all[0].length, stdout);
+    free(all[0].bytes);
+    if (times) fprintf(stderr, "%zu lines in %.6f s, %.0f ns each\n", asked.count, all[0].seconds, all[0].seconds * 1e9 / (double)asked.count);
+    return fflush(stdout) ? 1 : 0;
+}
