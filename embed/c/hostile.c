@@ -16,7 +16,7 @@
 #include <sys/mman.h>
 #include <unistd.h>
 
-enum { FENCED = 1 << 20 };
+enum { FENCED = 1 << 16, UNTOUCHED = 0xa5 };
 
 /* The end of memory of so many bytes with none behind it. */
 static uint8_t *fence(void) {
@@ -35,10 +35,16 @@ typedef struct {
     size_t length;
 } answer;
 
+/* One call, which may write no byte of the buffer but the answer's, and tells a length only with an answer or where room is wanted. */
 static uint32_t call(revroute *session, line it, size_t room, size_t *length) {
     if (it.length > FENCED) stop("a line is too long for this test");
     memcpy(line_end - it.length, it.bytes, it.length);
-    return revroute_answer(session, line_end - it.length, it.length, answer_end - room, room, length);
+    memset(answer_end - room, UNTOUCHED, room);
+    uint32_t status = revroute_answer(session, line_end - it.length, it.length, answer_end - room, room, length);
+    if ((status == REVROUTE_BLANK || status == REVROUTE_NO_MEMORY) && *length != 0) stop("a length without an answer");
+    for (size_t at = status == REVROUTE_ANSWERED ? *length : 0; at < room; at++)
+        if (answer_end[at - room] != UNTOUCHED) stop("a byte was written that is none of the answer's");
+    return status;
 }
 
 static answer ask(revroute *session, line it) {
@@ -123,8 +129,7 @@ int main(void) {
     revroute ahead = REVROUTE_NEW, behind = REVROUTE_NEW;
     for (size_t at = 0; at < asked.count; at++) {
         wanted[at] = ask(&ahead, asked.at[at]);
-        if (wanted[at].status == REVROUTE_BLANK) wanted[at].length = 0;
-        else if (wanted[at].status != REVROUTE_ANSWERED) stop("a line that meets nothing has no answer");
+        if (wanted[at].status > REVROUTE_BLANK) stop("a line that meets nothing has no answer");
         ask_short(&behind, asked.at[at], wanted[at]);
     }
     revroute_close(&ahead);
@@ -141,5 +146,6 @@ int main(void) {
     }
     for (size_t at = 0; at < asked.count; at++) free(wanted[at].bytes);
     free(wanted);
+    drop_lines(asked);
     printf("%ld\n", refused);
 }

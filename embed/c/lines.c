@@ -1,9 +1,10 @@
 /* Answers the lines of standard input, each asked by itself, as `revroute run` answers them.
  *
- * usage: lines [--room N] [--threads N] [--time]
+ * usage: lines [--room N] [--threads N] [--stack N] [--time]
  *
  *   --room N      the room that each line is asked with first; where it is too short the line is asked again with what is wanted
  *   --threads N   N threads answer all lines side by side, each in a session of its own, and have to agree
+ *   --stack N     each thread has a stack of N KiB
  *   --time        prints on standard error how long the calls took, reading and writing not counted
  */
 #include "lines.h"
@@ -64,29 +65,44 @@ static void *answer_all(void *given) {
     return NULL;
 }
 
-int main(int count, char **words) {
-    size_t threads = 1;
-    int times = 0;
-    for (int at = 1; at < count; at++) {
-        if (!strcmp(words[at], "--time")) times = 1;
-        else if (!strcmp(words[at], "--room") && ++at < count) first_room = strtoul(words[at], NULL, 10);
-        else if (!strcmp(words[at], "--threads") && ++at < count) threads = strtoul(words[at], NULL, 10);
-        else stop("usage: lines [--room N] [--threads N] [--time]");
-    }
-    if (threads < 1 || threads > MOST_THREADS) stop("there are 1 to 64 threads");
-    asked = read_lines();
-    answers all[MOST_THREADS] = {{0}};
+static size_t number(const char *word) {
+    char *end;
+    size_t found = word ? strtoul(word, &end, 10) : 0;
+    if (!word || *word < '0' || *word > '9' || *end) stop("a number is wanted");
+    return found;
+}
+
+/* Answers in so many threads, and looks that they agree. */
+static void answer_by(size_t threads, size_t stack, answers *all) {
     pthread_t started[MOST_THREADS];
-    for (size_t at = 1; at < threads; at++)
-        if (pthread_create(&started[at], NULL, answer_all, &all[at])) stop("no thread");
-    answer_all(&all[0]);
-    for (size_t at = 1; at < threads; at++) {
+    pthread_attr_t how;
+    if (threads < 1 || threads > MOST_THREADS) stop("there are 1 to 64 threads");
+    if (pthread_attr_init(&how) || (stack && pthread_attr_setstacksize(&how, stack << 10))) stop("there is no such stack");
+    for (size_t at = 0; at < threads; at++)
+        if (pthread_create(&started[at], &how, answer_all, &all[at])) stop("a thread could not be started");
+    for (size_t at = 0; at < threads; at++) {
         pthread_join(started[at], NULL);
         if (all[at].length != all[0].length || memcmp(all[at].bytes, all[0].bytes, all[0].length)) stop("two threads answer differently");
-        free(all[at].bytes);
     }
+    pthread_attr_destroy(&how);
+}
+
+int main(int count, char **words) {
+    size_t threads = 1, stack = 0;
+    int is_timed = 0;
+    for (int at = 1; at < count; at++) {
+        if (!strcmp(words[at], "--time")) is_timed = 1;
+        else if (!strcmp(words[at], "--room")) first_room = number(words[++at]);
+        else if (!strcmp(words[at], "--threads")) threads = number(words[++at]);
+        else if (!strcmp(words[at], "--stack")) stack = number(words[++at]);
+        else stop("usage: lines [--room N] [--threads N] [--stack N] [--time]");
+    }
+    asked = read_lines();
+    answers all[MOST_THREADS] = {{0}};
+    answer_by(threads, stack, all);
     fwrite(all[0].bytes, 1, all[0].length, stdout);
-    free(all[0].bytes);
-    if (times) fprintf(stderr, "%zu lines in %.6f s, %.0f ns each\n", asked.count, all[0].seconds, all[0].seconds * 1e9 / (double)asked.count);
+    if (is_timed) fprintf(stderr, "%zu lines in %.6f s, %.0f ns each\n", asked.count, all[0].seconds, all[0].seconds * 1e9 / (double)asked.count);
+    for (size_t at = 0; at < threads; at++) free(all[at].bytes);
+    drop_lines(asked);
     return fflush(stdout) ? 1 : 0;
 }

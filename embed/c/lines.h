@@ -16,6 +16,7 @@ typedef struct {
 typedef struct {
     line *at;
     size_t count;
+    uint8_t *input;
 } lines;
 
 /* Ends the program with status 1. */
@@ -31,7 +32,7 @@ static inline void *grown(void *block, size_t size) {
     return larger;
 }
 
-/* All of standard input, cut at each byte 10. It is kept until the program ends. */
+/* All of standard input, cut at each byte 10. */
 static inline lines read_lines(void) {
     uint8_t *input = NULL;
     size_t length = 0, room = 0, read;
@@ -40,7 +41,7 @@ static inline lines read_lines(void) {
         length += read = fread(input + length, 1, room - length, stdin);
     } while (read > 0);
     if (ferror(stdin)) stop("standard input cannot be read");
-    lines all = {NULL, 0};
+    lines all = {NULL, 0, input};
     size_t places = 0;
     for (size_t from = 0; from < length;) {
         const uint8_t *end = memchr(input + from, '\n', length - from);
@@ -50,6 +51,11 @@ static inline lines read_lines(void) {
         from += size + 1;
     }
     return all;
+}
+
+static inline void drop_lines(lines all) {
+    free(all.at);
+    free(all.input);
 }
 
 #endif

@@ -43,32 +43,33 @@ typedef struct revroute {
 /* A session with no network yet, which holds no memory: revroute session = REVROUTE_NEW; */
 #define REVROUTE_NEW {NULL}
 
-/* The least room that an answer is given. A smaller buffer is always too short. */
+/* The least room that an answer is given. A smaller buffer is always too short, whatever the line. */
 #define REVROUTE_LEAST_ROOM 64
 
 /* How a call ends. */
 enum {
     /* The answer stands at the front of the buffer, in ASCII, with no line end and no NUL, and *length is its length. */
     REVROUTE_ANSWERED = 0,
-    /* The line is blank, spaces, tabs and carriage returns alone, and has no answer. The session is as it was. */
+    /* The line is blank, spaces, tabs and carriage returns alone, and has no answer. *length is 0. */
     REVROUTE_BLANK = 1,
-    /* The buffer is too short, and the session is as it was: ask again with a room of *length bytes. */
+    /* The buffer is too short, and *length is the room that is wanted: ask again with that. */
     REVROUTE_TOO_SHORT = 2,
-    /* Memory ran out, and the session is as it was: the line can be asked again. */
+    /* Memory ran out: the line can be asked again. *length is 0. */
     REVROUTE_NO_MEMORY = 3
 };
 
-/* Answers a line of line_length bytes into the buffer `answer` of `room` bytes, and returns how that ended. The line is without
- * its line end. A line that is refused is answered as well, by `refused` and a number. What stands in the buffer behind the
- * answer, or after another end, is not told. */
+/* Answers a line of line_length bytes, which is without its line end, into the buffer `answer` of `room` bytes, and returns how
+ * that ended. A line that is refused is answered as well, by `refused` and a number. The buffer is as it was behind the answer;
+ * after any end but REVROUTE_ANSWERED the session and the whole buffer are as they were. An answer that changes the session
+ * always fits into REVROUTE_LEAST_ROOM. */
 uint32_t revroute_answer(revroute *session, const uint8_t *line, size_t line_length, uint8_t *answer, size_t room,
                          size_t *length);
 
 /* Gives back all memory of a session, which is then as REVROUTE_NEW made it: it can be closed again, or used. */
 void revroute_close(revroute *session);
 
-/* Writes what this library is into the buffer `text` of `room` bytes, as revroute_answer writes an answer: one line, its version
- * and what it was proved with. Returns REVROUTE_ANSWERED or REVROUTE_TOO_SHORT. */
+/* Writes the version of the library, as 0.1.0, into the buffer `text` of `room` bytes. Returns REVROUTE_ANSWERED or
+ * REVROUTE_TOO_SHORT, and *length is the length of the version in both cases. */
 uint32_t revroute_version(uint8_t *text, size_t room, size_t *length);
 
 #ifdef __cplusplus

@@ -3,6 +3,7 @@
 import copy
 import doctest
 import gc
+import importlib.metadata
 import pickle
 import threading
 import unittest
@@ -116,10 +117,8 @@ class SessionTest(unittest.TestCase):
         session.close()
         self.assertEqual(found, [CHAIN_LINKS])
 
-    def test_the_library_names_itself(self):
-        from importlib.metadata import version
-
-        self.assertIn(version("revroute"), revroute.version())
+    def test_the_package_has_the_version_of_the_library(self):
+        self.assertEqual(importlib.metadata.version("revroute"), revroute.version())
 
 
 def load_tests(loader, tests, pattern):

@@ -116,21 +116,17 @@ impl Drop for Session {
     }
 }
 
-/// What the library is: its version, and what it was proved with.
-///
-/// # Errors
-///
-/// Where there is no memory for the text.
-pub fn version() -> Result<String, NoMemory> {
-    let mut text = Vec::new();
+/// The version of the library.
+pub fn version() -> String {
+    let mut text = vec![0; 16];
     loop {
         let mut length = 0;
         // SAFETY: the text is a slice, which does not overlap its length.
         let status = unsafe { sys::revroute_version(text.as_mut_ptr(), text.len(), &mut length) };
         if status == sys::ANSWERED {
-            return Ok(String::from(text_of(&text[..length])));
+            return String::from(text_of(&text[..length]));
         }
-        make_room(&mut text, length)?;
+        text.resize(length, 0);
     }
 }
 

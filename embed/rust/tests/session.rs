@@ -130,8 +130,6 @@ fn what_is_no_request_is_answered() -> Result<(), NoMemory> {
 }
 
 #[test]
-fn the_library_names_itself() -> Result<(), NoMemory> {
-    let text = version()?;
-    assert!(text.contains(env!("CARGO_PKG_VERSION")), "{text}");
-    Ok(())
+fn the_crate_has_the_version_of_the_library() {
+    assert_eq!(version(), env!("CARGO_PKG_VERSION"));
 }

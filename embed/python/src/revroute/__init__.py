@@ -108,7 +108,7 @@ class Session:
 
 
 def version() -> str:
-    """What the library is: its version, and what it was proved with."""
+    """The version of the library."""
     length, room = ctypes.c_size_t(), 64
     while True:
         text = ctypes.create_string_buffer(room)
