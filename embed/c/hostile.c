@@ -3,10 +3,12 @@
  * A session that meets neither goes ahead and says what the answers are. Behind it each line is asked in two ways:
  *
  *   - with too little room: of no byte, of one less than the least, and of one less than its answer, until it has just enough;
- *   - with the Nth allocation of a session refused, for N = 1, 2, .. until all lines are answered without meeting it.
+ *   - with the Nth allocation of a session refused, for N = 1, 2, .. until all lines are answered without meeting it. A call may do
+ *     without it; or it says that there is no memory, and is made again.
  *
- * The answer must then be the same, and before it the session as it was. Each line ends, and each buffer begins, where no
- * memory is behind it, so that a byte read or written too far ends the program by a signal.
+ * The answer must be the same, and before it the session as it was. Each line and each buffer ends where no memory is behind it, so that
+ * a byte read or written too far ends the program by a signal. Printed are how many allocations were refused, and how many calls
+ * said so.
  */
 #define _DEFAULT_SOURCE
 #include "lines.h"
@@ -102,7 +104,10 @@ static void ask_short(revroute *session, line it, answer wanted) {
     drop(before);
 }
 
-/* Asks a line while an allocation may be refused, and again where it was. Returns whether it was. */
+/* How many calls said that they had no memory. */
+static long refusals;
+
+/* Asks a line while an allocation may be refused, and again where it says so. Returns whether one was refused. */
 static int ask_poor(revroute *session, line it, answer wanted, long *left) {
     state before = state_of(session);
     refusing_left = *left;
@@ -110,12 +115,13 @@ static int ask_poor(revroute *session, line it, answer wanted, long *left) {
     int was_refused = *left > 0 && refusing_left == 0;
     *left = refusing_left;
     refusing_left = 0;
-    if (was_refused != (found.status == REVROUTE_NO_MEMORY)) stop("a refused allocation was not told, or another told as such");
-    if (was_refused) {
+    if (found.status == REVROUTE_NO_MEMORY) {
+        if (!was_refused) stop("want of memory was told where none was refused");
+        refusals++;
         expect_state(session, before, "a call without memory changed the session");
         found = ask(session, it);
     }
-    if (!is_same(found, wanted)) stop("asked again a line has another answer");
+    if (!is_same(found, wanted)) stop("where an allocation was refused, the line has another answer");
     free(found.bytes);
     drop(before);
     return was_refused;
@@ -135,17 +141,16 @@ int main(void) {
     revroute_close(&ahead);
     revroute_close(&behind);
     revroute_close(&behind);
-    long refused = 0;
+    long number = 0;
     for (int meets = 1; meets;) {
-        long left = refused + 1;
+        long left = ++number;
         meets = 0;
         for (size_t at = 0; at < asked.count; at++) meets |= ask_poor(&behind, asked.at[at], wanted[at], &left);
-        refused += meets;
         revroute_close(&behind);
         if (refusing_held) stop("a closed session holds memory");
     }
     for (size_t at = 0; at < asked.count; at++) free(wanted[at].bytes);
     free(wanted);
     drop_lines(asked);
-    printf("%ld\n", refused);
+    printf("%ld %ld\n", number - 1, refusals);
 }

@@ -47,6 +47,7 @@ static void ask(revroute *session, line it, answers *all) {
         if (status == REVROUTE_ANSWERED) write_answer(all, length);
         if (status == REVROUTE_NO_MEMORY) stop("no memory");
         if (status != REVROUTE_TOO_SHORT) return;
+        if (length <= room) stop("too short a buffer, and no more is wanted");
         room = length;
         if (room > all->answer_room) all->answer = grown(all->answer, all->answer_room = room);
     }
