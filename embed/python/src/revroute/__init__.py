@@ -70,6 +70,7 @@ class Session:
 
     def _make_room(self, room: int) -> None:
         self._buffer, self._room = ctypes.create_string_buffer(room), room
+        self._bytes = memoryview(self._buffer).cast("B")
 
     def answer(self, line: Union[str, bytes]) -> Optional[str]:
         """The answer to a line, or None for a blank one, which has spaces, tabs and carriage returns alone.
@@ -85,7 +86,7 @@ class Session:
             while True:
                 status = _library.revroute_answer(self._at, line, len(line), self._buffer, self._room, self._length_at)
                 if status == _ANSWERED:
-                    return ctypes.string_at(self._buffer, self._length.value).decode("ascii")
+                    return str(self._bytes[: self._length.value], "ascii")
                 if status == _BLANK:
                     return None
                 if status == _NO_MEMORY:
