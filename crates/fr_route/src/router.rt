@@ -1,6 +1,6 @@
 //! Routers.
 
-ghost use Rattle.std.specs.Prelude.{◌≡◌, ◌≢◌, ◌<◌, IfOk, IfErr, OnErr};
+ghost use Rattle.std.specs.Prelude.{◌≡◌, ◌≢◌, ◌<◌, length, IfOk, IfErr, OnErr};
 ghost use Rattle.fr_crew.specs.Settlements.{Settles, NeverStarts};
 ghost use Rattle.fr_route.specs.declared.fault.RouteFault.TheVariants.{Start, Memory};
 ghost use Rattle.fr_route.specs.States.{IsRound, IsReport};
@@ -210,9 +210,10 @@ impl Router {
         self.dest
     }
 
-    /// How often each node turned in the last round.
+    /// How often each node turned in the last round: one count for each node.
     pub fn counts(&self) -> &[u64]
-        ensures { result.now ≡ self.now.counts }
+        ensures value { result.now ≡ self.now.counts }
+        ensures one_each { length self.now.counts ≡ self.now.nodes }
     {
         &self.counts
     }

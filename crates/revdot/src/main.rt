@@ -1,12 +1,86 @@
-//! The program `revdot`.
+//! The program `revdot`: draws the network that the lines of standard input leave, in Graphviz's language.
 #![tactic(auto)]
 
+mod drawing;
 mod graphs;
+mod settled;
+mod standing;
+mod strips;
+mod turns;
 
-use graphs::push_graph;
+use drawing::{Picture, draw};
+use fr_run::{RunFault, run_end};
+use std::alloc::Global;
+use std::io::BufWriter;
+use std::process::ExitCode;
+use std::rt::Env;
+use std::sync::Wait;
+use std::thread::Threads;
+use std::{env, io};
 
-fn main(rt: HostRuntime) {
-    let mut text = String::new(rt.alloc());
-    let _ = push_graph(&mut text, None, 0, &[], &[]);
-    let _ = rt.print(text.as_str());
+/// How the program is called.
+const USAGE: &str = "\
+Draws the network that the lines of standard input leave, as a graph in Graphviz's language.
+
+usage: revdot [--turns] < LINES | dot -Tsvg > PICTURE
+
+  --turns  a graph for each turn of the last round, and then the network (dot -Tsvg -O FILE makes a picture of each)
+";
+
+/// What the program is to do.
+#[derive(Clone, Copy)]
+enum Task {
+    /// Draw this picture.
+    Draw(Picture),
+    /// Say how it is called, since that was asked for, or since the words are wrong.
+    Tell { asked: bool },
+}
+
+fn main(rt: HostRuntime) -> ExitCode {
+    match task_of(&rt) {
+        Task::Draw(picture) => match perform(&rt, picture) {
+            Ok(()) => ExitCode::SUCCESS,
+            Err(fault) => {
+                let (status, text) = run_end(&fault);
+                let _ = rt.eprintln(text);
+                ExitCode::from(status)
+            }
+        },
+        Task::Tell { asked: true } => {
+            let _ = rt.print(USAGE);
+            ExitCode::SUCCESS
+        }
+        Task::Tell { asked: false } => {
+            let _ = rt.eprint(USAGE);
+            ExitCode::from(2)
+        }
+    }
+}
+
+/// The task of the command line: without a word the network as it stands.
+fn task_of<R: Env + Alloc<A = Global>>(rt: &R) -> Task {
+    let Ok(words) = env::args(rt) else {
+        return Task::Tell { asked: false };
+    };
+    let mut task = Task::Draw(Picture::Network);
+    for word in words.skip(1) {
+        task = match word.as_str() {
+            "--turns" => Task::Draw(Picture::Turns),
+            "--help" => return Task::Tell { asked: true },
+            _ => return Task::Tell { asked: false },
+        };
+    }
+    task
+}
+
+/// Draws the input of the program to its output.
+fn perform<R: Threads + Wait + Sync + Alloc<A = Global> + Input + Print>(
+    rt: &R,
+    picture: Picture,
+) -> Result<(), RunFault> {
+    let alloc = rt.alloc();
+    let Ok(mut out) = BufWriter::new(alloc, io::writer(rt)) else {
+        return Err(RunFault::Memory);
+    };
+    draw(rt, alloc, &mut rt.reader(), &mut out, picture)
 }
