@@ -1,5 +1,5 @@
 -- How far a session has been asked the lines of an input.
-use Rattle.std.proofs.Common.{◌≡◌, ◌∙◌, ℕ, Bool, true, false, List, [], ◌∷◌, ◌++◌, Option, Some, None, append_assoc, append-nil, ap, refl, subst, sym, string_bytes, MatchBool, IfSome, IfNone}
+use Rattle.std.proofs.Common.{◌≡◌, ◌∙◌, ℕ, Bool, true, false, List, [], ◌∷◌, ◌++◌, Option, Some, None, append_assoc, append-nil, ap, refl, subst, sym, Global, String, string_bytes, MatchBool, IfSome, IfNone}
 use Rattle.fr_net.specs.Requests.{reading}
 use Rattle.fr_route.specs.Answers.{IsLineAnswer}
 use Rattle.fr_route.specs.Blank.{is_blank}
@@ -29,19 +29,25 @@ at_start whole = record {
 abbrev pub IsAsked : List ℕ → Option State → Option State → Type 0
 IsAsked line now next = (text : List ℕ) × AreAnswers now (line ∷ []) text next
 
-pub blank_line : (line : List ℕ) (now next : Option State) → is_blank line ≡ true → next ≡ now → IsAsked line now next
+blank_line : (line : List ℕ) (now next : Option State) → is_blank line ≡ true → next ≡ now → IsAsked line now next
 blank_line line now next blank same = ([], of (is_blank line) blank)
   where
     of : (b : Bool) → b ≡ true → MatchBool b (AreAnswers now [] [] next) (Answered now line [] [] next)
     of true e = (refl, same)
     of false e = cc
 
-pub answered_line : (line text : List ℕ) (now next : Option State) → is_blank line ≡ false → IsLineAnswer now (reading line) text next → IsAsked line now next
+answered_line : (line text : List ℕ) (now next : Option State) → is_blank line ≡ false → IsLineAnswer now (reading line) text next → IsAsked line now next
 answered_line line text now next asks is = (text ++ 10 ∷ [], of (is_blank line) asks)
   where
     of : (b : Bool) → b ≡ false → MatchBool b (AreAnswers now [] (text ++ 10 ∷ []) next) (Answered now line [] (text ++ 10 ∷ []) next)
     of true e = cc
     of false e = (text, next, [], is, (refl, refl), sym (append-nil (text ++ 10 ∷ [])))
+
+-- what a session answers to the line
+pub asked_line : (line : List ℕ) (now next : Option State) (answer : Option (String Global)) → IfNone answer ((is_blank line ≡ true) × (next ≡ now))
+    → IfSome answer (λ text. (is_blank line ≡ false) × IsLineAnswer now (reading line) (string_bytes text) next) → IsAsked line now next
+asked_line line now next None blank told = blank_line line now next blank.0 blank.1
+asked_line line now next (Some text) blank told = answered_line line (string_bytes text) now next told.0 told.1
 
 -- one line more
 pub asked_more : (whole text line : List ℕ) (rest : Option (List ℕ)) (now next : Option State) → HasAsked whole (Some text) now

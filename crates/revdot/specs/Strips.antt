@@ -7,6 +7,7 @@ use Rattle.fr_core.specs.Legal.{CanTurn, NoneCanTurn}
 use Rattle.fr_route.specs.States.{State}
 use Rattle.revdot.specs.Graphs.{graph_text}
 use Rattle.revdot.specs.Settled.{IsGraphOf}
+use Rattle.revdot.specs.declared.graphs.NodeLook.{NodeLook}
 use Rattle.revdot.specs.declared.graphs.NodeLook.TheVariants as node
 use Rattle.revdot.specs.declared.graphs.LinkLook.TheVariants as link
 use Rattle.revdot.specs.declared.graphs.DrawnNode.{DrawnNode}
@@ -49,13 +50,13 @@ pub record AreAllTurns (n d : ℕ) (m : Moment) (xs : List ℕ) : Type 0 where
   pub turns : AreTurns n d m xs
   pub all : (length xs ≡ most_turns) ⊎ NoneCanTurn n d (after_turns m xs)
 
--- a node at the turn of x, with its count before it
-abbrev pub turn_node : ℕ → Moment → ℕ → ℕ → DrawnNode
-turn_node d m x y = record {
-  node = y;
-  count = count_at m y;
-  look = if y == d then node.Destination else if y == x then node.Turning else node.Plain;
-}
+-- how the node y is drawn at the turn of x
+abbrev pub turn_look : ℕ → ℕ → ℕ → NodeLook
+turn_look d x y = if y == d then node.Destination else if y == x then node.Turning else node.Plain
+
+-- the node y at the turn of x, with its count before it
+abbrev pub turn_node : ℕ → List ℕ → ℕ → ℕ → DrawnNode
+turn_node d counts x y = record { node = y; count = slice_index counts y; look = turn_look d x y }
 
 -- a settled link, which stands where it will stand in the end, as it points before the turn of x
 abbrev pub turn_link : ℕ → (ℕ × ℕ) × (ℕ × ℕ) → DrawnLink
@@ -69,7 +70,7 @@ turn_link x p = record {
 -- the graph of turn k, which is that of x
 abbrev pub turn_text : State → Moment → ℕ → ℕ → List ℕ
 turn_text s m k x =
-    graph_text (Some (record { turn = k; node = x })) s.dest (map (turn_node s.dest m x) (range_with_len 0 s.nodes)) (map (turn_link x) (zip s.links m.links))
+    graph_text (Some (record { turn = k; node = x })) s.dest (map (turn_node s.dest m.counts x) (range_with_len 0 s.nodes)) (map (turn_link x) (zip s.links m.links))
 
 -- a graph for each of these turns, which are counted from k
 abbrev pub turns_text : State → Moment → ℕ → List ℕ → List ℕ

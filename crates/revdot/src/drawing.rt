@@ -3,7 +3,7 @@
 ghost use Rattle.std.specs.Prelude.{◌≡◌, ◌≢◌, List, ℕ, IfOk, IfErr, string_bytes};
 ghost use Rattle.std.specs.Io.KnownBytes.{Keeps};
 ghost use Rattle.fr_run.specs.Outputs.{ReadsInput, ReadsAtMostOneTooMany};
-ghost use Rattle.revdot.specs.Drawings.{IsPictureOf, WritesDrawing, WritesBeginningOfDrawing};
+ghost use Rattle.revdot.specs.Drawings.{IsDrawing, IsPictureOf, WritesDrawing, WritesBeginningOfDrawing};
 
 use crate::settled::push_settled;
 use crate::standing::session_after;
@@ -44,19 +44,29 @@ pub fn draw<T: Threads + Wait + Sync, R: Read, W: Write>(
     ensures nothing { IfErr result (λ fault. fault ≢ RunFault.Write → Keeps (W.contents writer.old) (W.contents writer.new)) }
 {
     let input = read_input(alloc, reader)?;
-    let session = match session_after(rt, alloc, &input) {
-        Ok(session) => session,
+    let text = match drawn(rt, alloc, &input, picture) {
+        Ok(text) => text,
         Err(AnswerFault::Start) => return Err(RunFault::Start),
         Err(AnswerFault::Memory) => return Err(RunFault::Memory),
-    };
-    let Ok(text) = picture_of(alloc, &session, picture) else {
-        return Err(RunFault::Memory);
     };
     write_whole(writer, text.as_bytes())?;
     match writer.flush() {
         Ok(()) => Ok(()),
         Err(_) => Err(RunFault::Write),
     }
+}
+
+/// The picture of the network that an input leaves.
+fn drawn<T: Threads + Wait + Sync>(
+    rt: &T,
+    alloc: Global,
+    input: &[u8],
+    picture: Picture,
+) -> Result<String, AnswerFault>
+    ensures { IfOk result (λ text. IsDrawing picture input.now (string_bytes text)) }
+{
+    let session = session_after(rt, alloc, input)?;
+    Ok(picture_of(alloc, &session, picture)?)
 }
 
 /// The picture of a session's network.

@@ -2,7 +2,7 @@
 
 ghost use Rattle.std.specs.Prelude.{◌≡◌, ◌++◌, ◌<◌, ◌≤◌, ℕ, List, length, map, IfOk, OnOk, string_bytes};
 ghost use Rattle.std.specs.List.{range_with_len, zip};
-ghost use Rattle.revdot.specs.Strips.{IsStripOf, AreAllTurns, moment, beginning, turn_node as turn_node_of, turn_link, turn_text, turns_text};
+ghost use Rattle.revdot.specs.Strips.{IsStripOf, AreAllTurns, moment, beginning, turn_look, turn_node as turn_node_of, turn_link, turn_text, turns_text};
 
 use crate::graphs::{DrawnLink, DrawnNode, LinkLook, NodeLook, Title, push_graph};
 use crate::settled::push_settled;
@@ -84,27 +84,33 @@ fn turn_nodes(
     x: u32,
 ) -> Result<Vec<DrawnNode>, AllocError>
     requires { length counts.now ≡ nodes }
-    ensures { IfOk result (λ drawn. (links : List (ℕ × ℕ)) → drawn.items ≡ map (turn_node_of dest (moment links counts.now) x) (range_with_len 0 nodes)) }
+    ensures { IfOk result (λ drawn. drawn.items ≡ map (turn_node_of dest counts.now x) (range_with_len 0 nodes)) }
 {
     let mut drawn = Vec::new(alloc);
     for y in 0..nodes {
-        let look = if y == dest {
-            NodeLook::Destination
-        } else if y == x {
-            NodeLook::Turning
-        } else {
-            NodeLook::Plain
-        };
         drawn.push(DrawnNode {
             node: y,
             count: counts[y as usize],
-            look,
+            look: look_of_node(y, dest, x),
         })?;
     }
     Ok(drawn)
 }
 
-/// The links at the turn of `x`.
+/// How node `y` is drawn at the turn of `x`.
+fn look_of_node(y: u32, dest: u32, x: u32) -> NodeLook
+    ensures { result ≡ turn_look dest x y }
+{
+    if y == dest {
+        NodeLook::Destination
+    } else if y == x {
+        NodeLook::Turning
+    } else {
+        NodeLook::Plain
+    }
+}
+
+/// The links at the turn of `x`: where they stand in the end, and how they point.
 fn turn_links(
     alloc: Global,
     settled: &[(u32, u32)],
@@ -114,18 +120,24 @@ fn turn_links(
     ensures { IfOk result (λ drawn. drawn.items ≡ map (turn_link x) (zip settled.now links.now)) }
 {
     let mut drawn = Vec::new(alloc);
-    for ((tail, head), link) in settled.iter().zip(links.iter()) {
-        let look = if link.1 == x {
-            LinkLook::Turning
-        } else {
-            LinkLook::Plain
-        };
-        drawn.push(DrawnLink {
-            tail: *tail,
-            head: *head,
-            look,
-            back: link.0 != *tail,
-        })?;
+    for (stands, points) in settled.iter().zip(links.iter()) {
+        drawn.push(link_at_turn(*stands, *points, x))?;
     }
     Ok(drawn)
+}
+
+fn link_at_turn(stands: (u32, u32), points: (u32, u32), x: u32) -> DrawnLink
+    ensures { result ≡ turn_link x (stands, points) }
+{
+    let look = if points.1 == x {
+        LinkLook::Turning
+    } else {
+        LinkLook::Plain
+    };
+    DrawnLink {
+        tail: stands.0,
+        head: stands.1,
+        look,
+        back: points.0 != stands.0,
+    }
 }

@@ -1,7 +1,6 @@
 //! The turns of the last round.
 
-ghost use Rattle.std.specs.Prelude.{◌≡◌, ℕ, ◌<◌, ◌+◌, length, map, IfOk, MatchOption, slice_index, slice_set};
-ghost use Rattle.std.specs.List.{All};
+ghost use Rattle.std.specs.Prelude.{◌≡◌, ◌<◌, length, map, IfOk, IfSome, MatchOption};
 ghost use Rattle.fr_net.specs.Links.{AreBelow};
 ghost use Rattle.fr_net.specs.Turn.{turn, turned_link};
 ghost use Rattle.fr_core.specs.Legal.{NoneCanTurn};
@@ -64,8 +63,9 @@ pub fn next_to_turn(
 ) -> Result<Option<u32>, AllocError>
     requires below { AreBelow nodes links.now }
     requires one_each { length counts.now ≡ nodes }
-    ensures { IfOk result (λ next. MatchOption next
+    ensures next { IfOk result (λ next. MatchOption next
         (NoneCanTurn nodes dest (moment links.now counts.now)) (IsNext nodes dest (moment links.now counts.now))) }
+    ensures node { IfOk result (λ next. IfSome next (λ x. x < nodes)) }
 {
     let Ends { tails, heads } = ends_of(alloc, nodes, links)?;
     for x in 0..nodes {
@@ -82,8 +82,13 @@ pub fn turn_node(links: &mut [(u32, u32)], x: u32)
     ensures { links.new ≡ turn x links.old }
 {
     for link in links.iter_mut() {
-        if link.1 == x {
-            *link = (x, link.0);
-        }
+        *link = turned(*link, x);
     }
+}
+
+/// The link after the turn of `x`.
+fn turned(link: (u32, u32), x: u32) -> (u32, u32)
+    ensures { result ≡ turned_link x link }
+{
+    if link.1 == x { (x, link.0) } else { link }
 }
