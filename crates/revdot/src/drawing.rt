@@ -8,12 +8,10 @@ ghost use Rattle.revdot.specs.Drawings.{IsDrawing, IsPictureOf, WritesDrawing, W
 use crate::settled::push_settled;
 use crate::standing::session_after;
 use crate::strips::push_strip;
-use fr_route::{AnswerFault, Session};
+use fr_route::Session;
 use fr_run::{RunFault, read_input, write_whole};
 use std::alloc::{AllocError, Global};
 use std::io::{Read, Write};
-use std::sync::Wait;
-use std::thread::Threads;
 
 /// What is drawn of the network that an input leaves.
 #[derive(Clone, Copy)]
@@ -27,8 +25,7 @@ pub enum Picture {
 /// Reads the whole input, asks a session each of its lines, writes the picture of the network that they leave, or nothing where
 /// there is none, and flushes once. At most one byte past the limit of 16,777,216 bytes is read. A fault other than `Write` has
 /// written nothing.
-pub fn draw<T: Threads + Wait + Sync, R: Read, W: Write>(
-    rt: &T,
+pub fn draw<R: Read, W: Write>(
     alloc: Global,
     reader: &mut R,
     writer: &mut W,
@@ -41,13 +38,12 @@ pub fn draw<T: Threads + Wait + Sync, R: Read, W: Write>(
     ensures write { result ≡ Err RunFault.Write → (bytes : List ℕ)
         × ReadsInput (R.remaining reader.old) (R.remaining reader.new) bytes
         × WritesBeginningOfDrawing picture bytes (W.contents writer.old) (W.contents writer.new) }
+    ensures no_start { result ≢ Err RunFault.Start }
     ensures nothing { IfErr result (λ fault. fault ≢ RunFault.Write → Keeps (W.contents writer.old) (W.contents writer.new)) }
 {
     let input = read_input(alloc, reader)?;
-    let text = match drawn(rt, alloc, &input, picture) {
-        Ok(text) => text,
-        Err(AnswerFault::Start) => return Err(RunFault::Start),
-        Err(AnswerFault::Memory) => return Err(RunFault::Memory),
+    let Ok(text) = drawn(alloc, &input, picture) else {
+        return Err(RunFault::Memory);
     };
     write_whole(writer, text.as_bytes())?;
     match writer.flush() {
@@ -57,16 +53,11 @@ pub fn draw<T: Threads + Wait + Sync, R: Read, W: Write>(
 }
 
 /// The picture of the network that an input leaves.
-fn drawn<T: Threads + Wait + Sync>(
-    rt: &T,
-    alloc: Global,
-    input: &[u8],
-    picture: Picture,
-) -> Result<String, AnswerFault>
+fn drawn(alloc: Global, input: &[u8], picture: Picture) -> Result<String, AllocError>
     ensures { IfOk result (λ text. IsDrawing picture input.now (string_bytes text)) }
 {
-    let session = session_after(rt, alloc, input)?;
-    Ok(picture_of(alloc, &session, picture)?)
+    let session = session_after(alloc, input)?;
+    picture_of(alloc, &session, picture)
 }
 
 /// The picture of a session's network.

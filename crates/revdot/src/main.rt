@@ -9,13 +9,11 @@ mod strips;
 mod turns;
 
 use drawing::{Picture, draw};
-use fr_run::{RunFault, run_end};
+use fr_run::RunFault;
 use std::alloc::Global;
 use std::io::BufWriter;
 use std::process::ExitCode;
 use std::rt::Env;
-use std::sync::Wait;
-use std::thread::Threads;
 use std::{env, io};
 
 /// How the program is called.
@@ -41,9 +39,8 @@ fn main(rt: HostRuntime) -> ExitCode {
         Task::Draw(picture) => match perform(&rt, picture) {
             Ok(()) => ExitCode::SUCCESS,
             Err(fault) => {
-                let (status, text) = run_end(&fault);
-                let _ = rt.eprintln(text);
-                ExitCode::from(status)
+                let _ = eprintln!(rt; "revdot: {fault}");
+                ExitCode::FAILURE
             }
         },
         Task::Tell { asked: true } => {
@@ -74,13 +71,10 @@ fn task_of<R: Env + Alloc<A = Global>>(rt: &R) -> Task {
 }
 
 /// Draws the input of the program to its output.
-fn perform<R: Threads + Wait + Sync + Alloc<A = Global> + Input + Print>(
-    rt: &R,
-    picture: Picture,
-) -> Result<(), RunFault> {
+fn perform<R: Alloc<A = Global> + Input + Print>(rt: &R, picture: Picture) -> Result<(), RunFault> {
     let alloc = rt.alloc();
     let Ok(mut out) = BufWriter::new(alloc, io::writer(rt)) else {
         return Err(RunFault::Memory);
     };
-    draw(rt, alloc, &mut rt.reader(), &mut out, picture)
+    draw(alloc, &mut rt.reader(), &mut out, picture)
 }

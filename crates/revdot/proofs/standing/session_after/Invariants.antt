@@ -4,7 +4,7 @@ use Rattle.revdot.proofs.Asking.{HasAsked}
 use Rattle.revdot.proofs.standing.session_after.Given as goal
 
 abbrev pub invariant-lines : goal.invariant-lines
-invariant-lines g l = HasAsked l.input (option_copied l.rest) l.session
+invariant-lines l = HasAsked l.input (option_copied l.rest) l.session
 
 abbrev pub decreases-lines : goal.decreases-lines
-decreases-lines g l = left (option_copied l.rest)
+decreases-lines l = left (option_copied l.rest)
