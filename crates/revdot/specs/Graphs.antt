@@ -11,7 +11,7 @@ use Rattle.revdot.specs.declared.graphs.Title.{Title}
 
 -- what all nodes and all links have
 unfoldable pub opening : List ℕ
-opening = codes "digraph {\n    graph [ nodesep = 0.4 ranksep = 0.4 fontname = Helvetica ]\n    node [ shape = circle fixedsize = true width = 0.55 fontname = Helvetica style = filled fillcolor = white ]\n    edge [ color = gray50 arrowsize = 0.8 ]\n"
+opening = codes "digraph network {\n    graph [ nodesep = 0.4 ranksep = 0.4 fontname = Helvetica ]\n    node [ shape = circle fixedsize = true width = 0.55 fontname = Helvetica style = filled fillcolor = white ]\n    edge [ color = gray50 arrowsize = 0.8 ]\n"
 
 -- the line below the graph of a turn
 abbrev pub title_text : Option Title → List ℕ

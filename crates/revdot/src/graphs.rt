@@ -8,7 +8,7 @@ use std::alloc::AllocError;
 use std::fmt::Write;
 
 /// The first lines of each graph: what all nodes and all links have.
-const OPENING: &str = "digraph {
+const OPENING: &str = "digraph network {
     graph [ nodesep = 0.4 ranksep = 0.4 fontname = Helvetica ]
     node [ shape = circle fixedsize = true width = 0.55 fontname = Helvetica style = filled fillcolor = white ]
     edge [ color = gray50 arrowsize = 0.8 ]
