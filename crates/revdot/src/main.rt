@@ -11,7 +11,7 @@ mod turns;
 use drawing::{Picture, draw};
 use fr_run::RunFault;
 use std::alloc::Global;
-use std::io::BufWriter;
+use std::io::{BufWriter, ErrorKind};
 use std::process::ExitCode;
 use std::rt::Env;
 use std::{env, io};
@@ -35,39 +35,45 @@ enum Task {
 }
 
 fn main(rt: HostRuntime) -> ExitCode {
-    match task_of(&rt) {
-        Task::Draw(picture) => match perform(&rt, picture) {
-            Ok(()) => ExitCode::SUCCESS,
-            Err(fault) => {
-                let _ = eprintln!(rt; "revdot: {fault}");
-                ExitCode::FAILURE
-            }
-        },
-        Task::Tell { asked: true } => {
+    let end = match task_of(&rt) {
+        Ok(Task::Draw(picture)) => perform(&rt, picture),
+        Ok(Task::Tell { asked: true }) => {
             let _ = rt.print(USAGE);
-            ExitCode::SUCCESS
+            return ExitCode::SUCCESS;
         }
-        Task::Tell { asked: false } => {
+        Ok(Task::Tell { asked: false }) => {
             let _ = rt.eprint(USAGE);
-            ExitCode::from(2)
+            return ExitCode::from(2);
+        }
+        Err(fault) => Err(fault),
+    };
+    match end {
+        Ok(()) => ExitCode::SUCCESS,
+        Err(fault) => {
+            let _ = eprintln!(rt; "revdot: {fault}");
+            ExitCode::FAILURE
         }
     }
 }
 
-/// The task of the command line: without a word the network as it stands.
-fn task_of<R: Env + Alloc<A = Global>>(rt: &R) -> Task {
-    let Ok(words) = env::args(rt) else {
-        return Task::Tell { asked: false };
+/// The task of the command line: without a word the network as it stands. A word that is no UTF-8 is a wrong word.
+fn task_of<R: Env + Alloc<A = Global>>(rt: &R) -> Result<Task, RunFault> {
+    let words = match env::args(rt) {
+        Ok(words) => words,
+        Err(error) if error.kind() == ErrorKind::InvalidData => {
+            return Ok(Task::Tell { asked: false });
+        }
+        Err(_) => return Err(RunFault::Memory),
     };
     let mut task = Task::Draw(Picture::Network);
     for word in words.skip(1) {
         task = match word.as_str() {
             "--turns" => Task::Draw(Picture::Turns),
-            "--help" => return Task::Tell { asked: true },
-            _ => return Task::Tell { asked: false },
+            "--help" => return Ok(Task::Tell { asked: true }),
+            _ => return Ok(Task::Tell { asked: false }),
         };
     }
-    task
+    Ok(task)
 }
 
 /// Draws the input of the program to its output.
