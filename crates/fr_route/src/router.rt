@@ -1,4 +1,4 @@
-//! Routers.
+//! A router: a settled network with its next hops and routes, and the changes after which it is settled anew.
 
 ghost use Rattle.std.specs.Prelude.{◌≡◌, ◌≢◌, ◌<◌, length, IfOk, IfErr, OnErr};
 ghost use Rattle.fr_crew.specs.Settlements.{Settles, NeverStarts};
@@ -43,7 +43,7 @@ impl Model for Router {
 impl Router {
     /// Settles a network by a crew, by the plan and under the gate. `Range` where the destination is no node, `Start`
     /// where a thread could not be started, `Memory` where no room could be had; never `Net`. On a fault the network is
-    /// given up. It comes back if the calls of the gate do.
+    /// given up. It waits for the threads of the crew, which end where the calls of the gate return.
     pub fn open<R: Threads + Wait + Sync, G: Gate + Sync>(
         rt: &R,
         alloc: Global,
