@@ -18,7 +18,7 @@ pub enum Reply {
 /// A decided call of a worker on a node.
 #[derive(Debug, Drop, Clone, Copy, PartialEq, Eq)]
 pub struct Entry {
-    /// Any number: what a history is does not depend on who made its calls.
+    /// Who made the call. Whether a history is legal does not depend on it, so any number will do.
     pub worker: u32,
     /// The node that the call was on.
     pub node: u32,

@@ -53,7 +53,7 @@ pub fn count_law()
     ensures joined { JoinedByCounts }
 {}
 
-/// Each run can settle, and all that do end alike.
+/// Every run can be carried on until no node can turn, and all runs that come so far end at the same counts.
 pub fn schedule_law()
     ensures exists { EachNetSettles }
     ensures each { EachRunSettles }
@@ -68,7 +68,7 @@ pub fn machine_law()
     ensures parts { PartsAreReplies }
 {}
 
-/// Each history is a run or has one first bad entry, and never both.
+/// Each history is a run, or has one first entry that is not legal, and never both.
 pub fn check_law()
     ensures excludes { BadIsNoRun }
     ensures either { RunOrBad }

@@ -157,7 +157,7 @@ fn run_each<'s, 'e, J: Naming + Send + Sync, R: Threads, G: Gate + Sync>(
     Ok(back)
 }
 
-/// Starts the threads in a scope, which comes back when all of them have ended.
+/// Starts the threads in a scope, which ends when all of them have.
 fn run_threads<J: Naming + Send + Sync, R: Threads + Wait, G: Gate + Sync>(
     rt: &R,
     alloc: Global,

@@ -1,4 +1,4 @@
-//! Workers with what they find their work by.
+//! A worker with its own deque, and the handles by which the others steal from it.
 
 ghost use Rattle.std.specs.Prelude.{◌≡◌, ◌<◌, IfOk, length, vec_len};
 ghost use Rattle.std.specs.List.{AllByRecursion as Each};

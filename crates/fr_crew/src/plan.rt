@@ -1,4 +1,4 @@
-//! How a crew is to work.
+//! How a crew is to work: how many workers, where they look first for work, and how many calls each may make.
 
 ghost use Rattle.std.specs.Prelude.{◌≡◌, ◌≤◌, ◌<◌, ◌⊎◌, ◌↔◌, IsNone, IfSome};
 ghost use Rattle.fr_core.specs.Limits.{most_workers};

@@ -47,7 +47,9 @@ pub struct Settled {
 ///
 /// `Range` where the destination is no node, which is tested first. The room for the whole round is taken before the first
 /// thread is started; after that the only fault is `Start`, since a candidate for which a deque finds no more room is left to
-/// the finisher. Where there is a fault, the network is given up. It comes back if the calls of the gate do.
+/// the finisher. Where there is a fault, the network is given up. It waits for its threads, which end where the calls of the
+/// gate return. Without threads it is linear in nodes and links; by a crew its cost grows with the turns, and `CALLING.md` says
+/// how.
 pub fn settle<R: Threads + Wait + Sync, G: Gate + Sync>(
     rt: &R,
     alloc: Global,

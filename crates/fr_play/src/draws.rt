@@ -1,4 +1,4 @@
-//! Drawn schedules.
+//! Which schedule a play follows: so many steps of so many workers, drawn from a seed.
 
 ghost use Rattle.std.specs.Prelude.{◌≡◌, ◌≤◌, ◌<◌, ◌⊎◌, ◌↔◌, IsNone, IfSome, IfOk};
 ghost use Rattle.fr_core.specs.Limits.{most_workers};

@@ -1,4 +1,4 @@
-//! Rounds.
+//! An open round, which threads share by reference: how it is opened, the calls of its workers, and how it is closed.
 
 ghost use Rattle.std.specs.Prelude.{◌≡◌, ◌≤◌, ◌<◌, ℕ, MatchResult, IfOk, IfErr, length, slice_index};
 ghost use Rattle.std.specs.List.{AllByRecursion as Each};
@@ -22,7 +22,7 @@ use std::alloc::Global;
 use std::marker::Model;
 
 /// An open round: one atomic word for each node, which counts its turns. Threads share it by reference, and each turns
-/// nodes by a worker of its own. A round keeps no seat at its words, as no seat can be shared.
+/// nodes by a worker of its own.
 #[derive(Drop)]
 pub struct Round {
     terms: Terms,

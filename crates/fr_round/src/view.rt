@@ -16,19 +16,22 @@ pub struct View {
     pub setup: Setup,
     /// Whether it is a worker's seat.
     pub works: bool,
-    /// The worker's number,
+    /// The number of the worker whose seat it is.
     pub number: u32,
-    /// the history up to the worker's last call,
+    /// The history up to the worker's last call.
     pub known: LinkedList<Entry>,
-    /// counts that the nodes had reached,
+    /// Counts that the nodes had reached by then.
     pub seen: LinkedList<u64>,
-    /// and the node and its count in the call that is under way, once that count was loaded.
+    /// The node of the call that is under way.
     pub node: u32,
+    /// The count of that node, once the call has loaded it.
     pub count: u64,
-    /// Whether it is the seat that gives out the workers' numbers, and the next number.
+    /// Whether it is the seat that gives out the workers' numbers.
     pub opens: bool,
+    /// The next number that it gives out.
     pub next: u32,
-    /// Whether it is a seat that takes workers back, with the number and the history of each that came back.
+    /// Whether it is a seat that takes workers back.
     pub closes: bool,
+    /// The number and the history of each worker that it took back.
     pub taken: LinkedList<(u32, LinkedList<Entry>)>,
 }

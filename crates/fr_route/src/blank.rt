@@ -1,4 +1,4 @@
-//! Blank lines.
+//! Which lines ask for nothing.
 
 ghost use Rattle.std.specs.Prelude.{◌≡◌};
 ghost use Rattle.fr_route.specs.Blank.{is_blank as is_blank_line};

@@ -1,6 +1,6 @@
-//! Routers.
+//! A router: a settled network with its next hops and routes, and the changes after which it is settled anew.
 
-ghost use Rattle.std.specs.Prelude.{◌≡◌, ◌≢◌, ◌<◌, IfOk, IfErr, OnErr};
+ghost use Rattle.std.specs.Prelude.{◌≡◌, ◌≢◌, ◌<◌, length, IfOk, IfErr, OnErr};
 ghost use Rattle.fr_crew.specs.Settlements.{Settles, NeverStarts};
 ghost use Rattle.fr_route.specs.declared.fault.RouteFault.TheVariants.{Start, Memory};
 ghost use Rattle.fr_route.specs.States.{IsRound, IsReport};
@@ -43,7 +43,7 @@ impl Model for Router {
 impl Router {
     /// Settles a network by a crew, by the plan and under the gate. `Range` where the destination is no node, `Start`
     /// where a thread could not be started, `Memory` where no room could be had; never `Net`. On a fault the network is
-    /// given up. It comes back if the calls of the gate do.
+    /// given up. It waits for the threads of the crew, which end where the calls of the gate return.
     pub fn open<R: Threads + Wait + Sync, G: Gate + Sync>(
         rt: &R,
         alloc: Global,
@@ -211,9 +211,10 @@ impl Router {
         self.dest
     }
 
-    /// How often each node turned in the last round.
+    /// How often each node turned in the last round: one count for each node.
     pub fn counts(&self) -> &[u64]
-        ensures { result.now ≡ self.now.counts }
+        ensures value { result.now ≡ self.now.counts }
+        ensures one_each { length self.now.counts ≡ self.now.nodes }
     {
         &self.counts
     }

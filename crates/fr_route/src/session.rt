@@ -1,6 +1,7 @@
 //! What the requests so far have made, and the answer to the next one.
 
 ghost use Rattle.std.specs.Prelude.{◌≡◌, ◌≢◌, ℕ, ◌<◌, ◌≤◌, ◌⊎◌, length, true, false, Some, None, IfOk, IfErr, OnErr, IfSome, IfNone, string_bytes};
+ghost use Rattle.std.specs.Option.{option_copied};
 ghost use Rattle.fr_net.specs.Requests.{ask, new_network, walk_from, plain, reading};
 ghost use Rattle.fr_crew.specs.Settlements.{Settles, NeverStarts};
 ghost use Rattle.fr_route.specs.Blank.{is_blank as is_blank_line};
@@ -46,6 +47,13 @@ impl Session {
         ensures { result ≡ None }
     {
         Session { router: None }
+    }
+
+    /// The router of the last network that was accepted, or None where there is none yet.
+    pub fn router(&self) -> Option<&Router>
+        ensures { option_copied result ≡ self.now }
+    {
+        self.router.as_ref()
     }
 
     /// The answer to a line, or None for a blank one; `specs/Answers.antt` says what the answer to a line is. The session is

@@ -1,4 +1,4 @@
-//! Writing.
+//! Writing all of some bytes, or a beginning of them where a write fails.
 
 ghost use Rattle.std.specs.Prelude.{◌≡◌, ℕ, OnOk, OnErr, IfErr, take};
 ghost use Rattle.std.specs.Io.KnownBytes.{Appends};

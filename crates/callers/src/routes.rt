@@ -1,0 +1,25 @@
+//! Routes round a link that fails.
+
+ghost use Rattle.std.specs.Prelude.{◌<◌, IfOk};
+ghost use Rattle.fr_route.specs.Changes.{IsChanged};
+ghost use Rattle.fr_route.specs.Routes.{IsWalked};
+ghost use Rattle.fr_route.specs.declared.change.Change.TheVariants.{Cut};
+
+use fr_route::{Change, RouteFault, Router, Walked};
+use std::alloc::Global;
+
+/// Takes the link between `u` and `v` out, settles the network on this thread, and answers the way of node `x` after it.
+pub fn way_round(
+    alloc: Global,
+    router: &mut Router,
+    u: u32,
+    v: u32,
+    x: u32,
+) -> Result<Walked, RouteFault>
+    requires { x < router.old.nodes }
+    ensures cut { IfOk result (λ _. IsChanged router.old (Cut u v) router.new) }
+    ensures walked { IfOk result (IsWalked router.new x) }
+{
+    let _report = router.change_alone(alloc, Change::Cut { u, v })?;
+    router.walk(alloc, x)
+}

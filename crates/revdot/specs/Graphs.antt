@@ -1,0 +1,64 @@
+-- Graphs in Graphviz's language, line by line.
+use Rattle.std.specs.Prelude.{ℕ, List, [], ◌++◌, Bool, true, false, Option, Some, None, codes, decimal}
+use Rattle.std.specs.List.{flat_map}
+use Rattle.revdot.specs.declared.graphs.NodeLook.{NodeLook}
+use Rattle.revdot.specs.declared.graphs.NodeLook.TheVariants as node
+use Rattle.revdot.specs.declared.graphs.LinkLook.{LinkLook}
+use Rattle.revdot.specs.declared.graphs.LinkLook.TheVariants as link
+use Rattle.revdot.specs.declared.graphs.DrawnNode.{DrawnNode}
+use Rattle.revdot.specs.declared.graphs.DrawnLink.{DrawnLink}
+use Rattle.revdot.specs.declared.graphs.Title.{Title}
+
+-- what all nodes and all links have
+unfoldable pub opening : List ℕ
+opening = codes "digraph network {\n    graph [ nodesep = 0.4 ranksep = 0.4 fontname = Helvetica ]\n    node [ shape = circle fixedsize = true width = 0.55 fontname = Helvetica style = filled fillcolor = white ]\n    edge [ color = gray50 arrowsize = 0.8 ]\n"
+
+-- the line below the graph of a turn
+abbrev pub title_text : Option Title → List ℕ
+title_text (Some t) = codes "    label = <turn " ++ (decimal t.turn ++ (codes ": node " ++ (decimal t.node ++ codes ">\n")))
+title_text None = []
+
+-- what a node has of its own
+abbrev pub node_look_text : NodeLook → List ℕ
+node_look_text node.Plain = []
+node_look_text node.Destination = codes " shape = doublecircle"
+node_look_text node.CutOff = codes " color = gray70 fontcolor = gray60"
+node_look_text node.Turning = codes " fillcolor = gold"
+
+-- the text behind it is small, on a line of its own
+unfoldable pub small : List ℕ
+small = codes "<br/><font point-size='9'>"
+
+-- the number of a node and, below it, its count
+abbrev pub label_text : ℕ → ℕ → List ℕ
+label_text x count = decimal x ++ (small ++ (decimal count ++ codes "</font>"))
+
+-- a node
+abbrev pub node_line : DrawnNode → List ℕ
+node_line m = codes "    " ++ (decimal m.node ++ (codes " [ label = <" ++ (label_text m.node m.count ++ (codes ">" ++ (node_look_text m.look ++ codes " ]\n")))))
+
+-- the destination is laid out below all other nodes
+abbrev pub lowest_line : ℕ → List ℕ
+lowest_line d = codes "    { rank = sink " ++ (decimal d ++ codes " }\n")
+
+-- what a link has of its own
+abbrev pub link_look_text : LinkLook → List ℕ
+link_look_text link.Plain = []
+link_look_text link.NextHop = codes " color = black penwidth = 2.5"
+link_look_text link.CutOff = codes " color = gray80"
+link_look_text link.Turning = codes " color = darkorange penwidth = 2"
+
+-- an arrow that points up
+abbrev pub back_text : Bool → List ℕ
+back_text true = codes " dir = back"
+back_text false = []
+
+-- a link from its upper end to its lower end
+abbrev pub link_line : DrawnLink → List ℕ
+link_line m =
+    codes "    " ++ (decimal m.tail ++ (codes " -> " ++ (decimal m.head ++ (codes " [" ++ (back_text m.back ++ (link_look_text m.look ++ codes " ]\n"))))))
+
+-- a graph with this destination, these nodes and these links
+abbrev pub graph_text : Option Title → ℕ → List DrawnNode → List DrawnLink → List ℕ
+graph_text title d nodes links =
+    opening ++ (title_text title ++ (flat_map node_line nodes ++ (lowest_line d ++ (flat_map link_line links ++ codes "}\n"))))

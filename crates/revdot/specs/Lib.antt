@@ -1,0 +1,5 @@
+pub mod Graphs
+pub mod Settled
+pub mod Strips
+pub mod Drawings
+pub mod Ends

@@ -1,0 +1,38 @@
+-- The graph of a settled network.
+use Rattle.std.specs.Prelude.{◌≡◌, ℕ, ◌==◌, if◌then◌else◌, false, List, None, map, slice_index, slice_index_or}
+use Rattle.std.specs.List.{range_with_len}
+use Rattle.fr_route.specs.States.{State}
+use Rattle.fr_route.specs.Routes.{AreHops}
+use Rattle.fr_route.specs.declared.hops.Hop.{Hop}
+use Rattle.fr_route.specs.declared.hops.Hop.TheVariants.{Here, To, CutOff}
+use Rattle.revdot.specs.Graphs.{graph_text}
+use Rattle.revdot.specs.declared.graphs.NodeLook.{NodeLook}
+use Rattle.revdot.specs.declared.graphs.NodeLook.TheVariants as node
+use Rattle.revdot.specs.declared.graphs.LinkLook.{LinkLook}
+use Rattle.revdot.specs.declared.graphs.LinkLook.TheVariants as link
+use Rattle.revdot.specs.declared.graphs.DrawnNode.{DrawnNode}
+use Rattle.revdot.specs.declared.graphs.DrawnLink.{DrawnLink}
+
+-- how a node is drawn, by where it sends on to
+abbrev pub node_look : Hop → NodeLook
+node_look Here = node.Destination
+node_look (To y) = node.Plain
+node_look CutOff = node.CutOff
+
+-- how a link to this head is drawn, by where its tail sends on to: the next hop is bold
+abbrev pub link_look : Hop → ℕ → LinkLook
+link_look Here head = link.Plain
+link_look (To y) head = if y == head then link.NextHop else link.Plain
+link_look CutOff head = link.CutOff
+
+abbrev pub settled_node : List ℕ → List Hop → ℕ → DrawnNode
+settled_node counts hops x = record { node = x; count = slice_index counts x; look = node_look (slice_index_or hops x Here) }
+
+abbrev pub settled_link : List Hop → ℕ × ℕ → DrawnLink
+settled_link hops l = record { tail = l.0; head = l.1; look = link_look (slice_index_or hops l.0 Here) l.1; back = false }
+
+-- the graph of a state: each node with its settled count and each link, by the hops of the nodes
+pub record IsGraphOf (s : State) (out : List ℕ) : Type 0 where
+  pub hops : List Hop
+  pub are_hops : AreHops s s.nodes hops
+  pub text : out ≡ graph_text None s.dest (map (settled_node s.counts hops) (range_with_len 0 s.nodes)) (map (settled_link hops) s.links)

@@ -1,0 +1,204 @@
+//! A graph as a text in Graphviz's language.
+
+ghost use Rattle.std.specs.Prelude.{◌≡◌, ◌++◌, OnOk, string_bytes};
+ghost use Rattle.std.specs.List.{flat_map};
+ghost use Rattle.revdot.specs.Graphs.{opening, node_look_text, node_line, label_text, small, lowest_line, link_look_text, back_text, link_line, title_text, graph_text};
+
+use std::alloc::AllocError;
+use std::fmt::Write;
+
+/// The first lines of each graph: what all nodes and all links have.
+const OPENING: &str = "digraph network {
+    graph [ nodesep = 0.4 ranksep = 0.4 fontname = Helvetica ]
+    node [ shape = circle fixedsize = true width = 0.55 fontname = Helvetica style = filled fillcolor = white ]
+    edge [ color = gray50 arrowsize = 0.8 ]
+";
+
+/// How a node is drawn.
+#[derive(Clone, Copy)]
+pub enum NodeLook {
+    /// A circle.
+    Plain,
+    /// A double circle.
+    Destination,
+    /// A grey circle.
+    CutOff,
+    /// A circle filled with gold.
+    Turning,
+}
+
+/// How a link is drawn.
+#[derive(Clone, Copy)]
+pub enum LinkLook {
+    /// A thin arrow.
+    Plain,
+    /// A bold arrow.
+    NextHop,
+    /// A light arrow.
+    CutOff,
+    /// An orange arrow.
+    Turning,
+}
+
+/// A node of a graph.
+#[derive(Clone, Copy)]
+pub struct DrawnNode {
+    /// Its number.
+    pub node: u32,
+    /// How often it has turned, which stands below its number.
+    pub count: u64,
+    /// How it is drawn.
+    pub look: NodeLook,
+}
+
+/// A link of a graph. It is laid out from its tail down to its head.
+#[derive(Clone, Copy)]
+pub struct DrawnLink {
+    /// The upper end.
+    pub tail: u32,
+    /// The lower end.
+    pub head: u32,
+    /// How it is drawn.
+    pub look: LinkLook,
+    /// Whether the arrow points up, to the tail.
+    pub back: bool,
+}
+
+/// What stands below a graph: which turn it shows, counted from 1, and of which node.
+#[derive(Clone, Copy)]
+pub struct Title {
+    /// The number of the turn.
+    pub turn: u32,
+    /// The node that turns.
+    pub node: u32,
+}
+
+/// Adds a graph to a text.
+pub fn push_graph(
+    text: &mut String,
+    title: Option<Title>,
+    dest: u32,
+    nodes: &[DrawnNode],
+    links: &[DrawnLink],
+) -> Result<(), AllocError>
+    ensures { OnOk result (string_bytes text.new ≡ string_bytes text.old ++ graph_text title dest nodes.now links.now) }
+{
+    push_opening(text)?;
+    push_title(text, title)?;
+    push_nodes(text, nodes)?;
+    push_lowest(text, dest)?;
+    push_links(text, links)?;
+    text.push_str("}\n")
+}
+
+#[tactic(auto, unfolding(crate::specs::Graphs::opening))]
+fn push_opening(text: &mut String) -> Result<(), AllocError>
+    ensures { OnOk result (string_bytes text.new ≡ string_bytes text.old ++ opening) }
+{
+    text.push_str(OPENING)
+}
+
+fn push_title(text: &mut String, title: Option<Title>) -> Result<(), AllocError>
+    ensures { OnOk result (string_bytes text.new ≡ string_bytes text.old ++ title_text title) }
+{
+    match title {
+        Some(Title { turn, node }) => writeln!(text, "    label = <turn {turn}: node {node}>"),
+        None => Ok(()),
+    }
+}
+
+fn push_nodes(text: &mut String, nodes: &[DrawnNode]) -> Result<(), AllocError>
+    ensures { OnOk result (string_bytes text.new ≡ string_bytes text.old ++ flat_map node_line nodes.now) }
+{
+    for node in nodes {
+        push_node(text, *node)?;
+    }
+    Ok(())
+}
+
+fn push_node(text: &mut String, drawn: DrawnNode) -> Result<(), AllocError>
+    ensures { OnOk result (string_bytes text.new ≡ string_bytes text.old ++ node_line drawn) }
+{
+    let DrawnNode { node, count, look } = drawn;
+    write!(text, "    {node} [ label = <")?;
+    push_label(text, node, count)?;
+    text.push_str(">")?;
+    text.push_str(look_of_node(look))?;
+    text.push_str(" ]\n")
+}
+
+fn push_label(text: &mut String, node: u32, count: u64) -> Result<(), AllocError>
+    ensures { OnOk result (string_bytes text.new ≡ string_bytes text.old ++ label_text node count) }
+{
+    write!(text, "{node}")?;
+    text.push_str(small_text())?;
+    write!(text, "{count}</font>")?;
+    Ok(())
+}
+
+/// What makes the text behind it small, on a line of its own.
+#[tactic(auto, unfolding(crate::specs::Graphs::small))]
+fn small_text() -> &'static str
+    ensures { result.now ≡ small }
+{
+    "<br/><font point-size='9'>"
+}
+
+fn look_of_node(look: NodeLook) -> &'static str
+    ensures { result.now ≡ node_look_text look }
+{
+    match look {
+        NodeLook::Plain => "",
+        NodeLook::Destination => " shape = doublecircle",
+        NodeLook::CutOff => " color = gray70 fontcolor = gray60",
+        NodeLook::Turning => " fillcolor = gold",
+    }
+}
+
+/// The destination stands below all other nodes.
+fn push_lowest(text: &mut String, dest: u32) -> Result<(), AllocError>
+    ensures { OnOk result (string_bytes text.new ≡ string_bytes text.old ++ lowest_line dest) }
+{
+    writeln!(text, "    {{ rank = sink {dest} }}")
+}
+
+fn push_links(text: &mut String, links: &[DrawnLink]) -> Result<(), AllocError>
+    ensures { OnOk result (string_bytes text.new ≡ string_bytes text.old ++ flat_map link_line links.now) }
+{
+    for link in links {
+        push_link(text, *link)?;
+    }
+    Ok(())
+}
+
+fn push_link(text: &mut String, drawn: DrawnLink) -> Result<(), AllocError>
+    ensures { OnOk result (string_bytes text.new ≡ string_bytes text.old ++ link_line drawn) }
+{
+    let DrawnLink {
+        tail,
+        head,
+        look,
+        back,
+    } = drawn;
+    write!(text, "    {tail} -> {head} [")?;
+    text.push_str(look_of_back(back))?;
+    text.push_str(look_of_link(look))?;
+    text.push_str(" ]\n")
+}
+
+fn look_of_back(back: bool) -> &'static str
+    ensures { result.now ≡ back_text back }
+{
+    if back { " dir = back" } else { "" }
+}
+
+fn look_of_link(look: LinkLook) -> &'static str
+    ensures { result.now ≡ link_look_text look }
+{
+    match look {
+        LinkLook::Plain => "",
+        LinkLook::NextHop => " color = black penwidth = 2.5",
+        LinkLook::CutOff => " color = gray80",
+        LinkLook::Turning => " color = darkorange penwidth = 2",
+    }
+}

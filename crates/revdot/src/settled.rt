@@ -1,0 +1,94 @@
+//! The graph of a settled network.
+
+ghost use Rattle.std.specs.Prelude.{◌≡◌, ◌++◌, ℕ, List, length, map, IfOk, OnOk, string_bytes};
+ghost use Rattle.std.specs.List.{range_with_len};
+ghost use Rattle.fr_route.specs.Routes.{AreHops};
+ghost use Rattle.revdot.specs.Settled.{node_look, link_look, settled_node, settled_link, IsGraphOf};
+
+use crate::graphs::{DrawnLink, DrawnNode, LinkLook, NodeLook, push_graph};
+use fr_route::{Hop, Router};
+use std::alloc::{AllocError, Global};
+
+/// Adds the graph of a settled network to a text.
+pub fn push_settled(text: &mut String, alloc: Global, router: &Router) -> Result<(), AllocError>
+    ensures { OnOk result ((graph : List ℕ) × IsGraphOf router.now graph × (string_bytes text.new ≡ string_bytes text.old ++ graph)) }
+{
+    let hops = hops_of(alloc, router)?;
+    let nodes = settled_nodes(alloc, router, &hops)?;
+    let links = settled_links(alloc, router, &hops)?;
+    push_graph(text, None, router.dest(), &nodes, &links)
+}
+
+/// Where each node sends on to.
+fn hops_of(alloc: Global, router: &Router) -> Result<Vec<Hop>, AllocError>
+    ensures { IfOk result (λ hops. AreHops router.now router.now.nodes hops.items) }
+{
+    let mut hops = Vec::new(alloc);
+    for x in 0..router.net().nodes() {
+        hops.push(router.next_hop(x))?;
+    }
+    Ok(hops)
+}
+
+/// The nodes, in order.
+fn settled_nodes(alloc: Global, router: &Router, hops: &[Hop]) -> Result<Vec<DrawnNode>, AllocError>
+    requires { length hops.now ≡ router.now.nodes }
+    ensures { IfOk result (λ nodes. nodes.items ≡ map (settled_node router.now.counts hops.now) (range_with_len 0 router.now.nodes)) }
+{
+    let counts = router.counts();
+    let mut nodes = Vec::new(alloc);
+    for x in 0..router.net().nodes() {
+        nodes.push(DrawnNode {
+            node: x,
+            count: counts[x as usize],
+            look: look_of_node(hops[x as usize]),
+        })?;
+    }
+    Ok(nodes)
+}
+
+fn look_of_node(hop: Hop) -> NodeLook
+    ensures { result ≡ node_look hop }
+{
+    match hop {
+        Hop::Here => NodeLook::Destination,
+        Hop::To(_) => NodeLook::Plain,
+        Hop::CutOff => NodeLook::CutOff,
+    }
+}
+
+/// The links, in order.
+fn settled_links(alloc: Global, router: &Router, hops: &[Hop]) -> Result<Vec<DrawnLink>, AllocError>
+    requires { length hops.now ≡ router.now.nodes }
+    ensures { IfOk result (λ links. links.items ≡ map (settled_link hops.now) router.now.links) }
+{
+    let net = router.net();
+    net.network_law();
+    let mut links = Vec::new(alloc);
+    for (tail, head) in net.links() {
+        links.push(DrawnLink {
+            tail: *tail,
+            head: *head,
+            look: look_of_link(hops[*tail as usize], *head),
+            back: false,
+        })?;
+    }
+    Ok(links)
+}
+
+/// How a link to `head` is drawn, by where its tail sends on to.
+fn look_of_link(hop: Hop, head: u32) -> LinkLook
+    ensures { result ≡ link_look hop head }
+{
+    match hop {
+        Hop::Here => LinkLook::Plain,
+        Hop::To(next) => {
+            if next == head {
+                LinkLook::NextHop
+            } else {
+                LinkLook::Plain
+            }
+        }
+        Hop::CutOff => LinkLook::CutOff,
+    }
+}

@@ -1,0 +1,94 @@
+//! The turns of the last round.
+
+ghost use Rattle.std.specs.Prelude.{◌≡◌, ◌<◌, length, map, IfOk, IfSome, MatchOption};
+ghost use Rattle.fr_net.specs.Links.{AreBelow};
+ghost use Rattle.fr_net.specs.Turn.{turn, turned_link};
+ghost use Rattle.fr_core.specs.Legal.{NoneCanTurn};
+ghost use Rattle.revdot.specs.Strips.{first_link, moment, IsNext};
+ghost use Rattle.revdot.specs.Ends.{HaveEnds};
+
+use std::alloc::{AllocError, Global};
+
+/// How the settled links pointed when the round began.
+pub fn first_links(
+    alloc: Global,
+    settled: &[(u32, u32)],
+    counts: &[u64],
+) -> Result<Vec<(u32, u32)>, AllocError>
+    requires { AreBelow (length counts.now) settled.now }
+    ensures { IfOk result (λ links. links.items ≡ map (first_link counts.now) settled.now) }
+{
+    let mut links = Vec::new(alloc);
+    for (tail, head) in settled {
+        let link = if counts[*tail as usize] == counts[*head as usize] {
+            (*tail, *head)
+        } else {
+            (*head, *tail)
+        };
+        links.push(link)?;
+    }
+    Ok(links)
+}
+
+/// For each node whether a link points away from it, and whether one points to it.
+#[derive(Drop)]
+pub struct Ends {
+    /// Whether the node is the tail of a link.
+    pub tails: Vec<bool>,
+    /// Whether the node is the head of a link.
+    pub heads: Vec<bool>,
+}
+
+/// The ends of the links among so many nodes.
+fn ends_of(alloc: Global, nodes: u32, links: &[(u32, u32)]) -> Result<Ends, AllocError>
+    requires { AreBelow nodes links.now }
+    ensures { IfOk result (λ ends. HaveEnds nodes ends.tails.items ends.heads.items links.now) }
+{
+    let mut tails = vec![in alloc; false; nodes as usize]?;
+    let mut heads = vec![in alloc; false; nodes as usize]?;
+    for (tail, head) in links {
+        tails[*tail as usize] = true;
+        heads[*head as usize] = true;
+    }
+    Ok(Ends { tails, heads })
+}
+
+/// The next node to turn: the least that can.
+pub fn next_to_turn(
+    alloc: Global,
+    nodes: u32,
+    dest: u32,
+    links: &[(u32, u32)],
+    counts: &[u64],
+) -> Result<Option<u32>, AllocError>
+    requires below { AreBelow nodes links.now }
+    requires one_each { length counts.now ≡ nodes }
+    ensures next { IfOk result (λ next. MatchOption next
+        (NoneCanTurn nodes dest (moment links.now counts.now)) (IsNext nodes dest (moment links.now counts.now))) }
+    ensures node { IfOk result (λ next. IfSome next (λ x. x < nodes)) }
+{
+    let Ends { tails, heads } = ends_of(alloc, nodes, links)?;
+    for x in 0..nodes {
+        let place = x as usize;
+        if x != dest && heads[place] && !tails[place] && counts[place] < u64::from(nodes) {
+            return Ok(Some(x));
+        }
+    }
+    Ok(None)
+}
+
+/// Turns a node: each of its links points away from it then.
+pub fn turn_node(links: &mut [(u32, u32)], x: u32)
+    ensures { links.new ≡ turn x links.old }
+{
+    for link in links.iter_mut() {
+        *link = turned(*link, x);
+    }
+}
+
+/// The link after the turn of `x`.
+fn turned(link: (u32, u32), x: u32) -> (u32, u32)
+    ensures { result ≡ turned_link x link }
+{
+    if link.1 == x { (x, link.0) } else { link }
+}
