@@ -18,7 +18,8 @@ static size_t first_room = 4096;
 static int starts_over;
 static lines asked;
 
-/* The answers of a thread, each with its line end, and a buffer for the next. A thread alone writes them out at once. */
+/* The answers of a thread, each with its line end, and a buffer for the next, which has a byte more for that. A thread alone writes
+ * them out at once. */
 typedef struct {
     int is_alone;
     uint8_t *bytes;
@@ -27,32 +28,27 @@ typedef struct {
     size_t answer_room;
 } answers;
 
-static void keep_answer(answers *it, size_t length) {
-    if (it->room - it->length < length + 1) it->bytes = grown(it->bytes, it->room = 2 * it->room + length + 1);
-    memcpy(it->bytes + it->length, it->answer, length);
-    it->length += length;
-    it->bytes[it->length++] = '\n';
-}
-
-static void write_answer(answers *it, size_t length) {
-    if (!it->is_alone) {
-        keep_answer(it, length);
+static void take_answer(answers *it, size_t length) {
+    it->answer[length++] = '\n';
+    if (it->is_alone) {
+        fwrite(it->answer, 1, length, stdout);
         return;
     }
-    fwrite(it->answer, 1, length, stdout);
-    putchar('\n');
+    if (it->room - it->length < length) it->bytes = grown(it->bytes, it->room = 2 * it->room + length);
+    memcpy(it->bytes + it->length, it->answer, length);
+    it->length += length;
 }
 
 static void ask(revroute *session, line it, answers *all) {
     size_t room = starts_over ? first_room : all->answer_room, length;
     for (;;) {
         uint32_t status = revroute_answer(session, it.bytes, it.length, all->answer, room, &length);
-        if (status == REVROUTE_ANSWERED) write_answer(all, length);
+        if (status == REVROUTE_ANSWERED) take_answer(all, length);
         if (status == REVROUTE_NO_MEMORY) stop("no memory");
         if (status != REVROUTE_TOO_SHORT) return;
         if (length <= room) stop("too short a buffer, and no more is wanted");
         room = length;
-        if (room > all->answer_room) all->answer = grown(all->answer, all->answer_room = room);
+        if (room > all->answer_room) all->answer = grown(all->answer, (all->answer_room = room) + 1);
     }
 }
 
@@ -99,6 +95,7 @@ int main(int count, char **words) {
         else stop("usage: lines [--room N] [--threads N] [--stack N]");
     }
     if (threads < 1 || threads > MOST_THREADS) stop("there are 1 to 64 threads");
+    setvbuf(stdout, NULL, _IOFBF, 65536);
     asked = read_lines();
     answers all[MOST_THREADS] = {{0}};
     answer_by(threads, stack, all);

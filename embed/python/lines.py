@@ -5,7 +5,5 @@ import sys
 import revroute
 
 with revroute.Session() as session:
-    for line in sys.stdin.buffer:
-        answer = session.answer(line.rstrip(b"\n"))
-        if answer is not None:
-            print(answer)
+    answers = map(session.answer, sys.stdin.buffer.read().split(b"\n"))
+    sys.stdout.writelines(f"{it}\n" for it in answers if it is not None)
