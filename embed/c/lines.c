@@ -81,7 +81,8 @@ static void answer_by(size_t threads, size_t stack, answers *all) {
     }
     for (size_t at = 0; at < threads; at++) {
         pthread_join(started[at], NULL);
-        if (all[at].length != all[0].length || memcmp(all[at].bytes, all[0].bytes, all[0].length)) stop("two threads answer differently");
+        if (all[at].length != all[0].length || memcmp(all[at].bytes, all[0].bytes, all[0].length))
+            stop("two threads answer differently");
     }
     pthread_attr_destroy(&how);
 }

@@ -29,10 +29,12 @@ static uint32_t move_on(revroute *session, const uint8_t *line, size_t line_leng
     return REVROUTE_TOO_SHORT;
 }
 
-uint32_t revroute_answer(revroute *session, const uint8_t *line, size_t line_length, uint8_t *answer, size_t room, size_t *length) {
+uint32_t revroute_answer(revroute *session, const uint8_t *line, size_t line_length, uint8_t *answer, size_t room,
+                         size_t *length) {
     static revroute shared = REVROUTE_NEW;
     if (FAULT == sessions_that_share) session = &shared;
-    if (FAULT == too_short_after_the_state_has_moved_on && room < REVROUTE_LEAST_ROOM) return move_on(session, line, line_length, length);
+    if (FAULT == too_short_after_the_state_has_moved_on && room < REVROUTE_LEAST_ROOM)
+        return move_on(session, line, line_length, length);
     if (FAULT == the_line_read_too_far && line[line_length] == 0xff) return REVROUTE_BLANK;
     uint32_t status = engine_answer(session, line, line_length, answer, room, length);
     if (FAULT == a_byte_too_few && status == REVROUTE_ANSWERED) --*length;
