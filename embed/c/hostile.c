@@ -6,9 +6,9 @@
  *   - with the Nth allocation of a session refused, for N = 1, 2, .. until all lines are answered without meeting it. A call may do
  *     without it; or it says that there is no memory, and is made again.
  *
- * The answer must be the same, and before it the session as it was. Each line and each buffer ends where no memory is behind it, so that
- * a byte read or written too far ends the program by a signal. Printed are how many allocations were refused, and how many calls
- * said so.
+ * The answer must be the same, and before it the session as it was. Each line and each buffer ends where no memory is behind it, so
+ * that a byte read or written too far ends the program by a signal. Printed are how many allocations were refused, and how many
+ * calls said so.
  */
 #define _DEFAULT_SOURCE
 #include "lines.h"
@@ -53,13 +53,15 @@ static answer ask(revroute *session, line it) {
     answer all = {0, NULL, 0};
     all.status = call(session, it, FENCED, &all.length);
     if (all.status != REVROUTE_ANSWERED) return all;
-    if (memchr(answer_end - FENCED, 0, all.length) || memchr(answer_end - FENCED, '\n', all.length)) stop("an answer with a NUL or a line end");
-    all.bytes = memcpy(grown(NULL, all.length + 1), answer_end - FENCED, all.length);
+    const uint8_t *text = answer_end - FENCED;
+    if (memchr(text, 0, all.length) || memchr(text, '\n', all.length)) stop("an answer with a NUL or a line end");
+    all.bytes = memcpy(grown(NULL, all.length + 1), text, all.length);
     return all;
 }
 
 static int is_same(answer one, answer other) {
-    return one.status == other.status && (one.status != REVROUTE_ANSWERED || (one.length == other.length && !memcmp(one.bytes, other.bytes, one.length)));
+    if (one.status != other.status || one.status != REVROUTE_ANSWERED) return one.status == other.status;
+    return one.length == other.length && !memcmp(one.bytes, other.bytes, one.length);
 }
 
 /* What can be asked of a session's state. */
@@ -88,7 +90,8 @@ static void expect_state(revroute *session, state wanted, const char *why) {
 
 static void expect_too_short(revroute *session, line it, size_t room, size_t wanted, state before) {
     size_t length;
-    if (call(session, it, room, &length) != REVROUTE_TOO_SHORT || length != wanted) stop("a buffer that is too short was not refused as such");
+    if (call(session, it, room, &length) != REVROUTE_TOO_SHORT) stop("a buffer that is too short was taken");
+    if (length != wanted) stop("of a buffer that is too short another room is wanted");
     expect_state(session, before, "a buffer that was too short changed the session");
 }
 

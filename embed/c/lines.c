@@ -1,55 +1,54 @@
 /* Answers the lines of standard input, each asked by itself, as `revroute run` answers them.
  *
- * usage: lines [--room N] [--threads N] [--stack N] [--time]
+ * usage: lines [--room N] [--threads N] [--stack N]
  *
- *   --room N      the room that each line is asked with first; where it is too short the line is asked again with what is wanted
+ *   --room N      each line is first asked with a room of N bytes, and not with that of the line before; where it is too short the
+ *                 line is asked again with what is wanted
  *   --threads N   N threads answer all lines side by side, each in a session of its own, and have to agree
  *   --stack N     each thread has a stack of N KiB
- *   --time        prints on standard error how long the calls took, reading and writing not counted
  */
 #include "lines.h"
 
 #include <pthread.h>
 #include <revroute.h>
-#include <time.h>
 
 enum { MOST_THREADS = 64 };
 
-static size_t first_room = 65536;
+static size_t first_room = 4096;
+static int starts_over;
 static lines asked;
 
-/* Answers, each with its line end, and a buffer for the next. */
+/* The answers of a thread, each with its line end, and a buffer for the next, which has a byte more for that. A thread alone writes
+ * them out at once. */
 typedef struct {
+    int is_alone;
     uint8_t *bytes;
     size_t length, room;
     uint8_t *answer;
     size_t answer_room;
-    double seconds;
 } answers;
 
-static double now(void) {
-    struct timespec it;
-    clock_gettime(CLOCK_MONOTONIC, &it);
-    return (double)it.tv_sec + (double)it.tv_nsec / 1e9;
-}
-
-static void write_answer(answers *it, size_t length) {
-    if (it->room - it->length < length + 1) it->bytes = grown(it->bytes, it->room = 2 * it->room + length + 1);
+static void take_answer(answers *it, size_t length) {
+    it->answer[length++] = '\n';
+    if (it->is_alone) {
+        fwrite(it->answer, 1, length, stdout);
+        return;
+    }
+    if (it->room - it->length < length) it->bytes = grown(it->bytes, it->room = 2 * it->room + length);
     memcpy(it->bytes + it->length, it->answer, length);
     it->length += length;
-    it->bytes[it->length++] = '\n';
 }
 
 static void ask(revroute *session, line it, answers *all) {
-    size_t room = first_room, length;
+    size_t room = starts_over ? first_room : all->answer_room, length;
     for (;;) {
         uint32_t status = revroute_answer(session, it.bytes, it.length, all->answer, room, &length);
-        if (status == REVROUTE_ANSWERED) write_answer(all, length);
+        if (status == REVROUTE_ANSWERED) take_answer(all, length);
         if (status == REVROUTE_NO_MEMORY) stop("no memory");
         if (status != REVROUTE_TOO_SHORT) return;
         if (length <= room) stop("too short a buffer, and no more is wanted");
         room = length;
-        if (room > all->answer_room) all->answer = grown(all->answer, all->answer_room = room);
+        if (room > all->answer_room) all->answer = grown(all->answer, (all->answer_room = room) + 1);
     }
 }
 
@@ -57,10 +56,8 @@ static void *answer_all(void *given) {
     answers *all = given;
     revroute session = REVROUTE_NEW;
     all->bytes = grown(NULL, all->room = 65536);
-    all->answer = grown(NULL, all->answer_room = first_room + 1);
-    double start = now();
+    all->answer = grown(NULL, (all->answer_room = first_room) + 1);
     for (size_t at = 0; at < asked.count; at++) ask(&session, asked.at[at], all);
-    all->seconds = now() - start;
     revroute_close(&session);
     free(all->answer);
     return NULL;
@@ -77,33 +74,34 @@ static size_t number(const char *word) {
 static void answer_by(size_t threads, size_t stack, answers *all) {
     pthread_t started[MOST_THREADS];
     pthread_attr_t how;
-    if (threads < 1 || threads > MOST_THREADS) stop("there are 1 to 64 threads");
     if (pthread_attr_init(&how) || (stack && pthread_attr_setstacksize(&how, stack << 10))) stop("there is no such stack");
-    for (size_t at = 0; at < threads; at++)
+    for (size_t at = 0; at < threads; at++) {
+        all[at].is_alone = threads == 1;
         if (pthread_create(&started[at], &how, answer_all, &all[at])) stop("a thread could not be started");
+    }
     for (size_t at = 0; at < threads; at++) {
         pthread_join(started[at], NULL);
-        if (all[at].length != all[0].length || memcmp(all[at].bytes, all[0].bytes, all[0].length)) stop("two threads answer differently");
+        if (all[at].length != all[0].length || memcmp(all[at].bytes, all[0].bytes, all[0].length))
+            stop("two threads answer differently");
     }
     pthread_attr_destroy(&how);
 }
 
 int main(int count, char **words) {
     size_t threads = 1, stack = 0;
-    int is_timed = 0;
     for (int at = 1; at < count; at++) {
-        if (!strcmp(words[at], "--time")) is_timed = 1;
-        else if (!strcmp(words[at], "--room")) first_room = number(words[++at]);
+        if (!strcmp(words[at], "--room")) first_room = number(words[++at]), starts_over = 1;
         else if (!strcmp(words[at], "--threads")) threads = number(words[++at]);
         else if (!strcmp(words[at], "--stack")) stack = number(words[++at]);
-        else stop("usage: lines [--room N] [--threads N] [--stack N] [--time]");
+        else stop("usage: lines [--room N] [--threads N] [--stack N]");
     }
+    if (threads < 1 || threads > MOST_THREADS) stop("there are 1 to 64 threads");
+    setvbuf(stdout, NULL, _IOFBF, 65536);
     asked = read_lines();
     answers all[MOST_THREADS] = {{0}};
     answer_by(threads, stack, all);
     fwrite(all[0].bytes, 1, all[0].length, stdout);
-    if (is_timed) fprintf(stderr, "%zu lines in %.6f s, %.0f ns each\n", asked.count, all[0].seconds, all[0].seconds * 1e9 / (double)asked.count);
     for (size_t at = 0; at < threads; at++) free(all[at].bytes);
     drop_lines(asked);
-    return fflush(stdout) ? 1 : 0;
+    return fflush(stdout) || ferror(stdout);
 }

@@ -13,7 +13,8 @@ import zipfile
 from pathlib import Path
 
 HERE = Path(__file__).resolve().parent
-LIBRARY = HERE.parent / "out" / "librevroute.so"
+OUT = HERE.parent / "out"
+LIBRARY = "librevroute.so"
 EARLIEST = (1980, 1, 1, 0, 0, 0)
 
 
@@ -34,19 +35,24 @@ def wheel_tag() -> str:
 
 
 def build_wheel(wheel_directory, config_settings=None, metadata_directory=None) -> str:
-    """Writes the wheel into the folder, and returns its name. The same files make the same bytes."""
-    if not LIBRARY.is_file():
-        raise FileNotFoundError(f"{LIBRARY} is not there: run embed/build")
+    """Writes the wheel into the folder, and returns its name."""
+    if not (OUT / LIBRARY).is_file():
+        raise FileNotFoundError(f"{OUT / LIBRARY} is not there: run embed/build")
+    return wheel_of(OUT / LIBRARY, Path(wheel_directory))
+
+
+def wheel_of(library: Path, folder: Path) -> str:
+    """Writes the wheel that carries this library into the folder, and returns its name. The same files make the same bytes."""
     project = tomllib.loads((HERE / "pyproject.toml").read_text())["project"]
     whole = f"{project['name']}-{project['version']}"
     info = f"{whole}.dist-info"
     files = {f"revroute/{it.name}": it.read_bytes() for it in sorted((HERE / "src" / "revroute").iterdir()) if it.is_file()}
-    files[f"revroute/{LIBRARY.name}"] = LIBRARY.read_bytes()
+    files[f"revroute/{LIBRARY}"] = library.read_bytes()
     files[f"{info}/METADATA"] = metadata(project).encode()
     files[f"{info}/WHEEL"] = f"Wheel-Version: 1.0\nGenerator: embed/build\nRoot-Is-Purelib: false\nTag: {wheel_tag()}\n".encode()
     files[f"{info}/RECORD"] = record(files, f"{info}/RECORD")
     name = f"{whole}-{wheel_tag()}.whl"
-    with zipfile.ZipFile(Path(wheel_directory, name), "w", zipfile.ZIP_DEFLATED) as wheel:
+    with zipfile.ZipFile(folder / name, "w", zipfile.ZIP_DEFLATED) as wheel:
         for path, text in files.items():
             entry = zipfile.ZipInfo(path, EARLIEST)
             entry.external_attr = 0o100644 << 16

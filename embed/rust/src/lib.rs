@@ -43,7 +43,7 @@ pub struct Session {
     buffer: Vec<u8>,
 }
 
-// SAFETY: what a handle owns is memory of the process, of no thread in particular. Only calls with `&mut` reach it, one at a time.
+// SAFETY: the library proves that a handle may go to another thread, and only `&mut` reaches it, one call at a time.
 unsafe impl Send for Session {}
 
 impl Session {
