@@ -3,7 +3,7 @@
 use crate::telling::{number_told, told};
 use fr_core::{Machine, Target, check_run, play};
 use fr_crew::{OpenGate, Plan, live_walk, settle, settle_alone};
-use fr_net::{Edit, LineFault, Net, Question, Request, read_line};
+use fr_net::{Edit, LineFault, LineReader, Net, Question, Request, read_line};
 use fr_round::{OpenWhy, Round};
 use fr_route::{Change, Report, Router, Session, counts_line, links_line};
 use std::alloc::{AllocError, Global};
@@ -56,7 +56,8 @@ pub fn answer_of<R: Threads + Wait + Sync + Alloc<A = Global> + Print + Eprint>(
         14 => settled_alone(rt),
         15 => routed_alone(rt),
         16 => answered_alone(rt),
-        _ => joined_network(rt),
+        17 => joined_network(rt),
+        _ => lines_read(rt),
     }
 }
 
@@ -115,6 +116,23 @@ fn request<R: Alloc<A = Global> + Eprint>(rt: &R) -> Option<String> {
     match told(rt, read_line(rt.alloc(), line))? {
         Request::Network { links, .. } => told(rt, links_line(rt.alloc(), &links)),
         _ => told(rt, String::from_str(rt.alloc(), "another request")),
+    }
+}
+
+/// Two lines by one reader, which has its table already when it reads the second.
+fn lines_read<R: Alloc<A = Global> + Eprint>(rt: &R) -> Option<String> {
+    let alloc = rt.alloc();
+    let mut reader = LineReader::new();
+    let Request::Walk { x } = told(rt, reader.read(alloc, br#"["walk",3]"#))? else {
+        return told(rt, String::from_str(alloc, "another request"));
+    };
+    let line = br#"["net",4,0,[[0,1],[1,2],[2,3]]]"#;
+    match told(rt, reader.read(alloc, line))? {
+        Request::Network { links, .. } => {
+            let text = told(rt, links_line(alloc, &links))?;
+            told(rt, format!(in alloc; "walk {x} {text}"))
+        }
+        _ => told(rt, String::from_str(alloc, "another request")),
     }
 }
 

@@ -29,5 +29,7 @@ pub mod ByNode
 pub mod Cycles
 pub mod Items
 pub mod LineValues
+pub mod TokenItems
+pub mod WordLines
 pub mod Reordering
 pub mod Outward

@@ -42,7 +42,11 @@ fn request_in(alloc: Global, value: &Value) -> Result<Request, LineFault>
 
 /// The request of a word and the items after it: an arm for each word.
 #[tactic(auto, unfolding(crate::specs::Requests::request_of_word))]
-fn request_by_word(alloc: Global, word: &str, rest: &[Value]) -> Result<Request, LineFault>
+pub(crate) fn request_by_word(
+    alloc: Global,
+    word: &str,
+    rest: &[Value],
+) -> Result<Request, LineFault>
     ensures ok { IfOk result (λ request. request_of_word word.now (map view rest.now) ≡ Some (plain request)) }
     ensures refused { IfErr result (λ fault. fault ≢ Memory
         → ok_or (request_of_word word.now (map view rest.now)) NotRequest ≡ Err fault) }
