@@ -10,7 +10,8 @@ use std::sync::Wait;
 use std::thread::Threads;
 
 /// A chain that leads home is parted, and closed again from its other end; a batch moves a link, and then the destination moves.
-const LINES: [&str; 14] = [
+/// Two nodes are joined at last, by a link that cannot point from the first to the second.
+const LINES: [&str; 15] = [
     r#"["net",4,0,[[1,0],[2,1],[3,2]]]"#,
     r#"["links"]"#,
     r#"["cut",1,0]"#,
@@ -24,6 +25,7 @@ const LINES: [&str; 14] = [
     r#"["hops"]"#,
     r#"["batch",[["cut",3,0],["add",1,0]]]"#,
     r#"["dest",3]"#,
+    r#"["join",3,1]"#,
     r#"["links"]"#,
 ];
 

@@ -22,7 +22,7 @@ use std::io::{Read, Write};
 /// entries, one a line, and then the links and the counts at the end, flushes once, and tells how many entries there are.
 /// Each worker goes through the nodes with links but the destination in rising order, and again from the first, up to as many
 /// as there are steps. Where there is no such line, or it is refused as the first line of a run would be, or is no network,
-/// all that is written is that it is refused. At most one byte past the limit of 16,777,216 bytes is read.
+/// all that is written is that it is refused. At most one byte past the limit, [`MAX_BYTES`](fr_run::MAX_BYTES), is read.
 pub fn play_drawn<R: Read, W: Write>(
     alloc: Global,
     reader: &mut R,

@@ -11,7 +11,7 @@ pub enum RunFault {
     /// A write or the flush failed, or a write took no byte. What went out is a beginning of the output.
     #[error("write fault")]
     Write,
-    /// The input has more than 16,777,216 bytes. Nothing was written.
+    /// The input has more than [`MAX_BYTES`](crate::MAX_BYTES) bytes. Nothing was written.
     #[error("input too long")]
     TooLong,
     /// A thread could not be started. What went out is the answers to the lines before the one that failed.

@@ -14,7 +14,7 @@ use std::sync::Wait;
 use std::thread::Threads;
 
 /// Reads the whole input, answers each of its lines that is not blank, flushes once at the end, and tells how many lines
-/// were answered. At most one byte past the limit of 16,777,216 bytes is read. The input is cut into lines at each
+/// were answered. At most one byte past the limit, [`MAX_BYTES`](crate::MAX_BYTES), is read. The input is cut into lines at each
 /// byte 10, and `specs/Answers.antt` of fr_route says what the answer to a line is. Each network is settled by threads, by the
 /// plan and under the gate, on which no answer depends. It waits for these threads, which end where the calls of the gate return.
 pub fn run<T: Threads + Wait + Sync, R: Read, W: Write, G: Gate + Sync>(
