@@ -20,6 +20,7 @@ pub enum Refusal {
 pub enum Edit {
     Cut { u: u32, v: u32 },
     Add { u: u32, v: u32 },
+    Join { u: u32, v: u32 },
 }
 
 pub enum Request {
@@ -81,6 +82,7 @@ fn edit(value: &Value) -> Option<Edit> {
     match word.as_str()? {
         "cut" => Some(Edit::Cut { u, v }),
         "add" => Some(Edit::Add { u, v }),
+        "join" => Some(Edit::Join { u, v }),
         _ => None,
     }
 }

@@ -36,10 +36,7 @@ impl Round {
     }
 
     pub fn edit(&mut self, edit: Edit, method: Method) -> Result<(), Refusal> {
-        match edit {
-            Edit::Cut { u, v } => self.net.cut(u, v)?,
-            Edit::Add { u, v } => self.net.add(u, v)?,
-        }
+        self.net.edit(edit)?;
         self.settle(method);
         Ok(())
     }

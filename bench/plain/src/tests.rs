@@ -97,6 +97,22 @@ fn refused_changes_change_nothing() {
 }
 
 #[test]
+fn a_join_points_the_way_that_closes_no_walk() {
+    check(
+        r#"["join",0,2] / ["net",3,0,[[1,0],[2,1]]] / ["join",0,2] / ["links"] / ["join",2,0] / ["join",2,2] / ["join",0,3]"#,
+        "refused 3 / turned 0 cut 0 / turned 0 cut 0 / links 1>0 2>0 2>1 / refused 6 / refused 5 / refused 4",
+    );
+    check(
+        r#"["net",3,0,[[1,0]]] / ["join",1,2] / ["links"]"#,
+        "turned 0 cut 1 / turned 1 cut 0 / links 1>0 2>1",
+    );
+    check(
+        r#"["net",4,3,[[0,3],[1,0],[2,3]]] / ["batch",[["cut",0,3],["join",3,1]]] / ["links"] / ["batch",[["join",0,3]]] / ["links"]"#,
+        "turned 0 cut 0 / turned 3 cut 0 / links 0>1 1>3 2>3 / turned 0 cut 0 / links 0>1 0>3 1>3 2>3",
+    );
+}
+
+#[test]
 fn a_batch_is_one_round_and_all_or_nothing() {
     check(
         r#"["net",4,0,[[1,0],[2,1],[3,2]]] / ["dest",3] / ["links"] / ["hops"] / ["walk",0] / ["batch",[["cut",1,2],["add",0,3]]] / ["counts"] / ["links"] / ["batch",[["cut",0,3],["add",3,0],["add",0,1]]] / ["links"]"#,
@@ -129,8 +145,8 @@ fn a_batch_has_at_most_1024_edits() {
 fn each_fault_of_a_network_has_its_number() {
     check(r#"["net",2,0,[[1,0],[0,1]]]"#, "refused 6");
     check(
-        r#"["net",3,0,[[2,2]]] / ["net",1024,0,[[1024,0]]] / ["net",1025,0,[]] / ["net",0,0,[]] / ["net",2,2,[[1,0]]] / ["net",3,5,[[0,1],[1,2],[2,0]]]"#,
-        "refused 5 / refused 4 / refused 9 / refused 4 / refused 4 / refused 7",
+        r#"["net",3,0,[[2,2]]] / ["net",1024,0,[[1024,0]]] / ["net",1025,0,[]] / ["net",0,0,[]] / ["net",2,2,[[1,0]]] / ["net",3,5,[[0,1],[1,2],[2,0]]] / ["net",4097,0,[]]"#,
+        "refused 5 / refused 4 / turned 0 cut 1024 / refused 4 / refused 4 / refused 7 / refused 9",
     );
 }
 
@@ -140,16 +156,17 @@ fn an_added_link_has_its_faults_tested_in_order() {
         r#"["net",3,0,[[1,0],[2,1]]] / ["add",3,3] / ["add",1,1] / ["add",1,2] / ["add",2,0] / ["links"]"#,
         "turned 0 cut 0 / refused 4 / refused 5 / refused 6 / turned 0 cut 0 / links 1>0 2>0 2>1",
     );
-    let most: Vec<String> = (0..1024)
+    let links: Vec<String> = (0..4096)
         .flat_map(|u| (0..u).map(move |v| format!("[{u},{v}]")))
-        .take(8192)
+        .take(32769)
         .collect();
     check(
         &format!(
-            r#"["net",1024,0,[{}]] / ["add",2000,2000] / ["cut",2000,2000]"#,
-            most.join(",")
+            r#"["net",4096,0,[{}]] / ["net",4096,0,[{}]] / ["join",300,0] / ["add",1,0] / ["add",5000,5000] / ["cut",5000,5000]"#,
+            links.join(","),
+            links[..32768].join(",")
         ),
-        "turned 0 cut 895 / refused 9 / refused 8",
+        "refused 9 / turned 0 cut 3839 / refused 9 / refused 9 / refused 9 / refused 8",
     );
 }
 
@@ -182,19 +199,23 @@ fn blank_lines_get_no_answer() {
 
 #[test]
 fn the_longest_chain_takes_the_most_turns() {
-    let counts: Vec<String> = (0..1024).map(|count: u32| count.to_string()).collect();
-    check(
-        &format!(r#"["net",1024,0,[{}]] / ["counts"]"#, chain(0, 1023)),
-        &format!("turned 523776 cut 0 / counts {}", counts.join(" ")),
-    );
+    for (nodes, turns) in [(1024, 523776), (4096, 8386560)] {
+        let counts: Vec<String> = (0..nodes).map(|count: u32| count.to_string()).collect();
+        check(
+            &format!(r#"["net",{nodes},0,[{}]] / ["counts"]"#, chain(0, nodes - 1)),
+            &format!("turned {turns} cut 0 / counts {}", counts.join(" ")),
+        );
+    }
 }
 
 #[test]
 fn a_chain_beside_the_destination_turns_until_the_cap() {
-    check(
-        &format!(r#"["net",1024,0,[{}]]"#, chain(1, 1023)),
-        "turned 1047552 cut 1023",
-    );
+    for (nodes, turns) in [(1024, 1047552), (4096, 16773120)] {
+        check(
+            &format!(r#"["net",{nodes},0,[{}]]"#, chain(1, nodes - 1)),
+            &format!("turned {turns} cut {}", nodes - 1),
+        );
+    }
 }
 
 #[test]

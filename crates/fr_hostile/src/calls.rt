@@ -3,7 +3,7 @@
 use crate::telling::{number_told, told};
 use fr_core::{Machine, Target, check_run, play};
 use fr_crew::{OpenGate, Plan, live_walk, settle, settle_alone};
-use fr_net::{Edit, LineFault, Net, Question, Request, read_line};
+use fr_net::{Edit, LineFault, LineReader, Net, Question, Request, read_line};
 use fr_round::{OpenWhy, Round};
 use fr_route::{Change, Report, Router, Session, counts_line, links_line};
 use std::alloc::{AllocError, Global};
@@ -41,7 +41,7 @@ pub fn answer_of<R: Threads + Wait + Sync + Alloc<A = Global> + Print + Eprint>(
     match call {
         0 => network(rt),
         1 => cut_network(rt),
-        2 => joined_network(rt),
+        2 => linked_network(rt),
         3 => refused_networks(rt),
         4 => request(rt),
         5 => refused_line(rt),
@@ -55,7 +55,9 @@ pub fn answer_of<R: Threads + Wait + Sync + Alloc<A = Global> + Print + Eprint>(
         13 => walked_live(rt),
         14 => settled_alone(rt),
         15 => routed_alone(rt),
-        _ => answered_alone(rt),
+        16 => answered_alone(rt),
+        17 => joined_network(rt),
+        _ => lines_read(rt),
     }
 }
 
@@ -74,8 +76,14 @@ fn cut_network<R: Alloc<A = Global> + Eprint>(rt: &R) -> Option<String> {
     told(rt, links_line(rt.alloc(), net.links()))
 }
 
-fn joined_network<R: Alloc<A = Global> + Eprint>(rt: &R) -> Option<String> {
+fn linked_network<R: Alloc<A = Global> + Eprint>(rt: &R) -> Option<String> {
     let net = told(rt, chain(rt)?.with_link(rt.alloc(), 0, 3))?;
+    told(rt, links_line(rt.alloc(), net.links()))
+}
+
+/// The chain with its ends joined: a link from 3 to 0 would close a walk.
+fn joined_network<R: Alloc<A = Global> + Eprint>(rt: &R) -> Option<String> {
+    let net = told(rt, chain(rt)?.with_join(rt.alloc(), 3, 0))?;
     told(rt, links_line(rt.alloc(), net.links()))
 }
 
@@ -108,6 +116,23 @@ fn request<R: Alloc<A = Global> + Eprint>(rt: &R) -> Option<String> {
     match told(rt, read_line(rt.alloc(), line))? {
         Request::Network { links, .. } => told(rt, links_line(rt.alloc(), &links)),
         _ => told(rt, String::from_str(rt.alloc(), "another request")),
+    }
+}
+
+/// Two lines by one reader, which has its table already when it reads the second.
+fn lines_read<R: Alloc<A = Global> + Eprint>(rt: &R) -> Option<String> {
+    let alloc = rt.alloc();
+    let mut reader = LineReader::new();
+    let Request::Walk { x } = told(rt, reader.read(alloc, br#"["walk",3]"#))? else {
+        return told(rt, String::from_str(alloc, "another request"));
+    };
+    let line = br#"["net",4,0,[[0,1],[1,2],[2,3]]]"#;
+    match told(rt, reader.read(alloc, line))? {
+        Request::Network { links, .. } => {
+            let text = told(rt, links_line(alloc, &links))?;
+            told(rt, format!(in alloc; "walk {x} {text}"))
+        }
+        _ => told(rt, String::from_str(alloc, "another request")),
     }
 }
 

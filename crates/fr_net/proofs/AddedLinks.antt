@@ -9,6 +9,7 @@ use Rattle.fr_net.proofs.Cycles.{points_at}
 use Rattle.fr_net.proofs.Linking.{is_between_itself, joined_from, not_twice, some_joined, walk_carries}
 use Rattle.fr_net.proofs.Ordering.{in_order_order, insert_order, into_order, is_pair, same_order, times-in_order, times-insert}
 use Rattle.fr_net.specs.Faults.{IsFaultless, IsInRange}
+use Rattle.fr_net.specs.Halves.{AreUnjoined}
 use Rattle.fr_net.specs.Limits.{IsWithinLimits, most_links}
 use Rattle.fr_net.specs.Links.{AreBelow, AreSingle, HasNoSelfLink, HasPath, IsAcyclic, IsClosedWalk, IsPath, Joins, Points, end_of, is_between}
 use Rattle.fr_net.specs.Order.{AreInOrder, IsBefore, IsNotAfter, in_order, is_not_after, with_in_order}
@@ -90,7 +91,7 @@ single_added links u v single free k d l =
     omega (arith, added_once links u v link.0 link.1 single free, one_passes (is_between link.0 link.1) (added links u v) k d l (is_between_itself link))
 
 -- a walk along the links with one more is one along them, or comes to its tail and goes on from its head
-path_joins : (links : List (ℕ × ℕ)) (a : ℕ) (vs : List ℕ) (b c : ℕ) → IsPath links a vs → end_of a vs ≡ b → HasPath links b c → HasPath links a c
+pub path_joins : (links : List (ℕ × ℕ)) (a : ℕ) (vs : List ℕ) (b c : ℕ) → IsPath links a vs → end_of a vs ≡ b → HasPath links b c → HasPath links a c
 path_joins links a [] b c path e rest = subst (λ (y : ℕ). HasPath links y c) (sym e) rest
 path_joins links a (w ∷ ws) b c path e rest = let r = path_joins links w ws b c path.1 e rest in (w ∷ r.0, ((path.0, r.1.0), r.1.1))
 
@@ -124,26 +125,31 @@ closes_at_head : (links : List (ℕ × ℕ)) (u v : ℕ) (vs : List ℕ) → IsP
 closes_at_head links u v [] path e = path_goes_on links u v v [] path e
 closes_at_head links u v (w ∷ ws) path e = path_goes_on links u v v (w ∷ ws) path e
 
--- where no closed walk leads through the head of the added link there is none
-pub acyclic_added : (links : List (ℕ × ℕ)) (u v : ℕ) → IsAcyclic links → ((vs : List ℕ) → ¬ IsClosedWalk (added links u v) v vs) → IsAcyclic (added links u v)
-acyclic_added links u v acyclic none a [] h = h
-acyclic_added links u v acyclic none a (w ∷ ws) h =
+-- where a closed walk follows the links with one more, a path leads from the head of that one to its tail
+pub closed_back : (links : List (ℕ × ℕ)) (u v a : ℕ) (vs : List ℕ) → IsAcyclic links → IsClosedWalk (added links u v) a vs → HasPath links v u
+closed_back links u v a [] acyclic h = absurd h
+closed_back links u v a (w ∷ ws) acyclic h =
     elim (path_splits links u v a (w ∷ ws) h.0) [
-      | inl old ↦ acyclic a (w ∷ ws) (old, h.1)
-      | inr new ↦
-          let back : HasPath links v u = path_joins links v new.1.0 a u new.1.1.0 (new.1.1.1 ∙ h.1) new.0 in
-          none (back.0 ++ v ∷ []) (closes_at_head links u v back.0 back.1.0 back.1.1)
+      | inl old ↦ absurd (acyclic a (w ∷ ws) (old, h.1))
+      | inr new ↦ path_joins links v new.1.0 a u new.1.1.0 (new.1.1.1 ∙ h.1) new.0
     ]
 
+-- where no closed walk leads through the head of the added link there is none
+pub acyclic_added : (links : List (ℕ × ℕ)) (u v : ℕ) → IsAcyclic links → ((vs : List ℕ) → ¬ IsClosedWalk (in_order (added links u v)) v vs) → IsAcyclic (added links u v)
+acyclic_added links u v acyclic none a vs h =
+    let after = added links u v in
+    let back = closed_back links u v a vs acyclic h in
+    none (back.0 ++ v ∷ []) (walk_carries after (in_order after) (λ x y c. into_order after (x, y) c) v (back.0 ++ v ∷ []) (closes_at_head links u v back.0 back.1.0 back.1.1))
+
 -- no fault stands
-pub faultless_added : (n : ℕ) (links : List (ℕ × ℕ)) (u v : ℕ) → IsFaultless n links → length links < most_links → u < n → v < n → u ≢ v → ¬ Joins links u v → ((vs : List ℕ) → ¬ IsClosedWalk (in_order (added links u v)) v vs) → IsFaultless n (added links u v)
-faultless_added n links u v clear few a b apart free none = record {
+pub faultless_added : (n : ℕ) (links : List (ℕ × ℕ)) (u v : ℕ) → IsFaultless n links → length links < most_links → AreUnjoined n links u v → IsAcyclic (added links u v) → IsFaultless n (added links u v)
+faultless_added n links u v clear few free acyclic = record {
   limits = within_limits n links u v clear.limits few;
   some = clear.some;
   is_net = record {
-    in_range = (in_range n links u v clear.is_net.in_range a b).below;
-    no_self = no_self links u v clear.is_net.no_self apart;
-    single = single_added links u v clear.is_net.single free;
-    acyclic = acyclic_added links u v clear.is_net.acyclic (λ vs h. none vs (walk_carries (added links u v) (in_order (added links u v)) (λ x y c. into_order (added links u v) (x, y) c) v vs h));
+    in_range = (in_range n links u v clear.is_net.in_range free.tail free.head).below;
+    no_self = no_self links u v clear.is_net.no_self free.apart;
+    single = single_added links u v clear.is_net.single free.free;
+    acyclic = acyclic;
   };
 }

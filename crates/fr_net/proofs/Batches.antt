@@ -1,5 +1,6 @@
 -- Edits made one after the other: one list of edits makes one network, or has one first edit that is refused.
 use Rattle.std.proofs.Common.{List, [], arith, get_or, inl, inr, length, refl, subst, suc, sym, take, zero, ℕ, ◌++◌, ◌<◌, ◌∙◌, ◌∷◌, ◌≡◌, ◌≤◌}
+use Rattle.fr_net.proofs.Joining.{join_fault_place, join_not_refused, joined_one}
 use Rattle.fr_net.proofs.Refusing.{fault_place, first_fault_place, no_first_fault}
 use Rattle.fr_net.specs.Batches.{AreMade, IsBatchFault, IsEditFault, IsMade}
 use Rattle.fr_net.specs.Edits.{IsCutFault}
@@ -10,7 +11,7 @@ use Rattle.fr_net.specs.declared.fault.EditFault.{EditFault}
 use Rattle.fr_net.specs.declared.fault.NetFault.{NetFault}
 use Rattle.fr_net.specs.declared.fault.NetFault.TheVariants.{Cycle, Memory, NoLink, Range, SelfLink, TooMany, Twice}
 use Rattle.fr_net.specs.declared.requests.Edit.{Edit}
-use Rattle.fr_net.specs.declared.requests.Edit.TheVariants.{Add, Cut}
+use Rattle.fr_net.specs.declared.requests.Edit.TheVariants.{Add, Cut, Join}
 
 -- one edit more
 pub made_next : (net : Network) (edits : List Edit) (k : ℕ) (mid next : Network) (d : Edit) → k < length edits → AreMade net (take k edits) mid → IsMade mid (get_or edits k d) next → AreMade net (take (suc k) edits) next
@@ -22,6 +23,7 @@ made_next net (e ∷ es) (suc k) mid next d l made h = (made.0, (made.1.0, made_
 made_one : (net : Network) (e : Edit) (a b : Network) → IsMade net e a → IsMade net e b → a ≡ b
 made_one net (Cut u v) a b h g = h.1.is ∙ sym g.1.is
 made_one net (Add u v) a b h g = h.is ∙ sym g.is
+made_one net (Join u v) a b h g = joined_one net.nodes net.links u v a b h g
 
 pub all_made_one : (net : Network) (edits : List Edit) (a b : Network) → AreMade net edits a → AreMade net edits b → a ≡ b
 all_made_one net [] a b h g = h ∙ sym g
@@ -41,12 +43,14 @@ cut_fault_is links u v Memory h = absurd h
 not_refused : (net : Network) (e : Edit) (f : NetFault) (after : Network) → IsEditFault net e f → ¬ IsMade net e after
 not_refused net (Cut u v) f after refused made = (cut_fault_is net.links u v f refused).1 made.0
 not_refused net (Add u v) f after refused made = no_first_fault net.nodes (net.links ++ (u, v) ∷ []) f made.faultless refused
+not_refused net (Join u v) f after refused made = join_not_refused net.nodes net.links u v f after refused made
 
 edit_fault_place : (net : Network) (e : Edit) (f g : NetFault) → IsEditFault net e f → IsEditFault net e g → fault_place f ≡ fault_place g
 edit_fault_place net (Cut u v) f g hf hg =
     subst (λ (x : NetFault). fault_place x ≡ fault_place g) (sym (cut_fault_is net.links u v f hf).0)
     (subst (λ (x : NetFault). fault_place NoLink ≡ fault_place x) (sym (cut_fault_is net.links u v g hg).0) refl)
 edit_fault_place net (Add u v) f g hf hg = first_fault_place net.nodes (net.links ++ (u, v) ∷ []) f g hf hg
+edit_fault_place net (Join u v) f g hf hg = join_fault_place net.nodes net.links u v f g hf hg
 
 at_first : (net mid : Network) (e : Edit) (f : NetFault) → mid ≡ net → IsEditFault mid e f → IsEditFault net e f
 at_first net mid e f same h = subst (λ (m : Network). IsEditFault m e f) same h

@@ -1,11 +1,11 @@
 -- The links and rows of a network with one link cut.
-use Rattle.std.proofs.Common.{Bool, Contains, List, None, Option, Some, [], ap, arith, cond, eqb, false, get_or, inl, inr, length, ne_eqb, option_to_list, refl, subst, suc, sym, true, zero, ℕ, ⊎_elim, ◌+◌, ◌<◌, ◌∙◌, ◌∷◌, ◌≡◌, ◌≢◌, ◌⊎◌}
+use Rattle.std.proofs.Common.{Bool, Contains, List, None, Option, Some, [], ap, arith, cond, false, get_or, inl, inr, length, ne_eqb, option_to_list, refl, subst, suc, sym, true, zero, ℕ, ⊎_elim, ◌+◌, ◌<◌, ◌∙◌, ◌∷◌, ◌≡◌, ◌≢◌, ◌⊎◌}
 use Rattle.std.specs.Prelude.{not}
 use Rattle.std.specs.List.{filter}
 use Rattle.std.proofs.lemmas.List.Elements.{filter-append}
 use Rattle.std.proofs.lemmas.List.Sorted.{IsPermutation-refl}
-use Rattle.fr_net.proofs.Booleans.{flip}
 use Rattle.fr_net.proofs.Editing.{from_filter}
+use Rattle.fr_net.proofs.Linking.{is_between_turned}
 use Rattle.fr_net.proofs.Members.{Contains-cases, Contains-head, Contains-tail}
 use Rattle.fr_net.proofs.Neighbours.{row_entry_node}
 use Rattle.fr_net.proofs.Ordering.{least_first, order_of_listed, order_tail}
@@ -72,9 +72,6 @@ filter-option true p None is = refl
 filter-option false p None is = refl
 filter-option b p (Some x) is = filter_option_by b p x (is x refl)
 
-between_back : (u v x w : ℕ) → is_between u v (w, x) ≡ is_between u v (x, w)
-between_back u v x w = flip (eqb x u) (eqb w v) (eqb x v) (eqb w u)
-
 no_link_between : (links : List (ℕ × ℕ)) (u v a b : ℕ) → is_between u v (a, b) ≡ true → ¬ Points (without u v links) a b
 no_link_between links u v a b e h = let kept = filter_passes (λ (l : ℕ × ℕ). not (is_between u v l)) links (a, b) h in cc (e, kept)
 
@@ -84,13 +81,13 @@ still_linked links u v a b e h = into_filter (λ (l : ℕ × ℕ). not (is_betwe
 entry_cut_by : (c : Bool) (links : List (ℕ × ℕ)) (u v x w : ℕ) → is_between u v (x, w) ≡ c → option_to_list (row_entry (without u v links) x w) ≡ filter (stays u v x) (option_to_list (row_entry links x w))
 entry_cut_by true links u v x w e =
     rw (
-      row_entry_none (without u v links) x w (no_link_between links u v x w e) (no_link_between links u v w x (between_back u v x w ∙ e)),
+      row_entry_none (without u v links) x w (no_link_between links u v x w e) (no_link_between links u v w x (is_between_turned u v w x ∙ e)),
       filter-option false (stays u v x) (row_entry links x w) (λ entry is. let node = row_entry_node links x w entry is in rw (node, e) refl),
     ) refl
 entry_cut_by false links u v x w e =
     rw (
       row_entry_same (without u v links) links x w (from_filter (λ (l : ℕ × ℕ). not (is_between u v l)) links (x, w)) (still_linked links u v x w e)
-          (from_filter (λ (l : ℕ × ℕ). not (is_between u v l)) links (w, x)) (still_linked links u v w x (between_back u v x w ∙ e)),
+          (from_filter (λ (l : ℕ × ℕ). not (is_between u v l)) links (w, x)) (still_linked links u v w x (is_between_turned u v w x ∙ e)),
       filter-option true (stays u v x) (row_entry links x w) (λ entry is. let node = row_entry_node links x w entry is in rw (node, e) refl),
     ) refl
 

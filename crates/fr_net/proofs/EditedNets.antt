@@ -291,11 +291,11 @@ put_inside n links u v low high j k starts one entries a first =
 pub adding_at : (net : Network) (u v low high first second : ℕ) (starts : List ℕ) (entries : List (ℕ × First)) → ShowsNoLink net u v starts entries → low ≡ min u v → high ≡ max u v
     → (p : IsPlaceOf net low high starts first) (q : IsPlaceOf net high low starts second) → IsAdding net.nodes net.links u v low high p.0 q.0 starts entries
 adding_at net u v low high first second starts entries shown is_low is_high p q = record {
-  tail = shown.tail;
-  head = shown.head;
-  apart = shown.apart;
-  free = shown.free;
-  ends = sorted_ends net.nodes u v low high is_low is_high shown.apart shown.tail shown.head;
+  tail = shown.nodes.tail;
+  head = shown.nodes.head;
+  apart = shown.nodes.apart;
+  free = shown.nodes.free;
+  ends = sorted_ends net.nodes u v low high is_low is_high shown.nodes.apart shown.nodes.tail shown.nodes.head;
   at_low = p.2;
   at_high = q.2;
   shown = shown.rows.shown;

@@ -8,7 +8,7 @@ use Rattle.serde_json.specs.View.{items_of, items_view, view}
 use Rattle.serde_json.specs.declared.value.Value.{Value}
 use Rattle.fr_net.specs.Requests.{item_list, items_in, read_all, read_by_word}
 
-list_again : (ds : List Data) → item_list (items_of ds) ≡ ds
+pub list_again : (ds : List Data) → item_list (items_of ds) ≡ ds
 list_again [] = refl
 list_again (d ∷ ds) = ap (λ rest. d ∷ rest) (list_again ds)
 

@@ -23,10 +23,13 @@ pub mod EditedRows
 pub mod AddedLinks
 pub mod AddedRows
 pub mod EditedNets
+pub mod Joining
 pub mod Batches
 pub mod ByNode
 pub mod Cycles
 pub mod Items
 pub mod LineValues
+pub mod TokenItems
+pub mod WordLines
 pub mod Reordering
 pub mod Outward

@@ -10,15 +10,15 @@ use Rattle.fr_net.specs.declared.fault.NetFault.{NetFault}
 use Rattle.fr_net.specs.declared.fault.NetFault.TheVariants.{Cycle, Memory, NoLink, Range, SelfLink, TooMany, Twice}
 
 -- links without a fault are refused for memory alone
-no_self_link : (links : List (ℕ × ℕ)) (u : ℕ) → HasNoSelfLink links → ¬ Contains links (u, u)
+pub no_self_link : (links : List (ℕ × ℕ)) (u : ℕ) → HasNoSelfLink links → ¬ Contains links (u, u)
 no_self_link links u clear h =
     clear h.0 (u, u) h.1 (ap (λ (l : ℕ × ℕ). l.0) h.2 ∙ sym (ap (λ (l : ℕ × ℕ). l.1) h.2))
 
-no_cycle_stands : (links : List (ℕ × ℕ)) (walk : List ℕ) → IsAcyclic links → ¬ IsCycle links walk
+pub no_cycle_stands : (links : List (ℕ × ℕ)) (walk : List ℕ) → IsAcyclic links → ¬ IsCycle links walk
 no_cycle_stands links [] a h = h
 no_cycle_stands links (u ∷ vs) a h = a u vs h
 
-range_stands : (n : ℕ) (links : List (ℕ × ℕ)) (x : ℕ) → 0 < n → AreBelow n links → ¬ IsOutOfRange n links x
+pub range_stands : (n : ℕ) (links : List (ℕ × ℕ)) (x : ℕ) → 0 < n → AreBelow n links → ¬ IsOutOfRange n links x
 range_stands n links x some below (inl t) = omega arith
 range_stands n links x some below (inr t) =
     let any = t.2 in
@@ -27,7 +27,7 @@ range_stands n links x some below (inr t) =
     let e1 = ap (λ (y : ℕ × ℕ). y.1) any.3 in
     elim any.4 [ inl a ↦ omega (arith, l.0, e0, a, t.1) | inr b ↦ omega (arith, l.1, e1, b, t.1) ]
 
-not_too_large : (n : ℕ) (links : List (ℕ × ℕ)) → IsWithinLimits n links → ¬ IsTooLarge n links
+pub not_too_large : (n : ℕ) (links : List (ℕ × ℕ)) → IsWithinLimits n links → ¬ IsTooLarge n links
 not_too_large n links limits (inl h) = omega (arith, limits.nodes_few, h)
 not_too_large n links limits (inr h) = omega (arith, limits.links_few, h)
 

@@ -1,7 +1,7 @@
 -- What edits make of a network, each made on the links that those before it left, and which of them is refused first.
 use Rattle.std.specs.Prelude.{◌≡◌, ℕ, ◌<◌, ◌≤◌, ◌⊎◌, ◌++◌, List, [], ◌∷◌, length, take}
 use Rattle.std.specs.List.{HoldsAt}
-use Rattle.fr_net.specs.Edits.{IsCutFault, without}
+use Rattle.fr_net.specs.Edits.{IsCutFault, IsJoined, IsJoinFault, without}
 use Rattle.fr_net.specs.Faults.{IsFirstFault, IsNetworkOf}
 use Rattle.fr_net.specs.Limits.{most_edits}
 use Rattle.fr_net.specs.Links.{Joins}
@@ -10,12 +10,13 @@ use Rattle.fr_net.specs.declared.fault.EditFault.{EditFault}
 use Rattle.fr_net.specs.declared.fault.NetFault.{NetFault}
 use Rattle.fr_net.specs.declared.fault.NetFault.TheVariants.{TooMany}
 use Rattle.fr_net.specs.declared.requests.Edit.{Edit}
-use Rattle.fr_net.specs.declared.requests.Edit.TheVariants.{Cut, Add}
+use Rattle.fr_net.specs.declared.requests.Edit.TheVariants.{Cut, Add, Join}
 
 -- the edit makes the one network into the other
 abbrev pub IsMade : Network → Edit → Network → Type 0
 IsMade net (Cut u v) after = Joins net.links u v × IsNetworkOf net.nodes (without u v net.links) after
 IsMade net (Add u v) after = IsNetworkOf net.nodes (net.links ++ (u, v) ∷ []) after
+IsMade net (Join u v) after = IsJoined net.nodes net.links u v after
 
 -- the edits, one after the other, make the one network into the other
 abbrev pub AreMade : Network → List Edit → Network → Type 0
@@ -26,6 +27,7 @@ AreMade net (edit ∷ rest) after = (next : Network) × (IsMade net edit next ×
 abbrev pub IsEditFault : Network → Edit → NetFault → Type 0
 IsEditFault net (Cut u v) fault = IsCutFault net.links u v fault
 IsEditFault net (Add u v) fault = IsFirstFault net.nodes (net.links ++ (u, v) ∷ []) fault
+IsEditFault net (Join u v) fault = IsJoinFault net.nodes net.links u v fault
 
 -- the edit at this place is refused for this fault, on the network that those before it make
 pub record IsRefusedAt (net : Network) (edits : List Edit) (at : ℕ) (fault : NetFault) : Type 0 where

@@ -1,8 +1,8 @@
--- What the rows of a network show. Each is the contract of a function of src/laws.rt.
-use Rattle.std.specs.Prelude.{ℕ, ◌↔◌, List, map}
+-- What the rows of a network show, and which way a link can point. Each is the contract of a function of src/laws.rt.
+use Rattle.std.specs.Prelude.{ℕ, ◌≢◌, ◌↔◌, ◌++◌, List, [], ◌∷◌, map}
 use Rattle.std.specs.List.{Contains}
 use Rattle.std.specs.List.Sorted.{IsStrictlyIncreasing}
-use Rattle.fr_net.specs.Links.{IsNet, Points}
+use Rattle.fr_net.specs.Links.{IsAcyclic, IsNet, Points}
 use Rattle.fr_net.specs.Rows.{row}
 use Rattle.fr_net.specs.declared.rows.First.{First}
 use Rattle.fr_net.specs.declared.rows.First.TheVariants.{Outward, Inward}
@@ -23,3 +23,8 @@ LinksAreSeenFromBothEnds = (n : ℕ) (links : List (ℕ × ℕ)) (x w : ℕ) →
 -- the neighbours of a row stand in rising order, none twice
 abbrev pub NeighboursRise : Type 0
 NeighboursRise = (n : ℕ) (links : List (ℕ × ℕ)) (x : ℕ) → IsStrictlyIncreasing (map (λ (e : ℕ × First). e.0) (row n links x))
+
+-- of the two links between two nodes at least one closes no closed walk
+abbrev pub OneWayIsFree : Type 0
+OneWayIsFree = (links : List (ℕ × ℕ)) (u v : ℕ) → IsAcyclic links → u ≢ v
+    → ¬ IsAcyclic (links ++ (u, v) ∷ []) → IsAcyclic (links ++ (v, u) ∷ [])

@@ -2,10 +2,10 @@
 use Rattle.std.specs.Prelude.{ℕ, ◌≤◌, List, length}
 
 abbrev pub most_nodes : ℕ
-most_nodes = 1024
+most_nodes = 4096
 
 abbrev pub most_links : ℕ
-most_links = 8192
+most_links = 32768
 
 abbrev pub most_edits : ℕ
 most_edits = 1024

@@ -3,7 +3,8 @@
 --     ["net", n, d, [[u, v], ..]]    take the network of n nodes, with destination d and the links from u to v
 --     ["cut", u, v]                  take out the link between u and v
 --     ["add", u, v]                  add the link from u to v
---     ["batch", [EDIT, ..]]          make these edits, of which each is an array as for "cut" or "add"
+--     ["join", u, v]                 add a link between u and v, whichever way it can point
+--     ["batch", [EDIT, ..]]          make these edits, of which each is an array as for "cut", "add" or "join"
 --     ["dest", d]                    take the destination d
 --     ["walk", x]                    ask how one gets from x to the destination
 --     ["links"]                      ask which links there are
@@ -21,13 +22,14 @@ use Rattle.fr_net.specs.declared.requests.Question.TheVariants.{Links, Counts, H
 use Rattle.fr_net.specs.declared.requests.Edit.{Edit}
 use Rattle.fr_net.specs.declared.requests.Edit.TheVariants as edit
 use Rattle.fr_net.specs.declared.requests.Request.{Request}
-use Rattle.fr_net.specs.declared.requests.Request.TheVariants.{Network, Cut, Add, Batch, Destination, Walk, Ask}
+use Rattle.fr_net.specs.declared.requests.Request.TheVariants.{Network, Cut, Add, Join, Batch, Destination, Walk, Ask}
 
 -- a request, with its links or edits as a list
 pub data PlainRequest : Type 0 where
   new_network : ℕ → ℕ → List (ℕ × ℕ) → PlainRequest
   cut_link : ℕ → ℕ → PlainRequest
   add_link : ℕ → ℕ → PlainRequest
+  join_nodes : ℕ → ℕ → PlainRequest
   make_edits : List Edit → PlainRequest
   move_dest : ℕ → PlainRequest
   walk_from : ℕ → PlainRequest
@@ -38,6 +40,7 @@ abbrev pub plain : Request → PlainRequest
 plain (Network nodes dest links) = new_network nodes dest links.items
 plain (Cut u v) = cut_link u v
 plain (Add u v) = add_link u v
+plain (Join u v) = join_nodes u v
 plain (Batch edits) = make_edits edits.items
 plain (Destination d) = move_dest d
 plain (Walk x) = walk_from x
@@ -96,9 +99,10 @@ unfoldable pub edit_of_word : List ℕ → List Data → Option Edit
 edit_of_word word rest =
     if bytes_eq word (codes "cut") then option_map (λ pair. edit.Cut pair.0 pair.1) (number_pair rest)
     else (if bytes_eq word (codes "add") then option_map (λ pair. edit.Add pair.0 pair.1) (number_pair rest)
-    else None)
+    else (if bytes_eq word (codes "join") then option_map (λ pair. edit.Join pair.0 pair.1) (number_pair rest)
+    else None))
 
--- an edit: an array of just its word and the two ends of its link
+-- an edit: an array of just its word and two nodes
 abbrev pub edit_in : Data → Option Edit
 edit_in d = option_and_then (read_by_word edit_of_word) (items_in d)
 
@@ -141,13 +145,14 @@ request_of_word word rest =
     if bytes_eq word (codes "net") then network_request rest
     else (if bytes_eq word (codes "cut") then pair_request cut_link rest
     else (if bytes_eq word (codes "add") then pair_request add_link rest
+    else (if bytes_eq word (codes "join") then pair_request join_nodes rest
     else (if bytes_eq word (codes "batch") then batch_request rest
     else (if bytes_eq word (codes "dest") then node_request move_dest rest
     else (if bytes_eq word (codes "walk") then node_request walk_from rest
     else (if bytes_eq word (codes "links") then ask_request Links rest
     else (if bytes_eq word (codes "counts") then ask_request Counts rest
     else (if bytes_eq word (codes "hops") then ask_request Hops rest
-    else None))))))))
+    else None)))))))))
 
 -- the request that a value is
 abbrev pub request_of : Data → Option PlainRequest

@@ -1,16 +1,27 @@
-//! The links and rows of a network with one link taken out or added, each where it stands.
+//! The links and rows of a network with one link taken out or added, each where it stands, and which way a link can point.
 
-ghost use Rattle.std.specs.Prelude.{◌≡◌, ℕ, ◌<◌, ◌≤◌, ◌+◌, ◌-◌, ◌^◌, ◌==◌, ◌++◌, [], ◌∷◌, if◌then◌else◌, length, map, slice_index_or, All, OnOk};
+ghost use Rattle.std.specs.Prelude.{◌≡◌, ℕ, ◌<◌, ◌≤◌, ◌+◌, ◌-◌, ◌^◌, ◌==◌, ◌++◌, [], ◌∷◌, if◌then◌else◌, length, map, slice_index_or, All, IfOk, IfErr, OnOk, MatchOption};
 ghost use Rattle.std.specs.List.Sorted.{IsNonDecreasingBy};
-ghost use Rattle.fr_net.specs.Links.{AreSingle, Points};
+ghost use Rattle.fr_net.specs.Links.{AreSingle, IsAcyclic, IsCycle, IsNet, Points};
 ghost use Rattle.fr_net.specs.Network.{Network};
-ghost use Rattle.fr_net.specs.Halves.{AreRows, IsPlaceOf, ShowsLink, ShowsNoLink, ShowsRowOf};
+ghost use Rattle.fr_net.specs.Halves.{AreRows, AreUnjoined, IsPlaceOf, ShowsLink, ShowsNoLink, ShowsRowOf};
 ghost use Rattle.fr_net.specs.Edits.{without};
 ghost use Rattle.fr_net.specs.Order.{AreInOrder, IsBefore, IsNotAfter, with_in_order};
+ghost use Rattle.fr_net.specs.declared.fault.NetFault.TheVariants.{Memory};
 ghost use Rattle.fr_net.specs.declared.rows.First.TheVariants.{Outward, Inward};
 
+use crate::cycle::find_cycle_from;
+use crate::fault::NetFault;
 use crate::rows::First;
-use std::alloc::AllocFailed;
+use std::alloc::{AllocFailed, Global};
+
+/// The link by which two nodes were joined, and the closed walk that follows the links with it turned around, if one does.
+#[derive(Drop)]
+pub(crate) struct Joining {
+    pub(crate) tail: u32,
+    pub(crate) head: u32,
+    pub(crate) closed: Option<Vec<u32>>,
+}
 
 /// The first place among the links, which are in order, whose link is not before the one from `u` to `v`.
 fn place_of_link(links: &[(u32, u32)], u: u32, v: u32) -> usize
@@ -45,6 +56,41 @@ pub(crate) fn add_link(
     let place = place_of_link(links, u, v);
     links.insert(place, (u, v))?;
     Ok(())
+}
+
+/// Puts a link between two nodes at its place among the links, which are in order: from `u` to `v`, or from `v` to `u` where a
+/// closed walk follows the links with the other. One search decides it.
+pub(crate) fn join_link(
+    alloc: Global,
+    nodes: u32,
+    links: &mut Vec<(u32, u32)>,
+    u: u32,
+    v: u32,
+) -> Result<Joining, NetFault>
+    requires net { IsNet nodes links.old.items }
+    requires order { AreInOrder links.old.items }
+    requires nodes { AreUnjoined nodes links.old.items u v }
+    ensures put { IfOk result (λ link. links.new.items ≡ with_in_order (link.tail, link.head) links.old.items) }
+    ensures way { IfOk result (λ link. MatchOption link.closed
+        ((link.tail ≡ u) × (link.head ≡ v) × IsAcyclic (links.old.items ++ (u, v) ∷ []))
+        (λ walk. (link.tail ≡ v) × (link.head ≡ u) × IsCycle (links.old.items ++ (u, v) ∷ []) walk.items)) }
+    ensures memory { IfErr result (λ fault. fault ≡ Memory) }
+{
+    add_link(links, u, v)?;
+    let Some(walk) = find_cycle_from(alloc, nodes, links, v)? else {
+        return Ok(Joining {
+            tail: u,
+            head: v,
+            closed: None,
+        });
+    };
+    cut_link(links, u, v);
+    add_link(links, v, u)?;
+    Ok(Joining {
+        tail: v,
+        head: u,
+        closed: Some(walk),
+    })
 }
 
 /// The first place in the row, which is in rising order of the neighbour, whose neighbour is not below `w`.

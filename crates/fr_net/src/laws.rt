@@ -1,6 +1,6 @@
-//! The law of rows: each clause is a law of `specs/Laws.antt`, proved. The function does nothing.
+//! The laws of rows and of joins: each clause is a law of `specs/Laws.antt`, proved. The functions do nothing.
 
-ghost use Rattle.fr_net.specs.Laws.{OutwardIsALinkTo, InwardIsALinkFrom, LinksAreSeenFromBothEnds, NeighboursRise};
+ghost use Rattle.fr_net.specs.Laws.{OutwardIsALinkTo, InwardIsALinkFrom, LinksAreSeenFromBothEnds, NeighboursRise, OneWayIsFree};
 
 /// What the rows of a network show of its links, and in which order.
 pub fn rows_law()
@@ -8,4 +8,9 @@ pub fn rows_law()
     ensures inward { InwardIsALinkFrom }
     ensures both { LinksAreSeenFromBothEnds }
     ensures rising { NeighboursRise }
+{}
+
+/// Two nodes that no link joins can be joined one way or the other.
+pub fn join_law()
+    ensures { OneWayIsFree }
 {}

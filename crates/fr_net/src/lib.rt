@@ -2,9 +2,10 @@
 //! ask for them.
 //!
 //! A [`Net`] is made by [`Net::new`], which names the first fault of links that make no network. Layers above
-//! read it by `nodes`, `links`, `degree`, `neighbour` and `row`, make one network of another by `with_cut`, `with_link` and
-//! `with_edits`, and make the network of turned links by `turned_by`, or in its place by `into_turned`. What its rows show is the law [`rows_law`](laws::rows_law).
-//! [`read_line`] reads a request.
+//! read it by `nodes`, `links`, `degree`, `neighbour` and `row`, make one network of another by `with_cut`, `with_link`,
+//! `with_join` and `with_edits`, and make the network of turned links by `turned_by`, or in its place by `into_turned`. What its
+//! rows show is the law [`rows_law`](laws::rows_law), and which way a link can point the law [`join_law`](laws::join_law).
+//! [`read_line`] reads a request, and a [`LineReader`] line after line.
 #![tactic(auto)]
 
 mod checks;
@@ -13,14 +14,17 @@ mod edits;
 mod fault;
 pub mod laws;
 mod limits;
+mod line_reader;
 mod network;
 mod read;
 mod requests;
 mod rows;
 mod turned;
+mod values;
 
 pub use fault::{EditFault, NetFault};
 pub use limits::{MAX_EDITS, MAX_LINKS, MAX_NODES};
+pub use line_reader::LineReader;
 pub use network::Net;
 pub use read::read_line;
 pub use requests::{Edit, LineFault, Question, Request};

@@ -1,20 +1,21 @@
 //! Networks.
 
-ghost use Rattle.std.specs.Prelude.{◌≡◌, ◌≢◌, ℕ, ◌<◌, ◌≤◌, ◌+◌, ◌++◌, [], ◌∷◌, length, slice_get, slice_index, Some, IfOk, IfErr, IfSome, IfNone, OnOk, All, ◌⊎◌};
+ghost use Rattle.std.specs.Prelude.{◌≡◌, ◌≢◌, ℕ, ◌<◌, ◌≤◌, ◌+◌, ◌++◌, [], ◌∷◌, length, slice_get, slice_index, Some, IfOk, IfErr, IfSome, IfNone, MatchOption, OnOk, All, ◌⊎◌};
 ghost use Rattle.std.specs.List.{HoldsAt};
 ghost use Rattle.fr_net.specs.Links.{Joins, Points};
 ghost use Rattle.fr_net.specs.Order.{AreRising};
 ghost use Rattle.fr_net.specs.Counts.{IsKept, links_at};
 ghost use Rattle.fr_net.specs.Rows.{row};
-ghost use Rattle.fr_net.specs.declared.fault.NetFault.TheVariants.{Memory};
+ghost use Rattle.fr_net.specs.Halves.{AreUnjoined};
+ghost use Rattle.fr_net.specs.declared.fault.NetFault.TheVariants.{Cycle, Memory};
 ghost use Rattle.fr_net.specs.Faults.{IsFaultless, IsFirstFault, IsNetworkOf};
-ghost use Rattle.fr_net.specs.Edits.{IsCutFault, without};
+ghost use Rattle.fr_net.specs.Edits.{IsCutFault, IsJoined, IsJoinFault, without};
 ghost use Rattle.fr_net.specs.Batches.{AreMade, IsBatchFault, IsEditFault, IsMade};
-ghost use Rattle.fr_net.specs.Limits.{most_edits};
+ghost use Rattle.fr_net.specs.Limits.{most_edits, most_links};
 
 use crate::checks::{first_outside, first_self_link};
-use crate::cycle::{find_cycle, find_cycle_from};
-use crate::edits::{add_link, add_to_rows, cut_from_rows, cut_link, place_in_row};
+use crate::cycle::find_cycle;
+use crate::edits::{Joining, add_to_rows, cut_from_rows, cut_link, join_link, place_in_row};
 use crate::fault::{EditFault, NetFault};
 use crate::limits::{MAX_EDITS, MAX_LINKS, MAX_NODES};
 use crate::requests::Edit;
@@ -192,8 +193,19 @@ impl Net {
         self.copied(alloc, 1)?.into_linked(alloc, u, v)
     }
 
+    /// The network with `u` and `v` joined: by a link from `u` to `v`, or from `v` to `u` where a closed walk would follow the
+    /// other; the law [`join_law`](crate::laws::join_law) says that then none follows this one. It is refused as by `with_link`, but
+    /// never for a `Cycle`. It is linear, and one search decides which way the link points.
+    pub fn with_join(&self, alloc: Global, u: u32, v: u32) -> Result<Net, NetFault>
+        ensures ok { IfOk result (IsJoined self.now.nodes self.now.links u v) }
+        ensures refused { IfErr result (λ fault. fault ≢ Memory → IsJoinFault self.now.nodes self.now.links u v fault) }
+    {
+        let (net, _closed) = self.copied(alloc, 1)?.into_joined(alloc, u, v)?;
+        Ok(net)
+    }
+
     /// The network after these edits, each made on the links that those before it left; or the first edit that is refused, with
-    /// the fault that `with_cut` or `with_link` names. More than [`MAX_EDITS`] are `TooMany` at `MAX_EDITS`, and none
+    /// the fault that `with_cut`, `with_link` or `with_join` names. More than [`MAX_EDITS`] are `TooMany` at `MAX_EDITS`, and none
     /// is tried. `Memory` where no room could be had, at any edit. The network is copied once.
     pub fn with_edits(&self, alloc: Global, edits: &[Edit]) -> Result<Net, EditFault>
         ensures few { OnOk result (length edits.now ≤ most_edits) }
@@ -224,6 +236,10 @@ impl Net {
         match edit {
             Edit::Cut { u, v } => self.into_cut(u, v),
             Edit::Add { u, v } => self.into_linked(alloc, u, v),
+            Edit::Join { u, v } => {
+                let (net, _closed) = self.into_joined(alloc, u, v)?;
+                Ok(net)
+            }
         }
     }
 
@@ -258,6 +274,18 @@ impl Net {
         ensures refused { IfErr result (λ fault. fault ≢ Memory
             → IsFirstFault self.nodes (self.links ++ (u, v) ∷ []) fault) }
     {
+        match self.into_joined(alloc, u, v)? {
+            (net, None) => Ok(net),
+            (_turned, Some(walk)) => Err(NetFault::Cycle(walk)),
+        }
+    }
+
+    /// Whether a link can join `u` and `v`, be it one way or the other: Ok, or the fault that both have.
+    fn test_join(&self, u: u32, v: u32) -> Result<(), NetFault>
+        ensures few { OnOk result (length self.now.links < most_links) }
+        ensures nodes { OnOk result (AreUnjoined self.now.nodes self.now.links u v) }
+        ensures refused { IfErr result (IsJoinFault self.now.nodes self.now.links u v) }
+    {
         if self.links.len() >= MAX_LINKS {
             return Err(NetFault::TooMany);
         }
@@ -270,23 +298,34 @@ impl Net {
         if self.link_between(u, v).is_some() {
             return Err(NetFault::Twice(u, v));
         }
+        Ok(())
+    }
+
+    /// The network with `u` and `v` joined, made in the place of this one; and where the link points from `v` to `u`, the closed
+    /// walk that would follow the other.
+    fn into_joined(self, alloc: Global, u: u32, v: u32) -> Result<(Net, Option<Vec<u32>>), NetFault>
+        ensures ok { IfOk result (λ joined. MatchOption joined.1
+            (IsNetworkOf self.nodes (self.links ++ (u, v) ∷ []) joined.0)
+            (λ walk. IsFirstFault self.nodes (self.links ++ (u, v) ∷ []) (Cycle walk)
+            × IsNetworkOf self.nodes (self.links ++ (v, u) ∷ []) joined.0)) }
+        ensures refused { IfErr result (λ fault. fault ≢ Memory → IsJoinFault self.nodes self.links u v fault) }
+    {
+        self.test_join(u, v)?;
         let Net {
             nodes,
             mut links,
             mut starts,
             mut entries,
         } = self;
-        add_link(&mut links, u, v)?;
-        if let Some(walk) = find_cycle_from(alloc, nodes, &links, v)? {
-            return Err(NetFault::Cycle(walk));
-        }
-        add_to_rows(&mut starts, &mut entries, u, v)?;
-        Ok(Net {
+        let Joining { tail, head, closed } = join_link(alloc, nodes, &mut links, u, v)?;
+        add_to_rows(&mut starts, &mut entries, tail, head)?;
+        let net = Net {
             nodes,
             links,
             starts,
             entries,
-        })
+        };
+        Ok((net, closed))
     }
 
     /// The network of the links that the counts give, one count for each node: a link stays where its head has turned

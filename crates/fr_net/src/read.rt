@@ -3,7 +3,7 @@
 ghost use Rattle.std.specs.Prelude.{◌≡◌, ◌≢◌, Ok, Err, Some, IfOk, IfErr, map, ok_or};
 ghost use Rattle.serde_json.specs.View.{view};
 ghost use Rattle.fr_net.specs.declared.requests.LineFault.TheVariants.{NotRequest, Memory};
-ghost use Rattle.fr_net.specs.Requests.{plain, reading, request_of, request_of_word, cut_link, add_link, move_dest, walk_from, network_request, pair_request, batch_request, node_request, ask_request, links_in, link_in, edits_in, edit_in, edit_of_word, number_pair, single_number, number_in};
+ghost use Rattle.fr_net.specs.Requests.{plain, reading, request_of, request_of_word, cut_link, add_link, join_nodes, move_dest, walk_from, network_request, pair_request, batch_request, node_request, ask_request, links_in, link_in, edits_in, edit_in, edit_of_word, number_pair, single_number, number_in};
 
 use crate::requests::{Edit, LineFault, Question, Request};
 use serde_json::Value;
@@ -42,7 +42,11 @@ fn request_in(alloc: Global, value: &Value) -> Result<Request, LineFault>
 
 /// The request of a word and the items after it: an arm for each word.
 #[tactic(auto, unfolding(crate::specs::Requests::request_of_word))]
-fn request_by_word(alloc: Global, word: &str, rest: &[Value]) -> Result<Request, LineFault>
+pub(crate) fn request_by_word(
+    alloc: Global,
+    word: &str,
+    rest: &[Value],
+) -> Result<Request, LineFault>
     ensures ok { IfOk result (λ request. request_of_word word.now (map view rest.now) ≡ Some (plain request)) }
     ensures refused { IfErr result (λ fault. fault ≢ Memory
         → ok_or (request_of_word word.now (map view rest.now)) NotRequest ≡ Err fault) }
@@ -51,6 +55,7 @@ fn request_by_word(alloc: Global, word: &str, rest: &[Value]) -> Result<Request,
         "net" => network(alloc, rest),
         "cut" => cut(rest),
         "add" => add(rest),
+        "join" => join(rest),
         "batch" => batch(alloc, rest),
         "dest" => destination(rest),
         "walk" => walk(rest),
@@ -77,6 +82,15 @@ fn add(rest: &[Value]) -> Result<Request, LineFault>
 {
     let (u, v) = two_numbers(rest).ok_or(LineFault::NotRequest)?;
     Ok(Request::Add { u, v })
+}
+
+/// A join, where just the two nodes stand after its word.
+fn join(rest: &[Value]) -> Result<Request, LineFault>
+    ensures ok { IfOk result (λ request. pair_request join_nodes (map view rest.now) ≡ Some (plain request)) }
+    ensures refused { IfErr result (λ fault. ok_or (pair_request join_nodes (map view rest.now)) NotRequest ≡ Err fault) }
+{
+    let (u, v) = two_numbers(rest).ok_or(LineFault::NotRequest)?;
+    Ok(Request::Join { u, v })
 }
 
 /// A walk, where just its first node stands after the word.
@@ -181,7 +195,7 @@ fn edit_list(alloc: Global, value: &Value) -> Result<Vec<Edit>, LineFault>
     Ok(edits)
 }
 
-/// An edit: an array of its word and the two ends of its link.
+/// An edit: an array of its word and two nodes.
 fn edit(value: &Value) -> Option<Edit>
     ensures { result ≡ edit_in (view value.now) }
 {
@@ -204,6 +218,10 @@ fn edit_by_word(word: &str, rest: &[Value]) -> Option<Edit>
         "add" => {
             let (u, v) = two_numbers(rest)?;
             Some(Edit::Add { u, v })
+        }
+        "join" => {
+            let (u, v) = two_numbers(rest)?;
+            Some(Edit::Join { u, v })
         }
         _ => None,
     }

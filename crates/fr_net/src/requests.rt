@@ -3,7 +3,7 @@
 ghost use Rattle.std.specs.Prelude.{◌≡◌};
 ghost use Rattle.fr_net.specs.declared.requests.LineFault.TheVariants.{Memory};
 
-use std::alloc::AllocFailed;
+use std::alloc::{AllocError, AllocFailed};
 use thiserror::Error;
 
 /// What a line asks for. Each number is what the line says, from 0 to 4,294,967,295: whether it is a node, and whether
@@ -33,7 +33,14 @@ pub enum Request {
         /// Its head.
         v: u32,
     },
-    /// Make these edits, one after the other: `["batch", [["cut", u, v], ["add", u, v], ..]]`.
+    /// Join two nodes by a link, whichever way it can point: `["join", u, v]`.
+    Join {
+        /// The tail of the link, unless a closed walk would follow it.
+        u: u32,
+        /// Its head then.
+        v: u32,
+    },
+    /// Make these edits, one after the other: `["batch", [["cut", u, v], ["add", u, v], ["join", u, v], ..]]`.
     Batch {
         /// The edits in the order of the line.
         edits: Vec<Edit>,
@@ -69,6 +76,13 @@ pub enum Edit {
         /// Its head.
         v: u32,
     },
+    /// Join two nodes by a link: from `u` to `v`, or from `v` to `u` where the other would close a closed walk.
+    Join {
+        /// The tail of the link, unless a closed walk would follow it.
+        u: u32,
+        /// Its head then.
+        v: u32,
+    },
 }
 
 /// What can be asked of the network in use.
@@ -98,6 +112,14 @@ pub enum LineFault {
 }
 
 // By hand, since clauses say which fault a `?` gives.
+impl From<AllocError> for LineFault {
+    ghost from_gives = { λ _ fault. fault ≡ Memory };
+
+    fn from(_refused: AllocError) -> LineFault {
+        LineFault::Memory
+    }
+}
+
 impl<T: Drop> From<AllocFailed<T>> for LineFault {
     ghost from_gives = { λ _ fault. fault ≡ Memory };
 

@@ -1,7 +1,7 @@
 -- What a change makes, by the network and the destination with which the round after it begins.
-use Rattle.std.proofs.Common.{List, [], Some, ap, arith, inl, refl, subst, ℕ, ◌++◌, ◌<◌, ◌∙◌, ◌∷◌, ◌≡◌, ◌≤◌, length}
+use Rattle.std.proofs.Common.{List, [], Some, ap, arith, inl, inr, refl, subst, ℕ, ◌++◌, ◌<◌, ◌∙◌, ◌∷◌, ◌≡◌, ◌≤◌, length}
 use Rattle.fr_net.specs.Batches.{AreMade, IsMade}
-use Rattle.fr_net.specs.Edits.{without}
+use Rattle.fr_net.specs.Edits.{IsJoined, without}
 use Rattle.fr_net.specs.Faults.{IsNetworkOf}
 use Rattle.fr_net.specs.Limits.{most_edits}
 use Rattle.fr_net.specs.Links.{Joins}
@@ -13,7 +13,7 @@ use Rattle.fr_route.specs.Changes.{IsBatch, IsChanged, IsOpenFault, IsRouteFault
 use Rattle.fr_route.specs.Refusals.{IsRefusalOf, request_of_change}
 use Rattle.fr_route.specs.States.{State, IsRound, net_at}
 use Rattle.fr_route.specs.declared.change.Change.{Change}
-use Rattle.fr_route.specs.declared.change.Change.TheVariants.{Add, Batch, Cut, Destination}
+use Rattle.fr_route.specs.declared.change.Change.TheVariants.{Add, Batch, Cut, Destination, Join}
 use Rattle.fr_route.specs.declared.fault.RouteFault.{RouteFault}
 use Rattle.fr_route.specs.declared.fault.RouteFault.TheVariants.{Memory, Net, Range, Start}
 use Rattle.fr_route.proofs.RoundEnds.{round_listed}
@@ -41,10 +41,22 @@ add_begins s u v net below made = record {
   a_node = λ lt none. none;
 }
 
+pub joined_nodes : (n : ℕ) (links : List (ℕ × ℕ)) (u v : ℕ) (net : Network) → IsJoined n links u v net → net.nodes ≡ n
+joined_nodes n links u v net (inl made) = nodes_of n (links ++ (u, v) ∷ []) net made
+joined_nodes n links u v net (inr made) = nodes_of n (links ++ (v, u) ∷ []) net made.1
+
+pub join_begins : (s : State) (u v : ℕ) (net : Network) → s.dest < s.nodes → IsJoined s.nodes s.links u v net → Begins s (Join u v) net s.dest
+join_begins s u v net below joined = record {
+  round = λ new lt r. (net, (joined, r));
+  no_node = λ le. omega (arith, le, below, joined_nodes s.nodes s.links u v net joined);
+  a_node = λ lt none. none;
+}
+
 -- no edit makes a node
 edited_nodes : (net : Network) (e : Edit) (after : Network) → IsMade net e after → after.nodes ≡ net.nodes
 edited_nodes net (edit.Cut u v) after made = nodes_of net.nodes (without u v net.links) after made.1
 edited_nodes net (edit.Add u v) after made = nodes_of net.nodes (net.links ++ (u, v) ∷ []) after made
+edited_nodes net (edit.Join u v) after made = joined_nodes net.nodes net.links u v after made
 
 pub made_nodes : (net : Network) (edits : List Edit) (after : Network) → AreMade net edits after → after.nodes ≡ net.nodes
 made_nodes net [] after made = ap (λ (m : Network). m.nodes) made
@@ -78,10 +90,12 @@ begins_fault s change net d Memory b h = tt
 pub refused_change : (s : State) (change : Change) (fault : RouteFault) (text : List ℕ) → IsRouteFault s change fault → IsRefusalOf fault text → IsAnswer (Some s) (request_of_change change) text (Some s)
 refused_change s (Cut u v) (Net fault) text why is = inl (fault_number fault, (fault, why, refl), is, refl)
 refused_change s (Add u v) (Net fault) text why is = inl (fault_number fault, (fault, why, refl), is, refl)
+refused_change s (Join u v) (Net fault) text why is = inl (fault_number fault, (fault, why, refl), is, refl)
 refused_change s (Batch edits) (Net fault) text why is = inl (fault_number fault, (why.0, why.1.0, ap fault_number why.1.1), is, refl)
 refused_change s (Destination d) (Net fault) text why is = absurd why
 refused_change s (Cut u v) Range text why is = absurd why
 refused_change s (Add u v) Range text why is = absurd why
+refused_change s (Join u v) Range text why is = absurd why
 refused_change s (Batch edits) Range text why is = absurd why
 refused_change s (Destination d) Range text why is = inl (4, (why, refl), is, refl)
 refused_change s change Start text why is = absurd is

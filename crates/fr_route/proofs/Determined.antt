@@ -6,7 +6,7 @@ use Rattle.fr_net.specs.Batches.{IsBatchFault, IsEditFault}
 use Rattle.fr_net.specs.Edits.{without}
 use Rattle.fr_net.specs.Faults.{IsFirstFault}
 use Rattle.fr_net.specs.Network.{Network}
-use Rattle.fr_net.specs.Requests.{PlainRequest, new_network, cut_link, add_link, make_edits, move_dest, walk_from, ask}
+use Rattle.fr_net.specs.Requests.{PlainRequest, new_network, cut_link, add_link, join_nodes, make_edits, move_dest, walk_from, ask}
 use Rattle.fr_net.specs.declared.requests.Edit.{Edit}
 use Rattle.fr_net.specs.declared.requests.Edit.TheVariants as edit
 use Rattle.fr_net.specs.declared.fault.EditFault.{EditFault}
@@ -16,6 +16,7 @@ use Rattle.fr_net.specs.declared.requests.LineFault.TheVariants.{NotJson, NotReq
 use Rattle.fr_net.specs.declared.fault.NetFault.{NetFault}
 use Rattle.fr_net.specs.declared.fault.NetFault.TheVariants.{TooMany, Range, SelfLink, Twice, Cycle, NoLink, Memory}
 use Rattle.fr_net.proofs.Batches.{all_made_one, batch_fault_place, batch_not_made, cut_fault_is}
+use Rattle.fr_net.proofs.Joining.{as_first, join_not_refused, joined_one}
 use Rattle.fr_net.proofs.Refusing.{fault_place, first_fault_place, no_first_fault}
 use Rattle.fr_route.specs.States.{State, IsReport, IsRound, net_at}
 use Rattle.fr_route.specs.Routes.{IsHop, AreHops}
@@ -67,6 +68,7 @@ edit_number : (net : Network) (e : Edit) (f : NetFault) → IsEditFault net e f 
 unfolding number_at
 edit_number net (edit.Cut u v) f h = let is = (cut_fault_is net.links u v f h).0 in subst (λ (x : NetFault). fault_number x ≡ number_at (fault_place x)) (sym is) refl
 edit_number net (edit.Add u v) f h = number_by_place net.nodes (net.links ++ (u, v) ∷ []) f h
+edit_number net (edit.Join u v) f h = number_by_place net.nodes (net.links ++ (u, v) ∷ []) f (as_first net.nodes net.links u v f h)
 
 batch_number : (net : Network) (edits : List Edit) (f : EditFault) → IsBatchFault net edits f → fault_number f.fault ≡ number_at (fault_place f.fault)
 unfolding number_at
@@ -83,6 +85,7 @@ refused_unique s (new_network n d links) j k (inr a) (inl b) = absurd (no_first_
 refused_unique s (new_network n d links) j k (inr a) (inr b) = a.2 ∙ sym b.2
 refused_unique None (cut_link u v) j k a b = a ∙ sym b
 refused_unique None (add_link u v) j k a b = a ∙ sym b
+refused_unique None (join_nodes u v) j k a b = a ∙ sym b
 refused_unique None (make_edits edits) j k a b = a ∙ sym b
 refused_unique None (move_dest d) j k a b = a ∙ sym b
 refused_unique None (walk_from x) j k a b = a ∙ sym b
@@ -90,6 +93,8 @@ refused_unique None (ask q) j k a b = a ∙ sym b
 refused_unique (Some s) (cut_link u v) j k a b =
     (a.2 ∙ ap fault_number (cut_fault_is s.links u v a.0 a.1).0) ∙ sym (b.2 ∙ ap fault_number (cut_fault_is s.links u v b.0 b.1).0)
 refused_unique (Some s) (add_link u v) j k a b = a.2 ∙ (one_number s.nodes (s.links ++ (u, v) ∷ []) a.0 b.0 a.1 b.1 ∙ sym b.2)
+refused_unique (Some s) (join_nodes u v) j k a b =
+    a.2 ∙ (one_number s.nodes (s.links ++ (u, v) ∷ []) a.0 b.0 (as_first s.nodes s.links u v a.0 a.1) (as_first s.nodes s.links u v b.0 b.1) ∙ sym b.2)
 refused_unique (Some s) (make_edits edits) j k a b = a.2 ∙ (one_batch_number (net_at s) edits a.0 b.0 a.1 b.1 ∙ sym b.2)
 refused_unique (Some s) (move_dest d) j k a b = a.1 ∙ sym b.1
 refused_unique (Some s) (walk_from x) j k a b = a.1 ∙ sym b.1
@@ -99,12 +104,16 @@ accepted_unique : (s : Option State) (r : PlainRequest) (a b : State) → IsAcce
 accepted_unique s (new_network n d links) a b p q = round_unique n d links a b p.2 q.2
 accepted_unique None (cut_link u v) a b h g = absurd h
 accepted_unique None (add_link u v) a b h g = absurd h
+accepted_unique None (join_nodes u v) a b h g = absurd h
 accepted_unique None (make_edits edits) a b h g = absurd h
 accepted_unique None (move_dest d) a b h g = absurd h
 accepted_unique None (walk_from x) a b h g = absurd h
 accepted_unique None (ask q) a b h g = absurd h
 accepted_unique (Some s) (cut_link u v) a b h g = round_unique s.nodes s.dest (without u v s.links) a b h.1 g.1
 accepted_unique (Some s) (add_link u v) a b h g = round_unique s.nodes s.dest (s.links ++ (u, v) ∷ []) a b h.1 g.1
+accepted_unique (Some s) (join_nodes u v) a b h g =
+    let same = joined_one s.nodes s.links u v h.0 g.0 h.1.0 g.1.0 in
+    round_unique g.0.nodes s.dest g.0.links a b (subst (λ (m : Network). IsRound m.nodes s.dest m.links a) same h.1.1) g.1.1
 accepted_unique (Some s) (make_edits edits) a b h g =
     let same = all_made_one (net_at s) edits h.1.0 g.1.0 h.1.1.0 g.1.1.0 in
     round_unique g.1.0.nodes s.dest g.1.0.links a b (subst (λ (m : Network). IsRound m.nodes s.dest m.links a) same h.1.1.1) g.1.1.1
@@ -117,12 +126,14 @@ not_both s (new_network n d links) k new (inl a) h = no_first_fault n links a.0 
 not_both s (new_network n d links) k new (inr a) h = let l = h.1 in omega (arith, a.1, l)
 not_both None (cut_link u v) k new a h = h
 not_both None (add_link u v) k new a h = h
+not_both None (join_nodes u v) k new a h = h
 not_both None (make_edits edits) k new a h = h
 not_both None (move_dest d) k new a h = h
 not_both None (walk_from x) k new a h = h
 not_both None (ask q) k new a h = h
 not_both (Some s) (cut_link u v) k new a h = (cut_fault_is s.links u v a.0 a.1).1 h.0
 not_both (Some s) (add_link u v) k new a h = no_first_fault s.nodes (s.links ++ (u, v) ∷ []) a.0 h.0 a.1
+not_both (Some s) (join_nodes u v) k new a h = join_not_refused s.nodes s.links u v a.0 h.0 a.1 h.1.0
 not_both (Some s) (make_edits edits) k new a h = batch_not_made (net_at s) edits a.0 h.1.0 a.1 h.0 h.1.1.0
 not_both (Some s) (move_dest d) k new a h = omega (arith, a.0, h.0)
 not_both (Some s) (walk_from x) k new a h = omega (arith, a.0, h.0)
@@ -144,6 +155,7 @@ text_unique : (s : State) (r : PlainRequest) (t u : List ℕ) → IsText s r t �
 text_unique s (new_network n d links) t u a b = report_line_unique s t u a b
 text_unique s (cut_link v w) t u a b = report_line_unique s t u a b
 text_unique s (add_link v w) t u a b = report_line_unique s t u a b
+text_unique s (join_nodes v w) t u a b = report_line_unique s t u a b
 text_unique s (make_edits edits) t u a b = report_line_unique s t u a b
 text_unique s (move_dest d) t u a b = report_line_unique s t u a b
 text_unique s (walk_from x) t u a b = walk_line_unique s x t u a b

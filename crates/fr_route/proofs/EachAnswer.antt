@@ -4,24 +4,25 @@ use Rattle.std.specs.Prelude.{slice_get, slice_index, ok_or, sum}
 use Rattle.std.proofs.lemmas.Bool.{cases_eq, cases_lt}
 use Rattle.fr_net.proofs.Building.{faultless_sorted, permuted_net}
 use Rattle.fr_net.proofs.Editing.{faultless_cut}
+use Rattle.fr_net.proofs.Joining.{closes, faultless_turned}
 use Rattle.fr_net.proofs.Linking.{link_below}
 use Rattle.fr_net.proofs.Members.{cases_some}
 use Rattle.fr_net.proofs.Ordering.{in_order_permutes}
 use Rattle.fr_net.proofs.TurnedLinks.{turned_faultless}
 use Rattle.fr_net.specs.Counts.{links_at}
-use Rattle.fr_net.specs.Edits.{without}
+use Rattle.fr_net.specs.Edits.{IsJoined, IsJoinFault, without}
 use Rattle.fr_net.specs.Batches.{AreMade, IsEditFault, IsMade, IsRefusedAt}
-use Rattle.fr_net.specs.Faults.{IsFaultless, IsNetworkOf}
+use Rattle.fr_net.specs.Faults.{IsFaultless, IsFirstFault, IsNetworkOf}
 use Rattle.fr_net.specs.Limits.{most_edits}
 use Rattle.fr_net.specs.Links.{IsNet, Joins, Points}
 use Rattle.fr_net.specs.Network.{Network, net_of}
 use Rattle.fr_net.specs.Order.{in_order}
-use Rattle.fr_net.specs.Requests.{PlainRequest, new_network, cut_link, add_link, make_edits, move_dest, walk_from, ask, reading, reading_of_value, request_of, value_of_line}
+use Rattle.fr_net.specs.Requests.{PlainRequest, new_network, cut_link, add_link, join_nodes, make_edits, move_dest, walk_from, ask, reading, reading_of_value, request_of, value_of_line}
 use Rattle.fr_net.specs.declared.fault.EditFault.{EditFault}
 use Rattle.fr_net.specs.declared.fault.NetFault.{NetFault}
-use Rattle.fr_net.specs.declared.fault.NetFault.TheVariants.{NoLink, TooMany}
+use Rattle.fr_net.specs.declared.fault.NetFault.TheVariants.{Cycle, Memory, NoLink, Range, SelfLink, TooMany, Twice}
 use Rattle.fr_net.specs.declared.requests.Edit.{Edit}
-use Rattle.fr_net.specs.declared.requests.Edit.TheVariants.{Cut, Add}
+use Rattle.fr_net.specs.declared.requests.Edit.TheVariants.{Cut, Add, Join}
 use Rattle.fr_net.specs.declared.requests.LineFault.{LineFault}
 use Rattle.fr_net.specs.declared.requests.LineFault.TheVariants.{NotRequest}
 use Rattle.fr_net.specs.declared.requests.Question.{Question}
@@ -36,7 +37,7 @@ use Rattle.fr_route.specs.Texts.{counts_text, links_text, hops_text, walk_text, 
 use Rattle.fr_route.specs.declared.hops.Hop.{Hop}
 use Rattle.fr_route.specs.declared.hops.Hop.TheVariants.{Here, To, CutOff}
 use Rattle.std.specs.List.{count_by}
-use Rattle.fr_route.proofs.Changing.{made_nodes}
+use Rattle.fr_route.proofs.Changing.{joined_nodes, made_nodes}
 use Rattle.fr_route.proofs.CutNodes.{hops_cut_count}
 use Rattle.fr_route.proofs.FirstFaults.{faultless_or_fault}
 use Rattle.fr_route.proofs.RoundEnds.{capped_cut_off, hop_leads_on, still_cut_off}
@@ -174,6 +175,41 @@ add_answer s good u v = ⊎_elim
     (λ f. (refusal_text (fault_number f.0), Some s, inl (fault_number f.0, (f.0, f.1, refl), refl, refl), good))
     (faultless_or_fault s.nodes (s.links ++ (u, v) ∷ []))
 
+-- two nodes are joined one way or the other, or there is a fault
+abbrev IsJoinable : ℕ → List (ℕ × ℕ) → ℕ → ℕ → Type 0
+IsJoinable n links u v =
+    ((net : Network) × IsJoined n links u v net × IsFaultless net.nodes net.links) ⊎ ((fault : NetFault) × IsJoinFault n links u v fault)
+
+joined_back : (n : ℕ) (links : List (ℕ × ℕ)) (u v : ℕ) → IsFaultless n links → (fault : NetFault) → IsFirstFault n (links ++ (u, v) ∷ []) fault → IsJoinable n links u v
+joined_back n links u v clear TooMany h = inr (TooMany, h)
+joined_back n links u v clear (Range x) h = inr (Range x, h)
+joined_back n links u v clear (SelfLink x) h = inr (SelfLink x, h)
+joined_back n links u v clear (Twice x y) h = inr (Twice x y, h)
+joined_back n links u v clear (Cycle walk) h =
+    let cyclic = closes links u v walk.items h.4 in
+    let made = made_network n (links ++ (v, u) ∷ []) (faultless_turned n links u v clear.is_net.acyclic h.0 h.1 h.2 h.3 cyclic) in
+    inl (net_of n (links ++ (v, u) ∷ []), inr (cyclic, made.0), made.1)
+joined_back n links u v clear NoLink h = inr (NoLink, h)
+joined_back n links u v clear Memory h = inr (Memory, h)
+
+joined_or_fault : (n : ℕ) (links : List (ℕ × ℕ)) (u v : ℕ) → IsFaultless n links → IsJoinable n links u v
+joined_or_fault n links u v clear = ⊎_elim
+    (λ added.
+    let made = made_network n (links ++ (u, v) ∷ []) added in
+    inl (net_of n (links ++ (u, v) ∷ []), inl made.0, made.1))
+    (λ f. joined_back n links u v clear f.0 f.1)
+    (faultless_or_fault n (links ++ (u, v) ∷ []))
+
+join_answer : (s : State) → IsSettledState s → (u v : ℕ) → HasAnswer (Some s) (join_nodes u v)
+join_answer s good u v = ⊎_elim
+    (λ joined.
+    let nodes : joined.0.nodes ≡ s.nodes = joined_nodes s.nodes s.links u v joined.0 joined.1 in
+    let new = settled_state joined.0.nodes s.dest joined.0.links joined.2 (omega (arith, nodes, good.dest)) in
+    let line = report_line new.0 new.2 in
+    (line.0, Some new.0, inr (new.0, (joined.0, (joined.1, new.1)), line.1, refl), new.2))
+    (λ f. (refusal_text (fault_number f.0), Some s, inl (fault_number f.0, (f.0, f.1, refl), refl, refl), good))
+    (joined_or_fault s.nodes s.links u v good.faultless)
+
 -- each edit is made, or refused for a fault
 edit_made : (net : Network) → IsFaultless net.nodes net.links → (edit : Edit)
     → ((after : Network) × IsMade net edit after × IsFaultless after.nodes after.links) ⊎ ((fault : NetFault) × IsEditFault net edit fault)
@@ -189,6 +225,7 @@ edit_made net clear (Add u v) = ⊎_elim
     inl (net_of net.nodes (net.links ++ (u, v) ∷ []), made.0, made.1))
     (λ f. inr f)
     (faultless_or_fault net.nodes (net.links ++ (u, v) ∷ []))
+edit_made net clear (Join u v) = joined_or_fault net.nodes net.links u v clear
 
 -- and all of several are, one after the other, or one is refused first
 edits_made : (net : Network) → IsFaultless net.nodes net.links → (edits : List Edit)
@@ -243,12 +280,14 @@ each_answer : (s : Option State) → IsReached s → (r : PlainRequest) → HasA
 each_answer s reached (new_network n d links) = network_answer s reached n d links
 each_answer None reached (cut_link u v) = (refusal_text 3, None, inl (3, refl, refl, refl), tt)
 each_answer None reached (add_link u v) = (refusal_text 3, None, inl (3, refl, refl, refl), tt)
+each_answer None reached (join_nodes u v) = (refusal_text 3, None, inl (3, refl, refl, refl), tt)
 each_answer None reached (make_edits edits) = (refusal_text 3, None, inl (3, refl, refl, refl), tt)
 each_answer None reached (move_dest d) = (refusal_text 3, None, inl (3, refl, refl, refl), tt)
 each_answer None reached (walk_from x) = (refusal_text 3, None, inl (3, refl, refl, refl), tt)
 each_answer None reached (ask question) = (refusal_text 3, None, inl (3, refl, refl, refl), tt)
 each_answer (Some s) good (cut_link u v) = cut_answer s good u v
 each_answer (Some s) good (add_link u v) = add_answer s good u v
+each_answer (Some s) good (join_nodes u v) = join_answer s good u v
 each_answer (Some s) good (make_edits edits) = batch_answer s good edits
 each_answer (Some s) good (move_dest d) = dest_answer s good d
 each_answer (Some s) good (walk_from x) = walk_answer s good x

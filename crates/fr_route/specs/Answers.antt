@@ -2,7 +2,7 @@
 use Rattle.std.specs.Prelude.{◌≡◌, ℕ, ◌<◌, ◌≤◌, ◌⊎◌, List, ◌∷◌, Option, Some, None, Result, Ok, Err}
 use Rattle.fr_net.specs.Batches.{IsBatchFault}
 use Rattle.fr_net.specs.Faults.{IsFirstFault, IsFaultless}
-use Rattle.fr_net.specs.Requests.{PlainRequest, new_network, cut_link, add_link, make_edits, move_dest, walk_from, ask}
+use Rattle.fr_net.specs.Requests.{PlainRequest, new_network, cut_link, add_link, join_nodes, make_edits, move_dest, walk_from, ask}
 use Rattle.fr_net.specs.declared.requests.Question.TheVariants.{Links, Counts, Hops}
 use Rattle.fr_net.specs.declared.requests.LineFault.{LineFault}
 use Rattle.fr_net.specs.declared.requests.LineFault.TheVariants.{NotJson, NotRequest, Memory as LineMemory}
@@ -13,7 +13,7 @@ use Rattle.fr_route.specs.States.{State, IsRound, IsReport, IsCutOff, net_at}
 use Rattle.fr_route.specs.Routes.{IsRoute, AreHops}
 use Rattle.fr_route.specs.Changes.{IsBatch, IsChanged, IsChangeFault, IsMoved}
 use Rattle.fr_route.specs.Texts.{counts_text, links_text, hops_text, walk_text, no_walk_text, report_text, refusal_text}
-use Rattle.fr_route.specs.declared.change.Change.TheVariants.{Cut, Add}
+use Rattle.fr_route.specs.declared.change.Change.TheVariants.{Cut, Add, Join}
 use Rattle.fr_route.specs.declared.hops.Hop.{Hop}
 
 -- the number by which an answer names a fault of links or of an edit (want of memory is none, and has no number)
@@ -36,6 +36,7 @@ IsRefused s (new_network n d links) number =
 IsRefused None request number = number ≡ 3
 IsRefused (Some s) (cut_link u v) number = (fault : NetFault) × IsChangeFault s (Cut u v) fault × (number ≡ fault_number fault)
 IsRefused (Some s) (add_link u v) number = (fault : NetFault) × IsChangeFault s (Add u v) fault × (number ≡ fault_number fault)
+IsRefused (Some s) (join_nodes u v) number = (fault : NetFault) × IsChangeFault s (Join u v) fault × (number ≡ fault_number fault)
 IsRefused (Some s) (make_edits edits) number = (refused : EditFault) × IsBatchFault (net_at s) edits refused × (number ≡ fault_number refused.fault)
 IsRefused (Some s) (move_dest d) number = (s.nodes ≤ d) × (number ≡ 4)
 IsRefused (Some s) (walk_from x) number = (s.nodes ≤ x) × (number ≡ 4)
@@ -47,6 +48,7 @@ IsAccepted s (new_network n d links) new = IsFaultless n links × (d < n) × IsR
 IsAccepted None request new = ⊥
 IsAccepted (Some s) (cut_link u v) new = IsChanged s (Cut u v) new
 IsAccepted (Some s) (add_link u v) new = IsChanged s (Add u v) new
+IsAccepted (Some s) (join_nodes u v) new = IsChanged s (Join u v) new
 IsAccepted (Some s) (make_edits edits) new = IsBatch s edits new
 IsAccepted (Some s) (move_dest d) new = IsMoved s d new
 IsAccepted (Some s) (walk_from x) new = (x < s.nodes) × (new ≡ s)
@@ -71,6 +73,7 @@ abbrev pub IsText : State → PlainRequest → List ℕ → Type 0
 IsText s (new_network n d links) text = IsReportLine s text
 IsText s (cut_link u v) text = IsReportLine s text
 IsText s (add_link u v) text = IsReportLine s text
+IsText s (join_nodes u v) text = IsReportLine s text
 IsText s (make_edits edits) text = IsReportLine s text
 IsText s (move_dest d) text = IsReportLine s text
 IsText s (walk_from x) text = IsWalkLine s x text

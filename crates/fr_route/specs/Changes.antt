@@ -1,7 +1,7 @@
 -- What a change makes of a state, and why none is made.
 use Rattle.std.specs.Prelude.{◌≡◌, ℕ, ◌<◌, ◌≤◌, List, [], ◌∷◌, ◌++◌, length}
 use Rattle.fr_net.specs.Batches.{AreMade, IsBatchFault}
-use Rattle.fr_net.specs.Edits.{IsCutFault, without}
+use Rattle.fr_net.specs.Edits.{IsCutFault, IsJoined, IsJoinFault, without}
 use Rattle.fr_net.specs.Faults.{IsFirstFault, IsFaultless}
 use Rattle.fr_net.specs.Limits.{most_edits}
 use Rattle.fr_net.specs.Links.{Joins}
@@ -11,7 +11,7 @@ use Rattle.fr_net.specs.declared.fault.NetFault.{NetFault}
 use Rattle.fr_net.specs.declared.requests.Edit.{Edit}
 use Rattle.fr_route.specs.States.{State, IsRound, net_at}
 use Rattle.fr_route.specs.declared.change.Change.{Change}
-use Rattle.fr_route.specs.declared.change.Change.TheVariants.{Cut, Add, Batch, Destination}
+use Rattle.fr_route.specs.declared.change.Change.TheVariants.{Cut, Add, Join, Batch, Destination}
 use Rattle.fr_route.specs.declared.fault.RouteFault.{RouteFault}
 use Rattle.fr_route.specs.declared.fault.RouteFault.TheVariants.{Net, Range, Start, Memory}
 
@@ -20,16 +20,22 @@ abbrev pub IsBatch : State → List Edit → State → Type 0
 IsBatch s edits new =
     (length edits ≤ most_edits) × ((net : Network) × (AreMade (net_at s) edits net × IsRound net.nodes s.dest net.links new))
 
+-- this is the state after the round on the network with u and v joined
+abbrev pub IsAfterJoin : State → ℕ → ℕ → State → Type 0
+IsAfterJoin s u v new = (net : Network) × (IsJoined s.nodes s.links u v net × IsRound net.nodes s.dest net.links new)
+
 -- the destination is a node, and this is the state after the round that leads to it
 abbrev pub IsMoved : State → ℕ → State → Type 0
 IsMoved s d new = (d < s.nodes) × IsRound s.nodes d s.links new
 
 -- the change is accepted, and this is the state after the round on the changed links: a cut where the link stood, an added
--- link where the links with it have no fault, a batch where none of its edits is refused, and a destination that is a node
+-- link where the links with it have no fault, a join where the link can point one way or the other, a batch where none of its
+-- edits is refused, and a destination that is a node
 abbrev pub IsChanged : State → Change → State → Type 0
 IsChanged s (Cut u v) new = Joins s.links u v × IsRound s.nodes s.dest (without u v s.links) new
 IsChanged s (Add u v) new =
     IsFaultless s.nodes (s.links ++ (u, v) ∷ []) × IsRound s.nodes s.dest (s.links ++ (u, v) ∷ []) new
+IsChanged s (Join u v) new = IsAfterJoin s u v new
 IsChanged s (Batch edits) new = IsBatch s edits.items new
 IsChanged s (Destination d) new = IsMoved s d new
 
@@ -37,6 +43,7 @@ IsChanged s (Destination d) new = IsMoved s d new
 abbrev pub IsChangeFault : State → Change → NetFault → Type 0
 IsChangeFault s (Cut u v) fault = IsCutFault s.links u v fault
 IsChangeFault s (Add u v) fault = IsFirstFault s.nodes (s.links ++ (u, v) ∷ []) fault
+IsChangeFault s (Join u v) fault = IsJoinFault s.nodes s.links u v fault
 IsChangeFault s (Batch edits) fault = (refused : EditFault) × (IsBatchFault (net_at s) edits.items refused × (fault ≡ refused.fault))
 IsChangeFault s (Destination d) fault = ⊥
 
@@ -44,6 +51,7 @@ IsChangeFault s (Destination d) fault = ⊥
 abbrev pub NamesNoNode : State → Change → Type 0
 NamesNoNode s (Cut u v) = ⊥
 NamesNoNode s (Add u v) = ⊥
+NamesNoNode s (Join u v) = ⊥
 NamesNoNode s (Batch edits) = ⊥
 NamesNoNode s (Destination d) = s.nodes ≤ d
 

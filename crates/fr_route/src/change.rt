@@ -19,6 +19,14 @@ pub enum Change {
         /// Its head.
         v: u32,
     },
+    /// Two nodes are joined by a link, which points from `u` to `v` at first, or from `v` to `u` where a closed walk would follow the
+    /// other.
+    Join {
+        /// The tail of the link, unless a closed walk would follow it.
+        u: u32,
+        /// Its head then.
+        v: u32,
+    },
     /// These edits are made one after the other, and one round follows the last of them. Where one is refused none is made.
     Batch(Vec<Edit>),
     /// The destination moves to another node.

@@ -125,6 +125,7 @@ impl Router {
         let (net, dest) = match change {
             Change::Cut { u, v } => (self.net.with_cut(alloc, *u, *v)?, self.dest),
             Change::Add { u, v } => (self.net.with_link(alloc, *u, *v)?, self.dest),
+            Change::Join { u, v } => (self.net.with_join(alloc, *u, *v)?, self.dest),
             Change::Batch(edits) => (self.net.with_edits(alloc, edits)?, self.dest),
             Change::Destination { dest } => (self.net.with_edits(alloc, &[])?, *dest),
         };
@@ -133,8 +134,8 @@ impl Router {
 
     /// Changes the network or its destination and settles it anew by a crew, by the plan and under the gate, and answers what
     /// the round reports. A batch is one round, after its last edit. `Net` with the fault for which the change is refused: a cut
-    /// for `NoLink` alone, an added link for what `Net::with_link` names, and a batch for the first edit that `Net::with_edits`
-    /// refuses, or its length; `Range` for a destination that is no node, and only there; `Start` and `Memory` as in `open`. Any
+    /// for `NoLink` alone, an added link for what `Net::with_link` names, a join for what `Net::with_join` names, and a batch for the
+    /// first edit that `Net::with_edits` refuses, or its length; `Range` for a destination that is no node, and only there; `Start` and `Memory` as in `open`. Any
     /// fault leaves the router as it was.
     pub fn change<R: Threads + Wait + Sync, G: Gate + Sync>(
         &mut self,

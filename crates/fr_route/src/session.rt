@@ -20,16 +20,18 @@ use crate::texts::{
     counts_line, hops_line, links_line, no_walk_line, refusal_line, report_line, walk_line,
 };
 use fr_crew::{CrewFault, Gate, Plan, Settled, settle, settle_alone};
-use fr_net::{LineFault, Net, NetFault, Question, Request, read_line};
+use fr_net::{LineFault, LineReader, Net, NetFault, Question, Request};
 use std::alloc::Global;
 use std::marker::Model;
 use std::sync::Wait;
 use std::thread::Threads;
 
-/// A session: the router of the last network that was accepted, if there was one. Contracts see its state.
+/// A session: the router of the last network that was accepted, if there was one, and the reader of its lines. Contracts see
+/// the state of the router.
 #[derive(Debug, Drop)]
 pub struct Session {
     router: Option<Router>,
+    reader: LineReader,
 }
 
 impl Model for Session {
@@ -46,7 +48,10 @@ impl Session {
     pub fn new() -> Session
         ensures { result ≡ None }
     {
-        Session { router: None }
+        Session {
+            router: None,
+            reader: LineReader::new(),
+        }
     }
 
     /// The router of the last network that was accepted, or None where there is none yet.
@@ -114,7 +119,7 @@ impl Session {
         if is_blank(line) {
             return Ok(None);
         }
-        match read_line(alloc, line) {
+        match self.reader.read(alloc, line) {
             Ok(request) => Ok(Some(self.answer_by(alloc, &request, way)?)),
             Err(LineFault::NotJson) => Ok(Some(refusal_line(alloc, 1)?)),
             Err(LineFault::NotRequest) => Ok(Some(refusal_line(alloc, 2)?)),
@@ -168,6 +173,7 @@ impl Session {
             Request::Network { nodes, dest, links } => self.open(alloc, *nodes, *dest, links, way),
             Request::Cut { u, v } => self.change(alloc, Change::Cut { u: *u, v: *v }, way),
             Request::Add { u, v } => self.change(alloc, Change::Add { u: *u, v: *v }, way),
+            Request::Join { u, v } => self.change(alloc, Change::Join { u: *u, v: *v }, way),
             Request::Batch { edits } => {
                 let edits = edits.to_vec(alloc)?;
                 self.change(alloc, Change::Batch(edits), way)

@@ -5,11 +5,14 @@ ghost use Rattle.fr_route.specs.Texts.{counts_text, links_text, hops_text, hop_w
 
 use crate::change::Report;
 use crate::hops::Hop;
+use fr_net::MAX_NODES;
 use std::alloc::{AllocError, Global};
 use std::fmt::Write;
 
-/// The bytes of a space and a number below 10,000, as nodes and counts are.
+/// The bytes of a space and a number below 10,000, as nodes and counts are: no node counts more turns than there are nodes.
 const NUMBER_ROOM: usize = 5;
+
+const _: () = prove!(MAX_NODES < 10_000);
 
 /// A line that begins with this word, and has room for so many numbers and a line end behind it.
 fn begun(alloc: Global, word: &str, numbers: usize) -> Result<String, AllocError>

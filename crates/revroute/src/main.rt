@@ -1,9 +1,7 @@
 //! The program `revroute`: answers the lines of standard input on standard output, or plays full reversal step by step.
 #![tactic(auto)]
 
-mod command;
-mod task;
-
+use fr_command::{Task, TaskFault, task_end, task_of};
 use fr_crew::OpenGate;
 use fr_play::play_drawn;
 use fr_run::{RunFault, run, run_end};
@@ -14,7 +12,6 @@ use std::rt::Env;
 use std::sync::Wait;
 use std::thread::Threads;
 use std::{env, io};
-use task::{Task, TaskFault, task_end, task_of};
 
 fn main(rt: HostRuntime) -> ExitCode {
     let task = match words_of(&rt) {

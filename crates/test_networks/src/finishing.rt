@@ -41,20 +41,32 @@ fn settles_small_networks(rt: HostRuntime) -> Result<(), Fail> {
     Ok(())
 }
 
-/// The links of a chain of 1,024 nodes, each from `first` on with a link to the next.
-fn long_chain(alloc: Global, first: u32) -> Result<Vec<(u32, u32)>, AllocError> {
+/// The links of a chain of so many nodes, each from `first` on with a link to the next.
+fn long_chain(alloc: Global, nodes: u32, first: u32) -> Result<Vec<(u32, u32)>, AllocError> {
     let mut links = Vec::new(alloc);
-    for x in first..1023 {
+    for x in first..nodes.saturating_sub(1) {
         links.push((x, x + 1))?;
     }
     Ok(links)
 }
 
+/// Nodes of chains, the first node that has a link, and the turns.
+const LONG_CHAINS: &[(u32, u32, &str)] = &[
+    (1024, 0, "523776 ["),
+    (1024, 1, "1047552 ["),
+    (4096, 0, "8386560 ["),
+    (4096, 1, "16773120 ["),
+];
+
 #[test]
 fn settles_long_chains(rt: HostRuntime) -> Result<(), Fail> {
-    for (first, turns) in [(0, "523776 ["), (1, "1047552 [")] {
-        let net = Net::new(rt.alloc(), 1024, &long_chain(rt.alloc(), first)?)?;
-        assert!(rt; finished(rt.alloc(), &net)?.starts_with(turns), "{first}");
+    for (nodes, first, turns) in LONG_CHAINS {
+        let links = long_chain(rt.alloc(), *nodes, *first)?;
+        let net = Net::new(rt.alloc(), *nodes, &links)?;
+        assert!(rt;
+            finished(rt.alloc(), &net)?.starts_with(turns),
+            "{nodes} {first}"
+        );
     }
     Ok(())
 }

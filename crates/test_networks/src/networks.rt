@@ -3,9 +3,9 @@
 ghost use Rattle.std.specs.Prelude.{◌≡◌, All, IsTrue};
 ghost use Rattle.fr_net.specs.Counts.{IsKept};
 
-use fr_net::Edit::{Add, Cut};
-use fr_net::laws::rows_law;
-use fr_net::{Edit, EditFault, LineFault, MAX_EDITS, MAX_NODES, Net, NetFault};
+use fr_net::Edit::{Add, Cut, Join};
+use fr_net::laws::{join_law, rows_law};
+use fr_net::{Edit, EditFault, LineFault, MAX_EDITS, MAX_LINKS, MAX_NODES, Net, NetFault};
 use std::alloc::{AllocError, Global};
 use std::fmt::Write;
 use std::test::Fail;
@@ -28,14 +28,14 @@ fn told(alloc: Global, made: Result<Net, NetFault>) -> Result<String, AllocError
 /// Nodes and links of a network, and what is made of them.
 const MADE: &[(u32, Links, &str)] = &[
     (1, &[], "[]"),
-    (1024, &[], "[]"),
+    (MAX_NODES, &[], "[]"),
     (
         4,
         &[(2, 3), (1, 3), (0, 2), (0, 1)],
         "[(0, 1), (0, 2), (1, 3), (2, 3)]",
     ),
     // One fault.
-    (1025, &[], "TooMany"),
+    (MAX_NODES + 1, &[], "TooMany"),
     (0, &[], "Range(0)"),
     (1024, &[(1024, 0)], "Range(1024)"),
     (3, &[(0, 1), (3, 1)], "Range(3)"),
@@ -47,7 +47,11 @@ const MADE: &[(u32, Links, &str)] = &[
     (5, &[(2, 0), (4, 2), (2, 3), (3, 4)], "Cycle of 4"),
     // The first of several, in whatever order the links are listed.
     (0, &[(0, 1)], "Range(0)"),
-    (1025, &[(2000, 1), (1, 1), (0, 2), (2, 0)], "TooMany"),
+    (
+        MAX_NODES + 1,
+        &[(9999, 1), (1, 1), (0, 2), (2, 0)],
+        "TooMany",
+    ),
     (3, &[(5, 0), (1, 1), (0, 2), (2, 0)], "Range(5)"),
     (3, &[(2, 0), (0, 2), (1, 1), (5, 0)], "Range(5)"),
     (3, &[(1, 1), (0, 2), (2, 0)], "SelfLink(1)"),
@@ -64,7 +68,7 @@ fn makes_networks(rt: HostRuntime) -> Result<(), Fail> {
     Ok(())
 }
 
-/// Links of four nodes, the ends of one that is cut or added, and what is made of them.
+/// Links of four nodes, the ends of one that is cut, and what is made of them.
 const CUT: &[(Links, (u32, u32), &str)] = &[
     (&[(1, 0), (2, 1), (3, 2)], (1, 0), "[(2, 1), (3, 2)]"),
     (&[(1, 0), (2, 1), (3, 2)], (0, 1), "[(2, 1), (3, 2)]"),
@@ -75,15 +79,37 @@ const CUT: &[(Links, (u32, u32), &str)] = &[
     (&[(1, 0), (2, 1)], (4294967295, 7), "NoLink"),
 ];
 
-const ADDED: &[(Links, (u32, u32), &str)] = &[
-    (&[(2, 1), (3, 2)], (3, 0), "[(2, 1), (3, 0), (3, 2)]"),
-    (&[(2, 1), (3, 2)], (0, 3), "[(0, 3), (2, 1), (3, 2)]"),
-    (&[(1, 0), (2, 1)], (0, 4), "Range(4)"),
-    (&[(1, 0), (2, 1)], (4, 4), "Range(4)"),
-    (&[(1, 0), (2, 1)], (2, 2), "SelfLink(2)"),
-    (&[(1, 0), (2, 1)], (0, 1), "Twice(0, 1)"),
-    (&[(1, 0), (2, 1)], (1, 0), "Twice(0, 1)"),
-    (&[(1, 0), (2, 1)], (0, 2), "Cycle of 4"),
+/// Links of four nodes, two nodes, and what is made where a link from the first to the second is added, and where they are joined.
+const ADDED: &[(Links, (u32, u32), &str, &str)] = &[
+    (
+        &[(2, 1), (3, 2)],
+        (3, 0),
+        "[(2, 1), (3, 0), (3, 2)]",
+        "[(2, 1), (3, 0), (3, 2)]",
+    ),
+    (
+        &[(2, 1), (3, 2)],
+        (0, 3),
+        "[(0, 3), (2, 1), (3, 2)]",
+        "[(0, 3), (2, 1), (3, 2)]",
+    ),
+    (&[(1, 0), (2, 1)], (0, 4), "Range(4)", "Range(4)"),
+    (&[(1, 0), (2, 1)], (4, 4), "Range(4)", "Range(4)"),
+    (&[(1, 0), (2, 1)], (2, 2), "SelfLink(2)", "SelfLink(2)"),
+    (&[(1, 0), (2, 1)], (0, 1), "Twice(0, 1)", "Twice(0, 1)"),
+    (&[(1, 0), (2, 1)], (1, 0), "Twice(0, 1)", "Twice(0, 1)"),
+    (
+        &[(1, 0), (2, 1)],
+        (0, 2),
+        "Cycle of 4",
+        "[(1, 0), (2, 0), (2, 1)]",
+    ),
+    (
+        &[(1, 0), (2, 1)],
+        (2, 0),
+        "[(1, 0), (2, 0), (2, 1)]",
+        "[(1, 0), (2, 0), (2, 1)]",
+    ),
 ];
 
 #[test]
@@ -97,11 +123,16 @@ fn cuts_links(rt: HostRuntime) -> Result<(), Fail> {
 }
 
 #[test]
-fn adds_links(rt: HostRuntime) -> Result<(), Fail> {
-    for (links, (u, v), wanted) in ADDED {
+fn adds_links_and_joins_nodes(rt: HostRuntime) -> Result<(), Fail> {
+    join_law();
+    for (links, (u, v), add, join) in ADDED {
         let net = Net::new(rt.alloc(), 4, links)?;
-        let text = told(rt.alloc(), net.with_link(rt.alloc(), *u, *v))?;
-        assert!(rt; text.as_str() == *wanted, "{links:?} {u} {v}: {text}");
+        let added = told(rt.alloc(), net.with_link(rt.alloc(), *u, *v))?;
+        let joined = told(rt.alloc(), net.with_join(rt.alloc(), *u, *v))?;
+        assert!(rt;
+            added.as_str() == *add && joined.as_str() == *join,
+            "{links:?} {u} {v}: {added} {joined}"
+        );
     }
     Ok(())
 }
@@ -139,6 +170,15 @@ const EDITED: &[(&[Edit], &str)] = &[
         "2 Twice(0, 1)",
     ),
     (&[Add { u: 2, v: 0 }, Add { u: 3, v: 1 }], "1 Cycle of 4"),
+    // A link from 3 to 1 closes a walk, but none once the one from 0 to 3 is cut.
+    (&[Join { u: 3, v: 1 }], "[(0, 3), (1, 0), (1, 3), (2, 3)]"),
+    (
+        &[Cut { u: 3, v: 0 }, Join { u: 3, v: 1 }],
+        "[(1, 0), (2, 3), (3, 1)]",
+    ),
+    (&[Join { u: 2, v: 0 }, Join { u: 0, v: 2 }], "1 Twice(0, 2)"),
+    (&[Join { u: 2, v: 4 }, Cut { u: 2, v: 0 }], "0 Range(4)"),
+    (&[Cut { u: 0, v: 3 }, Join { u: 2, v: 2 }], "1 SelfLink(2)"),
 ];
 
 /// What is made of edits, or the place of the first that is refused and why.
@@ -167,7 +207,8 @@ fn tries_no_edit_of_too_many(rt: HostRuntime) -> Result<(), Fail> {
     let net = Net::new(rt.alloc(), 2, &[(1, 0)])?;
     let edits = vec![in rt.alloc(); Cut { u: 1, v: 1 }; MAX_EDITS + 1]?;
     let text = edited(rt.alloc(), &net, &edits)?;
-    assert!(rt; text.as_str() == "1024 TooMany", "{text}");
+    let wanted = format!(in rt.alloc(); "{MAX_EDITS} TooMany")?;
+    assert!(rt; text == wanted, "{text}");
     Ok(())
 }
 
@@ -176,9 +217,10 @@ fn links_down(alloc: Global, count: usize) -> Result<Vec<(u32, u32)>, AllocError
     let mut links = Vec::new(alloc);
     for tail in 0..MAX_NODES {
         for head in 0..tail {
-            if links.len() < count {
-                links.push((tail, head))?;
+            if links.len() == count {
+                return Ok(links);
             }
+            links.push((tail, head))?;
         }
     }
     Ok(links)
@@ -186,21 +228,22 @@ fn links_down(alloc: Global, count: usize) -> Result<Vec<(u32, u32)>, AllocError
 
 #[test]
 fn takes_links_up_to_the_limit(rt: HostRuntime) -> Result<(), Fail> {
-    let links = links_down(rt.alloc(), 8192)?;
-    let full = Net::new(rt.alloc(), 1024, &links)?;
+    let links = links_down(rt.alloc(), MAX_LINKS)?;
+    let full = Net::new(rt.alloc(), MAX_NODES, &links)?;
     assert!(rt; full.links() == links.as_slice());
-    let more = told(rt.alloc(), full.with_link(rt.alloc(), 1023, 0))?;
-    assert!(rt; more.as_str() == "TooMany");
+    let added = told(rt.alloc(), full.with_link(rt.alloc(), 1, 0))?;
+    let joined = told(rt.alloc(), full.with_join(rt.alloc(), 300, 0))?;
+    assert!(rt; added.as_str() == "TooMany" && joined == added);
     Ok(())
 }
 
 #[test]
 fn refuses_one_link_more(rt: HostRuntime) -> Result<(), Fail> {
-    let links = links_down(rt.alloc(), 8193)?;
-    for nodes in [1024, 0] {
+    let links = links_down(rt.alloc(), MAX_LINKS + 1)?;
+    for nodes in [MAX_NODES, 0] {
         let over = told(rt.alloc(), Net::new(rt.alloc(), nodes, &links))?;
         assert!(rt;
-            links.len() == 8193 && over.as_str() == "TooMany",
+            links.len() == MAX_LINKS + 1 && over.as_str() == "TooMany",
             "{nodes}"
         );
     }

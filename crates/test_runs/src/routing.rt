@@ -119,6 +119,16 @@ const CHANGES: &[(&str, &str, &str)] = &[
         "Ok(Report { turned: 3, cut: 0 })",
         "Report { turned: 3, cut: 0 } 3 [(0, 1), (1, 3), (2, 3)] [2, 1, 0, 0] Here Ok(Route([3]))",
     ),
+    (
+        r#"["join",3,0]"#,
+        "Ok(Report { turned: 0, cut: 0 })",
+        "Report { turned: 0, cut: 0 } 3 [(0, 1), (0, 3), (1, 3), (2, 3)] [0, 0, 0, 0] Here Ok(Route([3]))",
+    ),
+    (
+        r#"["join",4,0]"#,
+        "Err(Net(Range(4)))",
+        "Report { turned: 0, cut: 0 } 3 [(0, 1), (0, 3), (1, 3), (2, 3)] [0, 0, 0, 0] Here Ok(Route([3]))",
+    ),
 ];
 
 /// The change that a line asks for.
@@ -126,6 +136,7 @@ fn change_of(alloc: Global, line: &str) -> Option<Change> {
     match read_line(alloc, line.as_bytes()) {
         Ok(Request::Cut { u, v }) => Some(Change::Cut { u, v }),
         Ok(Request::Add { u, v }) => Some(Change::Add { u, v }),
+        Ok(Request::Join { u, v }) => Some(Change::Join { u, v }),
         Ok(Request::Batch { edits }) => Some(Change::Batch(edits)),
         Ok(Request::Destination { dest }) => Some(Change::Destination { dest }),
         _ => None,

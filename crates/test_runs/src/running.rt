@@ -119,6 +119,39 @@ hops here 3 0 2 0
 Ok(9)
 ",
     ),
+    // Joins, as in examples/joined.jsonl: the first link would close a walk from 0 to 2, and so points from 2 to 0.
+    (
+        r#"["join",0,2]
+["net",3,0,[[1,0],[2,1]]]
+["join",0,2]
+["links"]
+["join",2,0]
+["join",2,2]
+["join",0,3]
+["batch",[["cut",1,0],["join",0,1],["join",1,0]]]
+["batch",[["cut",1,0],["cut",1,2],["join",1,2],["join",0,1]]]
+["links"]
+["net",3,0,[[1,0]]]
+["join",1,2]
+["links"]
+"#,
+        "\
+refused 3
+turned 0 cut 0
+turned 0 cut 0
+links 1>0 2>0 2>1
+refused 6
+refused 5
+refused 4
+refused 6
+turned 0 cut 0
+links 1>0 1>2 2>0
+turned 0 cut 1
+turned 1 cut 0
+links 1>0 2>1
+Ok(13)
+",
+    ),
     // A destination alone.
     (
         r#"["net",1,0,[]]
@@ -282,15 +315,17 @@ Ok(5)
 ["net",1025,0,[]]
 ["net",0,0,[]]
 ["net",2,2,[[1,0]]]
-["net",3,5,[[0,1],[1,2],[2,0]]]"#,
+["net",3,5,[[0,1],[1,2],[2,0]]]
+["net",4097,0,[]]"#,
         "\
 refused 5
 refused 4
-refused 9
+turned 0 cut 1024
 refused 4
 refused 4
 refused 7
-Ok(6)
+refused 9
+Ok(7)
 ",
     ),
     // Faults of each kind between answers, a blank line, and no byte 10 at the end.
@@ -570,18 +605,29 @@ fn bounds_the_batches(rt: HostRuntime) -> Result<(), Fail> {
     Ok(())
 }
 
-/// How net lines begin that have a link from each node to the next, of all 1,024 nodes and of all but the destination, and how
-/// the answers to them begin.
-const CHAINS: &[(&str, &str)] = &[
-    ("[\"net\",1024,0,[[0,1],[1,2]", "turned 523776 cut 0\n"),
-    ("[\"net\",1024,0,[[1,2]", "turned 1047552 cut 1023\n"),
+/// How net lines begin that have a link from each node to the next, of all nodes and of all but the destination; how many nodes
+/// there are; and how the answers to them begin.
+const CHAINS: &[(&str, u32, &str)] = &[
+    (
+        "[\"net\",1024,0,[[0,1],[1,2]",
+        1024,
+        "turned 523776 cut 0\n",
+    ),
+    ("[\"net\",1024,0,[[1,2]", 1024, "turned 1047552 cut 1023\n"),
+    (
+        "[\"net\",4096,0,[[0,1],[1,2]",
+        4096,
+        "turned 8386560 cut 0\n",
+    ),
+    ("[\"net\",4096,0,[[1,2]", 4096, "turned 16773120 cut 4095\n"),
 ];
 
-/// An input of a net line that begins so and goes on with the links from each node to the next, and of the questions.
-fn long_chain(alloc: Global, begin: &str) -> Result<String, AllocError> {
+/// An input of a net line that begins so and goes on with the links from node 2 on each to the next of so many nodes, and of the
+/// questions.
+fn long_chain(alloc: Global, begin: &str, nodes: u32) -> Result<String, AllocError> {
     let mut input = String::from_str(alloc, begin)?;
-    for tail in 2..1023u32 {
-        let head = tail + 1;
+    for head in 3..nodes {
+        let tail = head - 1;
         write!(input, ",[{tail},{head}]")?;
     }
     input.push_str("]]\n[\"links\"]\n[\"counts\"]\n[\"hops\"]\n")?;
@@ -607,9 +653,9 @@ fn plans_agree<T: Threads + Wait + Sync>(rt: &T, alloc: Global, input: &str, beg
 }
 
 #[test]
-fn settles_the_longest_chains(rt: HostRuntime) -> Result<(), Fail> {
-    for (begin, answer) in CHAINS {
-        let input = long_chain(rt.alloc(), begin)?;
+fn settles_long_chains(rt: HostRuntime) -> Result<(), Fail> {
+    for (begin, nodes, answer) in CHAINS {
+        let input = long_chain(rt.alloc(), begin, *nodes)?;
         assert!(rt; plans_agree(&rt, rt.alloc(), &input, answer), "{answer}");
     }
     Ok(())

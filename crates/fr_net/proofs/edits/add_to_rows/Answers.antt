@@ -11,7 +11,7 @@ use Rattle.fr_net.proofs.edits.add_to_rows.Goals.{After-max-high, After-place_of
 
 -- the ends of the link, and the places of its entries
 ends : (c : After-max-high) (net : Network) → ShowsNoLink net c.args.tail c.args.head c.args.starts.now c.args.entries.now.items → AreSortedEnds net.nodes c.args.tail c.args.head c.min-low.result c.max-high.result
-ends c net shown = sorted_ends net.nodes c.args.tail c.args.head c.min-low.result c.max-high.result c.min-low.ensures c.max-high.ensures shown.apart shown.tail shown.head
+ends c net shown = sorted_ends net.nodes c.args.tail c.args.head c.min-low.result c.max-high.result c.min-low.ensures c.max-high.ensures shown.nodes.apart shown.nodes.tail shown.nodes.head
 
 first : (c : After-place_of_entry-second) (net : Network) → ShowsNoLink net c.args.tail c.args.head c.args.starts.now c.args.entries.now.items → IsPlaceOf net c.min-low.result c.max-high.result c.args.starts.now c.place_of_entry-first.result
 first c net shown =

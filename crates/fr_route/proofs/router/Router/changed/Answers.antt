@@ -5,10 +5,10 @@ use Rattle.fr_route.specs.Changes.{IsChanged, IsRouteFault}
 use Rattle.fr_route.specs.RouterInside.{state_of}
 use Rattle.fr_route.specs.States.{State}
 use Rattle.fr_route.specs.declared.change.Change.{Change}
-use Rattle.fr_route.proofs.Changing.{Begins, add_begins, batch_begins, begins_fault, cut_begins, dest_begins}
+use Rattle.fr_route.proofs.Changing.{Begins, add_begins, batch_begins, begins_fault, cut_begins, dest_begins, join_begins}
 use Rattle.fr_route.proofs.router.Router.changed.Given.{Over}
 use Rattle.fr_route.proofs.router.Router.changed.Goals as goal
-use Rattle.fr_route.proofs.router.Router.changed.Goals.{After-open_by, in-Cut+in_ok-with_cut-in-Cut, in-Add+in_ok-with_link-in-Add, in-Batch+in_ok-with_edits-in-Batch, in-Destination+in_ok-with_edits-in-Destination}
+use Rattle.fr_route.proofs.router.Router.changed.Goals.{After-open_by, in-Cut+in_ok-with_cut-in-Cut, in-Add+in_ok-with_link-in-Add, in-Join+in_ok-with_join-in-Join, in-Batch+in_ok-with_edits-in-Batch, in-Destination+in_ok-with_edits-in-Destination}
 
 -- with what the round after the change begins
 begins : (g : Over) (c : After-open_by g) → Begins (state_of c.self.inside) c.args.change.now c.match-change.net.0 c.match-change.net.1
@@ -24,6 +24,10 @@ begins g c =
           let made = w.in_ok-with_link-in-Add in
           subst (at c.args.change.now) (sym w.net-is) (subst (λ (change : Change). at change (made.field-0, s.dest)) (sym w.in-Add.is)
           (add_begins s w.in-Add.u w.in-Add.v made.field-0 c.self.invariant.dest made.ensures.ok))
+      | in-Join+in_ok-with_join-in-Join w ↦
+          let made = w.in_ok-with_join-in-Join in
+          subst (at c.args.change.now) (sym w.net-is) (subst (λ (change : Change). at change (made.field-0, s.dest)) (sym w.in-Join.is)
+          (join_begins s w.in-Join.u w.in-Join.v made.field-0 c.self.invariant.dest made.ensures.ok))
       | in-Batch+in_ok-with_edits-in-Batch w ↦
           let made = w.in_ok-with_edits-in-Batch in
           let few = rw w.deref.ensures.value at made.ensures.few in

@@ -1,0 +1,134 @@
+//! The command line, as `clap` is to read it.
+
+ghost use Rattle.std.specs.Prelude.{◌≡◌, [], IfOk, IfErr, map, codes, pos, false};
+ghost use Rattle.clap.specs.Simple.{on_top};
+ghost use Rattle.clap.specs.Words.{HasKind, app_of, fault_of, new_app, rule_of, subcommand_of, subcommand_rows_of};
+ghost use Rattle.clap.specs.declared.builder.command.Command.TheViews.{out-Command};
+ghost use Rattle.fr_core.specs.Limits.{most_workers};
+ghost use Rattle.fr_play.specs.Draws.{most_steps};
+ghost use Rattle.fr_command.specs.Commands.{command, program, run_command as run_command_of, play_command as play_command_of, option as option_of};
+
+use clap::builder::ValueParser;
+use clap::{Arg, ArgMatches, Command, Error, value_parser};
+use fr_core::MAX_WORKERS;
+use fr_play::MAX_STEPS;
+use fr_route::VERSION;
+use std::alloc::{AllocError, Global};
+
+const ABOUT: &str =
+    "Keeps a network of directed links free of loops, and turns its links by full reversal until they lead to one destination";
+
+const EXAMPLE: &str = "Example:\n  revroute run < requests > answers";
+
+const RUN_ABOUT: &str =
+    "Answers requests: a line of JSON each on standard input, a line of text each on standard output";
+
+const RUN_EXAMPLE: &str =
+    "Example:\n  echo '[\"net\",3,0,[[0,1],[1,2]]]' | revroute run --workers 2";
+
+const PLAY_ABOUT: &str =
+    "Plays a drawn schedule: a line with a network on standard input, what each call came to on standard output, and then the links and the counts";
+
+const PLAY_EXAMPLE: &str =
+    "Example:\n  echo '[\"net\",2,0,[[0,1]]]' | revroute play --workers 1 --seed 7 --steps 6";
+
+const RUN_WORKERS: &str = "How many workers turn the network, 1 to 16";
+
+const PLAY_WORKERS: &str = "How many workers make the steps, 1 to 16";
+
+const RUN_SEED: &str =
+    "A seed for where workers look first for work, 0 to 18446744073709551615; no answer depends on it";
+
+const PLAY_SEED: &str = "The seed of the schedule, 0 to 18446744073709551615";
+
+const BUDGET: &str =
+    "How many calls each worker makes at most in a round, 0 to 1000000000; 0 is fastest for answers alone";
+
+const STEPS: &str = "How many steps are made, 0 to 10000";
+
+/// What the words of a command line say, the program's name first.
+pub(crate) fn matches_of<'a>(alloc: Global, words: &'a [&'a str]) -> Result<ArgMatches<'a>, Error>
+    ensures taken { IfOk result (λ _. fault_of command (map (λ s. s.now) words.entry.now) ≡ []) }
+    ensures ok { IfOk result (λ m. subcommand_rows_of m ≡ subcommand_of command (map (λ s. s.now) words.entry.now)) }
+    ensures err { IfErr result (HasKind (fault_of command (map (λ s. s.now) words.entry.now))) }
+{
+    let run = run_command(alloc)?;
+    let play = play_command(alloc)?;
+    let whole = whole_command(alloc).subcommand(run)?.subcommand(play)?;
+    whole.try_get_matches_from(words)
+}
+
+/// The program, before its subcommands: one of them has to be given, and it tells its version.
+fn whole_command<'a>(alloc: Global) -> Command<'a>
+    ensures app { app_of result ≡ on_top program (new_app (codes "revroute")) }
+    ensures local { (out-Command result).has_globals ≡ false }
+{
+    described(alloc, "revroute", ABOUT, EXAMPLE)
+        .version(VERSION)
+        .subcommand_required(true)
+}
+
+/// The subcommand that answers requests.
+fn run_command<'a>(alloc: Global) -> Result<Command<'a>, AllocError>
+    ensures { IfOk result (λ c. (app_of c ≡ run_command_of) × ((out-Command c).has_globals ≡ false)) }
+{
+    described(alloc, "run", RUN_ABOUT, RUN_EXAMPLE)
+        .arg(option(alloc, "workers", "4", worker_numbers(), RUN_WORKERS))?
+        .arg(option(alloc, "seed", "0", value_parser!(u64), RUN_SEED))?
+        .arg(option(alloc, "budget", "1000000", budget_numbers(), BUDGET))
+}
+
+/// The subcommand that plays a drawn schedule.
+fn play_command<'a>(alloc: Global) -> Result<Command<'a>, AllocError>
+    ensures { IfOk result (λ c. (app_of c ≡ play_command_of) × ((out-Command c).has_globals ≡ false)) }
+{
+    described(alloc, "play", PLAY_ABOUT, PLAY_EXAMPLE)
+        .arg(option(alloc, "workers", "2", worker_numbers(), PLAY_WORKERS))?
+        .arg(option(alloc, "seed", "0", value_parser!(u64), PLAY_SEED))?
+        .arg(option(alloc, "steps", "100", step_numbers(), STEPS))
+}
+
+/// A command of this name, with what it is for and an example.
+fn described<'a>(alloc: Global, name: &'a str, about: &'a str, example: &'a str) -> Command<'a>
+    ensures app { app_of result ≡ new_app name.entry.now }
+    ensures local { (out-Command result).has_globals ≡ false }
+{
+    Command::new(alloc, name).about(about).after_help(example)
+}
+
+/// An option with a number, by its name, with the text that stands for it where it is not given.
+fn option<'a>(
+    alloc: Global,
+    name: &'a str,
+    default: &'a str,
+    numbers: ValueParser<'a>,
+    help: &'a str,
+) -> Arg<'a>
+    ensures rule { rule_of result ≡ option_of name.entry.now default.entry.now numbers.entry }
+    ensures local { result.global ≡ false }
+{
+    Arg::new(alloc, name)
+        .long(name)
+        .value_name("N")
+        .default_value(default)
+        .value_parser(numbers)
+        .help(help)
+}
+
+fn worker_numbers<'a>() -> ValueParser<'a>
+    ensures { result ≡ ValueParser.Signed (pos 1) (pos most_workers) }
+{
+    value_parser!(u32).range(1..=i64::from(MAX_WORKERS))
+}
+
+fn budget_numbers<'a>() -> ValueParser<'a>
+    ensures { result ≡ ValueParser.Signed (pos 0) (pos 1000000000) }
+{
+    value_parser!(u32).range(0..=1_000_000_000)
+}
+
+fn step_numbers<'a>() -> ValueParser<'a>
+    ensures { result ≡ ValueParser.Signed (pos 0) (pos most_steps) }
+{
+    value_parser!(u32).range(0..=i64::from(MAX_STEPS))
+}

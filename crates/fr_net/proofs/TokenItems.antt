@@ -1,0 +1,74 @@
+-- The items of an array, token by token, as values that are put one behind the other.
+use Rattle.std.proofs.Common.{List, None, Option, Some, [], ap, option_and_then, option_map, refl, ℕ, ◌++◌, ◌-◌, ◌<◌, ◌∙◌, ◌∷◌, ◌≡◌, ◌≤◌, length}
+use Rattle.json.proofs.Grammar.{items_end, items_more}
+use Rattle.json.specs.Json as json
+use Rattle.json.specs.Json.{Parse, after_end_array, if_last, items, parse_map}
+use Rattle.json.specs.Token.{Token}
+use Rattle.serde_json.specs.Data.{Data, Items, array, item, no_items}
+use Rattle.serde_json.specs.Read.{converted, of_items, of_json}
+use Rattle.serde_json.specs.View.{items_view, view}
+use Rattle.serde_json.specs.declared.value.Value.{Value}
+
+abbrev or_else : {A : Type 0} → A → Option A → A
+or_else a None = a
+or_else a (Some b) = b
+
+paired : {B : Type 0} (r s : List Token) (o : Option B) (b : B) → option_map {U = B × List Token} (λ c. (c, r)) o ≡ Some (b, s) → (r ≡ s) × (o ≡ Some b)
+paired r s None b e = absurd (cc)
+paired r s (Some c) b e = let same = ap (or_else (c, r)) e in (ap (λ p. p.1) same, ap (λ p. Some p.0) same)
+
+-- what was read under f was read, and f takes it
+pub read_first : {A B : Type 0} (f : A → Option B) (o : Option (A × List Token)) (b : B) (rest : List Token) → converted f o ≡ Some (b, rest) → (a : A) × (o ≡ Some (a, rest)) × (f a ≡ Some b)
+read_first f None b rest e = absurd (cc)
+read_first f (Some p) b rest e = let both = paired p.1 rest (f p.0) b e in (p.0, ap (λ s. Some (p.0, s)) both.0, both.1)
+
+outside : {A B : Type 0} (g : A → B) (rest : List Token) (o : Option A) → option_map (λ b. (b, rest)) (option_map g o) ≡ parse_map g (option_map (λ a. (a, rest)) o)
+outside g rest None = refl
+outside g rest (Some a) = refl
+
+-- items that are read are read as an array
+pub array_of_items : (o : Option (json.Items × List Token)) → converted of_json (parse_map json.array o) ≡ parse_map array (converted of_items o)
+array_of_items None = refl
+array_of_items (Some p) = outside array p.1 (of_items p.0)
+
+first_of_items : (j : json.Json) (d : Data) → of_json j ≡ Some d → (o : Option (json.Items × List Token)) → converted of_items (parse_map (json.item j) o) ≡ parse_map (item d) (converted of_items o)
+first_of_items j d e None = refl
+first_of_items j d e (Some p) = rw e (outside (item d) p.1 (of_items p.0))
+
+-- an item that is read is the first of the items
+pub one_item : (p : Parse json.Json) (most : ℕ) (ts rest : List Token) (d : Data) → 0 < most → after_end_array ts ≡ None → converted of_json (p ts) ≡ Some (d, rest)
+    → converted of_items (items p most ts) ≡ parse_map (item d) (converted of_items (items p (most - 1) rest))
+one_item p most ts rest d some going e =
+    let first = read_first of_json (p ts) d rest e in
+    ap (converted of_items) (items_more p most ts rest first.0 some going first.1) ∙ first_of_items first.0 d first.2 _
+
+-- where the array ends there is no item
+pub no_item : (p : Parse json.Json) (most : ℕ) (ts rest : List Token) → length ts ≤ most → after_end_array ts ≡ Some rest → converted of_items (items p most ts) ≡ Some (no_items, rest)
+no_item p most ts rest enough e = ap (converted of_items) (items_end p most ts rest enough e)
+
+-- the views of values, and then other items
+abbrev pub then_items : List Value → Items → Items
+then_items [] more = more
+then_items (v ∷ vs) more = item (view v) (then_items vs more)
+
+pub then_none : (vs : List Value) → then_items vs no_items ≡ items_view vs
+then_none [] = refl
+then_none (v ∷ vs) = ap (item (view v)) (then_none vs)
+
+then_one : (vs : List Value) (v : Value) (more : Items) → then_items vs (item (view v) more) ≡ then_items (vs ++ v ∷ []) more
+then_one [] v more = refl
+then_one (w ∷ vs) v more = ap (item (view w)) (then_one vs v more)
+
+pub one_more : (vs : List Value) (v : Value) (o : Option (Items × List Token)) → parse_map (then_items vs) (parse_map (item (view v)) o) ≡ parse_map (then_items (vs ++ v ∷ [])) o
+one_more vs v None = refl
+one_more vs v (Some p) = ap (λ ds. Some (ds, p.1)) (then_one vs v p.0)
+
+pub none_yet : (o : Option (Items × List Token)) → o ≡ parse_map (then_items []) o
+none_yet None = refl
+none_yet (Some p) = refl
+
+-- a value behind which nothing stands is the value of the text
+pub whole_value : (o : Option (json.Json × List Token)) (d : Data) → converted of_json o ≡ Some (d, []) → option_and_then of_json (option_and_then (λ p. if_last p.0 p.1) o) ≡ Some d
+whole_value o d e =
+    let found = read_first of_json o d [] e in
+    ap (λ r. option_and_then of_json (option_and_then (λ p. if_last p.0 p.1) r)) found.1 ∙ found.2

@@ -1,0 +1,64 @@
+use Rattle.std.proofs.Common.{None, Some, [], ap, arith, length, rules, sym, ◌-◌, ◌<◌, ◌∙◌, ◌∷◌, ◌≡◌, ◌++◌}
+use Rattle.json.proofs.Grammar.{value-begin_array, value_is}
+use Rattle.json.specs.Json.{after_end_array, items, parse_map, value}
+use Rattle.json.specs.Reads.{token_of}
+use Rattle.json.specs.Token.{Token}
+use Rattle.serde_json.proofs.Views.{view-Array}
+use Rattle.serde_json.specs.Data.{array, number, string}
+use Rattle.serde_json.specs.Read.{converted, of_items, of_json}
+use Rattle.serde_json.specs.View.{number_view, view}
+use Rattle.serde_json.specs.declared.value.Value.{Number, String, the_lemmas}
+use Rattle.fr_net.proofs.TokenItems.{array_of_items, no_item, none_yet, one_item, one_more, then_items, then_none}
+use Rattle.fr_net.proofs.values.+value.Goals as goal
+
+pub value-returns-in_ok-from_str-in-String-clause-ok : goal.value-returns-in_ok-from_str-in-String-clause-ok
+value-returns-in_ok-from_str-in-String-clause-ok t c =
+    let first : c.args.reader.now ≡ token_of c.in_ok-token.token ∷ c.next.new.self = grind arith in
+    let is : c.args.reader.now ≡ Token.string c.in-String.text.now ∷ c.next.new.self = grind (arith, first) in
+    let seen : view (String c.in_ok-from_str-in-String.field-0) ≡ string c.in-String.text.now = search (rules, the_lemmas) in
+    ap (converted of_json) (ap (value c.args.depth) is ∙ value_is c.args.depth _) ∙ ap (λ d. Some (d, c.next.new.self)) (sym seen)
+
+pub value-returns-in-Some-clause-ok : goal.value-returns-in-Some-clause-ok
+value-returns-in-Some-clause-ok t c =
+    let first : c.args.reader.now ≡ token_of c.in_ok-token.token ∷ c.next.new.self = grind arith in
+    let is : c.args.reader.now ≡ Token.number c.in-Number.text.now ∷ c.next.new.self = grind (arith, first) in
+    let seen : view (Number c.in-Some.number) ≡ number (number_view c.in-Some.number) = search (rules, the_lemmas) in
+    ap (converted of_json) (ap (value c.args.depth) is ∙ value_is c.args.depth _) ∙ rw (c.in-Some.ensures, seen)
+
+pub value-returns-in_ok-items-in-BeginArray-clause-ok : goal.value-returns-in_ok-items-in-BeginArray-clause-ok
+value-returns-in_ok-items-in-BeginArray-clause-ok t c =
+    let first : c.args.reader.now ≡ token_of c.in_ok-token.token ∷ c.next.new.self = grind arith in
+    let opened = ap (converted of_json) (ap (value c.args.depth) (first ∙ ap (λ k. token_of k ∷ c.next.new.self) c.in-BeginArray.is) ∙ value-begin_array c.args.depth c.next.new.self (omega arith)) ∙ array_of_items (items (value (c.args.depth - 1)) (length c.next.new.self) c.next.new.self) in
+    let found = c.in_ok-items-in-BeginArray in
+    opened ∙ ap (parse_map array) found.ensures.ok ∙ ap (λ d. Some (d, c.items.new.reader)) (sym (view-Array found.field-0))
+
+pub items-items-init : goal.items-items-init
+items-items-init t c =
+    let all = converted of_items (items (value c.args.depth) (length c.args.reader.now) c.args.reader.now) in
+    (length c.args.reader.now, omega arith, none_yet all ∙ ap (λ vs. parse_map (then_items vs) all) (sym c.new-found.ensures.items), omega arith)
+
+pub items-items-preserved : goal.items-items-preserved
+items-items-preserved t c =
+    let p = value c.args.depth in
+    let l = c.items in
+    let most = l.invariant.0 in
+    let going : (after_end_array l.reader ≡ None) × (c.take_end_array.new.self ≡ l.reader) = grind arith in
+    let done = c.in_ok-item.ensures in
+    let v = c.in_ok-item.item in
+    let r = c.value.new.reader in
+    let less : length r < length l.reader = rw (← going.1) done.shorter in
+    let grown : l.found.items ++ v ∷ [] ≡ c.push.new.self.items = sym c.in_ok-push.ensures.items in
+    let turn = one_item p most l.reader r (view v) (omega (arith, l.invariant.1)) going.0 (rw (← going.1) done.ok) in (
+      most - 1,
+      omega (arith, l.invariant.1),
+      l.invariant.2 ∙ ap (parse_map (then_items l.found.items)) turn ∙ one_more l.found.items v _
+          ∙ ap (λ vs. parse_map (then_items vs) (converted of_items (items p (most - 1) r))) grown,
+      omega (arith, l.invariant.3),
+    )
+
+pub items-returns-clause-ok : goal.items-returns-clause-ok
+items-returns-clause-ok t c =
+    let p = value c.args.depth in
+    let l = c.items in
+    let r = c.take_end_array.new.self in
+    l.invariant.2 ∙ ap (parse_map (then_items l.found.items)) (no_item p l.invariant.0 l.reader r l.invariant.1 (grind arith)) ∙ ap (λ ds. Some (ds, r)) (then_none l.found.items)

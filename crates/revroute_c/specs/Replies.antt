@@ -1,0 +1,33 @@
+-- What a call of the library answers.
+use Rattle.std.specs.Prelude.{◌≡◌, ℕ, ◌<◌, ◌≤◌, ◌⊎◌, ◌++◌, false, List, length, drop, Option}
+use Rattle.fr_net.specs.Requests.{reading}
+use Rattle.fr_route.specs.Answers.{IsLineAnswer}
+use Rattle.fr_route.specs.Blank.{is_blank}
+use Rattle.fr_route.specs.States.{State}
+
+-- the least room for an answer, in bytes
+abbrev pub least_room : ℕ
+least_room = 64
+
+-- the bytes stand at the front of the buffer, and the rest of it is as it was
+abbrev pub IsWritten : List ℕ → List ℕ → List ℕ → Type 0
+IsWritten bytes before after = (length bytes ≤ length before) × (after ≡ bytes ++ drop (length bytes) before)
+
+-- the line is answered, the session is then in this state, the answer stands in the buffer, and this is its length
+pub record IsAnswered (old : Option State) (line : List ℕ) (new : Option State) (before after : List ℕ) (size : ℕ) : Type 0 where
+  pub asks : is_blank line ≡ false
+  pub text : List ℕ
+  pub answer : IsLineAnswer old (reading line) text new
+  pub written : IsWritten text before after
+  pub size_is : size ≡ length text
+
+-- the line has an answer of this length, which leaves the session as it was
+pub record IsAnswerLength (old : Option State) (line : List ℕ) (size : ℕ) : Type 0 where
+  pub asks : is_blank line ≡ false
+  pub text : List ℕ
+  pub answer : IsLineAnswer old (reading line) text old
+  pub size_is : size ≡ length text
+
+-- the room that is wanted in place of so much: the least room, or else that of the answer
+abbrev pub IsWanted : Option State → List ℕ → ℕ → ℕ → Type 0
+IsWanted old line room size = ((room < least_room) × (size ≡ least_room)) ⊎ ((least_room ≤ room) × IsAnswerLength old line size)

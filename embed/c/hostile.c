@@ -1,0 +1,159 @@
+/* Asks the lines of standard input with too little room and with too little memory, and looks that nothing is lost by it.
+ *
+ * A session that meets neither goes ahead and says what the answers are. Behind it each line is asked in two ways:
+ *
+ *   - with too little room: of no byte, of one less than the least, and of one less than its answer, until it has just enough;
+ *   - with the Nth allocation of a session refused, for N = 1, 2, .. until all lines are answered without meeting it. A call may do
+ *     without it; or it says that there is no memory, and is made again.
+ *
+ * The answer must be the same, and before it the session as it was. Each line and each buffer ends where no memory is behind it, so
+ * that a byte read or written too far ends the program by a signal. Printed are how many allocations were refused, and how many
+ * calls said so.
+ */
+#define _DEFAULT_SOURCE
+#include "lines.h"
+#include "refusing_heap.h"
+
+#include <revroute.h>
+#include <sys/mman.h>
+#include <unistd.h>
+
+enum { FENCED = 1 << 16, UNTOUCHED = 0xa5 };
+
+/* The end of memory of so many bytes with none behind it. */
+static uint8_t *fence(void) {
+    size_t page = (size_t)sysconf(_SC_PAGESIZE);
+    uint8_t *begin = mmap(NULL, FENCED + page, PROT_READ | PROT_WRITE, MAP_PRIVATE | MAP_ANONYMOUS, -1, 0);
+    if (begin == MAP_FAILED || mprotect(begin + FENCED, page, PROT_NONE)) stop("no memory for a fence");
+    return begin + FENCED;
+}
+
+static uint8_t *line_end, *answer_end;
+
+/* An answer, or its status where it has none. */
+typedef struct {
+    uint32_t status;
+    uint8_t *bytes;
+    size_t length;
+} answer;
+
+/* One call, which may write no byte of the buffer but the answer's, and tells a length only with an answer or where room is wanted. */
+static uint32_t call(revroute *session, line it, size_t room, size_t *length) {
+    if (it.length > FENCED) stop("a line is too long for this test");
+    memcpy(line_end - it.length, it.bytes, it.length);
+    memset(answer_end - room, UNTOUCHED, room);
+    uint32_t status = revroute_answer(session, line_end - it.length, it.length, answer_end - room, room, length);
+    if ((status == REVROUTE_BLANK || status == REVROUTE_NO_MEMORY) && *length != 0) stop("a length without an answer");
+    for (size_t at = status == REVROUTE_ANSWERED ? *length : 0; at < room; at++)
+        if (answer_end[at - room] != UNTOUCHED) stop("a byte was written that is none of the answer's");
+    return status;
+}
+
+static answer ask(revroute *session, line it) {
+    answer all = {0, NULL, 0};
+    all.status = call(session, it, FENCED, &all.length);
+    if (all.status != REVROUTE_ANSWERED) return all;
+    const uint8_t *text = answer_end - FENCED;
+    if (memchr(text, 0, all.length) || memchr(text, '\n', all.length)) stop("an answer with a NUL or a line end");
+    all.bytes = memcpy(grown(NULL, all.length + 1), text, all.length);
+    return all;
+}
+
+static int is_same(answer one, answer other) {
+    if (one.status != other.status || one.status != REVROUTE_ANSWERED) return one.status == other.status;
+    return one.length == other.length && !memcmp(one.bytes, other.bytes, one.length);
+}
+
+/* What can be asked of a session's state. */
+enum { QUESTIONS = 3 };
+typedef struct {
+    answer to[QUESTIONS];
+} state;
+
+static state state_of(revroute *session) {
+    static const char *const questions[QUESTIONS] = {"[\"links\"]", "[\"counts\"]", "[\"hops\"]"};
+    state all;
+    for (int at = 0; at < QUESTIONS; at++) all.to[at] = ask(session, (line){(const uint8_t *)questions[at], strlen(questions[at])});
+    return all;
+}
+
+static void drop(state it) {
+    for (int at = 0; at < QUESTIONS; at++) free(it.to[at].bytes);
+}
+
+static void expect_state(revroute *session, state wanted, const char *why) {
+    state found = state_of(session);
+    for (int at = 0; at < QUESTIONS; at++)
+        if (!is_same(found.to[at], wanted.to[at])) stop(why);
+    drop(found);
+}
+
+static void expect_too_short(revroute *session, line it, size_t room, size_t wanted, state before) {
+    size_t length;
+    if (call(session, it, room, &length) != REVROUTE_TOO_SHORT) stop("a buffer that is too short was taken");
+    if (length != wanted) stop("of a buffer that is too short another room is wanted");
+    expect_state(session, before, "a buffer that was too short changed the session");
+}
+
+/* Asks a line with too little room, and then with just enough. */
+static void ask_short(revroute *session, line it, answer wanted) {
+    state before = state_of(session);
+    expect_too_short(session, it, 0, REVROUTE_LEAST_ROOM, before);
+    expect_too_short(session, it, REVROUTE_LEAST_ROOM - 1, REVROUTE_LEAST_ROOM, before);
+    if (wanted.length > REVROUTE_LEAST_ROOM) expect_too_short(session, it, wanted.length - 1, wanted.length, before);
+    size_t length, room = wanted.length > REVROUTE_LEAST_ROOM ? wanted.length : REVROUTE_LEAST_ROOM;
+    uint32_t status = call(session, it, room, &length);
+    if (!is_same((answer){status, answer_end - room, length}, wanted)) stop("with just enough room the answer is another");
+    drop(before);
+}
+
+/* How many calls said that they had no memory. */
+static long refusals;
+
+/* Asks a line while an allocation may be refused, and again where it says so. Returns whether one was refused. */
+static int ask_poor(revroute *session, line it, answer wanted, long *left) {
+    state before = state_of(session);
+    refusing_left = *left;
+    answer found = ask(session, it);
+    int was_refused = *left > 0 && refusing_left == 0;
+    *left = refusing_left;
+    refusing_left = 0;
+    if (found.status == REVROUTE_NO_MEMORY) {
+        if (!was_refused) stop("want of memory was told where none was refused");
+        refusals++;
+        expect_state(session, before, "a call without memory changed the session");
+        found = ask(session, it);
+    }
+    if (!is_same(found, wanted)) stop("where an allocation was refused, the line has another answer");
+    free(found.bytes);
+    drop(before);
+    return was_refused;
+}
+
+int main(void) {
+    line_end = fence();
+    answer_end = fence();
+    lines asked = read_lines();
+    answer *wanted = grown(NULL, (asked.count + 1) * sizeof *wanted);
+    revroute ahead = REVROUTE_NEW, behind = REVROUTE_NEW;
+    for (size_t at = 0; at < asked.count; at++) {
+        wanted[at] = ask(&ahead, asked.at[at]);
+        if (wanted[at].status > REVROUTE_BLANK) stop("a line that meets nothing has no answer");
+        ask_short(&behind, asked.at[at], wanted[at]);
+    }
+    revroute_close(&ahead);
+    revroute_close(&behind);
+    revroute_close(&behind);
+    long number = 0;
+    for (int meets = 1; meets;) {
+        long left = ++number;
+        meets = 0;
+        for (size_t at = 0; at < asked.count; at++) meets |= ask_poor(&behind, asked.at[at], wanted[at], &left);
+        revroute_close(&behind);
+        if (refusing_held) stop("a closed session holds memory");
+    }
+    for (size_t at = 0; at < asked.count; at++) free(wanted[at].bytes);
+    free(wanted);
+    drop_lines(asked);
+    printf("%ld %ld\n", number - 1, refusals);
+}

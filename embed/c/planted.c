@@ -1,0 +1,57 @@
+/* The library with a fault in it: embed/can-fail builds it with each FAULT, over the true calls, which are named engine_ there. */
+#include <revroute.h>
+#include <string.h>
+
+uint32_t engine_answer(revroute *, const uint8_t *, size_t, uint8_t *, size_t, size_t *);
+void engine_close(revroute *);
+uint32_t engine_version(uint8_t *, size_t, size_t *);
+
+enum {
+    no_fault,
+    a_byte_too_few,
+    a_byte_behind_the_answer,
+    the_line_read_too_far,
+    a_length_with_no_answer,
+    sessions_that_share,
+    too_short_after_the_state_has_moved_on,
+    too_short_that_wants_too_little,
+    no_memory_told_as_blank,
+    no_memory_that_loses_the_session,
+    close_that_keeps_the_memory,
+    another_version
+};
+
+/* Asks once more with room enough, as if the state had moved on where the buffer was too short. */
+static uint32_t move_on(revroute *session, const uint8_t *line, size_t line_length, size_t *length) {
+    uint8_t spare[REVROUTE_LEAST_ROOM];
+    engine_answer(session, line, line_length, spare, sizeof spare, length);
+    *length = REVROUTE_LEAST_ROOM;
+    return REVROUTE_TOO_SHORT;
+}
+
+uint32_t revroute_answer(revroute *session, const uint8_t *line, size_t line_length, uint8_t *answer, size_t room,
+                         size_t *length) {
+    static revroute shared = REVROUTE_NEW;
+    if (FAULT == sessions_that_share) session = &shared;
+    if (FAULT == too_short_after_the_state_has_moved_on && room < REVROUTE_LEAST_ROOM)
+        return move_on(session, line, line_length, length);
+    if (FAULT == the_line_read_too_far && line[line_length] == 0xff) return REVROUTE_BLANK;
+    uint32_t status = engine_answer(session, line, line_length, answer, room, length);
+    if (FAULT == a_byte_too_few && status == REVROUTE_ANSWERED) --*length;
+    if (FAULT == a_byte_behind_the_answer && status == REVROUTE_ANSWERED) answer[*length] = 0;
+    if (FAULT == a_length_with_no_answer && status == REVROUTE_BLANK) *length = line_length + 1;
+    if (FAULT == too_short_that_wants_too_little && status == REVROUTE_TOO_SHORT && room >= REVROUTE_LEAST_ROOM) --*length;
+    if (FAULT == no_memory_that_loses_the_session && status == REVROUTE_NO_MEMORY) engine_close(session);
+    return FAULT == no_memory_told_as_blank && status == REVROUTE_NO_MEMORY ? REVROUTE_BLANK : status;
+}
+
+void revroute_close(revroute *session) {
+    if (FAULT == close_that_keeps_the_memory) memset(session, 0, sizeof *session);
+    else if (FAULT != sessions_that_share) engine_close(session);
+}
+
+uint32_t revroute_version(uint8_t *text, size_t room, size_t *length) {
+    uint32_t status = engine_version(text, room, length);
+    if (FAULT == another_version && status == REVROUTE_ANSWERED) text[0]++;
+    return status;
+}

@@ -1,0 +1,80 @@
+/* revroute: routing for one destination by full link reversal, for programs in C and in what calls C.
+ *
+ * A session holds a network and answers lines, one at a time: a request in JSON goes in, a line of text comes out.
+ * docs/LINES.md has the requests and their answers; docs/EMBED.md has programs, and says what is proved of a call.
+ *
+ *     revroute session = REVROUTE_NEW;
+ *     uint8_t answer[4096];
+ *     size_t length;
+ *     const char *line = "[\"walk\",3]";
+ *     uint32_t status = revroute_answer(&session, (const uint8_t *)line, strlen(line), answer, sizeof answer, &length);
+ *     ..
+ *     revroute_close(&session);
+ *
+ * What a caller owes, since no call tests it:
+ *
+ * - No pointer is null, not even that of a line or of a buffer of no bytes.
+ * - The session, the line, the buffer and the length do not overlap. Until the call returns nobody else uses them; others
+ *   may read the line.
+ * - A session is used by one call at a time. It may go from one thread to another, if its calls do not overlap and each sees
+ *   what those before it wrote, as behind a lock or a join. Different sessions share nothing: each thread can have its own.
+ * - A session is made by REVROUTE_NEW, and only these calls read or write it then. It is not copied: closing two copies
+ *   gives the same memory back twice. Memory that was moved, as by realloc, is no copy if the old place is used no more.
+ * - Memory is the process's malloc, realloc and free, of one allocator as long as a session is open. So no call is made from a
+ *   signal handler, or in the child that a process with threads has forked.
+ * - The thread has 256 KiB of stack left. A request was seen to take 32, a line that nests as deep as JSON may here 124.
+ *
+ * A call waits for nobody, starts no thread, reads no file and keeps no pointer of its caller's.
+ */
+#ifndef REVROUTE_H
+#define REVROUTE_H
+
+#include <stddef.h>
+#include <stdint.h>
+
+#ifdef __cplusplus
+extern "C" {
+#endif
+
+/* A session. Whoever makes it owns it, and closes it once it is no longer needed. */
+typedef struct revroute {
+    void *at;
+} revroute;
+
+/* A session with no network yet, which holds no memory: revroute session = REVROUTE_NEW; */
+#define REVROUTE_NEW {NULL}
+
+/* The least room that an answer is given. A smaller buffer is always too short, whatever the line. */
+#define REVROUTE_LEAST_ROOM 64
+
+/* How a call ends. */
+enum {
+    /* The answer stands at the front of the buffer, in ASCII, with no line end and no NUL, and *length is its length. */
+    REVROUTE_ANSWERED = 0,
+    /* The line is blank, spaces, tabs and carriage returns alone, and has no answer. *length is 0. */
+    REVROUTE_BLANK = 1,
+    /* The buffer is too short, and *length is the room that is wanted: ask again with that. */
+    REVROUTE_TOO_SHORT = 2,
+    /* Memory ran out: the line can be asked again. *length is 0. */
+    REVROUTE_NO_MEMORY = 3
+};
+
+/* Answers a line of line_length bytes, which is without its line end, into the buffer `answer` of `room` bytes, and returns how
+ * that ended. A line that is refused is answered as well, by `refused` and a number. The buffer is as it was behind the answer;
+ * after any end but REVROUTE_ANSWERED the session and the whole buffer are as they were. An answer that changes the session
+ * always fits into REVROUTE_LEAST_ROOM. */
+uint32_t revroute_answer(revroute *session, const uint8_t *line, size_t line_length, uint8_t *answer, size_t room,
+                         size_t *length);
+
+/* Gives back all memory of a session, which is then as REVROUTE_NEW made it: it can be closed again, or used. */
+void revroute_close(revroute *session);
+
+/* Writes the version of the library, as 0.1.0, into the buffer `text` of `room` bytes. Returns REVROUTE_ANSWERED or
+ * REVROUTE_TOO_SHORT, and *length is the length of the version in both cases. */
+uint32_t revroute_version(uint8_t *text, size_t room, size_t *length);
+
+#ifdef __cplusplus
+}
+#endif
+
+#endif

@@ -1,0 +1,73 @@
+"""Builds the wheel, with nothing but Python: the package, and the shared library that embed/build has made.
+
+embed/build calls it; so does `pip install embed/python`, as pyproject.toml says, which then needs no network.
+"""
+
+from __future__ import annotations
+
+import base64
+import hashlib
+import sysconfig
+import tomllib
+import zipfile
+from pathlib import Path
+
+HERE = Path(__file__).resolve().parent
+OUT = HERE.parent / "out"
+LIBRARY = "librevroute.so"
+EARLIEST = (1980, 1, 1, 0, 0, 0)
+
+
+class UnsupportedOperation(Exception):
+    """There is no source distribution: the library is not built from Python's side."""
+
+
+def metadata(project: dict) -> str:
+    fields = [("Metadata-Version", "2.1"), ("Name", project["name"]), ("Version", project["version"])]
+    fields += [("Summary", project["description"]), ("Requires-Python", project["requires-python"])]
+    fields += [("Classifier", it) for it in project["classifiers"]]
+    return "".join(f"{name}: {value}\n" for name, value in fields)
+
+
+def wheel_tag() -> str:
+    """The package is the same for each Python, and the library for one kind of machine."""
+    return f"py3-none-{sysconfig.get_platform().replace('-', '_').replace('.', '_')}"
+
+
+def build_wheel(wheel_directory, config_settings=None, metadata_directory=None) -> str:
+    """Writes the wheel into the folder, and returns its name."""
+    if not (OUT / LIBRARY).is_file():
+        raise FileNotFoundError(f"{OUT / LIBRARY} is not there: run embed/build")
+    return wheel_of(OUT / LIBRARY, Path(wheel_directory))
+
+
+def wheel_of(library: Path, folder: Path) -> str:
+    """Writes the wheel that carries this library into the folder, and returns its name. The same files make the same bytes."""
+    project = tomllib.loads((HERE / "pyproject.toml").read_text())["project"]
+    whole = f"{project['name']}-{project['version']}"
+    info = f"{whole}.dist-info"
+    files = {f"revroute/{it.name}": it.read_bytes() for it in sorted((HERE / "src" / "revroute").iterdir()) if it.is_file()}
+    files[f"revroute/{LIBRARY}"] = library.read_bytes()
+    files[f"{info}/METADATA"] = metadata(project).encode()
+    files[f"{info}/WHEEL"] = f"Wheel-Version: 1.0\nGenerator: embed/build\nRoot-Is-Purelib: false\nTag: {wheel_tag()}\n".encode()
+    files[f"{info}/RECORD"] = record(files, f"{info}/RECORD")
+    name = f"{whole}-{wheel_tag()}.whl"
+    with zipfile.ZipFile(folder / name, "w", zipfile.ZIP_DEFLATED) as wheel:
+        for path, text in files.items():
+            entry = zipfile.ZipInfo(path, EARLIEST)
+            entry.external_attr = 0o100644 << 16
+            wheel.writestr(entry, text, zipfile.ZIP_DEFLATED)
+    return name
+
+
+def record(files: dict[str, bytes], own: str) -> bytes:
+    """The list of the files, with their sums and lengths, and of the list itself."""
+    lines = []
+    for path, text in files.items():
+        sum = base64.urlsafe_b64encode(hashlib.sha256(text).digest()).rstrip(b"=").decode()
+        lines.append(f"{path},sha256={sum},{len(text)}\n")
+    return "".join([*lines, f"{own},,\n"]).encode()
+
+
+def build_sdist(sdist_directory, config_settings=None) -> str:
+    raise UnsupportedOperation(build_sdist.__doc__ or UnsupportedOperation.__doc__)
