@@ -1,5 +1,5 @@
 -- How far a session has been asked the lines of an input.
-use Rattle.std.proofs.Common.{◌≡◌, ◌∙◌, ℕ, Bool, true, false, List, [], ◌∷◌, ◌++◌, Option, Some, None, append_assoc, append-nil, ap, refl, subst, sym, Global, String, string_bytes, MatchBool, IfSome, IfNone}
+use Rattle.std.proofs.Common.{◌≡◌, ◌∙◌, ℕ, Bool, true, false, List, [], ◌∷◌, ◌++◌, Option, Some, None, append_assoc, append-nil, ap, refl, sym, Global, String, string_bytes, MatchBool, IfSome, IfNone}
 use Rattle.fr_net.specs.Requests.{reading}
 use Rattle.fr_route.specs.Answers.{IsLineAnswer}
 use Rattle.fr_route.specs.Blank.{is_blank}
@@ -8,7 +8,6 @@ use Rattle.fr_run.specs.Answers.{AreAnswers}
 use Rattle.fr_run.specs.Lines.{lines_of}
 use Rattle.fr_run.proofs.Determined.{Answered}
 use Rattle.fr_run.proofs.Progress.{answers_append, lines_left}
-use Rattle.revdot.specs.Drawings.{IsLeftBy}
 
 -- the session was asked the lines up to the rest
 pub record HasAsked (whole : List ℕ) (rest : Option (List ℕ)) (now : Option State) : Type 0 where
@@ -58,9 +57,3 @@ asked_more whole text line rest now next h first is = record {
   cut = h.cut ∙ (ap (λ (ls : List (List ℕ)). h.done ++ ls) first ∙ sym (append_assoc h.done (line ∷ []) (lines_left rest)));
   are_answers = answers_append None now next h.done (line ∷ []) h.answers is.0 h.are_answers is.1;
 }
-
--- no line is left
-pub all_asked : (whole : List ℕ) (now : Option State) → HasAsked whole None now → IsLeftBy whole now
-all_asked whole now h =
-    let all : h.done ≡ lines_of whole = sym (h.cut ∙ append-nil h.done) in
-    (h.answers, subst (λ (ls : List (List ℕ)). AreAnswers None ls h.answers now) all h.are_answers)

@@ -1,3 +1,4 @@
 pub mod Asking
 pub mod Sinks
 pub mod Turning
+pub mod Beginnings

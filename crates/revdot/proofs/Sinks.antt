@@ -1,8 +1,7 @@
 -- Sinks, by the ends of links.
-use Rattle.std.proofs.Common.{◌≡◌, ◌∙◌, ℕ, zero, suc, ◌<◌, ◌==◌, ◌||◌, ◌⊎◌, Bool, true, false, List, [], ◌∷◌, length, get_or, slice_index_or, ap, refl, subst, sym, arith, inl, inr, All, eq-eqb, eqb-true}
+use Rattle.std.proofs.Common.{◌≡◌, ◌∙◌, ℕ, suc, ◌<◌, ◌==◌, ◌||◌, ◌⊎◌, Bool, true, false, List, [], ◌∷◌, length, get_or, slice_index_or, ap, refl, subst, sym, arith, inl, inr, eq-eqb, eqb-true}
 use Rattle.std.specs.List.{Contains, list_any}
 use Rattle.std.proofs.lemmas.List.{get_or_default}
-use Rattle.std.proofs.lemmas.List.Elements.{All-contains}
 use Rattle.std.proofs.lemmas.List.Folds.{list_any_at}
 use Rattle.fr_net.specs.Links.{Points}
 use Rattle.fr_net.specs.Turn.{IsSink}
@@ -52,7 +51,3 @@ module _ (n x : ℕ) (tails heads : List Bool) (links : List (ℕ × ℕ)) (ends
       let is = found (λ (l : ℕ × ℕ). l.1 == x) links (s.0.0, x) s.0.1 (eq-eqb x x refl) in
       let heads_are = ends.heads_are x node in
       cc
-
--- a sink is a node
-pub sink_below : (n x : ℕ) (links : List (ℕ × ℕ)) → All (λ (l : ℕ × ℕ). (l.0 < n) × (l.1 < n)) links → IsSink links x → x < n
-sink_below n x links below s = (All-contains (λ (l : ℕ × ℕ). (l.0 < n) × (l.1 < n)) links (s.0.0, x) below s.0.1).1

@@ -1,5 +1,5 @@
 -- How far the drawing of turns has come.
-use Rattle.std.proofs.Common.{◌≡◌, ◌∙◌, ℕ, ◌+◌, ◌<◌, List, [], ◌∷◌, ◌++◌, drop, length, map, replicate, slice_index, slice_set, ap, append_assoc, append-nil, length-append, eq-eqb, ne_eqb, ◌==◌, Bool, true, false, cond, refl, subst, sym, take, arith, All, inl, inr, ⊎_elim}
+use Rattle.std.proofs.Common.{◌≡◌, ◌∙◌, ℕ, ◌+◌, ◌<◌, List, [], ◌∷◌, ◌++◌, drop, length, map, replicate, slice_index, slice_set, ap, append_assoc, append-nil, length-append, eq-eqb, ne_eqb, ◌==◌, Bool, true, false, cond, refl, subst, sym, take, arith, inl, inr}
 use Rattle.std.proofs.lemmas.List.{length-map, length-set, length-replicate}
 use Rattle.std.proofs.lemmas.List.Elements.{All-map, All-weaker}
 use Rattle.std.proofs.lemmas.Bool.{cases_eq, cond-false, cond-true}
@@ -7,9 +7,8 @@ use Rattle.std.proofs.Math.Seq.{take-append_seam}
 use Rattle.fr_net.specs.Links.{AreBelow}
 use Rattle.fr_net.specs.Turn.{turn, turned_link}
 use Rattle.fr_core.specs.History.{Moment}
-use Rattle.fr_core.specs.Legal.{NoneCanTurn}
 use Rattle.fr_route.specs.States.{State}
-use Rattle.revdot.specs.Strips.{most_turns, moment, beginning, first_link, after_turn, after_turns, IsNext, AreTurns, AreAllTurns, turn_text, turns_text}
+use Rattle.revdot.specs.Strips.{moment, beginning, first_link, after_turn, after_turns, IsNext, AreTurns, turn_text, turns_text}
 
 pub record HasTurned (s : State) (number : ℕ) (links : List (ℕ × ℕ)) (counts : List ℕ) (old new : List ℕ) : Type 0 where
   pub turns : List ℕ
@@ -19,10 +18,6 @@ pub record HasTurned (s : State) (number : ℕ) (links : List (ℕ × ℕ)) (cou
   pub text : new ≡ old ++ turns_text s (beginning s) 1 turns
   pub below : AreBelow s.nodes links
   pub one_each : length counts ≡ s.nodes
-
--- the turns of the last round are drawn
-abbrev pub AreDrawn : State → List ℕ → List ℕ → Type 0
-AreDrawn s old new = (turns : List ℕ) × AreAllTurns s.nodes s.dest (beginning s) turns × (new ≡ old ++ turns_text s (beginning s) 1 turns)
 
 turns_more : (n d : ℕ) (m : Moment) (xs : List ℕ) (x : ℕ) → AreTurns n d m xs → IsNext n d (after_turns m xs) x → AreTurns n d m (xs ++ x ∷ [])
 turns_more n d m [] x are next = (next, tt)
@@ -89,14 +84,6 @@ module _ (s : State) (number : ℕ) (links : List (ℕ × ℕ)) (counts : List �
     below = below_map s.nodes (turned_link x) (turned-below s.nodes x) links h.below;
     one_each = length-set counts x (slice_index counts x + 1) ∙ h.one_each;
   }
-
-  -- no node can turn
-  pub none_left : NoneCanTurn s.nodes s.dest (moment links counts) → AreDrawn s old new
-  none_left none = (h.turns, record { turns = h.are_turns; all = inr (subst (λ (m : Moment). NoneCanTurn s.nodes s.dest m) (sym h.now) none) }, h.text)
-
-  -- all that are drawn are made
-  pub most_made : number ≡ most_turns → AreDrawn s old new
-  most_made most = (h.turns, record { turns = h.are_turns; all = inl (h.counted ∙ most) }, h.text)
 
 -- the links once they are written back
 pub written_back : (x len : ℕ) (links new : List (ℕ × ℕ)) → new ≡ turn x links → len ≡ length links → take len (new ++ drop (length new) links) ≡ turn x links

@@ -1,5 +1,5 @@
 -- What is written for an input.
-use Rattle.std.specs.Prelude.{◌≡◌, ℕ, List, [], ◌++◌, Option, Some, None}
+use Rattle.std.specs.Prelude.{◌≡◌, ℕ, List, [], Option, Some, None}
 use Rattle.std.specs.Io.KnownBytes.{Appends}
 use Rattle.fr_route.specs.States.{State}
 use Rattle.fr_run.specs.Answers.{AreAnswers}

@@ -1,10 +1,11 @@
 -- The turns of the last round, with a graph for each.
 use Rattle.std.specs.Prelude.{◌≡◌, ℕ, ◌+◌, ◌<◌, ◌==◌, ◌⊎◌, if◌then◌else◌, not, List, [], ◌∷◌, ◌++◌, Some, length, map, replicate, slice_index, slice_set}
 use Rattle.std.specs.List.{range_with_len, zip}
+use Rattle.fr_net.specs.Links.{HaveSameLinks, IsNet}
 use Rattle.fr_net.specs.Turn.{turn}
 use Rattle.fr_core.specs.History.{Moment, count_at}
 use Rattle.fr_core.specs.Legal.{CanTurn, NoneCanTurn}
-use Rattle.fr_route.specs.States.{State}
+use Rattle.fr_route.specs.States.{IsRound, State}
 use Rattle.revdot.specs.Graphs.{graph_text}
 use Rattle.revdot.specs.Settled.{IsGraphOf}
 use Rattle.revdot.specs.declared.graphs.NodeLook.{NodeLook}
@@ -77,8 +78,13 @@ abbrev pub turns_text : State → Moment → ℕ → List ℕ → List ℕ
 turns_text s m k [] = []
 turns_text s m k (x ∷ xs) = turn_text s m k x ++ turns_text s (after_turn m x) (k + 1) xs
 
+-- the strip begins with the links of the round that led to the state, whichever these were
+abbrev pub BeginsTheRound : State → Type 0
+BeginsTheRound s = (first : List (ℕ × ℕ)) → IsNet s.nodes first → s.dest < s.nodes → IsRound s.nodes s.dest first s → HaveSameLinks (beginning s).links first
+
 -- the turns of the last round, and then the state
 pub record IsStripOf (s : State) (out : List ℕ) : Type 0 where
+  pub begins : BeginsTheRound s
   pub turns : List ℕ
   pub are_all : AreAllTurns s.nodes s.dest (beginning s) turns
   pub last : List ℕ

@@ -1,7 +1,8 @@
-use Rattle.std.proofs.Common.{◌≡◌, ◌∙◌, ◌++◌, List, ℕ, ap, append_assoc, refl, OnOk, string_bytes}
+use Rattle.std.proofs.Common.{◌≡◌, ◌∙◌, ◌++◌, List, ℕ, ap, append_assoc, refl, string_bytes}
 use Rattle.std.proofs.lemmas.Result.{on_ok_weaker}
 use Rattle.revdot.specs.Settled.{IsGraphOf}
 use Rattle.revdot.specs.Strips.{IsStripOf, beginning, turns_text}
+use Rattle.revdot.proofs.Beginnings.{begins}
 use Rattle.revdot.proofs.strips.push_strip.Goals as goal
 
 pub returns : goal.returns
@@ -13,6 +14,7 @@ returns c =
     on_ok_weaker c.push_settled.result
     (λ (settled : (graph : List ℕ) × IsGraphOf s graph × (string_bytes c.push_settled.new.text ≡ string_bytes c.push_turns.new.text ++ graph)).
     let strip : IsStripOf s (turns ++ settled.0) = record {
+      begins = λ first net below round. begins s.nodes s.dest first s net below round;
       turns = drawn.0;
       are_all = drawn.1;
       last = settled.0;

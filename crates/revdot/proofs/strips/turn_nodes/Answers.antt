@@ -1,4 +1,4 @@
-use Rattle.std.proofs.Common.{◌∙◌, ◌++◌, ◌∷◌, [], ap, arith, zero-add, sym, List}
+use Rattle.std.proofs.Common.{arith}
 use Rattle.std.proofs.lemmas.List.FromFn.{map-range_with_len_more}
 use Rattle.revdot.specs.Strips.{turn_node}
 use Rattle.revdot.proofs.strips.turn_nodes.Goals as goal

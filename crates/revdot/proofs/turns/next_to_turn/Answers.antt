@@ -1,9 +1,9 @@
-use Rattle.std.proofs.Common.{◌≡◌, ◌∙◌, ◌<◌, ap, false, true, inl, inr, subst, sym, arith, slice_index_or, ℕ, List, Bool}
+use Rattle.std.proofs.Common.{◌≡◌, false, true, inl, inr, subst, arith}
 use Rattle.std.proofs.lemmas.Bool.{cases_lt}
 use Rattle.revdot.specs.Ends.{HaveEnds}
 use Rattle.fr_core.specs.Legal.{CanTurn}
 use Rattle.revdot.specs.Strips.{moment}
-use Rattle.revdot.proofs.Sinks.{mark_at, sink, sink_below, tail_is_none, no_head_is_none}
+use Rattle.revdot.proofs.Sinks.{mark_at, sink, tail_is_none, no_head_is_none}
 use Rattle.revdot.proofs.turns.next_to_turn.Goals as goal
 use Rattle.revdot.proofs.turns.next_to_turn.Goals.{else-x-dest-via-then-x-dest+then-index+then-not-index+else-counts-place, else-x-dest-via-then-x-dest+then-index+else-not-index, else-x-dest-via-then-x-dest+else-index, else-x-dest-via-else-x-dest}
 
