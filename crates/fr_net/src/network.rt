@@ -1,4 +1,4 @@
-//! Networks.
+//! A network: how it is made of links, read by nodes and rows, and made into another by edits and by counts.
 
 ghost use Rattle.std.specs.Prelude.{◌≡◌, ◌≢◌, ℕ, ◌<◌, ◌≤◌, ◌+◌, ◌++◌, [], ◌∷◌, length, slice_get, slice_index, Some, IfOk, IfErr, IfSome, IfNone, MatchOption, OnOk, All, ◌⊎◌};
 ghost use Rattle.std.specs.List.{HoldsAt};
@@ -50,7 +50,7 @@ impl Model for Net {
 impl Net {
     /// The network with nodes 0 to `nodes - 1` and these links, each from its tail to its head, in whatever order they
     /// are listed; or the first fault that stands, tested over the whole list in the order of [`NetFault`]. `Memory` where no
-    /// room could be had. It is linear.
+    /// room could be had. Time and memory are linear in nodes and links.
     pub fn new(alloc: Global, nodes: u32, links: &[(u32, u32)]) -> Result<Net, NetFault>
         ensures ok { IfOk result (IsNetworkOf nodes links.now) }
         ensures refused { IfErr result (λ fault. fault ≢ Memory → IsFirstFault nodes links.now fault) }
@@ -173,7 +173,8 @@ impl Net {
     }
 
     /// The network without the link between `u` and `v`, whichever way it points. `NoLink` exactly where there is none, as
-    /// where one of them is no node or both are the same; `Memory` where no room could be had. It is linear.
+    /// where one of them is no node or both are the same; `Memory` where no room could be had. Time and memory are
+    /// linear in nodes and links, since the network is copied.
     pub fn with_cut(&self, alloc: Global, u: u32, v: u32) -> Result<Net, NetFault>
         ensures joined { OnOk result (Joins self.now.links u v) }
         ensures ok { IfOk result (IsNetworkOf self.now.nodes (without u v self.now.links)) }
@@ -183,8 +184,8 @@ impl Net {
     }
 
     /// The network with the link from `u` to `v` as well; or the first fault that then stands, in the order of
-    /// [`NetFault`], where a closed walk follows the links with the new one among them. `Memory` where no room could be had. It is
-    /// linear, and searches for a closed walk from the head of the new link alone.
+    /// [`NetFault`], where a closed walk follows the links with the new one among them. `Memory` where no room could be had. Time and
+    /// memory are linear in nodes and links; a closed walk is sought from the head of the new link alone.
     pub fn with_link(&self, alloc: Global, u: u32, v: u32) -> Result<Net, NetFault>
         ensures ok { IfOk result (IsNetworkOf self.now.nodes (self.now.links ++ (u, v) ∷ [])) }
         ensures refused { IfErr result (λ fault. fault ≢ Memory
@@ -195,7 +196,7 @@ impl Net {
 
     /// The network with `u` and `v` joined: by a link from `u` to `v`, or from `v` to `u` where a closed walk would follow the
     /// other; the law [`join_law`](crate::laws::join_law) says that then none follows this one. It is refused as by `with_link`, but
-    /// never for a `Cycle`. It is linear, and one search decides which way the link points.
+    /// never for a `Cycle`. Time and memory are linear in nodes and links, and one search decides which way the link points.
     pub fn with_join(&self, alloc: Global, u: u32, v: u32) -> Result<Net, NetFault>
         ensures ok { IfOk result (IsJoined self.now.nodes self.now.links u v) }
         ensures refused { IfErr result (λ fault. fault ≢ Memory → IsJoinFault self.now.nodes self.now.links u v fault) }
@@ -330,7 +331,7 @@ impl Net {
 
     /// The network of the links that the counts give, one count for each node: a link stays where its head has turned
     /// as often as its tail, and is reversed where its head has turned once more; the counts have to leave no other case. The
-    /// only fault is `Memory`, where no room could be had. It is linear.
+    /// only fault is `Memory`, where no room could be had. Time and memory are linear in nodes and links.
     pub fn turned_by(&self, alloc: Global, counts: &[u64]) -> Result<Net, NetFault>
         requires one_each { length counts.now ≡ self.now.nodes }
         requires kept { All (IsKept counts.now) self.now.links }
@@ -341,7 +342,7 @@ impl Net {
     }
 
     /// The network of the links that the counts give, as by `turned_by`, made in the place of this one: it takes no memory
-    /// and has no fault. It is linear.
+    /// and has no fault, in time linear in nodes and links.
     pub fn into_turned(self, counts: &[u64]) -> Net
         requires one_each { length counts.now ≡ self.nodes }
         requires kept { All (IsKept counts.now) self.links }
