@@ -23,8 +23,12 @@ workers_option default = option (codes "workers") default (Signed (pos 1) (pos m
 abbrev pub seed_option : Rule
 seed_option = option (codes "seed") (codes "0") (Unsigned 0 18446744073709551615)
 
+-- the largest budget that the command line takes
+abbrev pub most_budget : ℕ
+most_budget = 1000000000
+
 abbrev pub budget_option : Rule
-budget_option = option (codes "budget") (codes "1000000") (Signed (pos 0) (pos 1000000000))
+budget_option = option (codes "budget") (codes "1000000") (Signed (pos 0) (pos most_budget))
 
 abbrev pub steps_option : Rule
 steps_option = option (codes "steps") (codes "100") (Signed (pos 0) (pos most_steps))

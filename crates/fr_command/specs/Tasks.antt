@@ -8,7 +8,7 @@ use Rattle.clap.specs.declared.error.kind.ErrorKind.{ErrorKind}
 use Rattle.clap.specs.declared.error.kind.ErrorKind.TheVariants.{DisplayHelp, DisplayVersion, OutOfMemory}
 use Rattle.fr_core.specs.Limits.{most_workers}
 use Rattle.fr_play.specs.Draws.{most_steps}
-use Rattle.fr_command.specs.Commands.{command, number_of}
+use Rattle.fr_command.specs.Commands.{command, most_budget, number_of}
 use Rattle.fr_command.specs.declared.task.Task.{Task}
 use Rattle.fr_command.specs.declared.task.Task.TheVariants.{Run, Play}
 use Rattle.fr_command.specs.declared.task.TaskFault.{TaskFault}
@@ -20,7 +20,7 @@ IsTaskOf name rows (Run plan) =
     (name ≡ codes "run")
     × (number_of (codes "workers") rows ≡ Some plan.workers) × (1 ≤ plan.workers) × (plan.workers ≤ most_workers)
     × (number_of (codes "seed") rows ≡ Some plan.seed)
-    × (number_of (codes "budget") rows ≡ Some plan.budget) × (plan.budget ≤ 1000000000)
+    × (number_of (codes "budget") rows ≡ Some plan.budget) × (plan.budget ≤ most_budget)
 IsTaskOf name rows (Play draw) =
     (name ≡ codes "play")
     × (number_of (codes "workers") rows ≡ Some draw.workers) × (1 ≤ draw.workers) × (draw.workers ≤ most_workers)

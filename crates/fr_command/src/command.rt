@@ -6,7 +6,7 @@ ghost use Rattle.clap.specs.Words.{HasKind, app_of, fault_of, new_app, rule_of, 
 ghost use Rattle.clap.specs.declared.builder.command.Command.TheViews.{out-Command};
 ghost use Rattle.fr_core.specs.Limits.{most_workers};
 ghost use Rattle.fr_play.specs.Draws.{most_steps};
-ghost use Rattle.fr_command.specs.Commands.{command, program, run_command as run_command_of, play_command as play_command_of, option as option_of};
+ghost use Rattle.fr_command.specs.Commands.{command, most_budget, program, run_command as run_command_of, play_command as play_command_of, option as option_of};
 
 use clap::builder::ValueParser;
 use clap::{Arg, ArgMatches, Command, Error, value_parser};
@@ -45,6 +45,16 @@ const BUDGET: &str =
     "How many calls each worker makes at most in a round, 0 to 1000000000; 0 is fastest for answers alone";
 
 const STEPS: &str = "How many steps are made, 0 to 10000";
+
+// The texts name these limits.
+const _: () = prove!(MAX_WORKERS == 16);
+
+const _: () = prove!(MAX_BUDGET == 1_000_000_000);
+
+const _: () = prove!(MAX_STEPS == 10_000);
+
+/// The largest budget that the command line takes.
+pub(crate) const MAX_BUDGET: u32 = 1_000_000_000;
 
 /// What the words of a command line say, the program's name first.
 pub(crate) fn matches_of<'a>(alloc: Global, words: &'a [&'a str]) -> Result<ArgMatches<'a>, Error>
@@ -122,9 +132,9 @@ fn worker_numbers<'a>() -> ValueParser<'a>
 }
 
 fn budget_numbers<'a>() -> ValueParser<'a>
-    ensures { result ≡ ValueParser.Signed (pos 0) (pos 1000000000) }
+    ensures { result ≡ ValueParser.Signed (pos 0) (pos most_budget) }
 {
-    value_parser!(u32).range(0..=1_000_000_000)
+    value_parser!(u32).range(0..=i64::from(MAX_BUDGET))
 }
 
 fn step_numbers<'a>() -> ValueParser<'a>

@@ -6,7 +6,7 @@ ghost use Rattle.clap.specs.Words.{found_of, rows_of};
 ghost use Rattle.fr_command.specs.Commands.{number_of};
 ghost use Rattle.fr_command.specs.Tasks.{IsTaskIn, IsTaskOf, IsUsageOf, IsFaultOf};
 
-use crate::command::matches_of;
+use crate::command::{MAX_BUDGET, matches_of};
 use clap::error::ErrorKind;
 use clap::{ArgMatches, Error};
 use fr_core::MAX_WORKERS;
@@ -63,7 +63,7 @@ fn task_in(name: &str, options: &ArgMatches) -> Option<Task>
     let seed = seed_in(options)?;
     match name {
         "run" => {
-            let budget = number_in(options, "budget", 1_000_000_000)?;
+            let budget = number_in(options, "budget", MAX_BUDGET)?;
             Some(Task::Run(Plan::new(workers, seed, u64::from(budget))?))
         }
         "play" => {
