@@ -18,6 +18,7 @@ pub mod Reaching
 pub mod LevelSearches
 pub mod LevelStarts
 pub mod SettledRuns
+pub mod Worklists
 pub mod SmallNetworks
 pub mod Loads
 pub mod MachineSteps

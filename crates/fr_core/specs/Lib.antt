@@ -10,6 +10,7 @@ pub mod Laws
 pub mod NodeCounts
 pub mod Reaching
 pub mod LevelSearch
+pub mod Worklist
 pub mod Runs
 pub mod Limits
 pub mod Machine

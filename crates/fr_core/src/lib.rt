@@ -21,6 +21,7 @@ mod queue;
 mod schedules;
 mod targets;
 mod worker;
+mod worklist;
 
 pub use check::{CheckFault, Why, check_run};
 pub use counts::{is_sink, lawful, sense};

@@ -1,6 +1,6 @@
 //! The queue of a search.
 
-ghost use Rattle.std.specs.Prelude.{◌≡◌, ℕ, ◌<◌, ◌≤◌, List, [], ◌∷◌, ◌++◌, length, take, slice_index};
+ghost use Rattle.std.specs.Prelude.{◌≡◌, ℕ, ◌+◌, ◌<◌, ◌≤◌, ◌↔◌, IsTrue, List, [], ◌∷◌, ◌++◌, length, take, slice_index};
 ghost use Rattle.fr_net.specs.Limits.{most_nodes};
 
 use fr_net::MAX_NODES;
@@ -33,7 +33,8 @@ impl Queue {
     }
 
     pub fn len(&self) -> usize
-        ensures { result ≡ length self.now }
+        ensures value { result ≡ length self.now }
+        ensures few { length self.now ≤ most_nodes }
     {
         self.len
     }
@@ -44,6 +45,13 @@ impl Queue {
         ensures { result ≡ slice_index self.now at }
     {
         self.places[..self.len][at]
+    }
+
+    /// Whether so many nodes more find room.
+    pub fn has_room(&self, more: usize) -> bool
+        ensures { IsTrue result ↔ (length self.now + more ≤ most_nodes) }
+    {
+        more <= MAX_NODES as usize - self.len
     }
 
     pub fn push(&mut self, node: u32)

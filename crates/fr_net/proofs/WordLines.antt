@@ -1,4 +1,4 @@
--- The line whose tokens are an array of a word and other items.
+-- The line whose tokens are a value, and the line whose tokens are an array of a word and other items.
 use Rattle.std.proofs.Common.{List, Some, [], ap, arith, length, map, ok_or, option_and_then, refl, ℕ, ◌-◌, ◌∙◌, ◌∷◌, ◌≡◌}
 use Rattle.json.proofs.Grammar.{value-begin_array, value_is}
 use Rattle.json.specs.Json.{if_last, items, parse_map, value}
@@ -8,10 +8,14 @@ use Rattle.serde_json.specs.Data.{array, item, string}
 use Rattle.serde_json.specs.Read.{converted, of_items, of_json, read}
 use Rattle.serde_json.specs.View.{items_view, view}
 use Rattle.serde_json.specs.declared.value.Value.{Value}
-use Rattle.fr_net.specs.Requests.{reading_of_value, request_of_word}
+use Rattle.fr_net.specs.Requests.{reading_of_value, request_of, request_of_word}
 use Rattle.fr_net.specs.declared.requests.LineFault.TheVariants.{NotRequest}
 use Rattle.fr_net.proofs.Items.{list_again}
 use Rattle.fr_net.proofs.TokenItems.{array_of_items, one_item, whole_value}
+
+-- the value settles what the text is
+pub reading_of_whole : (text : List ℕ) (v : Value) → converted of_json (value 127 (tokens text)) ≡ Some (view v, []) → reading_of_value (read text) ≡ ok_or (request_of (view v)) NotRequest
+reading_of_whole text v e = rw (whole_value (value 127 (tokens text)) (view v) e)
 
 -- the word and the items after it settle what the text is
 pub reading_of_word : (text word : List ℕ) (behind : List Token) (rest : List Value) → tokens text ≡ Token.begin_array ∷ Token.string word ∷ behind

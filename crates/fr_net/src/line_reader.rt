@@ -5,18 +5,19 @@ ghost use Rattle.serde_json.specs.Read.{read as read_json};
 ghost use Rattle.fr_net.specs.declared.requests.LineFault.TheVariants.{Memory};
 ghost use Rattle.fr_net.specs.Requests.{plain, reading, reading_of_value};
 
-use crate::read::{read_line, request_by_word};
+use crate::read::{read_line, request_by_word, request_in};
 use crate::requests::{LineFault, Request};
-use crate::values::{Stop, items};
+use crate::values::{Stop, items, value};
 use json::{Reader, Scratch, Token};
 use std::alloc::{AllocError, Global};
 use std::fmt;
 use std::str::from_utf8;
 
-/// What `serde_json` reads nests at most 127 deep, and the array that is a request is the outermost.
-const DEPTH_OF_ITEMS: usize = 126;
+/// How deep a value may nest that `serde_json` reads.
+const DEPTH: usize = 127;
 
-/// A reader of many lines. It keeps the memory that reading takes, a table of 16 KB, from its first line on.
+/// A reader of many lines. From its first line on it keeps the memory that reading takes: a table of 16 KB, and room for the
+/// longest line so far.
 #[derive(Drop)]
 pub struct LineReader {
     scratch: Option<Box<Scratch>>,
@@ -64,9 +65,23 @@ fn new_scratch(alloc: Global) -> Result<Box<Scratch>, LineFault>
     Ok(Box::new(alloc, Scratch::new(alloc))?)
 }
 
-/// The request that a text is, or None where only `serde_json` can tell what the text is: where it is no array that begins
-/// with a word, or holds a value that stands in no request.
+/// The request of a text, or None where a value in it is of a kind that stands in no request, or the text is no JSON.
 fn request_of_text(
+    alloc: Global,
+    text: &str,
+    scratch: &mut Scratch,
+) -> Result<Option<Request>, LineFault>
+    ensures ok { IfOk result (λ taken. IfSome taken (λ request. reading_of_value (read_json text.now) ≡ Ok (plain request))) }
+    ensures refused { IfErr result (λ fault. fault ≢ Memory → reading_of_value (read_json text.now) ≡ Err fault) }
+{
+    match request_of_words(alloc, text, scratch) {
+        Ok(None) => request_of_value(alloc, text, scratch),
+        taken => taken,
+    }
+}
+
+/// The same of a text that is an array of a word and other items, with no copy of the word; None for every other text.
+fn request_of_words(
     alloc: Global,
     text: &str,
     scratch: &mut Scratch,
@@ -81,7 +96,7 @@ fn request_of_text(
     let Some(Token::String(word)) = reader.next() else {
         return Ok(None);
     };
-    let rest = match items(alloc, &mut reader, DEPTH_OF_ITEMS) {
+    let rest = match items(alloc, &mut reader, DEPTH - 1) {
         Ok(rest) => rest,
         Err(Stop::Memory) => return Err(LineFault::Memory),
         Err(Stop::NotTaken) => return Ok(None),
@@ -90,4 +105,26 @@ fn request_of_text(
         return Ok(None);
     }
     Ok(Some(request_by_word(alloc, word, &rest)?))
+}
+
+/// The same of a text that is any value.
+#[inline(never)]
+fn request_of_value(
+    alloc: Global,
+    text: &str,
+    scratch: &mut Scratch,
+) -> Result<Option<Request>, LineFault>
+    ensures ok { IfOk result (λ taken. IfSome taken (λ request. reading_of_value (read_json text.now) ≡ Ok (plain request))) }
+    ensures refused { IfErr result (λ fault. fault ≢ Memory → reading_of_value (read_json text.now) ≡ Err fault) }
+{
+    let mut reader = Reader::new(text, scratch)?;
+    let whole = match value(alloc, &mut reader, DEPTH) {
+        Ok(whole) => whole,
+        Err(Stop::Memory) => return Err(LineFault::Memory),
+        Err(Stop::NotTaken) => return Ok(None),
+    };
+    if reader.next().is_some() {
+        return Ok(None);
+    }
+    Ok(Some(request_in(alloc, &whole)?))
 }

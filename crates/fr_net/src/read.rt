@@ -23,7 +23,7 @@ pub fn read_line(alloc: Global, line: &[u8]) -> Result<Request, LineFault>
 }
 
 /// The request that a value of JSON is.
-fn request_in(alloc: Global, value: &Value) -> Result<Request, LineFault>
+pub(crate) fn request_in(alloc: Global, value: &Value) -> Result<Request, LineFault>
     ensures ok { IfOk result (λ request. request_of (view value.now) ≡ Some (plain request)) }
     ensures refused { IfErr result (λ fault. fault ≢ Memory
         → ok_or (request_of (view value.now)) NotRequest ≡ Err fault) }

@@ -40,7 +40,7 @@ impl<T: Drop> From<AllocFailed<T>> for Stop {
 /// `depth` deep.
 #[cycle(value)]
 #[inline(always)]
-fn value(alloc: Global, reader: &mut Reader<'_>, depth: usize) -> Result<Value, Stop>
+pub(crate) fn value(alloc: Global, reader: &mut Reader<'_>, depth: usize) -> Result<Value, Stop>
     ensures ok { IfOk result (λ v. converted of_json (json_value depth reader.old) ≡ Some (view v, reader.new)) }
     ensures shorter { OnOk result (length reader.new < length reader.old) }
 {

@@ -7,7 +7,7 @@ use Rattle.serde_json.specs.View.{items_view, view}
 use Rattle.fr_net.specs.Requests.{plain, reading_of_value, request_of_word}
 use Rattle.fr_net.specs.declared.requests.LineFault.TheVariants.{Memory}
 use Rattle.fr_net.proofs.WordLines.{reading_of_word}
-use Rattle.fr_net.proofs.line_reader.request_of_text.Goals as goal
+use Rattle.fr_net.proofs.line_reader.request_of_words.Goals as goal
 
 pub returns-in_err-request_by_word-clause-refused : goal.returns-in_err-request_by_word-clause-refused
 returns-in_err-request_by_word-clause-refused c =

@@ -1,0 +1,15 @@
+use Rattle.std.proofs.Common.{◌-◌}
+use Rattle.fr_net.specs.Counts.{AreLawful}
+use Rattle.fr_net.specs.Limits.{most_nodes}
+use Rattle.fr_core.specs.Worklist.{AreNodes, HoldsAll}
+use Rattle.fr_core.proofs.worklist.turn_sinks.Given as goal
+
+abbrev pub invariant-loop-at : goal.invariant-loop-at
+invariant-loop-at l = record {
+  lawful : AreLawful l.net.nodes l.dest l.net.links l.counts;
+  nodes : AreNodes l.net.nodes l.work;
+  all : HoldsAll l.net.nodes l.dest l.net.links l.counts l.work l.at;
+}
+
+abbrev pub decreases-loop-at : goal.decreases-loop-at
+decreases-loop-at l = most_nodes - l.at

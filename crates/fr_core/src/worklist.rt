@@ -1,0 +1,99 @@
+//! Turning node by node, as long as that is cheap.
+
+ghost use Rattle.std.specs.Prelude.{◌≡◌, ℕ, ◌<◌, ◌++◌, true, IsTrue, ◌↔◌, map, length};
+ghost use Rattle.fr_net.specs.Counts.{AreLawful};
+ghost use Rattle.fr_net.specs.Links.{IsNet};
+ghost use Rattle.fr_net.specs.Rows.{row};
+ghost use Rattle.fr_net.specs.declared.rows.First.{First};
+ghost use Rattle.fr_core.specs.History.{moment_of};
+ghost use Rattle.fr_core.specs.Legal.{CanTurn, NoneCanTurn};
+ghost use Rattle.fr_core.specs.Worklist.{AreNodes, HoldsAll, Carries};
+
+use crate::counts::is_sink;
+use crate::queue::Queue;
+use fr_net::Net;
+
+/// Whether node `x` can turn: it is a sink, not the destination, and its count is below the cap.
+fn can_turn(net: &Net, dest: u32, counts: &[u64], x: u32) -> bool
+    requires lawful { AreLawful net.now.nodes dest net.now.links counts.now }
+    requires node { x < net.now.nodes }
+    ensures { IsTrue result ↔ CanTurn net.now.nodes dest (moment_of net.now.links counts.now) x }
+{
+    x != dest && counts[x as usize] < u64::from(net.nodes()) && is_sink(net, counts, x)
+}
+
+/// A worklist of all nodes that can turn.
+fn sinks(net: &Net, dest: u32, counts: &[u64]) -> Queue
+    requires lawful { AreLawful net.now.nodes dest net.now.links counts.now }
+    ensures nodes { AreNodes net.now.nodes result }
+    ensures all { HoldsAll net.now.nodes dest net.now.links counts.now result 0 }
+{
+    let mut work = Queue::new();
+    for x in 0..net.nodes() {
+        if can_turn(net, dest, counts, x) {
+            work.push(x);
+        }
+    }
+    work
+}
+
+/// Adds the neighbours of node `x` to the worklist, if they find room there: whether they do.
+fn add_neighbours(net: &Net, x: u32, work: &mut Queue) -> bool
+    requires node { x < net.now.nodes }
+    ensures added { result ≡ true
+        → work.new ≡ work.old ++ map (λ (e : ℕ × First). e.0) (row net.now.nodes net.now.links x) }
+{
+    let row = net.row(x);
+    if !work.has_room(row.len()) {
+        return false;
+    }
+    for (w, _) in row {
+        work.push(*w);
+    }
+    true
+}
+
+/// Looks at node `x`, and turns it if it can turn: its neighbours, which may be sinks then, are added to the worklist. Where
+/// they find no room there it answers no, and turns nothing.
+fn visit(net: &Net, dest: u32, counts: &mut [u64], x: u32, work: &mut Queue) -> bool
+    requires net { IsNet net.now.nodes net.now.links }
+    requires lawful { AreLawful net.now.nodes dest net.now.links counts.old }
+    requires node { x < net.now.nodes }
+    requires nodes { AreNodes net.now.nodes work.old }
+    ensures lawful { AreLawful net.now.nodes dest net.now.links counts.new }
+    ensures nodes { result ≡ true → AreNodes net.now.nodes work.new }
+    ensures carries { result ≡ true
+        → Carries net.now.nodes dest net.now.links counts.old work.old x counts.new work.new }
+{
+    if !can_turn(net, dest, counts, x) {
+        return true;
+    }
+    if !add_neighbours(net, x, work) {
+        return false;
+    }
+    counts[x as usize] += 1;
+    true
+}
+
+/// Turns nodes from a worklist until none can turn, and answers yes; or gives up and answers no, where the worklist has no
+/// more room, or the rows of the nodes that it looked at are together longer than all rows of the network.
+pub(crate) fn turn_sinks(net: &Net, dest: u32, counts: &mut [u64]) -> bool
+    requires net { IsNet net.now.nodes net.now.links }
+    requires lawful { AreLawful net.now.nodes dest net.now.links counts.old }
+    ensures lawful { AreLawful net.now.nodes dest net.now.links counts.new }
+    ensures none { result ≡ true → NoneCanTurn net.now.nodes dest (moment_of net.now.links counts.new) }
+{
+    let mut work = sinks(net, dest, counts);
+    let mut allowance = 2 * net.links().len();
+    let mut at = 0;
+    while at < work.len() {
+        let x = work.node(at);
+        let cost = net.degree(x) as usize;
+        if cost > allowance || !visit(net, dest, counts, x, &mut work) {
+            return false;
+        }
+        allowance -= cost;
+        at += 1;
+    }
+    true
+}
