@@ -40,7 +40,7 @@ one_hop s x hop.CutOff hop.Here h g = absurd (h.0 g)
 one_hop s x hop.CutOff (hop.To z) h g = absurd (h.1 (route_joined s.links s.dest x (z ∷ g.0) g.1))
 one_hop s x hop.CutOff hop.CutOff h g = refl
 
-hops_unique : (s : State) (n : ℕ) (a b : List Hop) → AreHops s n a → AreHops s n b → a ≡ b
+pub hops_unique : (s : State) (n : ℕ) (a b : List Hop) → AreHops s n a → AreHops s n b → a ≡ b
 hops_unique s n a b h g = ext_get_or hop.Here a b (h.one_each ∙ sym g.one_each) (λ i low.
     let inside : i < length b = omega (arith, h.one_each, g.one_each) in
     one_hop s i (get_or a i hop.Here) (get_or b i hop.Here) (h.each i (get_or a i hop.Here) (slice_get-get_or a i hop.Here low)) (g.each i (get_or b i hop.Here) (slice_get-get_or b i hop.Here inside)))

@@ -26,11 +26,16 @@ pub record IsDrawing (picture : Picture) (bytes out : List ℕ) : Type 0 where
   pub is_left : IsLeftBy bytes last
   pub is_picture : IsPictureOf picture last out
 
--- what was written is the picture, and nothing else
-abbrev pub WritesDrawing : Picture → List ℕ → Option (List ℕ) → Option (List ℕ) → Type 0
-WritesDrawing picture bytes old new = (out : List ℕ) × IsDrawing picture bytes out × Appends old new out
+-- the input has no other picture
+abbrev pub IsOnly : Picture → List ℕ → List ℕ → Type 0
+IsOnly picture bytes out = (other : List ℕ) → IsDrawing picture bytes other → other ≡ out
 
--- what was written is a beginning of the picture
+-- what was written is the one picture of the input, and nothing else
+abbrev pub WritesDrawing : Picture → List ℕ → Option (List ℕ) → Option (List ℕ) → Type 0
+WritesDrawing picture bytes old new =
+    (out : List ℕ) × IsDrawing picture bytes out × IsOnly picture bytes out × Appends old new out
+
+-- what was written is a beginning of it
 abbrev pub WritesBeginningOfDrawing : Picture → List ℕ → Option (List ℕ) → Option (List ℕ) → Type 0
 WritesBeginningOfDrawing picture bytes old new =
-    (whole : List ℕ) × (out : List ℕ) × IsDrawing picture bytes whole × IsBeginning out whole × Appends old new out
+    (whole : List ℕ) × (out : List ℕ) × IsDrawing picture bytes whole × IsOnly picture bytes whole × IsBeginning out whole × Appends old new out

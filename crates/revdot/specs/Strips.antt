@@ -1,5 +1,5 @@
 -- The turns of the last round, with a graph for each.
-use Rattle.std.specs.Prelude.{◌≡◌, ℕ, ◌+◌, ◌<◌, ◌==◌, ◌⊎◌, if◌then◌else◌, not, List, [], ◌∷◌, ◌++◌, Some, length, map, replicate, slice_index, slice_set}
+use Rattle.std.specs.Prelude.{◌≡◌, ℕ, ◌+◌, ◌<◌, ◌≤◌, ◌==◌, ◌⊎◌, if◌then◌else◌, not, List, [], ◌∷◌, ◌++◌, Some, length, map, replicate, slice_index, slice_set}
 use Rattle.std.specs.List.{range_with_len, zip}
 use Rattle.fr_net.specs.Links.{HaveSameLinks, IsNet}
 use Rattle.fr_net.specs.Turn.{turn}
@@ -49,6 +49,7 @@ AreTurns n d m (x ∷ xs) = IsNext n d m x × AreTurns n d (after_turn m x) xs
 -- these nodes turn one after the other, until none can or the most turns are made
 pub record AreAllTurns (n d : ℕ) (m : Moment) (xs : List ℕ) : Type 0 where
   pub turns : AreTurns n d m xs
+  pub few : length xs ≤ most_turns
   pub all : (length xs ≡ most_turns) ⊎ NoneCanTurn n d (after_turns m xs)
 
 -- how the node y is drawn at the turn of x

@@ -1,0 +1,87 @@
+-- The picture of an input is determined by the input.
+use Rattle.std.proofs.Common.{◌≡◌, ◌∙◌, ℕ, ◌-◌, ◌≤◌, ◌⊎◌, List, [], ◌∷◌, ◌++◌, Option, None, Some, length, map, ap, arith, inl, inr, refl, subst, sym}
+use Rattle.std.specs.List.{range_with_len}
+use Rattle.std.proofs.lemmas.Bool.{cases_lt}
+use Rattle.fr_core.specs.History.{Moment}
+use Rattle.fr_core.specs.Legal.{NoneCanTurn}
+use Rattle.fr_route.specs.States.{State}
+use Rattle.fr_route.specs.declared.hops.Hop.{Hop}
+use Rattle.fr_route.proofs.Determined.{hops_unique}
+use Rattle.fr_run.specs.Lines.{lines_of}
+use Rattle.fr_run.proofs.Determined.{answers_unique}
+use Rattle.revdot.specs.Drawings.{IsDrawing, IsPictureOf}
+use Rattle.revdot.specs.Graphs.{graph_text}
+use Rattle.revdot.specs.Settled.{IsGraphOf, settled_node, settled_link}
+use Rattle.revdot.specs.Strips.{IsNext, IsStripOf, AreTurns, after_turn, after_turns, beginning, most_turns, turns_text}
+use Rattle.revdot.specs.declared.drawing.Picture.{Picture}
+use Rattle.revdot.specs.declared.drawing.Picture.TheVariants.{Network, Turns}
+
+graph_unique : (s : State) (a b : List ℕ) → IsGraphOf s a → IsGraphOf s b → a ≡ b
+graph_unique s a b p q =
+    let hops : p.hops ≡ q.hops = hops_unique s s.nodes p.hops q.hops p.are_hops q.are_hops in
+    p.text
+    ∙ (ap (λ (hs : List Hop). graph_text None s.dest (map (settled_node s.counts hs) (range_with_len 0 s.nodes)) (map (settled_link hs) s.links)) hops
+    ∙ sym q.text)
+
+next_unique : (n d : ℕ) (m : Moment) (x y : ℕ) → IsNext n d m x → IsNext n d m y → x ≡ y
+next_unique n d m x y p q =
+    elim (cases_lt x y) [
+      | inl less ↦ absurd (q.least x less p.can)
+      | inr ge ↦
+          elim (cases_lt y x) [
+            | inl more ↦ absurd (p.least y more q.can)
+            | inr le ↦ omega (arith, ge, le)
+          ]
+    ]
+
+-- no more than k turns, and fewer only where none is left
+record AreMost (n d k : ℕ) (m : Moment) (xs : List ℕ) : Type 0 where
+  few : length xs ≤ k
+  all : (length xs ≡ k) ⊎ NoneCanTurn n d (after_turns m xs)
+
+one_less : (n d k x : ℕ) (m : Moment) (xs : List ℕ) → AreMost n d k m (x ∷ xs) → AreMost n d (k - 1) (after_turn m x) xs
+one_less n d k x m xs h = record {
+  few = let few = h.few in omega arith;
+  all = elim h.all [
+    | inl most ↦ inl (omega (arith, most))
+    | inr none ↦ inr none
+  ];
+}
+
+not_more : (n d k y : ℕ) (m : Moment) (ys : List ℕ) → AreMost n d k m [] → AreMost n d k m (y ∷ ys) → IsNext n d m y → ⊥
+not_more n d k y m ys h more next =
+    elim h.all [
+      | inl most ↦ (let few = more.few in omega (arith, most, few))
+      | inr none ↦ none y next.can
+    ]
+
+turns_unique : (n d k : ℕ) (m : Moment) (xs ys : List ℕ) → AreTurns n d m xs → AreTurns n d m ys → AreMost n d k m xs → AreMost n d k m ys → xs ≡ ys
+turns_unique n d k m [] [] p q g h = refl
+turns_unique n d k m [] (y ∷ ys) p q g h = absurd (not_more n d k y m ys g h q.0)
+turns_unique n d k m (x ∷ xs) [] p q g h = absurd (not_more n d k x m xs h g p.0)
+turns_unique n d k m (x ∷ xs) (y ∷ ys) p q g h =
+    let e : y ≡ x = next_unique n d m y x q.0 p.0 in
+    let turns : AreTurns n d (after_turn m x) ys = subst (λ (z : ℕ). AreTurns n d (after_turn m z) ys) e q.1 in
+    let most : AreMost n d (k - 1) (after_turn m x) ys = subst (λ (z : ℕ). AreMost n d (k - 1) (after_turn m z) ys) e (one_less n d k y m ys h) in
+    let rest = turns_unique n d (k - 1) (after_turn m x) xs ys p.1 turns (one_less n d k x m xs g) most in
+    ap (λ (z : ℕ). z ∷ xs) (sym e) ∙ ap (λ (zs : List ℕ). y ∷ zs) rest
+
+strip_unique : (s : State) (a b : List ℕ) → IsStripOf s a → IsStripOf s b → a ≡ b
+strip_unique s a b p q =
+    let turns : p.turns ≡ q.turns =
+    turns_unique s.nodes s.dest most_turns (beginning s) p.turns q.turns p.are_all.turns q.are_all.turns
+    (record { few = p.are_all.few; all = p.are_all.all }) (record { few = q.are_all.few; all = q.are_all.all }) in
+    let last : p.last ≡ q.last = graph_unique s p.last q.last p.settled q.settled in
+    let texts : turns_text s (beginning s) 1 p.turns ++ p.last ≡ turns_text s (beginning s) 1 q.turns ++ q.last = (λ i. turns_text s (beginning s) 1 (turns i) ++ last i) in
+    p.text ∙ (texts ∙ sym q.text)
+
+picture_unique : (picture : Picture) (last : Option State) (a b : List ℕ) → IsPictureOf picture last a → IsPictureOf picture last b → a ≡ b
+picture_unique picture None a b p q = p ∙ sym q
+picture_unique Network (Some s) a b p q = graph_unique s a b p q
+picture_unique Turns (Some s) a b p q = strip_unique s a b p q
+
+-- an input has one picture
+pub drawing_unique : (picture : Picture) (bytes a b : List ℕ) → IsDrawing picture bytes a → IsDrawing picture bytes b → a ≡ b
+drawing_unique picture bytes a b p q =
+    let last : q.last ≡ p.last = (answers_unique None (lines_of bytes) q.is_left.0 p.is_left.0 q.last p.last q.is_left.1 p.is_left.1).1 in
+    picture_unique picture p.last a b p.is_picture (subst (λ (s : Option State). IsPictureOf picture s b) last q.is_picture)
