@@ -9,7 +9,7 @@ use crate::read::{read_line, request_by_word, request_in};
 use crate::requests::{LineFault, Request};
 use crate::values::{Stop, items, value};
 use json::{Reader, Scratch, Token};
-use std::alloc::{AllocError, Global};
+use std::alloc::Global;
 use std::fmt;
 use std::str::from_utf8;
 
