@@ -1,10 +1,9 @@
 //! Settling a network.
 
-ghost use Rattle.std.specs.Prelude.{◌≡◌, ◌≢◌, ℕ, ◌<◌, ◌≤◌, ◌+◌, ◌^◌, ◌↔◌, false, IfOk, IfErr, sum, sum_by};
+ghost use Rattle.std.specs.Prelude.{◌≡◌, ◌≢◌, ℕ, ◌<◌, ◌≤◌, ◌^◌, ◌↔◌, false, IfOk, IfErr, sum, sum_by};
 ghost use Rattle.fr_net.specs.Counts.{AreLawful};
 ghost use Rattle.fr_core.specs.History.{moment_of};
 ghost use Rattle.fr_core.specs.Legal.{NoneCanTurn};
-ghost use Rattle.fr_core.specs.Settled.{AreSettled};
 ghost use Rattle.fr_crew.specs.Settlements.{IsSettlement, Settles, NeverStarts};
 ghost use Rattle.fr_crew.specs.Beginnings.{IsBegun};
 ghost use Rattle.fr_crew.specs.declared.fault.CrewFault.TheVariants.{Range, Start, Memory};
