@@ -1,4 +1,4 @@
-//! The queue of a search.
+//! The queue of a search, and of nodes that may turn.
 
 ghost use Rattle.std.specs.Prelude.{◌≡◌, ℕ, ◌+◌, ◌<◌, ◌≤◌, ◌↔◌, IsTrue, List, [], ◌∷◌, ◌++◌, length, take, slice_index};
 ghost use Rattle.fr_net.specs.Limits.{most_nodes};
@@ -6,8 +6,8 @@ ghost use Rattle.fr_net.specs.Limits.{most_nodes};
 use fr_net::MAX_NODES;
 use std::marker::Model;
 
-/// The nodes that a search has reached, in the order in which it reached them. There is room for each node of a
-/// network.
+/// Nodes in the order in which they were put there, by a search that reached them, or as those that may turn. There is room
+/// for as many as a network can have.
 #[derive(Drop)]
 pub(crate) struct Queue {
     places: [u32; MAX_NODES as usize],

@@ -1,6 +1,6 @@
 //! Turning node by node, as long as that is cheap.
 
-ghost use Rattle.std.specs.Prelude.{◌≡◌, ℕ, ◌<◌, ◌++◌, true, IsTrue, ◌↔◌, map, length};
+ghost use Rattle.std.specs.Prelude.{◌≡◌, ℕ, ◌<◌, ◌++◌, [], true, IsTrue, ◌↔◌, map, length};
 ghost use Rattle.fr_net.specs.Counts.{AreLawful};
 ghost use Rattle.fr_net.specs.Links.{IsNet};
 ghost use Rattle.fr_net.specs.Rows.{row};
@@ -22,19 +22,18 @@ fn can_turn(net: &Net, dest: u32, counts: &[u64], x: u32) -> bool
     x != dest && counts[x as usize] < u64::from(net.nodes()) && is_sink(net, counts, x)
 }
 
-/// A worklist of all nodes that can turn.
-fn sinks(net: &Net, dest: u32, counts: &[u64]) -> Queue
+/// Puts all nodes that can turn into the worklist, which is empty.
+fn add_sinks(net: &Net, dest: u32, counts: &[u64], work: &mut Queue)
     requires lawful { AreLawful net.now.nodes dest net.now.links counts.now }
-    ensures nodes { AreNodes net.now.nodes result }
-    ensures all { HoldsAll net.now.nodes dest net.now.links counts.now result 0 }
+    requires empty { work.old ≡ [] }
+    ensures nodes { AreNodes net.now.nodes work.new }
+    ensures all { HoldsAll net.now.nodes dest net.now.links counts.now work.new 0 }
 {
-    let mut work = Queue::new();
     for x in 0..net.nodes() {
         if can_turn(net, dest, counts, x) {
             work.push(x);
         }
     }
-    work
 }
 
 /// Adds the neighbours of node `x` to the worklist, if they find room there: whether they do.
@@ -83,7 +82,8 @@ pub(crate) fn turn_sinks(net: &Net, dest: u32, counts: &mut [u64]) -> bool
     ensures lawful { AreLawful net.now.nodes dest net.now.links counts.new }
     ensures none { result ≡ true → NoneCanTurn net.now.nodes dest (moment_of net.now.links counts.new) }
 {
-    let mut work = sinks(net, dest, counts);
+    let mut work = Queue::new();
+    add_sinks(net, dest, counts, &mut work);
     let mut allowance = 2 * net.links().len();
     let mut at = 0;
     while at < work.len() {

@@ -7,7 +7,7 @@ use fr_core::MAX_WORKERS;
 
 /// How many workers turn a network, a seed for their draws, and how many calls each of them may make. It says who does the work
 /// and changes no answer. Whoever only wants answers is served fastest by a budget of 0, or by a call that takes no plan, as
-/// [`settle_alone`](crate::settle_alone): one search settles the network, and no thread is started.
+/// [`settle_alone`](crate::settle_alone): a few turns or one search settle the network, and no thread is started.
 #[derive(Clone, Copy, Debug, PartialEq, Eq)]
 pub struct Plan {
     workers: u32,

@@ -1,10 +1,9 @@
 //! Settling a network.
 
-ghost use Rattle.std.specs.Prelude.{◌≡◌, ◌≢◌, ℕ, ◌<◌, ◌≤◌, ◌+◌, ◌^◌, ◌↔◌, false, IfOk, IfErr, sum, sum_by};
+ghost use Rattle.std.specs.Prelude.{◌≡◌, ◌≢◌, ℕ, ◌<◌, ◌≤◌, ◌^◌, ◌↔◌, false, IfOk, IfErr, sum, sum_by};
 ghost use Rattle.fr_net.specs.Counts.{AreLawful};
 ghost use Rattle.fr_core.specs.History.{moment_of};
 ghost use Rattle.fr_core.specs.Legal.{NoneCanTurn};
-ghost use Rattle.fr_core.specs.Settled.{AreSettled};
 ghost use Rattle.fr_crew.specs.Settlements.{IsSettlement, Settles, NeverStarts};
 ghost use Rattle.fr_crew.specs.Beginnings.{IsBegun};
 ghost use Rattle.fr_crew.specs.declared.fault.CrewFault.TheVariants.{Range, Start, Memory};
@@ -178,21 +177,6 @@ fn can_any_turn(net: &Net, dest: u32, counts: &[u64]) -> bool
     false
 }
 
-/// Settles the counts, and answers how many turns that takes. Where no node can turn it makes no search.
-fn finish_rest(net: &Net, dest: u32, counts: &mut [u64]) -> u64
-    requires node { dest < net.now.nodes }
-    requires lawful { AreLawful net.now.nodes dest net.now.links counts.old }
-    ensures settled { AreSettled net.now.nodes dest net.now.links counts.new }
-    ensures adds { sum counts.new ≡ sum counts.old + result }
-{
-    net.network_law();
-    if can_any_turn(net, dest, counts) {
-        finish(net, dest, counts)
-    } else {
-        0
-    }
-}
-
 /// How many turns the workers made together, each told with its number.
 fn turns_of(turned: &[(u32, u64)]) -> u64
     requires { sum_by (λ (p : ℕ × ℕ). p.1) turned.now < 2 ^ 64 }
@@ -210,7 +194,7 @@ fn finished(net: Net, dest: u32, mut counts: Vec<u64>, by_workers: u64) -> Settl
     ensures by_workers { result.by_workers ≡ by_workers }
 {
     net.network_law();
-    let by_finisher = finish_rest(&net, dest, &mut counts);
+    let by_finisher = finish(&net, dest, &mut counts);
     let net = net.into_turned(&counts);
     Settled {
         net,

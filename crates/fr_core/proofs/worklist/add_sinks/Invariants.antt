@@ -3,7 +3,7 @@ use Rattle.fr_core.specs.History.{moment_of}
 use Rattle.fr_core.specs.Legal.{CanTurn}
 use Rattle.fr_core.specs.Reaching.{IsQueued}
 use Rattle.fr_core.specs.Worklist.{AreNodes}
-use Rattle.fr_core.proofs.worklist.sinks.Given as goal
+use Rattle.fr_core.proofs.worklist.add_sinks.Given as goal
 
 -- of the nodes so far the worklist has all that can turn
 abbrev pub invariant-loop-x : goal.invariant-loop-x

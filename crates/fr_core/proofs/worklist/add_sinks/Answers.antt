@@ -5,8 +5,8 @@ use Rattle.std.proofs.lemmas.Bool.{cases_lt}
 use Rattle.std.proofs.lemmas.List.{length_push}
 use Rattle.fr_core.proofs.Worklists.{can_turn_below, nodes_push, queued_last, queued_push}
 use Rattle.fr_core.specs.Reaching.{IsQueued}
-use Rattle.fr_core.proofs.worklist.sinks.Goals as goal
-use Rattle.fr_core.proofs.worklist.sinks.Goals.{else-can_turn, then-can_turn}
+use Rattle.fr_core.proofs.worklist.add_sinks.Goals as goal
+use Rattle.fr_core.proofs.worklist.add_sinks.Goals.{else-can_turn, then-can_turn}
 
 pub loop-x-preserved : goal.loop-x-preserved
 loop-x-preserved c =
