@@ -7,7 +7,6 @@ ghost use Rattle.fr_core.specs.Finish.{IsFinish};
 ghost use Rattle.fr_core.specs.Settled.{AreSettled};
 
 use crate::levels;
-use crate::queue::Queue;
 use crate::worklist::turn_sinks;
 use fr_net::Net;
 
@@ -19,10 +18,8 @@ fn settle(net: &Net, dest: u32, counts: &mut [u64])
     requires lawful { AreLawful net.now.nodes dest net.now.links counts.old }
     ensures { AreSettled net.now.nodes dest net.now.links counts.new }
 {
-    let mut queue = Queue::new();
-    if !turn_sinks(net, dest, counts, &mut queue) {
-        queue.clear();
-        levels::settle(net, dest, counts, &mut queue);
+    if !turn_sinks(net, dest, counts) {
+        levels::settle(net, dest, counts);
     }
 }
 

@@ -1,6 +1,6 @@
 //! The settled counts, by a search by levels.
 
-ghost use Rattle.std.specs.Prelude.{◌≡◌, ℕ, ◌+◌, ◌<◌, ◌≤◌, [], length, All, slice_index};
+ghost use Rattle.std.specs.Prelude.{◌≡◌, ℕ, ◌+◌, ◌<◌, ◌≤◌, length, All, slice_index};
 ghost use Rattle.fr_net.specs.Links.{IsNet};
 ghost use Rattle.fr_net.specs.Rows.{row};
 ghost use Rattle.fr_core.specs.LevelSearch.{IsLevelSearch};
@@ -105,24 +105,24 @@ fn clear(net: &Net, counts: &mut [u64])
 }
 
 /// Writes the settled counts, level by level: a level is the nodes of one count, and the next one is reached from it. No
-/// memory is taken, and each row is read twice. The queue is to be empty.
-pub(crate) fn settle(net: &Net, dest: u32, counts: &mut [u64], queue: &mut Queue)
+/// memory is taken, and each row is read twice.
+pub(crate) fn settle(net: &Net, dest: u32, counts: &mut [u64])
     requires net { IsNet net.now.nodes net.now.links }
     requires one_each { length counts.old ≡ net.now.nodes }
     requires node { dest < net.now.nodes }
-    requires empty { queue.old ≡ [] }
     ensures { AreSettled net.now.nodes dest net.now.links counts.new }
 {
     clear(net, counts);
     counts[dest as usize] = 0;
+    let mut queue = Queue::new();
     queue.push(dest);
     let mut start = 0;
     let mut level = 0;
     while start < queue.len() {
-        close_level(net, level, counts, queue, start);
+        close_level(net, level, counts, &mut queue, start);
         let end = queue.len();
         level += 1;
-        open_level(net, level, counts, queue, start);
+        open_level(net, level, counts, &mut queue, start);
         start = end;
     }
 }

@@ -54,12 +54,6 @@ impl Queue {
         more <= MAX_NODES as usize - self.len
     }
 
-    pub fn clear(&mut self)
-        ensures { self.new ≡ [] }
-    {
-        self.len = 0;
-    }
-
     pub fn push(&mut self, node: u32)
         requires { length self.old < most_nodes }
         ensures { self.new ≡ self.old ++ node ∷ [] }

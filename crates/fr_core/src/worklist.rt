@@ -75,22 +75,21 @@ fn visit(net: &Net, dest: u32, counts: &mut [u64], x: u32, work: &mut Queue) -> 
 }
 
 /// Turns nodes from a worklist until none can turn, and answers yes; or gives up and answers no, where the worklist has no
-/// more room, or the rows of the nodes that it looked at are together longer than all rows of the network. The worklist is to
-/// be empty.
-pub(crate) fn turn_sinks(net: &Net, dest: u32, counts: &mut [u64], work: &mut Queue) -> bool
+/// more room, or the rows of the nodes that it looked at are together longer than all rows of the network.
+pub(crate) fn turn_sinks(net: &Net, dest: u32, counts: &mut [u64]) -> bool
     requires net { IsNet net.now.nodes net.now.links }
     requires lawful { AreLawful net.now.nodes dest net.now.links counts.old }
-    requires empty { work.old ≡ [] }
     ensures lawful { AreLawful net.now.nodes dest net.now.links counts.new }
     ensures none { result ≡ true → NoneCanTurn net.now.nodes dest (moment_of net.now.links counts.new) }
 {
-    add_sinks(net, dest, counts, work);
+    let mut work = Queue::new();
+    add_sinks(net, dest, counts, &mut work);
     let mut allowance = 2 * net.links().len();
     let mut at = 0;
     while at < work.len() {
         let x = work.node(at);
         let cost = net.degree(x) as usize;
-        if cost > allowance || !visit(net, dest, counts, x, work) {
+        if cost > allowance || !visit(net, dest, counts, x, &mut work) {
             return false;
         }
         allowance -= cost;
