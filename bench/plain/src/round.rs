@@ -31,19 +31,22 @@ impl Round {
             counts: Vec::new(),
             hops: OnceCell::new(),
         };
-        round.settle(method);
+        round.settle(method, None);
         Ok(round)
     }
 
+    /// Where no linked node was cut off, each node but the ends of the edit has a link that points away, as before.
     pub fn edit(&mut self, edit: Edit, method: Method) -> Result<(), Refusal> {
         self.net.edit(edit)?;
-        self.settle(method);
+        let (Edit::Cut { u, v } | Edit::Add { u, v } | Edit::Join { u, v }) = edit;
+        let has_capped = self.counts.contains(&self.net.nodes());
+        self.settle(method, if has_capped { None } else { Some([u, v]) });
         Ok(())
     }
 
     pub fn batch(&mut self, edits: &[Edit], method: Method) -> Result<(), Refusal> {
         self.net = self.net.edited(edits)?;
-        self.settle(method);
+        self.settle(method, None);
         Ok(())
     }
 
@@ -52,14 +55,19 @@ impl Round {
             return Err(Refusal::Range);
         }
         self.dest = dest;
-        self.settle(method);
+        self.settle(method, None);
         Ok(())
     }
 
-    fn settle(&mut self, method: Method) {
+    /// All nodes that can turn are among these, if there are any.
+    fn settle(&mut self, method: Method, among: Option<[u32; 2]>) {
+        self.hops.take();
+        if among.is_some_and(|ends| !ends.iter().any(|&x| self.net.is_sink(x) && x != self.dest)) {
+            self.counts.fill(0);
+            return;
+        }
         self.counts = settled_counts(&self.net, self.dest, method);
         self.net.turn_by(&self.counts);
-        self.hops.take();
     }
 
     pub fn turned(&self) -> u32 {

@@ -24,8 +24,7 @@ pub fn settled_counts(net: &Net, dest: u32, method: Method) -> Vec<u32> {
 
 /// No thread is started where no node is a sink.
 fn by_crew(net: &Net, dest: u32, workers: usize) -> Vec<u32> {
-    let has_sink = (0..net.nodes())
-        .any(|x| x != dest && net.outward()[x as usize] == 0 && net.degree(x) > 0);
+    let has_sink = (0..net.nodes()).any(|x| x != dest && net.is_sink(x));
     let counts = if has_sink {
         turned_by(net, dest, workers)
     } else {
