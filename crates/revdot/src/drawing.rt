@@ -2,7 +2,7 @@
 
 ghost use Rattle.std.specs.Prelude.{◌≡◌, ◌≢◌, List, ℕ, IfOk, IfErr, string_bytes};
 ghost use Rattle.std.specs.Io.KnownBytes.{Keeps};
-ghost use Rattle.fr_run.specs.Outputs.{ReadsInput, ReadsAtMostOneTooMany};
+ghost use Rattle.fr_run.specs.Outputs.{ReadsInput, ReadsOneTooMany, ReadsAtMostOneTooMany};
 ghost use Rattle.revdot.specs.Drawings.{IsDrawing, IsPictureOf, WritesDrawing, WritesBeginningOfDrawing};
 
 use crate::settled::push_settled;
@@ -35,6 +35,7 @@ pub fn draw<R: Read, W: Write>(
         × ReadsInput (R.remaining reader.old) (R.remaining reader.new) bytes
         × WritesDrawing picture bytes (W.contents writer.old) (W.contents writer.new)) }
     ensures limit { ReadsAtMostOneTooMany (R.remaining reader.old) (R.remaining reader.new) }
+    ensures too_long { result ≡ Err RunFault.TooLong → ReadsOneTooMany (R.remaining reader.old) (R.remaining reader.new) }
     ensures write { result ≡ Err RunFault.Write → (bytes : List ℕ)
         × ReadsInput (R.remaining reader.old) (R.remaining reader.new) bytes
         × WritesBeginningOfDrawing picture bytes (W.contents writer.old) (W.contents writer.new) }
