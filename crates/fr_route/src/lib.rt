@@ -1,9 +1,9 @@
 //! Routing by full link reversal: a network that is settled again after each change, the way from each node to the
 //! destination, and the answers to request lines.
 //!
-//! A [`Router`] keeps a settled network, and answers next hops and walks. [`Router::change`] cuts or adds a link, makes a batch of
-//! edits or moves the destination, and settles what comes of it by a crew. A [`Session`] answers request after request by a
-//! router. Beside each call that settles stands one that comes to the same on the thread that calls, with no crew:
+//! A [`Router`] keeps a settled network, and answers next hops and walks. [`Router::change`] cuts or adds a link, joins two
+//! nodes, makes a batch of edits or moves the destination, and settles what comes of it by a crew. A [`Session`] answers request after
+//! request by a router. Beside each call that settles stands one that comes to the same on the thread that calls, with no crew:
 //! [`Router::open_alone`], [`Router::change_alone`], [`Session::answer_line_alone`], [`Session::answer_alone`]. The laws of routes
 //! and answers are in [`laws`].
 //!

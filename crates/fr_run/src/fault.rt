@@ -1,8 +1,9 @@
-//! Why a run or a play stopped.
+//! Why a run, a play or a drawing stopped.
 
 use thiserror::Error;
 
-/// Why a run or a play stopped.
+/// Why a run, a play or a drawing stopped. Plays and drawings write at their end alone, so a fault other than `Write` has written
+/// nothing.
 #[derive(Debug, Drop, Error, PartialEq, Eq)]
 pub enum RunFault {
     /// A read failed. Nothing was written.
@@ -14,10 +15,11 @@ pub enum RunFault {
     /// The input has more than [`MAX_BYTES`](crate::MAX_BYTES) bytes. Nothing was written.
     #[error("input too long")]
     TooLong,
-    /// A thread could not be started. What went out is the answers to the lines before the one that failed.
+    /// A thread could not be started. What a run wrote is the answers to the lines before the one that failed.
     #[error("no thread")]
     Start,
-    /// An allocation was refused. What went out is the answers to the lines before the one that failed.
+    /// An allocation was refused. What a run wrote is the answers to the lines before the one that failed, or nothing where the
+    /// input found no room.
     #[error("no memory")]
     Memory,
 }

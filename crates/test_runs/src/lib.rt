@@ -1,5 +1,5 @@
-//! Tests of routers, sessions, runs, plays and command lines (fr_route, fr_run, fr_play, fr_command), by public calls alone: worked examples whose values come
-//! from outside, each call once on its happy path, and readers and writers that fail.
+//! Tests of routers, sessions, runs, plays and command lines (fr_route, fr_run, fr_play, fr_command), by public calls alone: worked
+//! examples whose values come from outside, each call once on its happy path, and readers and writers that fail.
 //!
 //! Examples are rows of constants, which cost no proof, and what a call came to is told as a text, which one assertion compares.
 #![tactic(auto)]
