@@ -1,10 +1,10 @@
 -- The turns of the last round, with a graph for each.
-use Rattle.std.specs.Prelude.{◌≡◌, ℕ, ◌+◌, ◌<◌, ◌≤◌, ◌==◌, ◌⊎◌, if◌then◌else◌, not, List, [], ◌∷◌, ◌++◌, Some, length, map, replicate, slice_index, slice_set}
+use Rattle.std.specs.Prelude.{◌≡◌, ℕ, ◌+◌, ◌<◌, ◌≤◌, ◌==◌, ◌⊎◌, if◌then◌else◌, not, List, [], ◌∷◌, ◌++◌, Some, length, map, replicate, slice_index}
 use Rattle.std.specs.List.{range_with_len, zip}
 use Rattle.fr_net.specs.Links.{HaveSameLinks, IsNet}
-use Rattle.fr_net.specs.Turn.{turn}
-use Rattle.fr_core.specs.History.{Moment, count_at}
+use Rattle.fr_core.specs.History.{Moment, after_reply, count_at}
 use Rattle.fr_core.specs.Legal.{CanTurn, NoneCanTurn}
+use Rattle.fr_core.specs.declared.entry.Reply.TheVariants.{Turned}
 use Rattle.fr_route.specs.States.{IsRound, State}
 use Rattle.revdot.specs.Graphs.{graph_text}
 use Rattle.revdot.specs.Settled.{IsGraphOf}
@@ -29,9 +29,9 @@ moment links counts = record { links = links; counts = counts }
 abbrev pub beginning : State → Moment
 beginning s = moment (map (first_link s.counts) s.links) (replicate s.nodes 0)
 
--- a turn reverses the links of the node and adds one to its count
+-- after a turn of x: what a history has after the reply that x has turned
 abbrev pub after_turn : Moment → ℕ → Moment
-after_turn m x = moment (turn x m.links) (slice_set m.counts x (count_at m x + 1))
+after_turn m x = after_reply m x (Turned (count_at m x + 1))
 
 abbrev pub after_turns : Moment → List ℕ → Moment
 after_turns m [] = m
