@@ -24,7 +24,7 @@ mod worker;
 mod worklist;
 
 pub use check::{CheckFault, Why, check_run};
-pub use counts::{is_sink, lawful, sense};
+pub use counts::{can_turn, is_sink, lawful, sense};
 pub use directions::Sense;
 pub use entry::{Entry, Reply};
 pub use finisher::{finish, finish_from};

@@ -1,6 +1,6 @@
 //! Turning node by node, as long as that is cheap.
 
-ghost use Rattle.std.specs.Prelude.{◌≡◌, ℕ, ◌<◌, ◌≤◌, ◌++◌, [], true, IsTrue, ◌↔◌, map, length};
+ghost use Rattle.std.specs.Prelude.{◌≡◌, ℕ, ◌<◌, ◌≤◌, ◌++◌, [], true, map, length};
 ghost use Rattle.fr_net.specs.Counts.{AreLawful};
 ghost use Rattle.fr_net.specs.Limits.{most_nodes};
 ghost use Rattle.fr_net.specs.Links.{IsNet};
@@ -8,21 +8,12 @@ ghost use Rattle.fr_net.specs.Rows.{row};
 ghost use Rattle.fr_net.specs.declared.rows.First.{First};
 ghost use Rattle.fr_core.specs.Finish.{HoldsAllThatCanTurn};
 ghost use Rattle.fr_core.specs.History.{moment_of};
-ghost use Rattle.fr_core.specs.Legal.{CanTurn, NoneCanTurn};
+ghost use Rattle.fr_core.specs.Legal.{NoneCanTurn};
 ghost use Rattle.fr_core.specs.Worklist.{AreNodes, HoldsAll, Carries};
 
-use crate::counts::is_sink;
+use crate::counts::can_turn;
 use crate::queue::Queue;
 use fr_net::Net;
-
-/// Whether node `x` can turn: it is a sink, not the destination, and its count is below the cap.
-fn can_turn(net: &Net, dest: u32, counts: &[u64], x: u32) -> bool
-    requires lawful { AreLawful net.now.nodes dest net.now.links counts.now }
-    requires node { x < net.now.nodes }
-    ensures { IsTrue result ↔ CanTurn net.now.nodes dest (moment_of net.now.links counts.now) x }
-{
-    x != dest && counts[x as usize] < u64::from(net.nodes()) && is_sink(net, counts, x)
-}
 
 /// Puts all nodes that can turn into the worklist, which is empty.
 pub(crate) fn add_sinks(net: &Net, dest: u32, counts: &[u64], work: &mut Queue)
