@@ -1,7 +1,8 @@
--- What it is to have finished.
-use Rattle.std.specs.Prelude.{◌≡◌, ℕ, ◌+◌, List, length, sum}
+-- What it is to have finished, and from where one can.
+use Rattle.std.specs.Prelude.{◌≡◌, ℕ, ◌+◌, ◌<◌, List, length, sum}
+use Rattle.std.specs.List.{All, Contains}
 use Rattle.fr_core.specs.History.{moment_of, after_all, turn_count}
-use Rattle.fr_core.specs.Legal.{IsRun, NoneCanTurn}
+use Rattle.fr_core.specs.Legal.{CanTurn, IsRun, NoneCanTurn}
 use Rattle.fr_core.specs.declared.entry.Entry.{Entry}
 
 -- there is a run from the counts before,
@@ -18,3 +19,8 @@ pub record IsFinish (n d : ℕ) (first : List (ℕ × ℕ)) (before after : List
   pub none_left : NoneCanTurn n d (moment_of first after)
   -- and each turn has added one to a count
   pub adds : sum after ≡ sum before + made
+
+-- these are nodes, and each node that can turn at the counts is one of them
+pub record HoldsAllThatCanTurn (n d : ℕ) (first : List (ℕ × ℕ)) (counts from : List ℕ) : Type 0 where
+  pub nodes : All (λ (x : ℕ). x < n) from
+  pub all : (x : ℕ) → CanTurn n d (moment_of first counts) x → Contains from x

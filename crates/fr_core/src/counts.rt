@@ -3,6 +3,8 @@
 ghost use Rattle.std.specs.Prelude.{◌≡◌, ℕ, ◌<◌, ◌↔◌, IsTrue, length, All};
 ghost use Rattle.fr_net.specs.Counts.{AreLawful, IsKept, links_at};
 ghost use Rattle.fr_net.specs.Turn.{IsSink};
+ghost use Rattle.fr_core.specs.History.{moment_of};
+ghost use Rattle.fr_core.specs.Legal.{CanTurn};
 ghost use Rattle.fr_core.specs.NodeCounts.{IsLawfulCount, IsMostCount};
 ghost use Rattle.fr_core.specs.Senses.{sense_of};
 
@@ -101,4 +103,14 @@ pub fn is_sink(net: &Net, counts: &[u64], x: u32) -> bool
         }
     }
     !row.is_empty()
+}
+
+/// Whether node `x` can turn at these counts, which have to be lawful: it is a sink, not the destination, and its count is below
+/// the cap.
+pub fn can_turn(net: &Net, dest: u32, counts: &[u64], x: u32) -> bool
+    requires lawful { AreLawful net.now.nodes dest net.now.links counts.now }
+    requires node { x < net.now.nodes }
+    ensures { IsTrue result ↔ CanTurn net.now.nodes dest (moment_of net.now.links counts.now) x }
+{
+    x != dest && counts[x as usize] < u64::from(net.nodes()) && is_sink(net, counts, x)
 }

@@ -3,24 +3,45 @@
 ghost use Rattle.std.specs.Prelude.{◌≡◌, ℕ, ◌<◌};
 ghost use Rattle.fr_net.specs.Counts.{AreLawful};
 ghost use Rattle.fr_net.specs.Links.{IsNet};
-ghost use Rattle.fr_core.specs.Finish.{IsFinish};
+ghost use Rattle.fr_core.specs.Finish.{HoldsAllThatCanTurn, IsFinish};
 ghost use Rattle.fr_core.specs.Settled.{AreSettled};
+ghost use Rattle.fr_core.specs.Worklist.{AreNodes, HoldsAll};
 
 use crate::levels;
-use crate::worklist::turn_sinks;
-use fr_net::Net;
+use crate::queue::Queue;
+use crate::worklist::{add_sinks, add_sinks_among, turn_sinks};
+use fr_net::{MAX_NODES, Net};
 
 /// Writes the settled counts: node by node where few turns are left, and else by a search, which goes on from counts that are
 /// lawful still.
-fn settle(net: &Net, dest: u32, counts: &mut [u64])
+fn settle(net: &Net, dest: u32, counts: &mut [u64], work: &mut Queue)
     requires net { IsNet net.now.nodes net.now.links }
     requires node { dest < net.now.nodes }
     requires lawful { AreLawful net.now.nodes dest net.now.links counts.old }
+    requires nodes { AreNodes net.now.nodes work.old }
+    requires all { HoldsAll net.now.nodes dest net.now.links counts.old work.old 0 }
     ensures { AreSettled net.now.nodes dest net.now.links counts.new }
 {
-    if !turn_sinks(net, dest, counts) {
+    if !turn_sinks(net, dest, counts, work) {
         levels::settle(net, dest, counts);
     }
+}
+
+/// Finishes from a worklist that has all nodes that can turn, and answers how many turns lie between.
+fn finish_worklist(net: &Net, dest: u32, counts: &mut [u64], work: &mut Queue) -> u64
+    requires node { dest < net.now.nodes }
+    requires lawful { AreLawful net.now.nodes dest net.now.links counts.old }
+    requires nodes { AreNodes net.now.nodes work.old }
+    requires all { HoldsAll net.now.nodes dest net.now.links counts.old work.old 0 }
+    ensures settled { AreSettled net.now.nodes dest net.now.links counts.new }
+    ensures run { IsFinish net.now.nodes dest net.now.links counts.old counts.new result }
+{
+    // By the law there are few nodes, so the sums fit.
+    net.network_law();
+    let before: u64 = counts.iter().sum();
+    settle(net, dest, counts, work);
+    let after: u64 = counts.iter().sum();
+    after - before
 }
 
 /// Goes from lawful counts to those at which turning node by node ends, and answers how many turns lie between. Few turns are
@@ -36,10 +57,27 @@ pub fn finish(net: &Net, dest: u32, counts: &mut [u64]) -> u64
     ensures settled { AreSettled net.now.nodes dest net.now.links counts.new }
     ensures run { IsFinish net.now.nodes dest net.now.links counts.old counts.new result }
 {
-    // By the law there are few nodes, so the sums fit.
-    net.network_law();
-    let before: u64 = counts.iter().sum();
-    settle(net, dest, counts);
-    let after: u64 = counts.iter().sum();
-    after - before
+    let mut work = Queue::new();
+    add_sinks(net, dest, counts, &mut work);
+    finish_worklist(net, dest, counts, &mut work)
+}
+
+/// Goes to where [`finish`] goes, and looks for nodes that can turn among `from` alone and among the neighbours of nodes that it
+/// turns: for a caller that knows where the first of them are. So it costs a look at each node of `from`, the few turns and two
+/// passes over the counts, or else no more than `finish`. Each node that can turn has to be in `from`, and all that are
+/// there have to be nodes; they need not be able to turn, and may stand there twice.
+pub fn finish_from(net: &Net, dest: u32, counts: &mut [u64], from: &[u32]) -> u64
+    requires node { dest < net.now.nodes }
+    requires lawful { AreLawful net.now.nodes dest net.now.links counts.old }
+    requires from { HoldsAllThatCanTurn net.now.nodes dest net.now.links counts.old from.now }
+    ensures settled { AreSettled net.now.nodes dest net.now.links counts.new }
+    ensures run { IsFinish net.now.nodes dest net.now.links counts.old counts.new result }
+{
+    // A longer list may not find room in the worklist.
+    if from.len() > MAX_NODES as usize {
+        return finish(net, dest, counts);
+    }
+    let mut work = Queue::new();
+    add_sinks_among(net, dest, counts, from, &mut work);
+    finish_worklist(net, dest, counts, &mut work)
 }

@@ -1,29 +1,22 @@
 //! Turning node by node, as long as that is cheap.
 
-ghost use Rattle.std.specs.Prelude.{◌≡◌, ℕ, ◌<◌, ◌++◌, [], true, IsTrue, ◌↔◌, map, length};
+ghost use Rattle.std.specs.Prelude.{◌≡◌, ℕ, ◌<◌, ◌≤◌, ◌++◌, [], true, map, length};
 ghost use Rattle.fr_net.specs.Counts.{AreLawful};
+ghost use Rattle.fr_net.specs.Limits.{most_nodes};
 ghost use Rattle.fr_net.specs.Links.{IsNet};
 ghost use Rattle.fr_net.specs.Rows.{row};
 ghost use Rattle.fr_net.specs.declared.rows.First.{First};
+ghost use Rattle.fr_core.specs.Finish.{HoldsAllThatCanTurn};
 ghost use Rattle.fr_core.specs.History.{moment_of};
-ghost use Rattle.fr_core.specs.Legal.{CanTurn, NoneCanTurn};
+ghost use Rattle.fr_core.specs.Legal.{NoneCanTurn};
 ghost use Rattle.fr_core.specs.Worklist.{AreNodes, HoldsAll, Carries};
 
-use crate::counts::is_sink;
+use crate::counts::can_turn;
 use crate::queue::Queue;
 use fr_net::Net;
 
-/// Whether node `x` can turn: it is a sink, not the destination, and its count is below the cap.
-fn can_turn(net: &Net, dest: u32, counts: &[u64], x: u32) -> bool
-    requires lawful { AreLawful net.now.nodes dest net.now.links counts.now }
-    requires node { x < net.now.nodes }
-    ensures { IsTrue result ↔ CanTurn net.now.nodes dest (moment_of net.now.links counts.now) x }
-{
-    x != dest && counts[x as usize] < u64::from(net.nodes()) && is_sink(net, counts, x)
-}
-
 /// Puts all nodes that can turn into the worklist, which is empty.
-fn add_sinks(net: &Net, dest: u32, counts: &[u64], work: &mut Queue)
+pub(crate) fn add_sinks(net: &Net, dest: u32, counts: &[u64], work: &mut Queue)
     requires lawful { AreLawful net.now.nodes dest net.now.links counts.now }
     requires empty { work.old ≡ [] }
     ensures nodes { AreNodes net.now.nodes work.new }
@@ -32,6 +25,23 @@ fn add_sinks(net: &Net, dest: u32, counts: &[u64], work: &mut Queue)
     for x in 0..net.nodes() {
         if can_turn(net, dest, counts, x) {
             work.push(x);
+        }
+    }
+}
+
+/// Puts all nodes that can turn into the worklist, which is empty. They are sought among the nodes of `from`, which may stand
+/// there twice.
+pub(crate) fn add_sinks_among(net: &Net, dest: u32, counts: &[u64], from: &[u32], work: &mut Queue)
+    requires lawful { AreLawful net.now.nodes dest net.now.links counts.now }
+    requires from { HoldsAllThatCanTurn net.now.nodes dest net.now.links counts.now from.now }
+    requires few { length from.now ≤ most_nodes }
+    requires empty { work.old ≡ [] }
+    ensures nodes { AreNodes net.now.nodes work.new }
+    ensures all { HoldsAll net.now.nodes dest net.now.links counts.now work.new 0 }
+{
+    for x in from {
+        if can_turn(net, dest, counts, *x) {
+            work.push(*x);
         }
     }
 }
@@ -74,22 +84,23 @@ fn visit(net: &Net, dest: u32, counts: &mut [u64], x: u32, work: &mut Queue) -> 
     true
 }
 
-/// Turns nodes from a worklist until none can turn, and answers yes; or gives up and answers no, where the worklist has no
-/// more room, or the rows of the nodes that it looked at are together longer than all rows of the network.
-pub(crate) fn turn_sinks(net: &Net, dest: u32, counts: &mut [u64]) -> bool
+/// Turns nodes from a worklist, which begins with all that can turn, until none can turn, and answers yes; or gives up and
+/// answers no, where the worklist has no more room, or the rows of the nodes that it looked at are together longer than all
+/// rows of the network.
+pub(crate) fn turn_sinks(net: &Net, dest: u32, counts: &mut [u64], work: &mut Queue) -> bool
     requires net { IsNet net.now.nodes net.now.links }
     requires lawful { AreLawful net.now.nodes dest net.now.links counts.old }
+    requires nodes { AreNodes net.now.nodes work.old }
+    requires all { HoldsAll net.now.nodes dest net.now.links counts.old work.old 0 }
     ensures lawful { AreLawful net.now.nodes dest net.now.links counts.new }
     ensures none { result ≡ true → NoneCanTurn net.now.nodes dest (moment_of net.now.links counts.new) }
 {
-    let mut work = Queue::new();
-    add_sinks(net, dest, counts, &mut work);
     let mut allowance = 2 * net.links().len();
     let mut at = 0;
     while at < work.len() {
         let x = work.node(at);
         let cost = net.degree(x) as usize;
-        if cost > allowance || !visit(net, dest, counts, x, &mut work) {
+        if cost > allowance || !visit(net, dest, counts, x, work) {
             return false;
         }
         allowance -= cost;

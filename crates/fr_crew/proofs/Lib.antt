@@ -1,3 +1,4 @@
+pub mod Beginning
 pub mod Candidates
 pub mod Workers
 pub mod Walking

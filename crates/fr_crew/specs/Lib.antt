@@ -1,5 +1,5 @@
 pub mod Candidates
 pub mod Crews
 pub mod Settlements
-pub mod Beginnings
+pub mod Ways
 pub mod LiveWalks

@@ -1,7 +1,9 @@
 -- What it is to have settled a network.
 use Rattle.std.specs.Prelude.{◌≡◌, ◌≢◌, ℕ, ◌<◌, ◌≤◌, ◌+◌, ◌*◌, ◌^◌, ◌↔◌, List, sum, Result, IfOk, IfErr}
+use Rattle.std.specs.List.{All, Contains}
 use Rattle.fr_net.specs.Network.{Network, net_of}
 use Rattle.fr_net.specs.Counts.{links_at}
+use Rattle.fr_net.specs.Turn.{IsSink}
 use Rattle.fr_core.specs.Settled.{AreSettled}
 use Rattle.fr_crew.specs.declared.settlement.Settled.{Settled}
 use Rattle.fr_crew.specs.declared.fault.CrewFault.{CrewFault}
@@ -17,6 +19,18 @@ pub record IsSettlement (n d : ℕ) (first : List (ℕ × ℕ)) (s : Settled) : 
   -- and the turns of the workers and of the finisher together are the counts, at most n * n
   pub turns : s.by_workers + s.by_finisher ≡ sum s.counts.items
   pub most : sum s.counts.items ≤ n * n
+
+-- these are the counts of a settlement: the destination is a node, the counts are the settled ones, and their sum, which is how
+-- many turns there are, is at most n * n
+pub record IsCounted (n d : ℕ) (first : List (ℕ × ℕ)) (counts : List ℕ) : Type 0 where
+  pub destination : d < n
+  pub settled : AreSettled n d first counts
+  pub most : sum counts ≤ n * n
+
+-- these are nodes, and each sink but d is one of them
+pub record HoldsSinks (net : Network) (d : ℕ) (from : List ℕ) : Type 0 where
+  pub nodes : All (λ (x : ℕ). x < net.nodes) from
+  pub sinks : (x : ℕ) → IsSink net.links x → ¬ (x ≡ d) → Contains from x
 
 -- an answer to the call for a settled network: `Range` comes just where the destination is no node
 pub record IsSettled (net : Network) (d : ℕ) (answer : Result Settled CrewFault) : Type 0 where

@@ -1,18 +1,19 @@
 //! Settling a network.
 
-ghost use Rattle.std.specs.Prelude.{◌≡◌, ◌≢◌, ℕ, ◌<◌, ◌≤◌, ◌^◌, ◌↔◌, false, IfOk, IfErr, sum, sum_by};
+ghost use Rattle.std.specs.Prelude.{◌≡◌, ◌≢◌, ℕ, ◌<◌, ◌≤◌, ◌^◌, ◌↔◌, IfOk, IfErr, IfSome, IsTrue, replicate, sum, sum_by};
+ghost use Rattle.std.specs.List.{All};
 ghost use Rattle.fr_net.specs.Counts.{AreLawful};
+ghost use Rattle.fr_core.specs.Finish.{HoldsAllThatCanTurn};
 ghost use Rattle.fr_core.specs.History.{moment_of};
-ghost use Rattle.fr_core.specs.Legal.{NoneCanTurn};
-ghost use Rattle.fr_crew.specs.Settlements.{IsSettlement, Settles, NeverStarts};
-ghost use Rattle.fr_crew.specs.Beginnings.{IsBegun};
+ghost use Rattle.fr_core.specs.Legal.{CanTurn};
+ghost use Rattle.fr_crew.specs.Settlements.{HoldsSinks, IsCounted, IsSettlement, Settles, NeverStarts};
 ghost use Rattle.fr_crew.specs.declared.fault.CrewFault.TheVariants.{Range, Start, Memory};
 
 use crate::crew::run_crew;
 use crate::fault::CrewFault;
 use crate::gate::Gate;
 use crate::plan::Plan;
-use fr_core::{finish, is_sink};
+use fr_core::{can_turn, finish, finish_from};
 use fr_net::Net;
 use fr_round::{Closed, Round};
 use std::alloc::Global;
@@ -60,13 +61,18 @@ pub fn settle<R: Threads + Wait + Sync, G: Gate + Sync>(
     ensures settled { IfOk result (λ settled. IsSettlement net.nodes dest net.links settled) }
     ensures range { IfErr result (λ fault. (fault ≡ Range) ↔ (net.nodes ≤ dest)) }
 {
-    if plan.budget() == 0 {
-        return settle_alone(alloc, net, dest);
+    let counts = zeros(alloc, &net, dest)?;
+    if plan.budget() == 0 || !can_any_turn(&net, dest, &counts, None) {
+        return Ok(finished(net, dest, counts, 0));
     }
-    match begin(alloc, net, dest)? {
-        Begun::Still(settled) => Ok(settled),
-        Begun::Turning { net, counts: _ } => settle_by_crew(rt, alloc, net, dest, plan, gate),
-    }
+    let Closed {
+        net,
+        counts,
+        turned,
+    } = turned_by_crew(rt, alloc, net, dest, plan, gate)?;
+    net.network_law();
+    let by_workers = turns_of(&turned);
+    Ok(finished(net, dest, counts, by_workers))
 }
 
 /// Turns a network until no node can turn, on the thread that calls: by [`finish`](fr_core::finish) alone. The answer is that
@@ -80,10 +86,8 @@ pub fn settle_alone(alloc: Global, net: Net, dest: u32) -> Result<Settled, CrewF
     ensures by_finisher { IfOk result (λ settled. settled.by_workers ≡ 0) }
     ensures no_start { IfErr result (λ fault. fault ≢ Start) }
 {
-    match begin(alloc, net, dest)? {
-        Begun::Still(settled) => Ok(settled),
-        Begun::Turning { net, counts } => Ok(finished(net, dest, counts, 0)),
-    }
+    let counts = zeros(alloc, &net, dest)?;
+    Ok(finished(net, dest, counts, 0))
 }
 
 /// Turns a network until no node can turn, in a way that is passed in, as a closure over [`settle`] or [`settle_alone`]. The answer
@@ -101,80 +105,124 @@ pub fn settle_by<F: Fn(Net, u32) -> Result<Settled, CrewFault>>(
     way(net, dest)
 }
 
-/// What a first look at a network finds.
-#[derive(Drop)]
-enum Begun {
-    /// No node can turn, so the network is settled as it is.
-    Still(Settled),
-    /// Some node can turn. The network is as it was, and the counts are 0.
-    Turning {
-        /// The network.
-        net: Net,
-        /// How often each node turned: never.
-        counts: Vec<u64>,
-    },
+/// The settled counts of a network, which stays as it is: where a node can turn at all, by the crew of the plan on a copy of the
+/// network, and what they leave by [`finish`](fr_core::finish). Whatever the plan, the gate and the schedule, they are the counts of [`settle`].
+///
+/// For a caller that knows where sinks can be, as after an edit of a settled network: `from`, where it is given, are nodes among which each sink is but
+/// the destination. So where no node can turn, or the budget is 0, no thread is started, no row is read but those of nodes in `from` and of nodes that turn, and
+/// it is linear in nodes alone as long as these are few.
+///
+/// `Range` where the destination is no node, which is tested first, or else `Start` and `Memory` as in `settle`.
+pub fn settled_counts<R: Threads + Wait + Sync, G: Gate + Sync>(
+    rt: &R,
+    alloc: Global,
+    net: &Net,
+    dest: u32,
+    from: Option<&[u32]>,
+    plan: &Plan,
+    gate: &G,
+) -> Result<Vec<u64>, CrewFault>
+    requires { IfSome from (λ from. HoldsSinks net.now dest from.now) }
+    ensures settled { IfOk result (λ counts. IsCounted net.now.nodes dest net.now.links counts.items) }
+    ensures range { IfErr result (λ fault. (fault ≡ Range) ↔ (net.now.nodes ≤ dest)) }
+{
+    let counts = zeros(alloc, net, dest)?;
+    if plan.budget() == 0 || !can_any_turn(net, dest, &counts, from) {
+        return Ok(finished_counts(net, dest, counts, from));
+    }
+    let copy = net.copied(alloc)?;
+    let Closed {
+        net,
+        counts,
+        turned: _,
+    } = turned_by_crew(rt, alloc, copy, dest, plan, gate)?;
+    Ok(finished_counts(&net, dest, counts, None))
 }
 
-/// Looks whether any node can turn in the first links. `Range` where the destination is no node, or else `Memory`.
-fn begin(alloc: Global, net: Net, dest: u32) -> Result<Begun, CrewFault>
-    ensures begun { IfOk result (IsBegun net dest) }
-    ensures range { IfErr result (λ fault. (fault ≡ Range) ↔ (net.nodes ≤ dest)) }
+/// The settled counts of a network, which stays as it is, on the thread that calls: by [`finish`](fr_core::finish) alone, or where
+/// `from` is given, by [`finish_from`](fr_core::finish_from). They are those of [`settled_counts`]. It starts no thread and waits for
+/// nobody.
+///
+/// `Range` where the destination is no node, which is tested first, or else `Memory`; never `Start`.
+pub fn settled_counts_alone(
+    alloc: Global,
+    net: &Net,
+    dest: u32,
+    from: Option<&[u32]>,
+) -> Result<Vec<u64>, CrewFault>
+    requires { IfSome from (λ from. HoldsSinks net.now dest from.now) }
+    ensures settled { IfOk result (λ counts. IsCounted net.now.nodes dest net.now.links counts.items) }
+    ensures range { IfErr result (λ fault. (fault ≡ Range) ↔ (net.now.nodes ≤ dest)) }
+    ensures no_start { IfErr result (λ fault. fault ≢ Start) }
+{
+    let counts = zeros(alloc, net, dest)?;
+    Ok(finished_counts(net, dest, counts, from))
+}
+
+/// The counts with which every settlement begins: nobody has turned. `Range` where the destination is no node, or else `Memory`.
+fn zeros(alloc: Global, net: &Net, dest: u32) -> Result<Vec<u64>, CrewFault>
+    ensures zeros { IfOk result (λ counts. (dest < net.now.nodes) × (counts.items ≡ replicate net.now.nodes 0)) }
+    ensures range { IfErr result (λ fault. (fault ≡ Range) ↔ (net.now.nodes ≤ dest)) }
     ensures no_start { IfErr result (λ fault. fault ≢ Start) }
 {
     if dest >= net.nodes() {
         return Err(CrewFault::Range);
     }
-    let counts = vec![in alloc; 0u64; net.nodes() as usize]?;
-    if can_any_turn(&net, dest, &counts) {
-        return Ok(Begun::Turning { net, counts });
-    }
-    Ok(Begun::Still(Settled {
-        net,
-        counts,
-        by_workers: 0,
-        by_finisher: 0,
-    }))
+    Ok(vec![in alloc; 0u64; net.nodes() as usize]?)
 }
 
-/// Opens a round, lets a crew of threads turn its nodes, and finishes what they leave.
-fn settle_by_crew<R: Threads + Wait, G: Gate + Sync>(
+/// Whether some node of these can turn at these counts.
+fn can_one_turn(net: &Net, dest: u32, counts: &[u64], from: &[u32]) -> bool
+    requires lawful { AreLawful net.now.nodes dest net.now.links counts.now }
+    requires nodes { All (λ (x : ℕ). x < net.now.nodes) from.now }
+    ensures { IsTrue result → (x : ℕ) × CanTurn net.now.nodes dest (moment_of net.now.links counts.now) x }
+{
+    for x in from {
+        if can_turn(net, dest, counts, *x) {
+            return true;
+        }
+    }
+    false
+}
+
+/// Whether it is worth while to start threads: only where some node can turn at these counts. It is sought among `from`, where
+/// these are given.
+fn can_any_turn(net: &Net, dest: u32, counts: &[u64], from: Option<&[u32]>) -> bool
+    requires lawful { AreLawful net.now.nodes dest net.now.links counts.now }
+    requires nodes { IfSome from (λ from. All (λ (x : ℕ). x < net.now.nodes) from.now) }
+    ensures { IsTrue result → (x : ℕ) × CanTurn net.now.nodes dest (moment_of net.now.links counts.now) x }
+{
+    if let Some(from) = from {
+        return can_one_turn(net, dest, counts, from);
+    }
+    for x in 0..net.nodes() {
+        if can_turn(net, dest, counts, x) {
+            return true;
+        }
+    }
+    false
+}
+
+/// Opens a round, lets a crew of threads turn its nodes, and closes it. The network that it gives back has its first links.
+fn turned_by_crew<R: Threads + Wait, G: Gate + Sync>(
     rt: &R,
     alloc: Global,
     net: Net,
     dest: u32,
     plan: &Plan,
     gate: &G,
-) -> Result<Settled, CrewFault>
+) -> Result<Closed, CrewFault>
     requires { dest < net.nodes }
-    ensures settled { IfOk result (λ settled. IsSettlement net.nodes dest net.links settled) }
+    ensures net { IfOk result (λ closed. closed.net ≡ net) }
+    ensures lawful { IfOk result (λ closed. AreLawful net.nodes dest net.links closed.counts.items) }
+    ensures turned { IfOk result (λ closed. sum_by (λ (p : ℕ × ℕ). p.1) closed.turned.items ≡ sum closed.counts.items) }
     ensures fault { IfErr result (λ fault. fault ≢ Range) }
 {
     let Ok((round, workers)) = Round::open(alloc, net, dest, plan.workers()) else {
         return Err(CrewFault::Memory);
     };
     let (round, workers) = run_crew::<Brand, R, G>(rt, alloc, round, workers, plan, gate)?;
-    let Closed {
-        net,
-        counts,
-        turned,
-    } = round.close(workers);
-    net.network_law();
-    let by_workers = turns_of(&turned);
-    Ok(finished(net, dest, counts, by_workers))
-}
-
-/// Whether some node can turn at these counts: a sink other than the destination, whose count is below the cap.
-fn can_any_turn(net: &Net, dest: u32, counts: &[u64]) -> bool
-    requires { AreLawful net.now.nodes dest net.now.links counts.now }
-    ensures { result ≡ false → NoneCanTurn net.now.nodes dest (moment_of net.now.links counts.now) }
-{
-    let nodes = net.nodes();
-    for x in 0..nodes {
-        if x != dest && counts[x as usize] < u64::from(nodes) && is_sink(net, counts, x) {
-            return true;
-        }
-    }
-    false
+    Ok(round.close(workers))
 }
 
 /// How many turns the workers made together, each told with its number.
@@ -185,7 +233,7 @@ fn turns_of(turned: &[(u32, u64)]) -> u64
     turned.iter().map(|(_, turns)| turns).sum()
 }
 
-/// Finishes on one thread what the workers have left. It takes no memory.
+/// Finishes on one thread what is left to turn of a network, and turns its links. It takes no memory.
 fn finished(mut net: Net, dest: u32, mut counts: Vec<u64>, by_workers: u64) -> Settled
     requires node { dest < net.nodes }
     requires lawful { AreLawful net.nodes dest net.links counts.items }
@@ -202,4 +250,20 @@ fn finished(mut net: Net, dest: u32, mut counts: Vec<u64>, by_workers: u64) -> S
         by_workers,
         by_finisher,
     }
+}
+
+/// Finishes on one thread what is left to turn, which begins among `from`, where these are given. The links stay as they are. It takes no
+/// memory.
+fn finished_counts(net: &Net, dest: u32, mut counts: Vec<u64>, from: Option<&[u32]>) -> Vec<u64>
+    requires node { dest < net.now.nodes }
+    requires lawful { AreLawful net.now.nodes dest net.now.links counts.items }
+    requires from { IfSome from (λ from. HoldsAllThatCanTurn net.now.nodes dest net.now.links counts.items from.now) }
+    ensures { IsCounted net.now.nodes dest net.now.links result.items }
+{
+    net.network_law();
+    let _turns = match from {
+        Some(from) => finish_from(net, dest, &mut counts, from),
+        None => finish(net, dest, &mut counts),
+    };
+    counts
 }

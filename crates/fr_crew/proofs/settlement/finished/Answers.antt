@@ -8,8 +8,8 @@ use Rattle.fr_core.proofs.Unique.{settled_lawful}
 use Rattle.fr_core.proofs.Runs.{lawful_sum}
 use Rattle.fr_crew.proofs.settlement.finished.Goals as goal
 
-pub into_turned-net-requires-clause-kept : goal.into_turned-net-requires-clause-kept
-into_turned-net-requires-clause-kept c =
+pub turn-requires-clause-kept : goal.turn-requires-clause-kept
+turn-requires-clause-kept c =
     let settled : AreSettled c.args.net.nodes c.args.dest c.args.net.links c.finish-by_finisher.new.counts = c.finish-by_finisher.ensures.settled in
     let same : c.deref.result.now ≡ c.finish-by_finisher.new.counts = c.deref.ensures.value ∙ with_items_is c.args.counts c.finish-by_finisher.new.counts (omega (arith, settled.one_each, c.requires.lawful.one_each)) in
     rw same (settled_lawful c.args.net.nodes c.args.dest c.args.net.links c.network_law.ensures.is_net c.requires.node c.finish-by_finisher.new.counts settled).kept
@@ -22,7 +22,7 @@ returns-clause-settled c =
     let counts = c.finish-by_finisher.new.counts in
     let settled : AreSettled n d first counts = c.finish-by_finisher.ensures.settled in
     let items : (with_items c.args.counts counts).items ≡ counts = with_items_is c.args.counts counts (omega (arith, settled.one_each, c.requires.lawful.one_each)) in
-    let net : IsNetworkOf n (links_at first counts) c.into_turned-net.result = rw (c.deref.ensures.value, items) at c.into_turned-net.ensures in
+    let net : IsNetworkOf n (links_at first counts) c.turn.new.self = rw (c.deref.ensures.value, items) at c.turn.ensures in
     let sums = c.finish-by_finisher.ensures.run.adds in
     record {
       destination = c.requires.node;

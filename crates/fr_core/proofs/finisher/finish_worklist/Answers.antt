@@ -2,7 +2,7 @@ use Rattle.std.proofs.Common.{arith, rules, subst, sum, ◌-◌, ◌<◌, ◌^�
 use Rattle.fr_core.proofs.SettledRuns.{lawful_sum_fits, run_to_settled}
 use Rattle.fr_core.proofs.Unique.{settled_lawful}
 use Rattle.fr_core.specs.Finish.{IsFinish}
-use Rattle.fr_core.proofs.finisher.finish.Goals as goal
+use Rattle.fr_core.proofs.finisher.finish_worklist.Goals as goal
 
 pub sum-before-requires-clause-fits : goal.sum-before-requires-clause-fits
 sum-before-requires-clause-fits c =

@@ -1,6 +1,6 @@
 use Rattle.std.proofs.Common.{rules}
-use Rattle.fr_core.proofs.worklist.can_turn.Goals as goal
-use Rattle.fr_core.proofs.worklist.can_turn.Goals.{else-x-dest, then-x-dest}
+use Rattle.fr_core.proofs.counts.can_turn.Goals as goal
+use Rattle.fr_core.proofs.counts.can_turn.Goals.{else-x-dest, then-x-dest}
 
 pub returns-then-counts-x : goal.returns-then-counts-x
 returns-then-counts-x c =

@@ -1,0 +1,11 @@
+use Rattle.std.proofs.Common.{arith, ap, sum_by, ℕ, ◌^◌, ◌<◌, ◌∙◌, ◌≡◌}
+use Rattle.fr_core.proofs.SettledRuns.{lawful_sum_fits}
+use Rattle.fr_net.specs.Network.{Network}
+use Rattle.fr_crew.proofs.settlement.settle.Goals as goal
+
+pub turns_of-by_workers-requires : goal.turns_of-by_workers-requires
+turns_of-by_workers-requires g c =
+    let few = c.network_law.ensures.limits.nodes_few in
+    let nodes = ap (λ (net : Network). net.nodes) c.in_ok-net.ensures.net in
+    let fits = lawful_sum_fits _ _ _ _ (omega (arith, few, nodes)) c.in_ok-net.ensures.lawful in
+    rw c.deref-2.ensures.value (omega (arith, c.in_ok-net.ensures.turned, fits))
