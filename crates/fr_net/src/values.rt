@@ -36,8 +36,8 @@ impl<T: Drop> From<AllocFailed<T>> for Stop {
     }
 }
 
-/// The next value of the reader: a string, a number written in digits alone, or an array of such values, which nest at most
-/// `depth` deep.
+/// The next value of the reader: a string, a number written in digits alone, true, false, null, or an array of such values,
+/// which nest at most `depth` deep.
 #[cycle(value)]
 #[inline(always)]
 pub(crate) fn value(alloc: Global, reader: &mut Reader<'_>, depth: usize) -> Result<Value, Stop>
@@ -51,6 +51,8 @@ pub(crate) fn value(alloc: Global, reader: &mut Reader<'_>, depth: usize) -> Res
             Some(number) => Ok(Value::Number(number)),
             None => Err(Stop::NotTaken),
         },
+        Token::Bool(b) => Ok(Value::Bool(b)),
+        Token::Null => Ok(Value::Null),
         Token::BeginArray => {
             if depth == 0 {
                 return Err(Stop::NotTaken);

@@ -4,10 +4,10 @@ use Rattle.json.specs.Json.{after_end_array, items, parse_map, value}
 use Rattle.json.specs.Reads.{token_of}
 use Rattle.json.specs.Token.{Token}
 use Rattle.serde_json.proofs.Views.{view-Array}
-use Rattle.serde_json.specs.Data.{array, number, string}
+use Rattle.serde_json.specs.Data.{array, boolean, null, number, string}
 use Rattle.serde_json.specs.Read.{converted, of_items, of_json}
 use Rattle.serde_json.specs.View.{number_view, view}
-use Rattle.serde_json.specs.declared.value.Value.{Number, String, the_lemmas}
+use Rattle.serde_json.specs.declared.value.Value.{Bool, Null, Number, String, the_lemmas}
 use Rattle.fr_net.proofs.TokenItems.{array_of_items, no_item, none_yet, one_item, one_more, then_items, then_none}
 use Rattle.fr_net.proofs.values.+value.Goals as goal
 
@@ -24,6 +24,20 @@ value-returns-in-Some-clause-ok t c =
     let is : c.args.reader.now ≡ Token.number c.in-Number.text.now ∷ c.next.new.self = grind (arith, first) in
     let seen : view (Number c.in-Some.number) ≡ number (number_view c.in-Some.number) = search (rules, the_lemmas) in
     ap (converted of_json) (ap (value c.args.depth) is ∙ value_is c.args.depth _) ∙ rw (c.in-Some.ensures, seen)
+
+pub value-returns-in-Bool-clause-ok : goal.value-returns-in-Bool-clause-ok
+value-returns-in-Bool-clause-ok t c =
+    let first : c.args.reader.now ≡ token_of c.in_ok-token.token ∷ c.next.new.self = grind arith in
+    let is : c.args.reader.now ≡ Token.boolean c.in-Bool.b ∷ c.next.new.self = grind (arith, first) in
+    let seen : view (Bool c.in-Bool.b) ≡ boolean c.in-Bool.b = search (rules, the_lemmas) in
+    ap (converted of_json) (ap (value c.args.depth) is ∙ value_is c.args.depth _) ∙ ap (λ d. Some (d, c.next.new.self)) (sym seen)
+
+pub value-returns-in-Null-clause-ok : goal.value-returns-in-Null-clause-ok
+value-returns-in-Null-clause-ok t c =
+    let first : c.args.reader.now ≡ token_of c.in_ok-token.token ∷ c.next.new.self = grind arith in
+    let is : c.args.reader.now ≡ Token.null ∷ c.next.new.self = grind (arith, first) in
+    let seen : view Null ≡ null = search (rules, the_lemmas) in
+    ap (converted of_json) (ap (value c.args.depth) is ∙ value_is c.args.depth _) ∙ ap (λ d. Some (d, c.next.new.self)) (sym seen)
 
 pub value-returns-in_ok-items-in-BeginArray-clause-ok : goal.value-returns-in_ok-items-in-BeginArray-clause-ok
 value-returns-in_ok-items-in-BeginArray-clause-ok t c =
