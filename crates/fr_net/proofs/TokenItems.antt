@@ -1,11 +1,11 @@
--- The items of an array, token by token, as values that are put one behind the other.
+-- The items of an array, token by token, as values that are put one behind the other, and the members of an object.
 use Rattle.std.proofs.Common.{List, None, Option, Some, [], ap, option_and_then, option_map, refl, ℕ, ◌++◌, ◌-◌, ◌<◌, ◌∙◌, ◌∷◌, ◌≡◌, ◌≤◌, length}
-use Rattle.json.proofs.Grammar.{items_end, items_more}
+use Rattle.json.proofs.Grammar.{items_end, items_more, members_end, members_more}
 use Rattle.json.specs.Json as json
-use Rattle.json.specs.Json.{Parse, after_end_array, if_last, items, parse_map}
+use Rattle.json.specs.Json.{Parse, after_end_array, if_last, items, members, parse_map, read_key}
 use Rattle.json.specs.Token.{Token}
-use Rattle.serde_json.specs.Data.{Data, Items, array, item, no_items}
-use Rattle.serde_json.specs.Read.{converted, of_items, of_json}
+use Rattle.serde_json.specs.Data.{Data, Items, Members, array, item, no_items, no_members, object, put}
+use Rattle.serde_json.specs.Read.{converted, of_items, of_json, of_members}
 use Rattle.serde_json.specs.View.{items_view, view}
 use Rattle.serde_json.specs.declared.value.Value.{Value}
 
@@ -66,6 +66,27 @@ one_more vs v (Some p) = ap (λ ds. Some (ds, p.1)) (then_one vs v p.0)
 pub none_yet : (o : Option (Items × List Token)) → o ≡ parse_map (then_items []) o
 none_yet None = refl
 none_yet (Some p) = refl
+
+-- members that are read are read as an object
+pub object_of_members : (o : Option (json.Members × List Token)) → converted of_json (parse_map json.object o) ≡ parse_map object (converted (λ ms. of_members ms no_members) o)
+object_of_members None = refl
+object_of_members (Some p) = outside object p.1 (of_members p.0 no_members)
+
+first_of_members : (key : List ℕ) (j : json.Json) (d : Data) (found : Members) → of_json j ≡ Some d → (o : Option (json.Members × List Token))
+    → converted (λ ms. of_members ms found) (parse_map (json.member key j) o) ≡ converted (λ ms. of_members ms (put key d found)) o
+first_of_members key j d found e None = refl
+first_of_members key j d found e (Some p) = rw e
+
+-- a member that is read is put among those before it
+pub one_member : (p : Parse json.Json) (found : Members) (most : ℕ) (key : List ℕ) (ts after rest : List Token) (d : Data) → 0 < most → read_key ts ≡ Some (Some key, after) → converted of_json (p after) ≡ Some (d, rest)
+    → converted (λ ms. of_members ms found) (members p most ts) ≡ converted (λ ms. of_members ms (put key d found)) (members p (most - 1) rest)
+one_member p found most key ts after rest d some named e =
+    let first = read_first of_json (p after) d rest e in
+    ap (converted (λ ms. of_members ms found)) (members_more p most key ts after rest first.0 some named first.1) ∙ first_of_members key first.0 d found first.2 _
+
+-- where the object ends there is no member
+pub no_member : (p : Parse json.Json) (found : Members) (most : ℕ) (ts rest : List Token) → length ts ≤ most → read_key ts ≡ Some (None, rest) → converted (λ ms. of_members ms found) (members p most ts) ≡ Some (found, rest)
+no_member p found most ts rest enough e = ap (converted (λ ms. of_members ms found)) (members_end p most ts rest enough e)
 
 -- a value behind which nothing stands is the value of the text
 pub whole_value : (o : Option (json.Json × List Token)) (d : Data) → converted of_json o ≡ Some (d, []) → option_and_then of_json (option_and_then (λ p. if_last p.0 p.1) o) ≡ Some d

@@ -1,14 +1,15 @@
 //! Values of JSON from tokens, as `serde_json` has them: just those that a request can hold.
 
 ghost use Rattle.std.specs.Prelude.{◌≡◌, ◌<◌, length, Some, IfOk, OnOk, IfSome};
-ghost use Rattle.json.specs.Json.{value as json_value, items as json_items};
-ghost use Rattle.serde_json.specs.Read.{of_json, of_items, converted, number_of};
-ghost use Rattle.serde_json.specs.View.{view, items_view, number_view};
-ghost use Rattle.fr_net.specs.declared.values.Stop.TheVariants.{Memory as memory};
+ghost use Rattle.json.specs.Json.{value as json_value, items as json_items, members as json_members};
+ghost use Rattle.serde_json.specs.Data.{no_members};
+ghost use Rattle.serde_json.specs.Read.{of_json, of_items, of_members, converted, number_of};
+ghost use Rattle.serde_json.specs.View.{view, items_view, members_view, number_view};
+ghost use Rattle.fr_net.specs.declared.values.Stop.TheVariants.{Memory as memory, NotTaken as not_taken};
 
 use fast_float::Numeral;
-use json::{Reader, Token};
-use serde_json::{Number, Value};
+use json::{Invalid, Reader, Token};
+use serde_json::{Map, Number, Value};
 use std::alloc::{AllocError, AllocFailed, Global};
 
 /// Why no value was made of the tokens.
@@ -16,8 +17,16 @@ use std::alloc::{AllocError, AllocFailed, Global};
 pub(crate) enum Stop {
     /// An allocation was refused.
     Memory,
-    /// The tokens are no value, or one of a kind that stands in no request.
+    /// The tokens are no value, or one with a number that digits alone do not write.
     NotTaken,
+}
+
+impl From<Invalid> for Stop {
+    ghost from_gives = { λ _ stop. stop ≡ not_taken };
+
+    fn from(_invalid: Invalid) -> Stop {
+        Stop::NotTaken
+    }
 }
 
 impl From<AllocError> for Stop {
@@ -36,8 +45,8 @@ impl<T: Drop> From<AllocFailed<T>> for Stop {
     }
 }
 
-/// The next value of the reader: a string, a number written in digits alone, true, false, null, or an array of such values,
-/// which nest at most `depth` deep.
+/// The next value of the reader, in which each number is written in digits alone, and arrays and objects nest at most `depth`
+/// deep.
 #[cycle(value)]
 #[inline(always)]
 pub(crate) fn value(alloc: Global, reader: &mut Reader<'_>, depth: usize) -> Result<Value, Stop>
@@ -59,6 +68,12 @@ pub(crate) fn value(alloc: Global, reader: &mut Reader<'_>, depth: usize) -> Res
             }
             Ok(Value::Array(items(alloc, reader, depth - 1)?))
         }
+        Token::BeginObject => {
+            if depth == 0 {
+                return Err(Stop::NotTaken);
+            }
+            Ok(Value::Object(members(alloc, reader, depth - 1)?))
+        }
         _ => Err(Stop::NotTaken),
     }
 }
@@ -79,6 +94,27 @@ pub(crate) fn items(
     'items: while !reader.take_end_array() {
         let item = value(alloc, reader, depth)?;
         found.push(item)?;
+    }
+    Ok(found)
+}
+
+/// The members up to the end of an object, and its closing brace.
+#[cycle(value)]
+#[inline(never)]
+fn members(
+    alloc: Global,
+    reader: &mut Reader<'_>,
+    depth: usize,
+) -> Result<Map<String, Value>, Stop>
+    ensures ok { IfOk result (λ found. converted (λ ms. of_members ms no_members)
+        (json_members (json_value depth) (length reader.old) reader.old) ≡ Some (members_view found.entries, reader.new)) }
+    ensures shorter { OnOk result (length reader.new < length reader.old) }
+{
+    let mut found = Map::new(alloc);
+    'members: while let Some(name) = reader.next_key()? {
+        let key = String::from_str(alloc, name)?;
+        let member = value(alloc, reader, depth)?;
+        drop(found.insert(key, member)?);
     }
     Ok(found)
 }

@@ -1,14 +1,14 @@
-use Rattle.std.proofs.Common.{None, Some, [], ap, arith, length, rules, sym, ◌-◌, ◌<◌, ◌∙◌, ◌∷◌, ◌≡◌, ◌++◌}
-use Rattle.json.proofs.Grammar.{value-begin_array, value_is}
-use Rattle.json.specs.Json.{after_end_array, items, parse_map, value}
+use Rattle.std.proofs.Common.{None, Some, [], ap, arith, length, rules, string_bytes, sym, ◌-◌, ◌<◌, ◌∙◌, ◌∷◌, ◌≡◌}
+use Rattle.json.proofs.Grammar.{read_key-shorter, value-begin_array, value-begin_object, value_is}
+use Rattle.json.specs.Json.{after_end_array, items, members, parse_map, read_key, value}
 use Rattle.json.specs.Reads.{token_of}
 use Rattle.json.specs.Token.{Token}
-use Rattle.serde_json.proofs.Views.{view-Array}
-use Rattle.serde_json.specs.Data.{array, boolean, null, number, string}
-use Rattle.serde_json.specs.Read.{converted, of_items, of_json}
-use Rattle.serde_json.specs.View.{number_view, view}
+use Rattle.serde_json.proofs.Views.{members_view-insert_entry, view-Array, view-Object}
+use Rattle.serde_json.specs.Data.{array, boolean, null, number, object, put, string}
+use Rattle.serde_json.specs.Read.{converted, of_items, of_json, of_members}
+use Rattle.serde_json.specs.View.{members_view, number_view, view}
 use Rattle.serde_json.specs.declared.value.Value.{Bool, Null, Number, String, the_lemmas}
-use Rattle.fr_net.proofs.TokenItems.{array_of_items, no_item, none_yet, one_item, one_more, then_items, then_none}
+use Rattle.fr_net.proofs.TokenItems.{array_of_items, no_item, no_member, none_yet, object_of_members, one_item, one_member, one_more, then_items, then_none}
 use Rattle.fr_net.proofs.values.+value.Goals as goal
 
 pub value-returns-in_ok-from_str-in-String-clause-ok : goal.value-returns-in_ok-from_str-in-String-clause-ok
@@ -46,6 +46,13 @@ value-returns-in_ok-items-in-BeginArray-clause-ok t c =
     let found = c.in_ok-items-in-BeginArray in
     opened ∙ ap (parse_map array) found.ensures.ok ∙ ap (λ d. Some (d, c.items.new.reader)) (sym (view-Array found.field-0))
 
+pub value-returns-in_ok-members-in-BeginObject-clause-ok : goal.value-returns-in_ok-members-in-BeginObject-clause-ok
+value-returns-in_ok-members-in-BeginObject-clause-ok t c =
+    let first : c.args.reader.now ≡ token_of c.in_ok-token.token ∷ c.next.new.self = grind arith in
+    let opened = ap (converted of_json) (ap (value c.args.depth) (first ∙ ap (λ k. token_of k ∷ c.next.new.self) c.in-BeginObject.is) ∙ value-begin_object c.args.depth c.next.new.self (omega arith)) ∙ object_of_members (members (value (c.args.depth - 1)) (length c.next.new.self) c.next.new.self) in
+    let found = c.in_ok-members-in-BeginObject in
+    opened ∙ ap (parse_map object) found.ensures.ok ∙ ap (λ d. Some (d, c.members.new.reader)) (sym (view-Object found.field-0))
+
 pub items-items-init : goal.items-items-init
 items-items-init t c =
     let all = converted of_items (items (value c.args.depth) (length c.args.reader.now) c.args.reader.now) in
@@ -61,12 +68,11 @@ items-items-preserved t c =
     let v = c.in_ok-item.item in
     let r = c.value.new.reader in
     let less : length r < length l.reader = rw (← going.1) done.shorter in
-    let grown : l.found.items ++ v ∷ [] ≡ c.push.new.self.items = sym c.in_ok-push.ensures.items in
     let turn = one_item p most l.reader r (view v) (omega (arith, l.invariant.1)) going.0 (rw (← going.1) done.ok) in (
       most - 1,
       omega (arith, l.invariant.1),
       l.invariant.2 ∙ ap (parse_map (then_items l.found.items)) turn ∙ one_more l.found.items v _
-          ∙ ap (λ vs. parse_map (then_items vs) (converted of_items (items p (most - 1) r))) grown,
+          ∙ ap (λ vs. parse_map (then_items vs) (converted of_items (items p (most - 1) r))) (sym c.in_ok-push.ensures.items),
       omega (arith, l.invariant.3),
     )
 
@@ -76,3 +82,38 @@ items-returns-clause-ok t c =
     let l = c.items in
     let r = c.take_end_array.new.self in
     l.invariant.2 ∙ ap (parse_map (then_items l.found.items)) (no_item p l.invariant.0 l.reader r l.invariant.1 (grind arith)) ∙ ap (λ ds. Some (ds, r)) (then_none l.found.items)
+
+pub members-members-init : goal.members-members-init
+members-members-init t c =
+    let all = members (value c.args.depth) (length c.args.reader.now) c.args.reader.now in
+    (length c.args.reader.now, omega arith, ap (λ es. converted (λ ms. of_members ms (members_view es)) all) (sym c.new-found.ensures.empty), omega arith)
+
+pub members-members-preserved : goal.members-members-preserved
+members-members-preserved t c =
+    let p = value c.args.depth in
+    let l = c.members in
+    let most = l.invariant.0 in
+    let old = members_view l.found.entries in
+    let name = c.in-Some.name.now in
+    let s = c.next_key.new.self in
+    let named : read_key l.reader ≡ Some (Some name, s) = grind arith in
+    let done = c.in_ok-member.ensures in
+    let v = c.in_ok-member.member in
+    let r = c.value.new.reader in
+    let less = read_key-shorter l.reader (Some name) s named in
+    let lesser = done.shorter in
+    let copied : string_bytes c.in_ok-key.key ≡ name = search rules in
+    let inserted : members_view c.insert.new.self.entries ≡ put name (view v) old =
+    ap members_view c.in_ok-insert.ensures.entries ∙ members_view-insert_entry l.found.entries c.in_ok-key.key v ∙ ap (λ k. put k (view v) old) copied in (
+      most - 1,
+      omega (arith, l.invariant.1),
+      l.invariant.2 ∙ one_member p old most name l.reader s r (view v) (omega (arith, l.invariant.1)) named done.ok
+          ∙ ap (λ found. converted (λ ms. of_members ms found) (members p (most - 1) r)) (sym inserted),
+      omega (arith, l.invariant.3),
+    )
+
+pub members-returns-clause-ok : goal.members-returns-clause-ok
+members-returns-clause-ok t c =
+    let p = value c.args.depth in
+    let l = c.members in
+    l.invariant.2 ∙ no_member p (members_view l.found.entries) l.invariant.0 l.reader c.next_key.new.self l.invariant.1 (grind arith)
