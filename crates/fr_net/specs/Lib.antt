@@ -13,4 +13,5 @@ pub mod Halves
 pub mod CycleSearch
 pub mod Inside
 pub mod Requests
+pub mod LineTokens
 pub mod Laws
