@@ -1,13 +1,14 @@
 -- The items of an array, token by token, as values that are put one behind the other, and the members of an object.
-use Rattle.std.proofs.Common.{List, None, Option, Some, [], ap, option_and_then, option_map, arith, refl, ℕ, ◌++◌, ◌-◌, ◌<◌, ◌∙◌, ◌∷◌, ◌≡◌, ◌≤◌, length, suc, zero}
+use Rattle.std.proofs.Common.{List, None, Option, Some, [], ap, arith, length, option_and_then, option_map, refl, suc, zero, ℕ, ◌++◌, ◌-◌, ◌<◌, ◌∙◌, ◌∷◌, ◌≡◌, ◌≤◌}
 use Rattle.json.proofs.Grammar.{items_end, items_more, members_end, members_more, members_no_key, value-begin_array, value-begin_object}
 use Rattle.json.specs.Json as json
-use Rattle.json.specs.Json.{Parse, after_end_array, if_last, items, items_step, members, parse_map, read_key, value}
+use Rattle.json.specs.Json.{Parse, after_end_array, items, items_step, members, parse_map, read_key, value}
 use Rattle.json.specs.Token.{Token}
 use Rattle.serde_json.specs.Data.{Data, Items, Members, array, item, no_items, no_members, object, put}
 use Rattle.serde_json.specs.Read.{converted, of_items, of_json, of_members}
 use Rattle.serde_json.specs.View.{items_view, view}
 use Rattle.serde_json.specs.declared.value.Value.{Value}
+use Rattle.fr_net.specs.LineTokens.{value_alone}
 
 abbrev or_else : {A : Type 0} → A → Option A → A
 or_else a None = a
@@ -48,6 +49,7 @@ one_item p most ts rest d some going e =
     let first = read_first of_json (p ts) d rest e in
     ap (converted of_items) (items_more p most ts rest first.0 some going first.1) ∙ first_of_items first.0 d first.2 _
 
+-- what f refuses of what was read is refused
 no_pair : {B : Type 0} (rest : List Token) (o : Option B) → option_map {U = B × List Token} (λ b. (b, rest)) o ≡ None → o ≡ None
 no_pair rest None e = refl
 no_pair rest (Some b) e = absurd (cc)
@@ -149,19 +151,16 @@ pub no_member : (p : Parse json.Json) (found : Members) (most : ℕ) (ts rest : 
 no_member p found most ts rest enough e = ap (converted (λ ms. of_members ms found)) (members_end p most ts rest enough e)
 
 -- a value behind which nothing stands is the value of the text
-pub whole_value : (o : Option (json.Json × List Token)) (d : Data) → converted of_json o ≡ Some (d, []) → option_and_then of_json (option_and_then (λ p. if_last p.0 p.1) o) ≡ Some d
-whole_value o d e =
-    let found = read_first of_json o d [] e in
-    ap (λ r. option_and_then of_json (option_and_then (λ p. if_last p.0 p.1) r)) found.1 ∙ found.2
+pub whole_value : (o : Option (json.Json × List Token)) (d : Data) → converted of_json o ≡ Some (d, []) → value_alone o ≡ Some d
+whole_value o d e = let found = read_first of_json o d [] e in ap value_alone found.1 ∙ found.2
 
 -- a text with more behind its value has none
-pub more_behind : (o : Option (json.Json × List Token)) (d : Data) (rest : List Token) → converted of_json o ≡ Some (d, rest) → (rest ≡ [] → ⊥)
-    → option_and_then of_json (option_and_then (λ p. if_last p.0 p.1) o) ≡ None
+pub more_behind : (o : Option (json.Json × List Token)) (d : Data) (rest : List Token) → converted of_json o ≡ Some (d, rest) → (rest ≡ [] → ⊥) → value_alone o ≡ None
 more_behind o d [] e more = absurd (more refl)
-more_behind o d (t ∷ rest) e more = ap (λ r. option_and_then of_json (option_and_then (λ p. if_last p.0 p.1) r)) (read_first of_json o d (t ∷ rest) e).1
+more_behind o d (t ∷ rest) e more = ap value_alone (read_first of_json o d (t ∷ rest) e).1
 
 -- nor has a text that begins with no value
-pub no_value : (o : Option (json.Json × List Token)) → converted of_json o ≡ None → option_and_then of_json (option_and_then (λ p. if_last p.0 p.1) o) ≡ None
+pub no_value : (o : Option (json.Json × List Token)) → converted of_json o ≡ None → value_alone o ≡ None
 no_value None e = refl
 no_value (Some (j, [])) e = nothing_under of_json (j, []) e
 no_value (Some (j, t ∷ rest)) e = refl

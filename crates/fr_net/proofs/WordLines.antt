@@ -1,18 +1,15 @@
 -- The line whose tokens are a value, and the line whose tokens are an array of a word and other items.
-use Rattle.std.proofs.Common.{Err, IfErr, IfOk, List, None, Ok, Option, Result, Some, [], ap, arith, length, map, ok_or, refl, ℕ, ◌-◌, ◌∙◌, ◌∷◌, ◌≡◌}
+use Rattle.std.proofs.Common.{Err, List, None, Some, [], ap, arith, length, map, ok_or, refl, ℕ, ◌-◌, ◌∙◌, ◌∷◌, ◌≡◌}
 use Rattle.json.proofs.Grammar.{value_is}
-use Rattle.json.specs.Json as json
-use Rattle.json.specs.Json.{if_last, items, parse_map, value}
+use Rattle.json.specs.Json.{items, parse_map, value}
 use Rattle.json.specs.Token.{Token}
 use Rattle.serde_json.specs.Data.{Data, array, item, string}
 use Rattle.serde_json.specs.Read.{converted, of_items, of_json}
 use Rattle.serde_json.specs.View.{items_view, view}
 use Rattle.serde_json.specs.declared.value.Value.{Value}
-use Rattle.fr_net.specs.LineTokens.{Tells, reading_of_tokens}
-use Rattle.fr_net.specs.Requests.{PlainRequest, plain, request_of, request_of_word}
-use Rattle.fr_net.specs.declared.requests.LineFault.{LineFault}
-use Rattle.fr_net.specs.declared.requests.LineFault.TheVariants.{Memory, NotJson, NotRequest}
-use Rattle.fr_net.specs.declared.requests.Request.{Request}
+use Rattle.fr_net.specs.LineTokens.{reading_of_tokens}
+use Rattle.fr_net.specs.Requests.{request_of, request_of_word}
+use Rattle.fr_net.specs.declared.requests.LineFault.TheVariants.{NotJson, NotRequest}
 use Rattle.fr_net.proofs.Items.{list_again}
 use Rattle.fr_net.proofs.TokenItems.{more_behind, no_value, one_item, value_of_array, whole_value}
 
@@ -42,9 +39,3 @@ array_of_word word behind =
 -- the request of an array is that of its word and the items after it
 pub request_of_array : (word : List ℕ) (rest : List Value) → request_of (array (item (string word) (items_view rest))) ≡ request_of_word word (map view rest)
 request_of_array word rest = rw (list_again (map view rest))
-
--- what is answered of the request that the reading is, is answered of the reading
-pub tells : (reading : Result PlainRequest LineFault) (found : Option PlainRequest) (answer : Result Request LineFault) → reading ≡ ok_or found NotRequest → IfOk answer (λ request. found ≡ Some (plain request))
-    → IfErr answer (λ fault. (fault ≡ Memory → ⊥) → ok_or found NotRequest ≡ Err fault) → Tells reading answer
-tells reading found (Ok request) said ok refused = (said ∙ ap (λ o. ok_or o NotRequest) ok, tt)
-tells reading found (Err fault) said ok refused = (tt, λ other. said ∙ refused other)

@@ -15,7 +15,7 @@ use std::alloc::Global;
 use std::fmt;
 use std::str::from_utf8;
 
-/// How deep a value may nest that `serde_json` reads.
+/// How deep arrays and objects may nest, as `serde_json` has it.
 const DEPTH: usize = 127;
 
 /// A reader of many lines. From its first line on it keeps the memory that reading takes: a table of 16 KB, and room for the
@@ -31,7 +31,8 @@ impl LineReader {
         LineReader { scratch: None }
     }
 
-    /// The request that a line is, as [`read_line`] tells it; a fault other than want of memory is settled by the line alone.
+    /// The request that a line is, as [`read_line`](crate::read_line) tells it; a fault other than want of memory is settled by
+    /// the line alone.
     pub fn read(&mut self, alloc: Global, line: &[u8]) -> Result<Request, LineFault>
         ensures ok { IfOk result (λ request. reading line.now ≡ Ok (plain request)) }
         ensures refused { IfErr result (λ fault. fault ≢ Memory → reading line.now ≡ Err fault) }
@@ -63,7 +64,7 @@ fn new_scratch(alloc: Global) -> Result<Box<Scratch>, LineFault>
     Ok(Box::new(alloc, Scratch::new(alloc))?)
 }
 
-/// The request that a text is. One that is no array of a word and other items is read anew, as a value.
+/// The request that a text is. A text that is no array of a word and other items is begun again, and read as one value.
 fn request_of_text(alloc: Global, text: &str, scratch: &mut Scratch) -> Result<Request, LineFault>
     ensures { Tells (reading_of_tokens (tokens text.now)) result }
 {

@@ -1,4 +1,4 @@
-//! Values of JSON from tokens, as `serde_json` has them.
+//! Values of JSON from tokens, as `serde_json` has them, which makes a table of its own for each text.
 
 ghost use Rattle.std.specs.Prelude.{◌≡◌, ◌≢◌, ◌<◌, length, false, true, Some, None, option_map, IfOk, IfErr, OnOk};
 ghost use Rattle.fast_float.specs.Text.{scan};
@@ -84,8 +84,8 @@ fn members(
 ) -> Result<Map<String, Value>, LineFault>
     ensures ok { IfOk result (λ found. converted (λ ms. of_members ms no_members)
         (json_members (json_value depth) (length reader.old) reader.old) ≡ Some (members_view found.entries, reader.new)) }
-    ensures refused { IfErr result (λ fault. fault ≢ Memory → (fault ≡ NotJson) × (converted (λ ms. of_members ms no_members)
-        (json_members (json_value depth) (length reader.old) reader.old) ≡ None)) }
+    ensures refused { IfErr result (λ fault. fault ≢ Memory → (fault ≡ NotJson)
+        × (converted (λ ms. of_members ms no_members) (json_members (json_value depth) (length reader.old) reader.old) ≡ None)) }
     ensures shorter { OnOk result (length reader.new < length reader.old) }
 {
     let mut found = Map::new(alloc);
@@ -120,7 +120,7 @@ fn unsigned(bytes: &[u8]) -> Option<Number>
     }
 }
 
-/// The number that is written behind a minus. No request holds one, so it stands apart.
+/// The number that is written behind a minus. No request holds one, so it is kept out of the loops above.
 #[inline(never)]
 fn negative(bytes: &[u8]) -> Option<Number>
     ensures { option_map number_view result ≡ number_from true (scan bytes.now) }
@@ -131,7 +131,7 @@ fn negative(bytes: &[u8]) -> Option<Number>
     }
 }
 
-/// The float that is nearest, where it is finite. No request holds one, so it stands apart.
+/// The float that is nearest to these digits, where it is finite. No request holds one, so it is kept out of the loops above.
 #[inline(never)]
 fn float(sign: bool, bytes: &[u8]) -> Option<Number>
     ensures { option_map number_view result ≡ float_of sign (scan bytes.now) }

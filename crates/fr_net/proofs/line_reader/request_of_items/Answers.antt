@@ -7,7 +7,7 @@ use Rattle.serde_json.specs.View.{items_view, view}
 use Rattle.fr_net.specs.LineTokens.{reading_of_tokens}
 use Rattle.fr_net.specs.Requests.{request_of_word}
 use Rattle.fr_net.specs.declared.requests.LineFault.TheVariants.{Memory, NotRequest}
-use Rattle.fr_net.proofs.WordLines.{array_of_word, reading_of_none, reading_of_whole, reading_with_more, request_of_array, tells}
+use Rattle.fr_net.proofs.WordLines.{array_of_word, reading_of_none, reading_of_whole, reading_with_more, request_of_array}
 use Rattle.fr_net.proofs.line_reader.request_of_items.Goals as goal
 
 pub returns-in_err-rest : goal.returns-in_err-rest
@@ -37,4 +37,4 @@ returns c =
     array_of_word word _ ∙ ap (λ o. parse_map array (parse_map (item (string word)) o)) (rw over at c.in_ok-rest.ensures.ok) in
     let said : reading_of_tokens ts ≡ ok_or (request_of_word word (map view c.in_ok-rest.rest.items)) NotRequest =
     reading_of_whole ts _ whole ∙ ap (λ found. ok_or found NotRequest) (request_of_array word c.in_ok-rest.rest.items) in
-    tells _ _ _ said (rw c.deref.ensures.value at c.request_by_word.ensures.ok) (rw c.deref.ensures.value at c.request_by_word.ensures.refused)
+    rw (said, ← c.deref.ensures.value) c.request_by_word.ensures

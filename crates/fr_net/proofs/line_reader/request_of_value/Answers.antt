@@ -4,7 +4,7 @@ use Rattle.serde_json.specs.Read.{converted, of_json}
 use Rattle.serde_json.specs.View.{view}
 use Rattle.fr_net.specs.LineTokens.{reading_of_tokens}
 use Rattle.fr_net.specs.declared.requests.LineFault.TheVariants.{Memory}
-use Rattle.fr_net.proofs.WordLines.{reading_of_none, reading_of_whole, reading_with_more, tells}
+use Rattle.fr_net.proofs.WordLines.{reading_of_none, reading_of_whole, reading_with_more}
 use Rattle.fr_net.proofs.line_reader.request_of_value.Goals as goal
 
 pub returns-in_err-whole : goal.returns-in_err-whole
@@ -22,4 +22,4 @@ pub returns : goal.returns
 returns c =
     let over : c.value.new.reader ≡ [] = grind arith in
     let whole : converted of_json (value 127 c.args.reader.now) ≡ Some (view c.in_ok-whole.whole, []) = rw over at c.in_ok-whole.ensures.ok in
-    tells _ _ _ (reading_of_whole _ _ whole) c.request_in.ensures.ok c.request_in.ensures.refused
+    rw (reading_of_whole _ _ whole) c.request_in.ensures

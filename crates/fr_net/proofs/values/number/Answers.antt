@@ -1,4 +1,4 @@
-use Rattle.std.proofs.Common.{ap, arith, drop, false, get_or, length, length-drop, sym, take_all, true, ◌==◌, ◌∙◌, ◌≡◌, ◌≤◌}
+use Rattle.std.proofs.Common.{ap, arith, drop, false, get_or, length-drop, take_all, true, ◌==◌, ◌∙◌, ◌≡◌}
 use Rattle.std.proofs.lemmas.List.{get_or_past}
 use Rattle.fast_float.specs.Text.{scan}
 use Rattle.serde_json.specs.Read.{number_from, number_of}
