@@ -14,4 +14,5 @@ pub mod CycleSearch
 pub mod Graph
 pub mod Inside
 pub mod Requests
+pub mod LineTokens
 pub mod Laws

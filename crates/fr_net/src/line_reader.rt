@@ -1,19 +1,21 @@
 //! Reading line after line with the memory that the first one took.
 
-ghost use Rattle.std.specs.Prelude.{◌≡◌, ◌≢◌, Ok, Err, IfOk, IfErr, IfSome};
-ghost use Rattle.serde_json.specs.Read.{read as read_json};
+ghost use Rattle.std.specs.Prelude.{◌≡◌, ◌≢◌, ◌∷◌, Ok, Err, IfOk, IfErr, IfSome};
+ghost use Rattle.json.specs.Lex.{tokens};
+ghost use Rattle.json.specs.Token.{begin_array, string};
 ghost use Rattle.fr_net.specs.declared.requests.LineFault.TheVariants.{Memory};
-ghost use Rattle.fr_net.specs.Requests.{plain, reading, reading_of_value};
+ghost use Rattle.fr_net.specs.Requests.{plain, reading};
+ghost use Rattle.fr_net.specs.LineTokens.{Tells, reading_of_tokens};
 
-use crate::read::{read_line, request_by_word, request_in};
+use crate::read::{request_by_word, request_in};
 use crate::requests::{LineFault, Request};
-use crate::values::{Stop, items, value};
+use crate::values::{items, value};
 use json::{Reader, Scratch, Token};
 use std::alloc::Global;
 use std::fmt;
 use std::str::from_utf8;
 
-/// How deep a value may nest that `serde_json` reads.
+/// How deep arrays and objects may nest, as `serde_json` has it.
 const DEPTH: usize = 127;
 
 /// A reader of many lines. From its first line on it keeps the memory that reading takes: a table of 16 KB, and room for the
@@ -29,7 +31,8 @@ impl LineReader {
         LineReader { scratch: None }
     }
 
-    /// The request that a line is, as [`read_line`] tells it; a fault other than want of memory is settled by the line alone.
+    /// The request that a line is, as [`read_line`](crate::read_line) tells it; a fault other than want of memory is settled by
+    /// the line alone.
     pub fn read(&mut self, alloc: Global, line: &[u8]) -> Result<Request, LineFault>
         ensures ok { IfOk result (λ request. reading line.now ≡ Ok (plain request)) }
         ensures refused { IfErr result (λ fault. fault ≢ Memory → reading line.now ≡ Err fault) }
@@ -41,13 +44,9 @@ impl LineReader {
             Some(scratch) => scratch,
             None => new_scratch(alloc)?,
         };
-        let taken = request_of_text(alloc, text, &mut scratch);
+        let request = request_of_text(alloc, text, &mut scratch);
         self.scratch = Some(scratch);
-        match taken {
-            Ok(Some(request)) => Ok(request),
-            Ok(None) => read_line(alloc, line),
-            Err(fault) => Err(fault),
-        }
+        request
     }
 }
 
@@ -65,66 +64,55 @@ fn new_scratch(alloc: Global) -> Result<Box<Scratch>, LineFault>
     Ok(Box::new(alloc, Scratch::new(alloc))?)
 }
 
-/// The request of a text, or None where a value in it is of a kind that stands in no request, or the text is no JSON.
-fn request_of_text(
-    alloc: Global,
-    text: &str,
-    scratch: &mut Scratch,
-) -> Result<Option<Request>, LineFault>
-    ensures ok { IfOk result (λ taken. IfSome taken (λ request. reading_of_value (read_json text.now) ≡ Ok (plain request))) }
-    ensures refused { IfErr result (λ fault. fault ≢ Memory → reading_of_value (read_json text.now) ≡ Err fault) }
-{
-    match request_of_words(alloc, text, scratch) {
-        Ok(None) => request_of_value(alloc, text, scratch),
-        taken => taken,
-    }
-}
-
-/// The same of a text that is an array of a word and other items, with no copy of the word; None for every other text.
-fn request_of_words(
-    alloc: Global,
-    text: &str,
-    scratch: &mut Scratch,
-) -> Result<Option<Request>, LineFault>
-    ensures ok { IfOk result (λ taken. IfSome taken (λ request. reading_of_value (read_json text.now) ≡ Ok (plain request))) }
-    ensures refused { IfErr result (λ fault. fault ≢ Memory → reading_of_value (read_json text.now) ≡ Err fault) }
+/// The request that a text is. A text that is no array of a word and other items is begun again, and read as one value.
+fn request_of_text(alloc: Global, text: &str, scratch: &mut Scratch) -> Result<Request, LineFault>
+    ensures { Tells (reading_of_tokens (tokens text.now)) result }
 {
     let mut reader = Reader::new(text, scratch)?;
+    if let Some(word) = opening_word(&mut reader) {
+        return request_of_items(alloc, word, &mut reader);
+    }
+    let mut reader = Reader::new(text, scratch)?;
+    request_of_value(alloc, &mut reader)
+}
+
+/// The word that opens an array, and the bracket before it. Where there is none, some tokens are taken all the same.
+#[inline(always)]
+fn opening_word<'a>(reader: &mut Reader<'a>) -> Option<&'a str>
+    ensures { IfSome result (λ word. reader.old ≡ begin_array ∷ string word.now ∷ reader.new) }
+{
     let Some(Token::BeginArray) = reader.next() else {
-        return Ok(None);
+        return None;
     };
     let Some(Token::String(word)) = reader.next() else {
-        return Ok(None);
+        return None;
     };
-    let rest = match items(alloc, &mut reader, DEPTH - 1) {
-        Ok(rest) => rest,
-        Err(Stop::Memory) => return Err(LineFault::Memory),
-        Err(Stop::NotTaken) => return Ok(None),
-    };
-    if reader.next().is_some() {
-        return Ok(None);
-    }
-    Ok(Some(request_by_word(alloc, word, &rest)?))
+    Some(word)
 }
 
-/// The same of a text that is any value.
-#[inline(never)]
-fn request_of_value(
+/// The request of an array that this word opens, with no copy of the word; the items after it are next.
+fn request_of_items(
     alloc: Global,
-    text: &str,
-    scratch: &mut Scratch,
-) -> Result<Option<Request>, LineFault>
-    ensures ok { IfOk result (λ taken. IfSome taken (λ request. reading_of_value (read_json text.now) ≡ Ok (plain request))) }
-    ensures refused { IfErr result (λ fault. fault ≢ Memory → reading_of_value (read_json text.now) ≡ Err fault) }
+    word: &str,
+    reader: &mut Reader<'_>,
+) -> Result<Request, LineFault>
+    ensures { Tells (reading_of_tokens (begin_array ∷ string word.now ∷ reader.old)) result }
 {
-    let mut reader = Reader::new(text, scratch)?;
-    let whole = match value(alloc, &mut reader, DEPTH) {
-        Ok(whole) => whole,
-        Err(Stop::Memory) => return Err(LineFault::Memory),
-        Err(Stop::NotTaken) => return Ok(None),
-    };
+    let rest = items(alloc, reader, DEPTH - 1)?;
     if reader.next().is_some() {
-        return Ok(None);
+        return Err(LineFault::NotJson);
     }
-    Ok(Some(request_in(alloc, &whole)?))
+    request_by_word(alloc, word, &rest)
+}
+
+/// The request of the value that is next.
+#[inline(never)]
+fn request_of_value(alloc: Global, reader: &mut Reader<'_>) -> Result<Request, LineFault>
+    ensures { Tells (reading_of_tokens reader.old) result }
+{
+    let whole = value(alloc, reader, DEPTH)?;
+    if reader.next().is_some() {
+        return Err(LineFault::NotJson);
+    }
+    request_in(alloc, &whole)
 }

@@ -3,6 +3,7 @@
 ghost use Rattle.std.specs.Prelude.{◌≡◌, ◌≢◌, Ok, Err, Some, IfOk, IfErr, map, ok_or};
 ghost use Rattle.serde_json.specs.View.{view};
 ghost use Rattle.fr_net.specs.declared.requests.LineFault.TheVariants.{NotRequest, Memory};
+ghost use Rattle.fr_net.specs.LineTokens.{Tells};
 ghost use Rattle.fr_net.specs.Requests.{plain, reading, request_of, request_of_word, cut_link, add_link, join_nodes, move_dest, walk_from, network_request, pair_request, batch_request, node_request, ask_request, links_in, link_in, edits_in, edit_in, edit_of_word, number_pair, single_number, number_in};
 
 use crate::requests::{Edit, LineFault, Question, Request};
@@ -24,9 +25,7 @@ pub fn read_line(alloc: Global, line: &[u8]) -> Result<Request, LineFault>
 
 /// The request that a value of JSON is.
 pub(crate) fn request_in(alloc: Global, value: &Value) -> Result<Request, LineFault>
-    ensures ok { IfOk result (λ request. request_of (view value.now) ≡ Some (plain request)) }
-    ensures refused { IfErr result (λ fault. fault ≢ Memory
-        → ok_or (request_of (view value.now)) NotRequest ≡ Err fault) }
+    ensures { Tells (ok_or (request_of (view value.now)) NotRequest) result }
 {
     let Some(items) = value.as_array() else {
         return Err(LineFault::NotRequest);
@@ -47,9 +46,7 @@ pub(crate) fn request_by_word(
     word: &str,
     rest: &[Value],
 ) -> Result<Request, LineFault>
-    ensures ok { IfOk result (λ request. request_of_word word.now (map view rest.now) ≡ Some (plain request)) }
-    ensures refused { IfErr result (λ fault. fault ≢ Memory
-        → ok_or (request_of_word word.now (map view rest.now)) NotRequest ≡ Err fault) }
+    ensures { Tells (ok_or (request_of_word word.now (map view rest.now)) NotRequest) result }
 {
     match word {
         "net" => network(alloc, rest),
@@ -104,9 +101,7 @@ fn walk(rest: &[Value]) -> Result<Request, LineFault>
 
 /// A batch, where just an array of its edits stands after the word.
 fn batch(alloc: Global, rest: &[Value]) -> Result<Request, LineFault>
-    ensures ok { IfOk result (λ request. batch_request (map view rest.now) ≡ Some (plain request)) }
-    ensures refused { IfErr result (λ fault. fault ≢ Memory
-        → ok_or (batch_request (map view rest.now)) NotRequest ≡ Err fault) }
+    ensures { Tells (ok_or (batch_request (map view rest.now)) NotRequest) result }
 {
     let [edits] = rest else {
         return Err(LineFault::NotRequest);
@@ -137,9 +132,7 @@ fn ask(question: Question, rest: &[Value]) -> Result<Request, LineFault>
 
 /// A network of just three items: how many nodes, the destination, the links.
 fn network(alloc: Global, rest: &[Value]) -> Result<Request, LineFault>
-    ensures ok { IfOk result (λ request. network_request (map view rest.now) ≡ Some (plain request)) }
-    ensures refused { IfErr result (λ fault. fault ≢ Memory
-        → ok_or (network_request (map view rest.now)) NotRequest ≡ Err fault) }
+    ensures { Tells (ok_or (network_request (map view rest.now)) NotRequest) result }
 {
     let [nodes, dest, links] = rest else {
         return Err(LineFault::NotRequest);

@@ -1,12 +1,12 @@
 //! Lines, and the requests that they are.
 
-use fr_net::{LineFault, read_line};
+use fr_net::{LineFault, LineReader, Request, read_line};
 use std::alloc::{AllocError, Global};
 use std::test::Fail;
 
-/// The request that a line is, or the fault.
-fn told(alloc: Global, line: &[u8]) -> Result<String, AllocError> {
-    match read_line(alloc, line) {
+/// What was read of a line: the request, or the fault.
+fn told(alloc: Global, read: Result<Request, LineFault>) -> Result<String, AllocError> {
+    match read {
         Ok(request) => format!(in alloc; "{request:?}"),
         Err(fault) => format!(in alloc; "{fault:?}"),
     }
@@ -82,44 +82,100 @@ const LINES: &[(&str, &str)] = &[
     (r#"["net",2,0,[],1]"#, "NotRequest"),
     (r#"{"net":1}"#, "NotRequest"),
     (r#""links""#, "NotRequest"),
+    ("{}", "NotRequest"),
+    (r#" { "a" : 1 } "#, "NotRequest"),
+    (r#"{"a":{"b":[1,{}],"c":"d"},"a":null}"#, "NotRequest"),
+    ("true", "NotRequest"),
+    ("[true]", "NotRequest"),
+    ("null", "NotRequest"),
+    ("-1.5e3", "NotRequest"),
+    ("18446744073709551616", "NotRequest"),
+    (r#"["walk",{"x":1}]"#, "NotRequest"),
+    (r#"["walk",false]"#, "NotRequest"),
+    (r#"["walk",18446744073709551616]"#, "NotRequest"),
+    ("", "NotJson"),
+    ("nonsense", "NotJson"),
+    ("-", "NotJson"),
+    ("1e999", "NotJson"),
+    (r#"["walk",1e999]"#, "NotJson"),
+    (r#"["walk",-1e999]"#, "NotJson"),
+    (r#"["walk",1"#, "NotJson"),
+    (r#"["walk",1}"#, "NotJson"),
+    (r#"["walk":1]"#, "NotJson"),
+    (r#"["walk",]"#, "NotJson"),
+    ("[1 2]", "NotJson"),
+    ("]", "NotJson"),
+    (r#"{"a":}"#, "NotJson"),
+    (r#"{"a":1}x"#, "NotJson"),
+    (r#"{"a":1,}"#, "NotJson"),
+    (r#"{"a"}"#, "NotJson"),
+    (r#"{"a":1e999}"#, "NotJson"),
+    ("{1:2}", "NotJson"),
+    ("{]", "NotJson"),
+    ("{} {}", "NotJson"),
 ];
 
 #[test]
 fn reads_lines(rt: HostRuntime) -> Result<(), Fail> {
+    let mut reader = LineReader::new();
     for (line, wanted) in LINES {
-        let text = told(rt.alloc(), line.as_bytes())?;
-        assert!(rt; text.as_str() == *wanted, "{line}: {text}");
+        let alone = told(rt.alloc(), read_line(rt.alloc(), line.as_bytes()))?;
+        assert!(rt; alone.as_str() == *wanted, "{line}: {alone}");
+        let next = told(rt.alloc(), reader.read(rt.alloc(), line.as_bytes()))?;
+        assert!(rt; next.as_str() == *wanted, "{line} by a reader: {next}");
     }
-    assert!(rt; told(rt.alloc(), &[255])?.as_str() == "NotJson");
+    assert!(rt; matches!(read_line(rt.alloc(), &[255]), Err(LineFault::NotJson)));
+    assert!(rt; matches!(reader.read(rt.alloc(), &[255]), Err(LineFault::NotJson)));
     Ok(())
 }
 
 #[test]
 fn refuses_lines_that_are_cut_off(rt: HostRuntime) {
-    for line in [r#"["links"]"#, r#"["net",1,0,[]]"#] {
+    let mut reader = LineReader::new();
+    for line in [
+        r#"["links"]"#,
+        r#"["net",1,0,[]]"#,
+        r#"{"a":[{"b":null}],"c":"d"}"#,
+    ] {
         for end in 1..line.len() {
-            let read = read_line(rt.alloc(), &line.as_bytes()[..end]);
+            let front = &line.as_bytes()[..end];
             assert!(rt;
-                matches!(read, Err(LineFault::NotJson)),
+                matches!(read_line(rt.alloc(), front), Err(LineFault::NotJson)),
                 "{line} up to {end}"
+            );
+            assert!(rt;
+                matches!(reader.read(rt.alloc(), front), Err(LineFault::NotJson)),
+                "{line} up to {end} by a reader"
             );
         }
     }
 }
 
-/// What a line of so many opening and then as many closing square brackets is.
-fn nested(alloc: Global, depth: usize) -> Result<String, AllocError> {
-    let mut line = vec![in alloc; b'['; depth]?;
+/// A line that opens so often, holds 0, and closes as often.
+fn nested(alloc: Global, opening: &str, closing: &str, depth: usize) -> Result<String, AllocError> {
+    let mut line = String::new(alloc);
     for _ in 0..depth {
-        line.push(b']')?;
+        line.push_str(opening)?;
     }
-    told(alloc, &line)
+    line.push_str("0")?;
+    for _ in 0..depth {
+        line.push_str(closing)?;
+    }
+    Ok(line)
 }
 
 #[test]
 fn bounds_the_nesting(rt: HostRuntime) -> Result<(), Fail> {
-    for (depth, wanted) in [(127, "NotRequest"), (128, "NotJson"), (200, "NotJson")] {
-        assert!(rt; nested(rt.alloc(), depth)?.as_str() == wanted, "{depth}");
+    let alloc = rt.alloc();
+    let mut reader = LineReader::new();
+    for (opening, closing) in [("[", "]"), (r#"["walk","#, "]"), (r#"{"a":"#, "}")] {
+        for (depth, wanted) in [(127, "NotRequest"), (128, "NotJson"), (200, "NotJson")] {
+            let line = nested(alloc, opening, closing, depth)?;
+            let alone = told(alloc, read_line(alloc, line.as_bytes()))?;
+            assert!(rt; alone.as_str() == wanted, "{opening} {depth}");
+            let next = told(alloc, reader.read(alloc, line.as_bytes()))?;
+            assert!(rt; next.as_str() == wanted, "{opening} {depth} by a reader");
+        }
     }
     Ok(())
 }

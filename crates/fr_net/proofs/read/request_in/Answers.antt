@@ -9,4 +9,4 @@ returns c =
     let vs = c.as_slice.result.now in
     let same : request_of (view c.args.value.now) ≡ request_of_word c.in-Some-as_str.word.now (map view (take (length vs - 1) (drop 1 vs))) =
     word_settles request_of_word _ _ _ _ (rw c.as_slice.ensures.value (sym c.in-Some.ensures)) c.in-len1-up.len_at_least c.first-item.is (sym c.in-Some-as_str.ensures) in
-    record { ok = rw same c.request_by_word.ensures.ok; refused = rw same c.request_by_word.ensures.refused }
+    rw same c.request_by_word.ensures
