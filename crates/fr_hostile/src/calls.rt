@@ -2,8 +2,10 @@
 
 use crate::telling::{number_told, told};
 use fr_core::{Machine, Target, check_run, play};
-use fr_crew::{OpenGate, Plan, live_walk, settle, settle_alone};
-use fr_net::{Edit, LineFault, LineReader, Net, Question, Request, read_line};
+use fr_crew::{
+    OpenGate, Plan, live_walk, settle, settle_alone, settled_counts, settled_counts_alone,
+};
+use fr_net::{Edit, LineFault, LineReader, Net, NotEdited, Question, Request, read_line};
 use fr_round::{OpenWhy, Round};
 use fr_route::{Change, Report, Router, Session, counts_line, links_line};
 use std::alloc::{AllocError, Global};
@@ -33,31 +35,87 @@ const LEFT_TO_RIGHT: [(u32, u32); 16] = [
     (3, 7),
 ];
 
+/// A call, or a few that belong together.
+#[derive(Clone, Copy)]
+pub enum Call {
+    Network,
+    CutNetwork,
+    LinkedNetwork,
+    RefusedNetworks,
+    Request,
+    RefusedLine,
+    Played,
+    Machine,
+    Opened,
+    Settled,
+    SettledWithGrowth,
+    Routed,
+    EditedNetwork,
+    WalkedLive,
+    SettledAlone,
+    RoutedAlone,
+    AnsweredAlone,
+    JoinedNetwork,
+    LinesRead,
+    EditedInPlace,
+    Counted,
+    CountedAlone,
+}
+
+/// The calls in the order in which they are made.
+pub const CALLS: [Call; 22] = [
+    Call::Network,
+    Call::CutNetwork,
+    Call::LinkedNetwork,
+    Call::RefusedNetworks,
+    Call::Request,
+    Call::RefusedLine,
+    Call::Played,
+    Call::Machine,
+    Call::Opened,
+    Call::Settled,
+    Call::SettledWithGrowth,
+    Call::Routed,
+    Call::EditedNetwork,
+    Call::WalkedLive,
+    Call::SettledAlone,
+    Call::RoutedAlone,
+    Call::AnsweredAlone,
+    Call::JoinedNetwork,
+    Call::LinesRead,
+    Call::EditedInPlace,
+    Call::Counted,
+    Call::CountedAlone,
+];
+
 /// The answer of a call, or `None` where memory or a thread was missing, which is told.
 pub fn answer_of<R: Threads + Wait + Sync + Alloc<A = Global> + Print + Eprint>(
     rt: &R,
-    call: u32,
+    call: Call,
 ) -> Option<String> {
     match call {
-        0 => network(rt),
-        1 => cut_network(rt),
-        2 => linked_network(rt),
-        3 => refused_networks(rt),
-        4 => request(rt),
-        5 => refused_line(rt),
-        6 => played(rt),
-        7 => machine(rt),
-        8 => opened(rt),
-        9 => settled(rt),
-        10 => settled_with_growth(rt),
-        11 => routed(rt),
-        12 => edited_network(rt),
-        13 => walked_live(rt),
-        14 => settled_alone(rt),
-        15 => routed_alone(rt),
-        16 => answered_alone(rt),
-        17 => joined_network(rt),
-        _ => lines_read(rt),
+        Call::Network => network(rt),
+        Call::CutNetwork => cut_network(rt),
+        Call::LinkedNetwork => linked_network(rt),
+        Call::RefusedNetworks => refused_networks(rt),
+        Call::Request => request(rt),
+        Call::RefusedLine => refused_line(rt),
+        Call::Played => played(rt),
+        Call::Machine => machine(rt),
+        Call::Opened => opened(rt),
+        Call::Settled => settled(rt),
+        Call::SettledWithGrowth => settled_with_growth(rt),
+        Call::Routed => routed(rt),
+        Call::EditedNetwork => edited_network(rt),
+        Call::WalkedLive => walked_live(rt),
+        Call::SettledAlone => settled_alone(rt),
+        Call::RoutedAlone => routed_alone(rt),
+        Call::AnsweredAlone => answered_alone(rt),
+        Call::JoinedNetwork => joined_network(rt),
+        Call::LinesRead => lines_read(rt),
+        Call::EditedInPlace => edited_in_place(rt),
+        Call::Counted => counted(rt),
+        Call::CountedAlone => counted_alone(rt),
     }
 }
 
@@ -95,6 +153,22 @@ fn edited_network<R: Alloc<A = Global> + Eprint>(rt: &R) -> Option<String> {
         Err(refused) => return told(rt, Err(refused.fault)),
     };
     told(rt, links_line(rt.alloc(), net.links()))
+}
+
+/// The same where the network stands, with its text made before the edits stay. Where that finds no memory, it has to be as it was.
+fn edited_in_place<R: Alloc<A = Global> + Print + Eprint>(rt: &R) -> Option<String> {
+    let alloc = rt.alloc();
+    let mut net = chain(rt)?;
+    let edits = [Edit::Cut { u: 1, v: 2 }, Edit::Add { u: 0, v: 3 }];
+    let why = match net.edit_if(alloc, &edits, &|edited| links_line(alloc, edited.links())) {
+        Ok(links) => return Some(links),
+        Err(NotEdited::Refused(refused)) => told(rt, Err(refused.fault)),
+        Err(NotEdited::Fault(fault)) => told(rt, Err(fault)),
+    };
+    if net.links() != CHAIN.as_slice() {
+        let _ = rt.println("the network has changed");
+    }
+    why
 }
 
 /// The numbers of faults of links.
@@ -236,6 +310,23 @@ fn routed<R: Threads + Wait + Sync + Alloc<A = Global> + Print + Eprint>(rt: &R)
     let walked = told(rt, router.walk(alloc, 2))?;
     let links = told(rt, links_line(alloc, router.net().links()))?;
     told(rt, format!(in alloc; "{links} {walked:?}"))
+}
+
+fn counted<R: Threads + Wait + Sync + Alloc<A = Global> + Eprint>(rt: &R) -> Option<String> {
+    let alloc = rt.alloc();
+    let plan = Plan::new(3, 0, 1000)?;
+    let net = chain(rt)?;
+    let counts = told(
+        rt,
+        settled_counts(rt, alloc, &net, 0, None, &plan, &OpenGate),
+    )?;
+    told(rt, counts_line(alloc, &counts))
+}
+
+fn counted_alone<R: Alloc<A = Global> + Eprint>(rt: &R) -> Option<String> {
+    let net = chain(rt)?;
+    let counts = told(rt, settled_counts_alone(rt.alloc(), &net, 0, None))?;
+    told(rt, counts_line(rt.alloc(), &counts))
 }
 
 fn settled_alone<R: Alloc<A = Global> + Eprint>(rt: &R) -> Option<String> {

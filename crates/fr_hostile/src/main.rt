@@ -8,25 +8,22 @@ mod calls;
 mod sessions;
 mod telling;
 
-use calls::answer_of;
+use calls::{CALLS, Call, answer_of};
 use sessions::tell_session;
 use std::alloc::Global;
 use std::rt::HostRuntime;
 use std::sync::Wait;
 use std::thread::Threads;
 
-/// How many calls there are beside the lines of the session.
-const CALLS: u32 = 19;
-
 fn main(rt: HostRuntime) {
-    for call in 0..CALLS {
+    for call in CALLS {
         tell_call(&rt, call);
     }
     tell_session(&rt);
 }
 
 /// Makes a call, once more if need be, and writes its answer.
-fn tell_call<R: Threads + Wait + Sync + Alloc<A = Global> + Print + Eprint>(rt: &R, call: u32) {
+fn tell_call<R: Threads + Wait + Sync + Alloc<A = Global> + Print + Eprint>(rt: &R, call: Call) {
     for _ in 0..2 {
         if let Some(text) = answer_of(rt, call) {
             let _ = rt.println(text);
