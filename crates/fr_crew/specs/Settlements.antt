@@ -20,14 +20,15 @@ pub record IsSettlement (n d : ℕ) (first : List (ℕ × ℕ)) (s : Settled) : 
   pub turns : s.by_workers + s.by_finisher ≡ sum s.counts.items
   pub most : sum s.counts.items ≤ n * n
 
--- these are the counts of a settlement: the destination is a node, the counts are the settled ones, and their sum, which is how
--- many turns there are, is at most n * n
+-- the settled counts of a network: the destination is a node,
 pub record IsCounted (n d : ℕ) (first : List (ℕ × ℕ)) (counts : List ℕ) : Type 0 where
   pub destination : d < n
+  -- each count is the settled one,
   pub settled : AreSettled n d first counts
+  -- and there are at most n * n turns
   pub most : sum counts ≤ n * n
 
--- these are nodes, and each sink but d is one of them
+-- all in this list are nodes of the network, and each sink but d is among them
 pub record HoldsSinks (net : Network) (d : ℕ) (from : List ℕ) : Type 0 where
   pub nodes : All (λ (x : ℕ). x < net.nodes) from
   pub sinks : (x : ℕ) → IsSink net.links x → ¬ (x ≡ d) → Contains from x
