@@ -27,6 +27,7 @@ pub mod Joining
 pub mod Batches
 pub mod ByNode
 pub mod Cycles
+pub mod ClosingWalks
 pub mod Items
 pub mod LineValues
 pub mod TokenItems
