@@ -186,7 +186,7 @@ fn turns_of(turned: &[(u32, u64)]) -> u64
 }
 
 /// Finishes on one thread what the workers have left. It takes no memory.
-fn finished(net: Net, dest: u32, mut counts: Vec<u64>, by_workers: u64) -> Settled
+fn finished(mut net: Net, dest: u32, mut counts: Vec<u64>, by_workers: u64) -> Settled
     requires node { dest < net.nodes }
     requires lawful { AreLawful net.nodes dest net.links counts.items }
     requires turned { by_workers ≡ sum counts.items }
@@ -195,7 +195,7 @@ fn finished(net: Net, dest: u32, mut counts: Vec<u64>, by_workers: u64) -> Settl
 {
     net.network_law();
     let by_finisher = finish(&net, dest, &mut counts);
-    let net = net.into_turned(&counts);
+    net.turn(&counts);
     Settled {
         net,
         counts,

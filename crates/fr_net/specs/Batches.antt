@@ -1,5 +1,5 @@
 -- What edits make of a network, each made on the links that those before it left, and which of them is refused first.
-use Rattle.std.specs.Prelude.{◌≡◌, ℕ, ◌<◌, ◌≤◌, ◌⊎◌, ◌++◌, List, [], ◌∷◌, length, take}
+use Rattle.std.specs.Prelude.{◌≡◌, ◌≢◌, ℕ, ◌<◌, ◌≤◌, ◌⊎◌, ◌++◌, List, [], ◌∷◌, length, take, Result, Err}
 use Rattle.std.specs.List.{HoldsAt}
 use Rattle.fr_net.specs.Edits.{IsCutFault, IsJoined, IsJoinFault, without}
 use Rattle.fr_net.specs.Faults.{IsFirstFault, IsNetworkOf}
@@ -8,7 +8,9 @@ use Rattle.fr_net.specs.Links.{Joins}
 use Rattle.fr_net.specs.Network.{Network}
 use Rattle.fr_net.specs.declared.fault.EditFault.{EditFault}
 use Rattle.fr_net.specs.declared.fault.NetFault.{NetFault}
-use Rattle.fr_net.specs.declared.fault.NetFault.TheVariants.{TooMany}
+use Rattle.fr_net.specs.declared.fault.NetFault.TheVariants.{Memory, TooMany}
+use Rattle.fr_net.specs.declared.fault.NotEdited.{NotEdited}
+use Rattle.fr_net.specs.declared.fault.NotEdited.TheVariants.{Refused, Fault}
 use Rattle.fr_net.specs.declared.requests.Edit.{Edit}
 use Rattle.fr_net.specs.declared.requests.Edit.TheVariants.{Cut, Add, Join}
 
@@ -41,3 +43,9 @@ abbrev pub IsBatchFault : Network → List Edit → EditFault → Type 0
 IsBatchFault net edits refused =
     ((most_edits < length edits) × (refused.at ≡ most_edits) × (refused.fault ≡ TooMany))
     ⊎ ((length edits ≤ most_edits) × IsRefusedAt net edits refused.at refused.fault)
+
+-- why a network is not edited under a condition: an edit is refused, for want of memory or another fault, or the edits are made and
+-- the answer of the network that they make is this fault
+abbrev pub IsNotEdited : {T E : Type 0} → Network → List Edit → (Network → Result T E → Type 0) → NotEdited E → Type 0
+IsNotEdited net edits answers (Refused refused) = refused.fault ≢ Memory → IsBatchFault net edits refused
+IsNotEdited net edits answers (Fault fault) = (made : Network) × (AreMade net edits made × ((length edits ≤ most_edits) × answers made (Err fault)))

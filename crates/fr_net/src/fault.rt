@@ -43,6 +43,15 @@ pub struct EditFault {
     pub fault: NetFault,
 }
 
+/// Why a network is not edited: an edit is refused, or what was to come of the edits has a fault of its own.
+#[derive(Debug, Drop)]
+pub enum NotEdited<E> {
+    /// The first edit that is refused, and why.
+    Refused(EditFault),
+    /// The fault that was answered of the network that the edits make.
+    Fault(E),
+}
+
 impl From<AllocError> for EditFault {
     ghost from_gives = { λ _ refused. refused.fault ≡ Memory };
 

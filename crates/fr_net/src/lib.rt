@@ -2,10 +2,10 @@
 //! ask for them.
 //!
 //! A [`Net`] is made by [`Net::new`], which names the first fault of links that make no network. Layers above
-//! read it by `nodes`, `links`, `degree`, `neighbour` and `row`, make one network of another by `with_cut`, `with_link`,
-//! `with_join` and `with_edits`, and make the network of turned links by `turned_by`, or in its place by `into_turned`. What its
-//! rows show is the law [`rows_law`](laws::rows_law), and which way a link can point the law [`join_law`](laws::join_law).
-//! [`read_line`] reads a request, and a [`LineReader`] line after line.
+//! read it by `nodes`, `links`, `degree`, `neighbour` and `row`, make one network of another by `copied`, `with_cut`, `with_link`,
+//! `with_join`, `with_edits` and `turned_by`, and change one where it stands by `edit_if` and `turn`. What its rows show is the law
+//! [`rows_law`](laws::rows_law), and which way a link can point the law [`join_law`](laws::join_law). [`read_line`] reads a request,
+//! and a [`LineReader`] line after line.
 #![tactic(auto)]
 
 mod checks;
@@ -23,7 +23,7 @@ mod rows;
 mod turned;
 mod values;
 
-pub use fault::{EditFault, NetFault};
+pub use fault::{EditFault, NetFault, NotEdited};
 pub use limits::{MAX_EDITS, MAX_LINKS, MAX_NODES};
 pub use line_reader::LineReader;
 pub use network::Net;

@@ -1,8 +1,11 @@
 //! A network: how it is made of links, read by nodes and rows, and made into another by edits and by counts.
 
-ghost use Rattle.std.specs.Prelude.{◌≡◌, ◌≢◌, ℕ, ◌<◌, ◌≤◌, ◌+◌, ◌++◌, [], ◌∷◌, length, slice_get, slice_index, Some, IfOk, IfErr, IfSome, IfNone, MatchOption, OnOk, All, ◌⊎◌};
+ghost use Rattle.std.specs.Prelude.{◌≡◌, ◌≢◌, ℕ, ◌<◌, ◌≤◌, ◌+◌, ◌++◌, [], ◌∷◌, length, slice_get, slice_index, Some, Ok, IfOk, IfErr, IfSome, IfNone, MatchOption, OnOk, OnErr, All, ◌⊎◌};
 ghost use Rattle.std.specs.List.{HoldsAt};
-ghost use Rattle.fr_net.specs.Links.{Joins, Points};
+ghost use Rattle.std.specs.Borrow.{Bor};
+ghost use Rattle.std.specs.Fn.{FnReturnsAt};
+ghost use Rattle.fr_net.specs.Network.{Network};
+ghost use Rattle.fr_net.specs.Links.{IsAcyclic, IsCycle, Joins, Points};
 ghost use Rattle.fr_net.specs.Order.{AreRising};
 ghost use Rattle.fr_net.specs.Counts.{IsKept, links_at};
 ghost use Rattle.fr_net.specs.Rows.{row};
@@ -10,13 +13,15 @@ ghost use Rattle.fr_net.specs.Halves.{AreUnjoined};
 ghost use Rattle.fr_net.specs.declared.fault.NetFault.TheVariants.{Cycle, Memory};
 ghost use Rattle.fr_net.specs.Faults.{IsFaultless, IsFirstFault, IsNetworkOf};
 ghost use Rattle.fr_net.specs.Edits.{IsCutFault, IsJoined, IsJoinFault, without};
-ghost use Rattle.fr_net.specs.Batches.{AreMade, IsBatchFault, IsEditFault, IsMade};
+ghost use Rattle.fr_net.specs.Batches.{AreMade, IsBatchFault, IsEditFault, IsMade, IsNotEdited};
 ghost use Rattle.fr_net.specs.Limits.{most_edits, most_links};
 
 use crate::checks::{first_outside, first_self_link};
-use crate::cycle::find_cycle;
-use crate::edits::{Joining, add_to_rows, cut_from_rows, cut_link, join_link, place_in_row};
-use crate::fault::{EditFault, NetFault};
+use crate::cycle::{find_cycle, find_cycle_from};
+use crate::edits::{
+    Joining, add_link, add_to_rows, cut_from_rows, cut_link, join_link, place_in_row,
+};
+use crate::fault::{EditFault, NetFault, NotEdited};
 use crate::limits::{MAX_EDITS, MAX_LINKS, MAX_NODES};
 use crate::requests::Edit;
 use crate::rows::{First, entries_of, first_twice, outward_links, sorted_halves};
@@ -154,8 +159,15 @@ impl Net {
         }
     }
 
+    /// A copy. `AllocError` where no room could be had. Time and memory are linear in nodes and links.
+    pub fn copied(&self, alloc: Global) -> Result<Net, AllocError>
+        ensures { IfOk result (λ net. net ≡ self.now) }
+    {
+        self.with_room(alloc, 0)
+    }
+
     /// A copy, with room for so many links more.
-    fn copied(&self, alloc: Global, more: usize) -> Result<Net, AllocError>
+    fn with_room(&self, alloc: Global, more: usize) -> Result<Net, AllocError>
         requires { more ≤ most_edits }
         ensures { IfOk result (λ net. net ≡ self.now) }
     {
@@ -180,7 +192,7 @@ impl Net {
         ensures ok { IfOk result (IsNetworkOf self.now.nodes (without u v self.now.links)) }
         ensures refused { IfErr result (λ fault. fault ≢ Memory → IsCutFault self.now.links u v fault) }
     {
-        self.copied(alloc, 0)?.into_cut(u, v)
+        self.with_room(alloc, 0)?.into_cut(u, v)
     }
 
     /// The network with the link from `u` to `v` as well; or the first fault that then stands, in the order of
@@ -191,7 +203,7 @@ impl Net {
         ensures refused { IfErr result (λ fault. fault ≢ Memory
             → IsFirstFault self.now.nodes (self.now.links ++ (u, v) ∷ []) fault) }
     {
-        self.copied(alloc, 1)?.into_linked(alloc, u, v)
+        self.with_room(alloc, 1)?.into_linked(alloc, u, v)
     }
 
     /// The network with `u` and `v` joined: by a link from `u` to `v`, or from `v` to `u` where a closed walk would follow the
@@ -201,7 +213,7 @@ impl Net {
         ensures ok { IfOk result (IsJoined self.now.nodes self.now.links u v) }
         ensures refused { IfErr result (λ fault. fault ≢ Memory → IsJoinFault self.now.nodes self.now.links u v fault) }
     {
-        let (net, _closed) = self.copied(alloc, 1)?.into_joined(alloc, u, v)?;
+        let (net, _closed) = self.with_room(alloc, 1)?.into_joined(alloc, u, v)?;
         Ok(net)
     }
 
@@ -219,7 +231,7 @@ impl Net {
                 fault: NetFault::TooMany,
             });
         }
-        let mut net = self.copied(alloc, edits.len())?;
+        let mut net = self.with_room(alloc, edits.len())?;
         for (at, edit) in edits.iter().enumerate() {
             net = match net.into_edited(alloc, *edit) {
                 Ok(edited) => edited,
@@ -227,6 +239,34 @@ impl Net {
             };
         }
         Ok(net)
+    }
+
+    /// Makes these edits where the network stands, each on the links that those before it left, if `way` then answers Ok of the
+    /// network that they make, and answers what it answers. Where an edit is refused, as by `with_edits`, where no room could be
+    /// had, or where `way` answers a fault, the network is as it was.
+    pub fn edit_if<T, E, F: Fn(&Net) -> Result<T, E>>(
+        &mut self,
+        alloc: Global,
+        edits: &[Edit],
+        way: &F,
+    ) -> Result<T, NotEdited<E>>
+        requires callable { (made : Bor Network) → AreMade self.old edits.now made.now → F.pre way.now made }
+        ensures few { OnOk result (length edits.now ≤ most_edits) }
+        ensures ok { IfOk result (λ answer. AreMade self.old edits.now self.new × FnReturnsAt F.Fn way.now self.new (Ok answer)) }
+        ensures refused { IfErr result (IsNotEdited self.old edits.now (FnReturnsAt F.Fn way.now)) }
+        ensures unchanged { OnErr result (self.new ≡ self.old) }
+    {
+        let edited = match self.with_edits(alloc, edits) {
+            Ok(edited) => edited,
+            Err(refused) => return Err(NotEdited::Refused(refused)),
+        };
+        match way(&edited) {
+            Ok(answer) => {
+                *self = edited;
+                Ok(answer)
+            }
+            Err(fault) => Err(NotEdited::Fault(fault)),
+        }
     }
 
     /// The network after an edit, made in the place of this one.
@@ -302,6 +342,19 @@ impl Net {
         Ok(())
     }
 
+    /// The closed walk that a link from `u` to `v` would close, if there is one: a search from `v` alone.
+    fn closing_walk(&self, alloc: Global, u: u32, v: u32) -> Result<Option<Vec<u32>>, AllocError>
+        requires { AreUnjoined self.now.nodes self.now.links u v }
+        ensures { IfOk result (λ found. MatchOption found
+            (IsAcyclic (self.now.links ++ (u, v) ∷ []))
+            (λ walk. IsCycle (self.now.links ++ (u, v) ∷ []) walk.items)) }
+    {
+        let mut links = Vec::with_capacity(alloc, self.links.len() + 1)?;
+        links.extend_from_slice(&self.links)?;
+        add_link(&mut links, u, v)?;
+        find_cycle_from(alloc, self.nodes, &links, v)
+    }
+
     /// The network with `u` and `v` joined, made in the place of this one; and where the link points from `v` to `u`, the closed
     /// walk that would follow the other.
     fn into_joined(self, alloc: Global, u: u32, v: u32) -> Result<(Net, Option<Vec<u32>>), NetFault>
@@ -338,33 +391,23 @@ impl Net {
         ensures ok { IfOk result (IsNetworkOf self.now.nodes (links_at self.now.links counts.now)) }
         ensures memory { IfErr result (λ fault. fault ≡ Memory) }
     {
-        Ok(self.copied(alloc, 0)?.into_turned(counts))
+        let mut net = self.copied(alloc)?;
+        net.turn(counts);
+        Ok(net)
     }
 
-    /// The network of the links that the counts give, as by `turned_by`, made in the place of this one: it takes no memory
-    /// and has no fault, in time linear in nodes and links.
-    pub fn into_turned(self, counts: &[u64]) -> Net
-        requires one_each { length counts.now ≡ self.nodes }
-        requires kept { All (IsKept counts.now) self.links }
-        ensures { IsNetworkOf self.nodes (links_at self.links counts.now) result }
+    /// Turns the links as the counts say, as `turned_by`, but where the network stands: it takes no memory and has no fault, in
+    /// time linear in nodes and links.
+    pub fn turn(&mut self, counts: &[u64])
+        requires one_each { length counts.now ≡ self.old.nodes }
+        requires kept { All (IsKept counts.now) self.old.links }
+        ensures { IsNetworkOf self.old.nodes (links_at self.old.links counts.now) self.new }
     {
-        let Net {
-            nodes,
-            mut links,
-            starts,
-            mut entries,
-        } = self;
-        links.clear();
-        for x in 0..nodes {
-            let row = &mut entries[starts[x as usize]..starts[x as usize + 1]];
+        self.links.clear();
+        for x in 0..self.nodes {
+            let row = &mut self.entries[self.starts[x as usize]..self.starts[x as usize + 1]];
             turn_row(row, x, counts);
-            push_out_links(&mut links, x, row);
-        }
-        Net {
-            nodes,
-            links,
-            starts,
-            entries,
+            push_out_links(&mut self.links, x, row);
         }
     }
 }

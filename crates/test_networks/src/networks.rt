@@ -275,7 +275,7 @@ fn shows_rows(rt: HostRuntime) -> Result<(), Fail> {
     Ok(())
 }
 
-/// Whether each link stays or is reversed at these counts, as `turned_by` and `into_turned` require.
+/// Whether each link stays or is reversed at these counts, as `turned_by` and `turn` require.
 fn are_kept(links: &[(u32, u32)], counts: &[u64]) -> bool
     ensures { IsTrue result → All (IsKept counts.now) links.now }
 {
@@ -314,12 +314,13 @@ const TURNED: &[(Links, &[u64], &str)] = &[
 #[test]
 fn turns_links_by_counts(rt: HostRuntime) -> Result<(), Fail> {
     for (links, counts, wanted) in TURNED {
-        let net = Net::new(rt.alloc(), counts.len() as u32, links)?;
+        let mut net = Net::new(rt.alloc(), counts.len() as u32, links)?;
         if counts.len() != net.nodes() as usize || !are_kept(net.links(), counts) {
             return Err(Fail::from("no such counts"));
         }
         let beside = told(rt.alloc(), net.turned_by(rt.alloc(), counts))?;
-        let in_place = told(rt.alloc(), Ok(net.into_turned(counts)))?;
+        net.turn(counts);
+        let in_place = told(rt.alloc(), Ok(net))?;
         assert!(rt;
             beside.as_str() == *wanted && beside == in_place,
             "{wanted}"
