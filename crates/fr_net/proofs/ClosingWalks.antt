@@ -1,8 +1,8 @@
 -- The steps of the search for a closed walk that one link more would close keep its state.
-use Rattle.std.proofs.Common.{All, Bool, Contains, List, Some, [], ap, arith, false, get_or, inl, inr, length, map, not, refl, replicate, set, subst, suc, sym, true, zero, ℕ, ◌++◌, ◌+◌, ◌<◌, ◌∙◌, ◌∷◌, ◌≡◌, ◌≢◌, ◌≤◌, ◌⊎◌}
+use Rattle.std.proofs.Common.{Bool, List, Some, [], ap, arith, false, get_or, inl, inr, length, not, refl, replicate, set, subst, sym, true, ℕ, ◌++◌, ◌+◌, ◌<◌, ◌∙◌, ◌∷◌, ◌≡◌, ◌≢◌, ◌≤◌, ◌⊎◌}
 use Rattle.std.proofs.lemmas.Bool.{cases_Bool, cases_eq, cases_lt}
-use Rattle.std.proofs.lemmas.List.{get_or_append_left, get_or_default, get_or_past, get_or_push, get_or-replicate, get_or-set_other, get_or-set_same, length-replicate, length-set, length_push, map-append}
-use Rattle.std.proofs.lemmas.List.Elements.{All-pop, All-push, Contains-append_left, Contains-get_or, Contains-push, Contains-push_cases}
+use Rattle.std.proofs.lemmas.List.{get_or_append_left, get_or_past, get_or_push, get_or-replicate, get_or-set_other, get_or-set_same, length-replicate, length-set, length_push, map-append}
+use Rattle.std.proofs.lemmas.List.Elements.{All-pop, All-push, Contains-append_left, Contains-push, Contains-push_cases}
 use Rattle.std.proofs.lemmas.List.Sums.{sum_by-set}
 use Rattle.fr_net.proofs.AddedLinks.{added, closed_back}
 use Rattle.fr_net.proofs.Counting.{weigh}
@@ -11,7 +11,7 @@ use Rattle.fr_net.proofs.Linking.{path_carries}
 use Rattle.fr_net.proofs.Members.{Contains-none}
 use Rattle.fr_net.proofs.Neighbours.{out_of_row, row_of_out}
 use Rattle.fr_net.specs.ClosingSearch.{IsMet, IsRead, IsSearch, IsWayFrom, LeadsToMet, nodes_of, unmet_count}
-use Rattle.fr_net.specs.Links.{HasPath, IsAcyclic, IsClosedWalk, IsCycle, IsNet, IsPath, Points, end_of}
+use Rattle.fr_net.specs.Links.{IsAcyclic, IsCycle, IsNet, IsPath, Points, end_of}
 use Rattle.fr_net.specs.Network.{Network}
 use Rattle.fr_net.specs.Rows.{row}
 use Rattle.fr_net.specs.declared.closing.Step.{Step}

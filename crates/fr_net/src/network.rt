@@ -17,10 +17,9 @@ ghost use Rattle.fr_net.specs.Batches.{AreMade, IsBatchFault, IsEditFault, IsMad
 ghost use Rattle.fr_net.specs.Limits.{most_edits, most_links};
 
 use crate::checks::{first_outside, first_self_link};
-use crate::cycle::{find_cycle, find_cycle_from};
-use crate::edits::{
-    Joining, add_link, add_to_rows, cut_from_rows, cut_link, join_link, place_in_row,
-};
+use crate::closing::closing_walk;
+use crate::cycle::find_cycle;
+use crate::edits::{Joining, add_to_rows, cut_from_rows, cut_link, join_link, place_in_row};
 use crate::fault::{EditFault, NetFault, NotEdited};
 use crate::limits::{MAX_EDITS, MAX_LINKS, MAX_NODES};
 use crate::requests::Edit;
@@ -342,17 +341,15 @@ impl Net {
         Ok(())
     }
 
-    /// The closed walk that a link from `u` to `v` would close, if there is one: a search from `v` alone.
+    /// The closed walk that a link from `u` to `v` would close, if there is one: it is sought from `v` alone, in the rows that links
+    /// lead to from there.
     fn closing_walk(&self, alloc: Global, u: u32, v: u32) -> Result<Option<Vec<u32>>, AllocError>
         requires { AreUnjoined self.now.nodes self.now.links u v }
         ensures { IfOk result (λ found. MatchOption found
             (IsAcyclic (self.now.links ++ (u, v) ∷ []))
             (λ walk. IsCycle (self.now.links ++ (u, v) ∷ []) walk.items)) }
     {
-        let mut links = Vec::with_capacity(alloc, self.links.len() + 1)?;
-        links.extend_from_slice(&self.links)?;
-        add_link(&mut links, u, v)?;
-        find_cycle_from(alloc, self.nodes, &links, v)
+        closing_walk(alloc, self, u, v)
     }
 
     /// The network with `u` and `v` joined, made in the place of this one; and where the link points from `v` to `u`, the closed

@@ -1,11 +1,11 @@
-use Rattle.std.proofs.Common.{Bool, Contains, Fits, List, Some, [], ap, arith, false, get_or, length, refl, replicate, subst, sym, true, ℕ, ◌*◌, ◌+◌, ◌++◌, ◌<◌, ◌∙◌, ◌∷◌, ◌≡◌, ◌≤◌}
+use Rattle.std.proofs.Common.{Bool, Contains, List, Some, [], ap, arith, false, get_or, length, refl, replicate, subst, sym, ℕ, ◌+◌, ◌++◌, ◌<◌, ◌∙◌, ◌∷◌, ◌≡◌, ◌≤◌}
 use Rattle.std.proofs.lemmas.List.{get_or_default, get_or_push, length_push, nil_from_length}
 use Rattle.std.proofs.lemmas.List.Elements.{All-pop, Contains-get_or}
 use Rattle.fr_net.proofs.ClosingWalks.{fewer_unmet, met_below, nodes_more, search_begins, search_ends, search_goes_back, search_goes_on, way_closes}
 use Rattle.fr_net.proofs.Neighbours.{length-row-le, out_of_row, row_holds}
-use Rattle.fr_net.specs.ClosingSearch.{IsMet, IsRead, IsSearch, LeadsToMet, LeadsToUnmet, nodes_of}
+use Rattle.fr_net.specs.ClosingSearch.{IsMet, IsRead, IsSearch, nodes_of}
 use Rattle.fr_net.specs.Limits.{most_nodes}
-use Rattle.fr_net.specs.Links.{IsCycle, Points}
+use Rattle.fr_net.specs.Links.{Points}
 use Rattle.fr_net.specs.Rows.{row}
 use Rattle.fr_net.specs.declared.closing.Step.{Step}
 use Rattle.fr_net.specs.declared.rows.First.{First}
