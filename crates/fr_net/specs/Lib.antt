@@ -10,6 +10,7 @@ pub mod Edits
 pub mod Batches
 pub mod RowLists
 pub mod Halves
+pub mod TurnedRows
 pub mod CycleSearch
 pub mod ClosingSearch
 pub mod Inside
