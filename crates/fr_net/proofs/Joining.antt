@@ -1,28 +1,26 @@
 -- Two nodes that are joined by a link, which points the way that closes no closed walk.
-use Rattle.std.proofs.Common.{All, Bool, List, None, Option, Some, [], ap, arith, cond, count_by, false, get_or, inl, inr, length, refl, subst, sym, true, ℕ, ⊎_elim, ◌++◌, ◌<◌, ◌∙◌, ◌∷◌, ◌≡◌, ◌≢◌}
-use Rattle.std.specs.Prelude.{MatchOption, not}
+use Rattle.std.proofs.Common.{All, Bool, List, [], ap, arith, cond, count_by, false, get_or, inl, inr, length, refl, subst, sym, true, ℕ, ⊎_elim, ◌++◌, ◌<◌, ◌∙◌, ◌∷◌, ◌≡◌, ◌≢◌}
+use Rattle.std.specs.Prelude.{not}
 use Rattle.std.specs.declared.alloc.Global.{Global}
 use Rattle.std.specs.declared.vec.Vec.{Vec}
 use Rattle.std.proofs.lemmas.Bool.{cases_Bool}
 use Rattle.std.proofs.lemmas.List.{get_or_append_left, length_push}
 use Rattle.std.proofs.lemmas.List.Elements.{All-contains, All-push, Contains-push}
 use Rattle.std.proofs.lemmas.List.Sums.{sum_by_push}
-use Rattle.fr_net.proofs.AddedLinks.{acyclic_added, added, closed_back, faultless_added, in_range, no_self, path_joins, single_added, within_limits}
-use Rattle.fr_net.proofs.Building.{cycle_stands}
+use Rattle.fr_net.proofs.AddedLinks.{added, closed_back, in_range, no_self, path_joins, single_added, within_limits}
 use Rattle.fr_net.proofs.Counting.{one_passes, weigh}
 use Rattle.fr_net.proofs.CutRows.{filter_kept}
 use Rattle.fr_net.proofs.Cycles.{points_at}
 use Rattle.fr_net.proofs.Linking.{is_between_itself, is_between_turned, joined_from, not_twice}
 use Rattle.fr_net.proofs.Members.{Contains-tail}
-use Rattle.fr_net.proofs.Ordering.{in_order_permutes}
 use Rattle.fr_net.proofs.Refusing.{fault_place, first_fault_place, no_cycle_stands, no_first_fault, no_self_link, not_too_large, range_stands}
 use Rattle.fr_net.specs.Edits.{IsJoined, IsJoinFault, without}
-use Rattle.fr_net.specs.Faults.{IsFaultless, IsFirstFault, IsInRange, IsNetworkOf}
+use Rattle.fr_net.specs.Faults.{IsFaultless, IsFirstFault, IsInRange}
 use Rattle.fr_net.specs.Halves.{AreUnjoined}
 use Rattle.fr_net.specs.Limits.{IsWithinLimits, most_links}
-use Rattle.fr_net.specs.Links.{AreBelow, AreSingle, HasNoSelfLink, HasPath, IsAcyclic, IsClosedWalk, IsCycle, Joins, is_between}
+use Rattle.fr_net.specs.Links.{AreBelow, AreSingle, HasNoSelfLink, HasPath, IsAcyclic, IsCycle, Joins, is_between}
 use Rattle.fr_net.specs.Network.{Network}
-use Rattle.fr_net.specs.Order.{in_order, is_not_after, with_in_order}
+use Rattle.fr_net.specs.Order.{is_not_after, with_in_order}
 use Rattle.fr_net.specs.declared.fault.NetFault.{NetFault}
 use Rattle.fr_net.specs.declared.fault.NetFault.TheVariants.{Cycle, Memory, NoLink, Range, SelfLink, TooMany, Twice}
 
@@ -88,41 +86,22 @@ faultless_turned n links u v acyclic limits range bar single closes =
       };
     }
 
--- the way that the link points, by what the search has found
-abbrev pub IsWay : List (ℕ × ℕ) → ℕ → ℕ → ℕ → ℕ → Option (Vec ℕ Global) → Type 0
-IsWay links u v tail head closed =
-    MatchOption closed
-    ((tail ≡ u) × (head ≡ v) × IsAcyclic (added links u v))
-    (λ walk. (tail ≡ v) × (head ≡ u) × IsCycle (added links u v) walk.items)
-
 pub closes : (links : List (ℕ × ℕ)) (u v : ℕ) (walk : List ℕ) → IsCycle (added links u v) walk → ¬ IsAcyclic (added links u v)
 closes links u v walk cycle acyclic = no_cycle_stands (added links u v) walk acyclic cycle
 
-pub way_unjoined : (n : ℕ) (links : List (ℕ × ℕ)) (u v tail head : ℕ) (closed : Option (Vec ℕ Global)) → AreUnjoined n links u v → IsWay links u v tail head closed → AreUnjoined n links tail head
-way_unjoined n links u v tail head None free way = rw (way.0, way.1) free
-way_unjoined n links u v tail head (Some walk) free way =
-    rw (way.0, way.1) (record { tail = free.head; head = free.tail; apart = λ e. free.apart (sym e); free = λ h. free.free (⊎_elim (λ p. inr p) (λ p. inl p) h) })
-
-pub way_faultless : (n : ℕ) (links : List (ℕ × ℕ)) (u v tail head : ℕ) (closed : Option (Vec ℕ Global)) → IsFaultless n links → length links < most_links → AreUnjoined n links u v → IsWay links u v tail head closed → IsFaultless n (added links tail head)
-way_faultless n links u v tail head None clear few free way = rw (way.0, way.1) (faultless_added n links u v clear few free way.2)
-way_faultless n links u v tail head (Some walk) clear few free way =
-    let free_back = way_unjoined n links u v v u (Some walk) free (refl, refl, way.2) in
-    rw (way.0, way.1) (faultless_added n links v u clear few free_back (one_way_free links u v clear.is_net.acyclic free.apart (closes links u v walk.items way.2)))
-
--- the network with the link, and the closed walk that follows the links with it turned around
-pub way_made : (n : ℕ) (links : List (ℕ × ℕ)) (u v tail head : ℕ) (closed : Option (Vec ℕ Global)) (net : Network) → IsFaultless n links → length links < most_links → AreUnjoined n links u v → IsWay links u v tail head closed → IsNetworkOf n (added links tail head) net
-    → MatchOption closed (IsNetworkOf n (added links u v) net) (λ walk. IsFirstFault n (added links u v) (Cycle walk) × IsNetworkOf n (added links v u) net)
-way_made n links u v tail head None net clear few free way made = rw (way.0, way.1) at made
-way_made n links u v tail head (Some walk) net clear few free way made = (
-  (
-    within_limits n links u v clear.limits few,
-    in_range n links u v clear.is_net.in_range free.tail free.head,
-    no_self links u v clear.is_net.no_self free.apart,
-    single_added links u v clear.is_net.single free.free,
-    way.2,
-  ),
-  rw (way.0, way.1) at made,
+-- the link can be refused for the closed walk alone
+pub cycle_fault : (n : ℕ) (links : List (ℕ × ℕ)) (u v : ℕ) (walk : Vec ℕ Global) → IsFaultless n links → length links < most_links → AreUnjoined n links u v → IsCycle (added links u v) walk.items → IsFirstFault n (added links u v) (Cycle walk)
+cycle_fault n links u v walk clear few free cycle = (
+  within_limits n links u v clear.limits few,
+  in_range n links u v clear.is_net.in_range free.tail free.head,
+  no_self links u v clear.is_net.no_self free.apart,
+  single_added links u v clear.is_net.single free.free,
+  cycle,
 )
+
+-- the other way round the two nodes are not joined either
+pub unjoined_back : (n : ℕ) (links : List (ℕ × ℕ)) (u v : ℕ) → AreUnjoined n links u v → AreUnjoined n links v u
+unjoined_back n links u v free = record { tail = free.head; head = free.tail; apart = λ e. free.apart (sym e); free = λ h. free.free (⊎_elim (λ p. inr p) (λ p. inl p) h) }
 
 -- a join is refused for the first fault of the links with u>v
 pub as_first : (n : ℕ) (links : List (ℕ × ℕ)) (u v : ℕ) (f : NetFault) → IsJoinFault n links u v f → IsFirstFault n (added links u v) f
@@ -181,9 +160,3 @@ cut_put [] u v free = rw (is_between_itself (u, v)) refl
 cut_put (q ∷ qs) u v free =
     let later : ¬ Joins qs u v = λ h. free (⊎_elim (λ p. inl (Contains-tail (u, v) q qs p)) (λ p. inr (Contains-tail (v, u) q qs p)) h) in
     cut_put_by (is_not_after (u, v) q) u v q qs (with_in_order (u, v) qs) (without_none (q ∷ qs) u v free) (not_among (q ∷ qs) u v free 0 q (omega arith)) (cut_put qs u v later)
-
--- what a search from v along the links with the one from u to v says of closed walks
-pub walk_found : (links : List (ℕ × ℕ)) (u v : ℕ) (found : Option (Vec ℕ Global)) → IsAcyclic links → MatchOption found ((vs : List ℕ) → ¬ IsClosedWalk (in_order (added links u v)) v vs) (λ walk. IsCycle (in_order (added links u v)) walk.items)
-    → MatchOption found (IsAcyclic (added links u v)) (λ walk. IsCycle (added links u v) walk.items)
-walk_found links u v None acyclic none = acyclic_added links u v acyclic none
-walk_found links u v (Some walk) acyclic cycle = cycle_stands (added links u v) (in_order (added links u v)) walk.items (in_order_permutes (added links u v)) cycle

@@ -3,10 +3,11 @@
 
 ghost use Rattle.std.specs.Prelude.{◌≡◌, ℕ, ◌<◌, ◌≤◌, ◌++◌, [], ◌∷◌, length, slice_index_or, All, IfOk, MatchOption};
 ghost use Rattle.fr_net.specs.Links.{IsAcyclic, IsCycle};
+ghost use Rattle.fr_net.specs.Graph.{IsGraph};
 ghost use Rattle.fr_net.specs.Halves.{AreUnjoined};
 ghost use Rattle.fr_net.specs.ClosingSearch.{LeadsToMet, LeadsToUnmet, nodes_of};
 
-use crate::network::Net;
+use crate::graph::Graph;
 use crate::rows::First;
 use std::alloc::{AllocError, Global};
 
@@ -50,20 +51,21 @@ fn closed_by(alloc: Global, u: u32, path: &[Step]) -> Result<Vec<u32>, AllocErro
 /// The closed walk that a link from `u` to `v`, which no link joins, would close, if there is one: it is sought from `v`.
 pub(crate) fn closing_walk(
     alloc: Global,
-    net: &Net,
+    graph: &Graph,
     u: u32,
     v: u32,
 ) -> Result<Option<Vec<u32>>, AllocError>
-    requires { AreUnjoined net.now.nodes net.now.links u v }
+    requires graph { IsGraph graph.now }
+    requires nodes { AreUnjoined graph.now.nodes graph.now.links.items u v }
     ensures { IfOk result (λ found. MatchOption found
-        (IsAcyclic (net.now.links ++ (u, v) ∷ []))
-        (λ walk. IsCycle (net.now.links ++ (u, v) ∷ []) walk.items)) }
+        (IsAcyclic (graph.now.links.items ++ (u, v) ∷ []))
+        (λ walk. IsCycle (graph.now.links.items ++ (u, v) ∷ []) walk.items)) }
 {
-    let mut met = vec![in alloc; false; net.nodes() as usize]?;
+    let mut met = vec![in alloc; false; graph.nodes as usize]?;
     let mut path = vec![in alloc; Step { node: v, next: 0 }]?;
     met[v as usize] = true;
     while let Some(step) = path.pop() {
-        let row = net.row(step.node);
+        let row = graph.row(step.node);
         let place = first_unmet(row, &met, step.next as usize);
         if place < row.len() {
             let head = row[place].0;

@@ -13,6 +13,7 @@ mod closing;
 mod cycle;
 mod edits;
 mod fault;
+mod graph;
 pub mod laws;
 mod limits;
 mod line_reader;

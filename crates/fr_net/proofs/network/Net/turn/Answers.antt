@@ -25,10 +25,10 @@ after c = record { nodes = c.args.self.now.nodes; links = links_at c.args.self.n
 turned : (c : After-has_none_turned) → IsFaultless c.args.self.now.nodes (links_at c.args.self.now.links c.args.counts.now)
 turned c = turned_faultless c.args.self.now.nodes c.args.self.now.links c.args.counts.now c.requires.kept (clear c)
 
-nodes_are : (c : After-has_none_turned) → c.self.inside.nodes ≡ c.args.self.now.nodes
+nodes_are : (c : After-has_none_turned) → c.self.inside.graph.nodes ≡ c.args.self.now.nodes
 nodes_are c = ap (λ (m : Network). m.nodes) c.self.view_is
 
-links_are : (c : After-has_none_turned) → c.self.inside.links.items ≡ c.args.self.now.links
+links_are : (c : After-has_none_turned) → c.self.inside.graph.links.items ≡ c.args.self.now.links
 links_are c = ap (λ (m : Network). m.links) c.self.view_is
 
 -- the rows before the first node, and after the last
@@ -36,23 +36,23 @@ before : (c : After-deref_mut) → ArePartTurned c.args.self.now c.args.counts.n
 before c =
     let here = (goal.at.After-deref_mut c).After-has_none_turned in
     let net = c.args.self.now in
-    let shown : (x : ℕ) → x < net.nodes → ShowsRow net.nodes net.links c.self.inside.starts.items c.self.inside.entries.items x =
-    subst (λ (m : Network). (x : ℕ) → x < m.nodes → ShowsRow m.nodes m.links c.self.inside.starts.items c.self.inside.entries.items x) c.self.view_is c.self.invariant.rows in
+    let shown : (x : ℕ) → x < net.nodes → ShowsRow net.nodes net.links c.self.inside.graph.starts.items c.self.inside.graph.entries.items x =
+    subst (λ (m : Network). (x : ℕ) → x < m.nodes → ShowsRow m.nodes m.links c.self.inside.graph.starts.items c.self.inside.graph.entries.items x) c.self.view_is c.self.invariant.rows in
     rw (c.deref.ensures.value, c.deref_mut.ensures.value)
-    (rows_begin net c.args.counts.now c.self.inside.starts.items c.self.inside.entries.items (clear here).is_net c.requires.one_each
+    (rows_begin net c.args.counts.now c.self.inside.graph.starts.items c.self.inside.graph.entries.items (clear here).is_net c.requires.one_each
     (record { one_each = omega (arith, c.self.invariant.starts_length, nodes_are here); shown = shown }))
 
 written : (c : After-deref-3) → c.deref-3.result.now ≡ c.turn_rows.new.entries
-written c = c.deref-3.ensures.value ∙ take_at c.turn_rows.new.entries _ c.self.inside.entries.len (omega (arith, c.turn_rows.auto.entries, c.deref_mut.ensures.len))
+written c = c.deref-3.ensures.value ∙ take_at c.turn_rows.new.entries _ c.self.inside.graph.entries.len (omega (arith, c.turn_rows.auto.entries, c.deref_mut.ensures.len))
 
-rows_after : (c : After-deref-3) → AreRows c.args.self.now.nodes (links_at c.args.self.now.links c.args.counts.now) c.self.inside.starts.items c.deref-3.result.now
+rows_after : (c : After-deref-3) → AreRows c.args.self.now.nodes (links_at c.args.self.now.links c.args.counts.now) c.self.inside.graph.starts.items c.deref-3.result.now
 rows_after c =
     let at = goal.at.After-deref-3 c in
     let net = c.args.self.now in
     let ended = c.turn_rows.ensures net (before at.After-deref_mut) in
     rw (written c, ← c.deref.ensures.value) (rows_end net c.args.counts.now c.deref.result.now c.turn_rows.new.entries c.requires.kept (rw (nodes_are at.After-has_none_turned) at ended))
 
-shows : (c : After-deref-3) → ShowsLinks (after (goal.at.After-deref-3 c).After-has_none_turned) c.self.inside.nodes c.deref_mut-2.result.now c.deref-2.result.now c.deref-3.result.now
+shows : (c : After-deref-3) → ShowsLinks (after (goal.at.After-deref-3 c).After-has_none_turned) c.self.inside.graph.nodes c.deref_mut-2.result.now c.deref-2.result.now c.deref-3.result.now
 shows c =
     let here = (goal.at.After-deref-3 c).After-has_none_turned in
     record {
@@ -62,10 +62,10 @@ shows c =
       rows = rw c.deref-2.ensures.value (rows_after c);
     }
 
-listed : (c : After-write_links) → take c.self.inside.links.len (c.write_links.new.links ++ drop (length c.write_links.new.links) c.self.inside.links.items) ≡ in_order (links_at c.args.self.now.links c.args.counts.now)
+listed : (c : After-write_links) → take c.self.inside.graph.links.len (c.write_links.new.links ++ drop (length c.write_links.new.links) c.self.inside.graph.links.items) ≡ in_order (links_at c.args.self.now.links c.args.counts.now)
 listed c =
     let at = goal.at.After-write_links c in
-    take_at c.write_links.new.links _ c.self.inside.links.len (omega (arith, c.write_links.auto.links, c.deref_mut-2.ensures.len))
+    take_at c.write_links.new.links _ c.self.inside.graph.links.len (omega (arith, c.write_links.auto.links, c.deref_mut-2.ensures.len))
     ∙ c.write_links.ensures (after at.After-has_none_turned) (shows at.After-deref-3)
 
 pub returns-then-has_none_turned : goal.returns-then-has_none_turned
@@ -93,13 +93,8 @@ invariant_of-self c =
     let links = links_at c.args.self.now.links c.args.counts.now in
     let same = nodes_are at.After-has_none_turned in
     let rows = rw c.deref-3.ensures.value at (rows_after at.After-deref-3) in
-    let made = made_shown n links _ c.self.inside.starts.items _ (turned at.After-has_none_turned) (listed at.After-write_links) rows.one_each rows.shown in
-    record {
-      faultless = rw same made.faultless;
-      sorted = made.order;
-      starts_length = rw same made.starts_length;
-      rows = rw same made.rows;
-    }
+    let made = made_shown n links _ c.self.inside.graph.starts.items _ (turned at.After-has_none_turned) (listed at.After-write_links) rows.one_each rows.shown in
+    rw same made
 
 pub returns : goal.returns
 returns c =
