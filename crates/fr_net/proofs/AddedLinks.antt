@@ -2,16 +2,16 @@
 use Rattle.std.proofs.Common.{List, [], ap, arith, count_by, drop, eq-eqb, false, get_or, inl, inr, length, ne_eqb, refl, subst, suc, sym, take, true, zero, ℕ, ⊎_elim, ◌++◌, ◌+◌, ◌<◌, ◌∙◌, ◌∷◌, ◌≡◌, ◌≢◌, ◌≤◌, ◌⊎◌}
 use Rattle.std.proofs.lemmas.Bool.{and_from, and_left, and_right, cases_Bool, cases_lt, le-leb, le-ltb, lt-leb, lt-ltb, or_from, or_left, or_right}
 use Rattle.std.proofs.lemmas.List.{length_push}
-use Rattle.std.proofs.lemmas.List.Elements.{All-push, Contains-append_left, Contains-push, Contains-push_cases}
+use Rattle.std.proofs.lemmas.List.Elements.{All-push, Contains-push_cases}
 use Rattle.std.proofs.lemmas.List.Sums.{sum_by_push}
 use Rattle.fr_net.proofs.Counting.{one_passes, weigh}
 use Rattle.fr_net.proofs.Cycles.{points_at}
-use Rattle.fr_net.proofs.Linking.{is_between_itself, joined_from, not_twice, some_joined, walk_carries}
-use Rattle.fr_net.proofs.Ordering.{in_order_order, insert_order, into_order, is_pair, same_order, times-in_order, times-insert}
+use Rattle.fr_net.proofs.Linking.{is_between_itself, joined_from, not_twice, some_joined}
+use Rattle.fr_net.proofs.Ordering.{in_order_order, insert_order, is_pair, same_order, times-in_order, times-insert}
 use Rattle.fr_net.specs.Faults.{IsFaultless, IsInRange}
 use Rattle.fr_net.specs.Halves.{AreUnjoined}
 use Rattle.fr_net.specs.Limits.{IsWithinLimits, most_links}
-use Rattle.fr_net.specs.Links.{AreBelow, AreSingle, HasNoSelfLink, HasPath, IsAcyclic, IsClosedWalk, IsPath, Joins, Points, end_of, is_between}
+use Rattle.fr_net.specs.Links.{AreBelow, AreSingle, HasNoSelfLink, HasPath, IsAcyclic, IsClosedWalk, IsPath, Joins, end_of, is_between}
 use Rattle.fr_net.specs.Order.{AreInOrder, IsBefore, IsNotAfter, in_order, is_not_after, with_in_order}
 
 abbrev pub added : List (ℕ × ℕ) → ℕ → ℕ → List (ℕ × ℕ)
@@ -114,17 +114,6 @@ path_splits links u v a (w ∷ ws) path =
           ]
     ]
 
--- a path to the tail goes on to the head
-path_goes_on : (links : List (ℕ × ℕ)) (u v a : ℕ) (vs : List ℕ) → IsPath links a vs → end_of a vs ≡ u → IsPath (added links u v) a (vs ++ v ∷ []) × (end_of a (vs ++ v ∷ []) ≡ v)
-path_goes_on links u v a [] path e = ((subst (λ (y : ℕ). Points (added links u v) y v) (sym e) (Contains-push links (u, v)), tt), refl)
-path_goes_on links u v a (w ∷ ws) path e =
-    let rest = path_goes_on links u v w ws path.1 e in
-    ((Contains-append_left links ((u, v) ∷ []) (a, w) path.0, rest.0), rest.1)
-
-closes_at_head : (links : List (ℕ × ℕ)) (u v : ℕ) (vs : List ℕ) → IsPath links v vs → end_of v vs ≡ u → IsClosedWalk (added links u v) v (vs ++ v ∷ [])
-closes_at_head links u v [] path e = path_goes_on links u v v [] path e
-closes_at_head links u v (w ∷ ws) path e = path_goes_on links u v v (w ∷ ws) path e
-
 -- where a closed walk follows the links with one more, a path leads from the head of that one to its tail
 pub closed_back : (links : List (ℕ × ℕ)) (u v a : ℕ) (vs : List ℕ) → IsAcyclic links → IsClosedWalk (added links u v) a vs → HasPath links v u
 closed_back links u v a [] acyclic h = absurd h
@@ -133,13 +122,6 @@ closed_back links u v a (w ∷ ws) acyclic h =
       | inl old ↦ absurd (acyclic a (w ∷ ws) (old, h.1))
       | inr new ↦ path_joins links v new.1.0 a u new.1.1.0 (new.1.1.1 ∙ h.1) new.0
     ]
-
--- where no closed walk leads through the head of the added link there is none
-pub acyclic_added : (links : List (ℕ × ℕ)) (u v : ℕ) → IsAcyclic links → ((vs : List ℕ) → ¬ IsClosedWalk (in_order (added links u v)) v vs) → IsAcyclic (added links u v)
-acyclic_added links u v acyclic none a vs h =
-    let after = added links u v in
-    let back = closed_back links u v a vs acyclic h in
-    none (back.0 ++ v ∷ []) (walk_carries after (in_order after) (λ x y c. into_order after (x, y) c) v (back.0 ++ v ∷ []) (closes_at_head links u v back.0 back.1.0 back.1.1))
 
 -- no fault stands
 pub faultless_added : (n : ℕ) (links : List (ℕ × ℕ)) (u v : ℕ) → IsFaultless n links → length links < most_links → AreUnjoined n links u v → IsAcyclic (added links u v) → IsFaultless n (added links u v)

@@ -27,7 +27,7 @@ place_set places x y p l =
     [ inl e ↦ inl (e, rw e (get_or-set_same places x p 0 l)) | inr ne ↦ inr (ne, get_or-set_other places x y p 0 ne) ]
 
 -- a node of the longer path: one of the path, or the new one
-node_cases : (path : List ℕ) (x k : ℕ) → k < length (path ++ x ∷ []) → ((k < length path) × (get_or (path ++ x ∷ []) k 0 ≡ get_or path k 0)) ⊎ ((k ≡ length path) × (get_or (path ++ x ∷ []) k 0 ≡ x))
+pub node_cases : (path : List ℕ) (x k : ℕ) → k < length (path ++ x ∷ []) → ((k < length path) × (get_or (path ++ x ∷ []) k 0 ≡ get_or path k 0)) ⊎ ((k ≡ length path) × (get_or (path ++ x ∷ []) k 0 ≡ x))
 node_cases path x k h =
     let e = length_push path x in
     elim (cases_lt k (length path)) [
@@ -114,10 +114,10 @@ advanced n links marks places path x p s below up inside_p passes =
       done_safe = s.done_safe;
     }
 
--- a path from a done node ends at a done node
-stays_done : (links : List (ℕ × ℕ)) (marks : List Mark) → ((u v : ℕ) → mark_of marks u ≡ Done → Points links u v → mark_of marks v ≡ Done) → (u : ℕ) (vs : List ℕ) → mark_of marks u ≡ Done → IsPath links u vs → mark_of marks (end_of u vs) ≡ Done
-stays_done links marks closed u [] done path = done
-stays_done links marks closed u (v ∷ vs) done path = stays_done links marks closed v vs (closed u v done path.0) path.1
+-- where links from nodes with P lead to nodes with P, a path from one of these ends at one
+pub path_keeps : (links : List (ℕ × ℕ)) (P : ℕ → Type 0) → ((u v : ℕ) → P u → Points links u v → P v) → (u : ℕ) (vs : List ℕ) → P u → IsPath links u vs → P (end_of u vs)
+path_keeps links P closed u [] here path = here
+path_keeps links P closed u (v ∷ vs) here path = path_keeps links P closed v vs (closed u v here path.0) path.1
 
 points_to_done : (links : List (ℕ × ℕ)) (marks : List Mark) (x v : ℕ) → LeadsToDone links marks x → Points links x v → mark_of marks v ≡ Done
 points_to_done links marks x v leads at =
@@ -131,7 +131,7 @@ no_closed_walk : (links : List (ℕ × ℕ)) (marks : List Mark) → ((u v : ℕ
 no_closed_walk links marks closed x [] not_done leads walk = walk
 no_closed_walk links marks closed x (v ∷ vs) not_done leads walk =
     let first : mark_of marks v ≡ Done = points_to_done links marks x v leads walk.0.0 in
-    not_done (subst (λ (y : ℕ). mark_of marks y ≡ Done) walk.1 (stays_done links marks closed v vs first walk.0.1))
+    not_done (subst (λ (y : ℕ). mark_of marks y ≡ Done) walk.1 (path_keeps links (λ (y : ℕ). mark_of marks y ≡ Done) closed v vs first walk.0.1))
 
 pub left : (n : ℕ) (links : List (ℕ × ℕ)) (marks : List Mark) (places path : List ℕ) (x last : ℕ) → IsCycleSearch n links marks places path → last + 1 ≡ length path → x ≡ get_or path last 0 → LeadsToDone links marks x → IsCycleSearch n links (set marks x Done) places (take last path)
 left n links marks places path x last s full top leads =
@@ -237,12 +237,12 @@ shifted : (u : ℕ) (xs : List ℕ) (k : ℕ) → get_or (u ∷ xs) (k + 1) 0 �
 shifted u xs k = rw add-one refl
 
 -- a list whose steps follow the links is a path from its first node
-path_from_steps : (links : List (ℕ × ℕ)) (u : ℕ) (vs : List ℕ) → ((k : ℕ) → k + 1 < length (u ∷ vs) → Points links (get_or (u ∷ vs) k 0) (get_or (u ∷ vs) (k + 1) 0)) → IsPath links u vs
+pub path_from_steps : (links : List (ℕ × ℕ)) (u : ℕ) (vs : List ℕ) → ((k : ℕ) → k + 1 < length (u ∷ vs) → Points links (get_or (u ∷ vs) k 0) (get_or (u ∷ vs) (k + 1) 0)) → IsPath links u vs
 path_from_steps links u [] steps = tt
 path_from_steps links u (v ∷ vs) steps =
     (steps 0 (omega arith), path_from_steps links v vs (λ k h. rw (← shifted u (v ∷ vs) k, ← shifted u (v ∷ vs) (k + 1)) (steps (k + 1) (omega arith))))
 
-end_from_last : (u : ℕ) (vs : List ℕ) → end_of u vs ≡ get_or (u ∷ vs) (length vs) 0
+pub end_from_last : (u : ℕ) (vs : List ℕ) → end_of u vs ≡ get_or (u ∷ vs) (length vs) 0
 end_from_last u [] = refl
 end_from_last u (v ∷ vs) = end_from_last v vs
 

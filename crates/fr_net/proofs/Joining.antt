@@ -1,28 +1,26 @@
 -- Two nodes that are joined by a link, which points the way that closes no closed walk.
-use Rattle.std.proofs.Common.{All, Bool, List, None, Option, Some, [], ap, arith, cond, count_by, false, get_or, inl, inr, length, refl, subst, sym, true, ℕ, ⊎_elim, ◌++◌, ◌<◌, ◌∙◌, ◌∷◌, ◌≡◌, ◌≢◌}
-use Rattle.std.specs.Prelude.{MatchOption, not}
+use Rattle.std.proofs.Common.{All, Bool, List, [], ap, arith, cond, count_by, false, get_or, inl, inr, length, refl, subst, sym, true, ℕ, ⊎_elim, ◌++◌, ◌<◌, ◌∙◌, ◌∷◌, ◌≡◌, ◌≢◌}
+use Rattle.std.specs.Prelude.{not}
 use Rattle.std.specs.declared.alloc.Global.{Global}
 use Rattle.std.specs.declared.vec.Vec.{Vec}
 use Rattle.std.proofs.lemmas.Bool.{cases_Bool}
 use Rattle.std.proofs.lemmas.List.{get_or_append_left, length_push}
 use Rattle.std.proofs.lemmas.List.Elements.{All-contains, All-push, Contains-push}
 use Rattle.std.proofs.lemmas.List.Sums.{sum_by_push}
-use Rattle.fr_net.proofs.AddedLinks.{acyclic_added, added, closed_back, in_range, no_self, path_joins, single_added, within_limits}
-use Rattle.fr_net.proofs.Building.{cycle_stands}
+use Rattle.fr_net.proofs.AddedLinks.{added, closed_back, in_range, no_self, path_joins, single_added, within_limits}
 use Rattle.fr_net.proofs.Counting.{one_passes, weigh}
 use Rattle.fr_net.proofs.CutRows.{filter_kept}
 use Rattle.fr_net.proofs.Cycles.{points_at}
 use Rattle.fr_net.proofs.Linking.{is_between_itself, is_between_turned, joined_from, not_twice}
 use Rattle.fr_net.proofs.Members.{Contains-tail}
-use Rattle.fr_net.proofs.Ordering.{in_order_permutes}
 use Rattle.fr_net.proofs.Refusing.{fault_place, first_fault_place, no_cycle_stands, no_first_fault, no_self_link, not_too_large, range_stands}
 use Rattle.fr_net.specs.Edits.{IsJoined, IsJoinFault, without}
 use Rattle.fr_net.specs.Faults.{IsFaultless, IsFirstFault, IsInRange}
 use Rattle.fr_net.specs.Halves.{AreUnjoined}
 use Rattle.fr_net.specs.Limits.{IsWithinLimits, most_links}
-use Rattle.fr_net.specs.Links.{AreBelow, AreSingle, HasNoSelfLink, HasPath, IsAcyclic, IsClosedWalk, IsCycle, Joins, is_between}
+use Rattle.fr_net.specs.Links.{AreBelow, AreSingle, HasNoSelfLink, HasPath, IsAcyclic, IsCycle, Joins, is_between}
 use Rattle.fr_net.specs.Network.{Network}
-use Rattle.fr_net.specs.Order.{in_order, is_not_after, with_in_order}
+use Rattle.fr_net.specs.Order.{is_not_after, with_in_order}
 use Rattle.fr_net.specs.declared.fault.NetFault.{NetFault}
 use Rattle.fr_net.specs.declared.fault.NetFault.TheVariants.{Cycle, Memory, NoLink, Range, SelfLink, TooMany, Twice}
 
@@ -162,9 +160,3 @@ cut_put [] u v free = rw (is_between_itself (u, v)) refl
 cut_put (q ∷ qs) u v free =
     let later : ¬ Joins qs u v = λ h. free (⊎_elim (λ p. inl (Contains-tail (u, v) q qs p)) (λ p. inr (Contains-tail (v, u) q qs p)) h) in
     cut_put_by (is_not_after (u, v) q) u v q qs (with_in_order (u, v) qs) (without_none (q ∷ qs) u v free) (not_among (q ∷ qs) u v free 0 q (omega arith)) (cut_put qs u v later)
-
--- what a search from v along the links with the one from u to v says of closed walks
-pub walk_found : (links : List (ℕ × ℕ)) (u v : ℕ) (found : Option (Vec ℕ Global)) → IsAcyclic links → MatchOption found ((vs : List ℕ) → ¬ IsClosedWalk (in_order (added links u v)) v vs) (λ walk. IsCycle (in_order (added links u v)) walk.items)
-    → MatchOption found (IsAcyclic (added links u v)) (λ walk. IsCycle (added links u v) walk.items)
-walk_found links u v None acyclic none = acyclic_added links u v acyclic none
-walk_found links u v (Some walk) acyclic cycle = cycle_stands (added links u v) (in_order (added links u v)) walk.items (in_order_permutes (added links u v)) cycle

@@ -16,6 +16,7 @@ pub mod RowLists
 pub mod TurnedRows
 pub mod Rising
 pub mod RowsInPlace
+pub mod PartTurned
 pub mod Remaking
 pub mod CutRows
 pub mod Places
@@ -27,6 +28,7 @@ pub mod Joining
 pub mod Batches
 pub mod ByNode
 pub mod Cycles
+pub mod ClosingWalks
 pub mod Items
 pub mod LineValues
 pub mod TokenItems

@@ -89,7 +89,7 @@ one_way links bar single = record {
 }
 
 -- closed walks along the same links
-path_carries : (a b : List (ℕ × ℕ)) → ((u v : ℕ) → Points a u v → Points b u v) → (u : ℕ) (vs : List ℕ) → IsPath a u vs → IsPath b u vs
+pub path_carries : (a b : List (ℕ × ℕ)) → ((u v : ℕ) → Points a u v → Points b u v) → (u : ℕ) (vs : List ℕ) → IsPath a u vs → IsPath b u vs
 path_carries a b to u [] p = tt
 path_carries a b to u (v ∷ vs) p = (to u v p.0, path_carries a b to v vs p.1)
 

@@ -1,5 +1,5 @@
 -- The rows of all nodes, one after the other in one list.
-use Rattle.std.proofs.Common.{Contains, List, add-one, ap, arith, inl, inr, length, length-append, subst, suc, zero, ℕ, ◌++◌, ◌+◌, ◌<◌, ◌∙◌, ◌≡◌, ◌≤◌}
+use Rattle.std.proofs.Common.{Contains, List, arith, inl, inr, length, length-append, subst, suc, zero, ℕ, ◌+◌, ◌<◌, ◌≡◌, ◌≤◌}
 use Rattle.std.proofs.lemmas.Bool.{cases_eq, cases_lt}
 use Rattle.std.proofs.lemmas.List.Elements.{Contains-append_cases, Contains-append_left, Contains-append_right}
 use Rattle.fr_net.proofs.Members.{Contains-none}
@@ -20,12 +20,6 @@ length_up x (suc k) rows le =
       | inl e ↦ rw e (omega arith)
       | inr ne ↦ omega (arith, length_more k rows, length_up x k rows (omega (arith, ne)))
     ]
-
--- what the rows list, with those of one row more
-pub listed_more : {X : Type 0} (k : ℕ) (rows : ℕ → List X) (listed more : List X) → listed ≡ rows_below k rows → more ≡ listed ++ rows k → more ≡ rows_below (k + 1) rows
-listed_more {X} k rows listed more are is =
-    let joined : more ≡ rows_below (suc k) rows = is ∙ ap (λ (es : List X). es ++ rows k) are in
-    rw add-one joined
 
 -- an element of the rows stands in one of them
 pub from_rows : {X : Type 0} (k : ℕ) (rows : ℕ → List X) (y : X) → Contains (rows_below k rows) y → (x : ℕ) × (x < k) × Contains (rows x) y

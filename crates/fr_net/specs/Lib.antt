@@ -10,7 +10,9 @@ pub mod Edits
 pub mod Batches
 pub mod RowLists
 pub mod Halves
+pub mod TurnedRows
 pub mod CycleSearch
+pub mod ClosingSearch
 pub mod Graph
 pub mod Inside
 pub mod Requests

@@ -2,7 +2,7 @@
 //! the evidence is at hand.
 
 ghost use Rattle.std.specs.Prelude.{◌≡◌, ◌≢◌, ℕ, List, ◌<◌, ◌≤◌, ◌+◌, ◌++◌, [], ◌∷◌, length, drop, vec_len, slice_index, slice_index_or, IfOk, IfSome, IfNone, OnOk, MatchOption, Contains, ◌-◌, ◌*◌, take, slice_set};
-ghost use Rattle.fr_net.specs.Links.{AreBelow, IsAcyclic, IsClosedWalk, IsCycle, Points};
+ghost use Rattle.fr_net.specs.Links.{AreBelow, IsAcyclic, IsCycle, Points};
 ghost use Rattle.fr_net.specs.CycleSearch.{AreTailStarts, HasRisingTails, IsStart, mark_of, IsPassed, IsCycleSearch, KeepsSeen, LeadsTo, LeadsToDone, fresh_count};
 
 use std::alloc::{AllocError, Global};
@@ -226,22 +226,4 @@ pub(crate) fn find_cycle(
 {
     let starts = tail_starts(alloc, nodes, links)?;
     visit_all(alloc, nodes, links, &starts)
-}
-
-/// A closed walk along the links, which are in rising order of their tails, if one leads through `root`: one search, from
-/// there alone.
-pub(crate) fn find_cycle_from(
-    alloc: Global,
-    nodes: u32,
-    links: &[(u32, u32)],
-    root: u32,
-) -> Result<Option<Vec<u32>>, AllocError>
-    requires tails { HasRisingTails links.now }
-    requires below { AreBelow nodes links.now }
-    requires root { root < nodes }
-    ensures { IfOk result (λ found. MatchOption found ((vs : List ℕ) → ¬ IsClosedWalk links.now root vs) (λ walk. IsCycle links.now walk.items)) }
-{
-    let starts = tail_starts(alloc, nodes, links)?;
-    let (mut marks, mut places) = fresh_search(alloc, nodes)?;
-    visit(alloc, links, &starts, &mut marks, &mut places, root)
 }

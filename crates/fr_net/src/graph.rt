@@ -14,7 +14,7 @@ ghost use Rattle.fr_net.specs.declared.fault.NetFault.TheVariants.{Memory};
 ghost use Rattle.fr_net.specs.declared.requests.Edit.TheVariants.{Cut, Add, Join};
 
 use crate::checks::first_outside;
-use crate::cycle::find_cycle_from;
+use crate::closing::closing_walk;
 use crate::edits::{cut_from_rows, cut_link, place_in_row, put_in_rows, put_link};
 use crate::fault::{EditFault, NetFault};
 use crate::limits::MAX_LINKS;
@@ -112,10 +112,7 @@ impl Graph {
             (IsAcyclic (self.now.links.items ++ (u, v) ∷ []))
             (λ walk. IsCycle (self.now.links.items ++ (u, v) ∷ []) walk.items)) }
     {
-        let mut links = Vec::with_capacity(alloc, self.links.len() + 1)?;
-        links.extend_from_slice(&self.links)?;
-        put_link(&mut links, u, v);
-        find_cycle_from(alloc, self.nodes, &links, v)
+        closing_walk(alloc, self, u, v)
     }
 
     /// A copy, with room for so many links more.

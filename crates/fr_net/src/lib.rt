@@ -9,6 +9,7 @@
 #![tactic(auto)]
 
 mod checks;
+mod closing;
 mod cycle;
 mod edits;
 mod fault;

@@ -22,7 +22,7 @@ use crate::graph::Graph;
 use crate::limits::{MAX_EDITS, MAX_LINKS, MAX_NODES};
 use crate::requests::Edit;
 use crate::rows::{First, entries_of, first_twice, outward_links, sorted_halves};
-use crate::turned::{push_out_links, turn_row};
+use crate::turned::{has_none_turned, turn_rows, write_links};
 use std::alloc::{AllocError, Global};
 use std::marker::Model;
 
@@ -252,19 +252,19 @@ impl Net {
         Ok(net)
     }
 
-    /// Turns the links as the counts say, as `turned_by`, but where the network stands: it takes no memory and has no fault, in
-    /// time linear in nodes and links.
+    /// Turns the links as the counts say, as `turned_by`, but where the network stands: it takes no memory and has no fault. Where
+    /// no count is above 0 nothing is done. Else only the rows of nodes that turned are touched, with the entries of these in the rows of
+    /// others, and the list of links is written anew, in time linear in it and in nodes.
     pub fn turn(&mut self, counts: &[u64])
         requires one_each { length counts.now ≡ self.old.nodes }
         requires kept { All (IsKept counts.now) self.old.links }
         ensures { IsNetworkOf self.old.nodes (links_at self.old.links counts.now) self.new }
     {
-        self.graph.links.clear();
-        for x in 0..self.graph.nodes {
-            let row = &mut self.graph.entries
-                [self.graph.starts[x as usize]..self.graph.starts[x as usize + 1]];
-            turn_row(row, x, counts);
-            push_out_links(&mut self.graph.links, x, row);
+        let nodes = self.graph.nodes;
+        if has_none_turned(counts) {
+            return;
         }
+        turn_rows(nodes, &self.graph.starts, &mut self.graph.entries, counts);
+        write_links(&mut self.graph.links, nodes, &self.graph.starts, &self.graph.entries);
     }
 }

@@ -1,126 +1,103 @@
-use Rattle.std.proofs.Common.{List, ap, arith, drop, get_or, length, map, refl, subst, sym, take, ℕ, ◌++◌, ◌+◌, ◌-◌, ◌<◌, ◌∙◌, ◌≡◌}
-use Rattle.std.proofs.lemmas.List.{get_or_read, length-map, take_at}
-use Rattle.std.proofs.lemmas.List.Elements.{Contains-get_or}
-use Rattle.std.proofs.lemmas.List.Edits.{length-between}
-use borrow.Rule.Slice.PartMut.{put_mid}
-use Rattle.fr_net.proofs.Neighbours.{row_holds}
+use Rattle.std.proofs.Common.{ap, arith, drop, get_or, inl, inr, length, refl, subst, take, ℕ, ◌++◌, ◌<◌, ◌∙◌, ◌≡◌}
+use Rattle.std.proofs.lemmas.Bool.{cases_lt}
+use Rattle.std.proofs.lemmas.List.{get_or_past, take_at}
+use Rattle.std.proofs.lemmas.List.Sorted.{IsPermutation-refl}
+use Rattle.fr_net.proofs.Ordering.{order_of_listed}
+use Rattle.fr_net.proofs.PartTurned.{links_stay, rows_begin, rows_end}
 use Rattle.fr_net.proofs.Remaking.{made_of, made_shown}
-use Rattle.fr_net.proofs.RowLists.{listed_more}
-use Rattle.fr_net.proofs.RowsInPlace.{length_put, part_turned_more}
-use Rattle.fr_net.proofs.TurnedLinks.{length-links_at, net_turned, turned_faultless}
-use Rattle.fr_net.proofs.TurnedRows.{links_of_rows, out_rows, out_rows_room, row_turned}
+use Rattle.fr_net.proofs.TurnedLinks.{length-links_at, turned_faultless}
 use Rattle.fr_net.specs.Counts.{links_at}
 use Rattle.fr_net.specs.Faults.{IsFaultless}
-use Rattle.fr_net.specs.Halves.{ShowsRow}
-use Rattle.fr_net.specs.Links.{IsNet}
+use Rattle.fr_net.specs.Halves.{AreRows, ShowsRow}
 use Rattle.fr_net.specs.Network.{Network}
-use Rattle.fr_net.specs.Order.{in_order}
-use Rattle.fr_net.specs.RowLists.{out_links, rows_below, turned_entry}
-use Rattle.fr_net.specs.Rows.{row}
-use Rattle.fr_net.specs.declared.rows.First.{First}
+use Rattle.fr_net.specs.Order.{AreInOrder, in_order}
+use Rattle.fr_net.specs.TurnedRows.{ArePartTurned, ShowsLinks, is_done}
 use Rattle.fr_net.proofs.network.Net.turn.Goals as goal
+use Rattle.fr_net.proofs.network.Net.turn.Goals.{After-deref-3, After-deref_mut, After-has_none_turned, After-write_links}
 
-pub offset_bounds-deref_mut-index : goal.offset_bounds-deref_mut-index
-offset_bounds-deref_mut-index c =
-    let low : c.index.result.now ≡ get_or c.loop-x.self-inside.graph.starts.items c.loop-x.x 0 = get_or_read c.loop-x.self-inside.graph.starts.items c.loop-x.x _ (omega (arith, c.loop-x.invariant.starts_length)) c.index.ensures 0 in
-    let here = c.loop-x.invariant.rest c.loop-x.x (omega arith) (omega (arith, c.loop-x.invariant.end)) in
-    omega (arith, low, here.low, here.high, c.loop-x.self-inside.graph.entries.ok.0, c.loop-x.self-inside.graph.entries.small)
+clear : (c : After-has_none_turned) → IsFaultless c.args.self.now.nodes c.args.self.now.links
+clear c = subst (λ (m : Network). IsFaultless m.nodes m.links) c.self.view_is c.self.invariant.faultless
 
-pub slice_bounds-row-count : goal.slice_bounds-row-count
-slice_bounds-row-count c =
-    let low : c.index.result.now ≡ get_or c.loop-x.self-inside.graph.starts.items c.loop-x.x 0 = get_or_read c.loop-x.self-inside.graph.starts.items c.loop-x.x _ (omega (arith, c.loop-x.invariant.starts_length)) c.index.ensures 0 in
-    let high : c.index-in-loop-x.result.now ≡ get_or c.loop-x.self-inside.graph.starts.items (c.loop-x.x + 1) 0 = get_or_read c.loop-x.self-inside.graph.starts.items (c.loop-x.x + 1) _ (omega (arith, c.loop-x.invariant.starts_length)) c.index-in-loop-x.ensures 0 in
-    let here = c.loop-x.invariant.rest c.loop-x.x (omega arith) (omega (arith, c.loop-x.invariant.end)) in
-    omega (arith, low, high, here.low)
+-- the network of the turned links
+abbrev after : (c : After-has_none_turned) → Network
+after c = record { nodes = c.args.self.now.nodes; links = links_at c.args.self.now.links c.args.counts.now }
 
-pub turn_row-requires-clause-below : goal.turn_row-requires-clause-below
-turn_row-requires-clause-below c = λ k d l.
-    let n = c.args.self.now.nodes in
-    let links = c.args.self.now.links in
-    let x = c.loop-x.x in
-    let starts = c.loop-x.self-inside.graph.starts.items in
-    let same : c.self.inside.graph.nodes ≡ n = c.loop-x.invariant.end in
-    let low : c.index.result.now ≡ get_or starts x 0 = get_or_read starts x _ (omega (arith, c.loop-x.invariant.starts_length)) c.index.ensures 0 in
-    let high : c.index-in-loop-x.result.now ≡ get_or starts (x + 1) 0 = get_or_read starts (x + 1) _ (omega (arith, c.loop-x.invariant.starts_length)) c.index-in-loop-x.ensures 0 in
-    let whole : c.deref_mut.result.now ≡ c.loop-x.self-inside.graph.entries.items = c.deref_mut.ensures.value in
-    let part : take (c.index-in-loop-x.result.now - c.index.result.now) (drop c.index.result.now c.deref_mut.result.now) ≡ row n links x = rw (low, high, whole) (c.loop-x.invariant.rest x (omega arith) (omega (arith, same))).is_row in
-    let l' : k < length (row n links x) = rw part at l in
-    let one : length c.args.counts.now ≡ n = c.requires.one_each in
-    rw part (omega (arith, one, (row_holds n links x (get_or (row n links x) k d) (Contains-get_or (row n links x) k d l')).0))
+turned : (c : After-has_none_turned) → IsFaultless c.args.self.now.nodes (links_at c.args.self.now.links c.args.counts.now)
+turned c = turned_faultless c.args.self.now.nodes c.args.self.now.links c.args.counts.now c.requires.kept (clear c)
 
-pub push_out_links-requires : goal.push_out_links-requires
-push_out_links-requires c =
-    let n = c.args.self.now.nodes in
-    let links = c.args.self.now.links in
-    let counts = c.args.counts.now in
-    let after = links_at links counts in
-    let x = c.loop-x.x in
-    let starts = c.loop-x.self-inside.graph.starts.items in
-    let same : c.self.inside.graph.nodes ≡ n = c.loop-x.invariant.end in
-    let net : IsNet n links = subst (λ (m : Network). IsNet m.nodes m.links) c.self.view_is c.self.invariant.faultless.is_net in
-    let low : c.index.result.now ≡ get_or starts x 0 = get_or_read starts x _ (omega (arith, c.loop-x.invariant.starts_length)) c.index.ensures 0 in
-    let high : c.index-in-loop-x.result.now ≡ get_or starts (x + 1) 0 = get_or_read starts (x + 1) _ (omega (arith, c.loop-x.invariant.starts_length)) c.index-in-loop-x.ensures 0 in
-    let whole : c.deref_mut.result.now ≡ c.loop-x.self-inside.graph.entries.items = c.deref_mut.ensures.value in
-    let part : take (c.index-in-loop-x.result.now - c.index.result.now) (drop c.index.result.now c.deref_mut.result.now) ≡ row n links x = rw (low, high, whole) (c.loop-x.invariant.rest x (omega arith) (omega (arith, same))).is_row in
-    let turned : c.turn_row.new.row ≡ row n after x = c.turn_row.ensures ∙ ap (map (turned_entry counts x)) part ∙ sym (row_turned n links counts x c.requires.kept net) in
-    let listed = ap length c.loop-x.invariant.links in
-    let shown = ap (λ (es : List (ℕ × First)). length (out_links x es)) turned in
-    omega (arith, listed, shown, out_rows_room n after x (net_turned n links counts c.requires.kept net) (omega (arith, same)), length-links_at links counts c.requires.kept, c.loop-x.invariant.room)
+nodes_are : (c : After-has_none_turned) → c.self.inside.graph.nodes ≡ c.args.self.now.nodes
+nodes_are c = ap (λ (m : Network). m.nodes) c.self.view_is
 
-pub loop-x-preserved : goal.loop-x-preserved
-loop-x-preserved c =
-    let n = c.args.self.now.nodes in
-    let links = c.args.self.now.links in
-    let counts = c.args.counts.now in
-    let after = links_at links counts in
-    let x = c.loop-x.x in
-    let starts = c.loop-x.self-inside.graph.starts.items in
-    let old = c.loop-x.self-inside.graph.entries.items in
-    let now = c.turn_row.new.row in
-    let same : c.self.inside.graph.nodes ≡ n = c.loop-x.invariant.end in
-    let net : IsNet n links = subst (λ (m : Network). IsNet m.nodes m.links) c.self.view_is c.self.invariant.faultless.is_net in
-    let low : c.index.result.now ≡ get_or starts x 0 = get_or_read starts x _ (omega (arith, c.loop-x.invariant.starts_length)) c.index.ensures 0 in
-    let high : c.index-in-loop-x.result.now ≡ get_or starts (x + 1) 0 = get_or_read starts (x + 1) _ (omega (arith, c.loop-x.invariant.starts_length)) c.index-in-loop-x.ensures 0 in
-    let whole : c.deref_mut.result.now ≡ c.loop-x.self-inside.graph.entries.items = c.deref_mut.ensures.value in
-    let here = c.loop-x.invariant.rest x (omega arith) (omega (arith, same)) in
-    let part : take (c.index-in-loop-x.result.now - c.index.result.now) (drop c.index.result.now c.deref_mut.result.now) ≡ row n links x = rw (low, high, whole) here.is_row in
-    let turned : now ≡ row n after x = c.turn_row.ensures ∙ ap (map (turned_entry counts x)) part ∙ sym (row_turned n links counts x c.requires.kept net) in
-    let as_long : length now ≡ length (row n links x) = ap length (c.turn_row.ensures ∙ ap (map (turned_entry counts x)) part) ∙ length-map (row n links x) (turned_entry counts x) in
-    let mid = put_mid c.index.result.now (c.index-in-loop-x.result.now - c.index.result.now) c.deref_mut.result.now now in
-    let put : mid ≡ put_mid (get_or starts x 0) (get_or starts (x + 1) 0 - get_or starts x 0) old now = rw (low, high, whole) refl in
-    let fits = as_long ∙ sym (ap length here.is_row) ∙ length-between old (get_or starts x 0) (get_or starts (x + 1) 0) here.high in
-    let size : length mid ≡ c.loop-x.self-inside.graph.entries.len = ap length put ∙ length_put (get_or starts x 0) (get_or starts (x + 1) 0) old now here.low here.high fits ∙ sym c.loop-x.self-inside.graph.entries.ok.0 in
-    let listed : c.push_out_links.new.links.items ≡ c.loop-x.self-inside.graph.links.items ++ out_rows n after x = c.push_out_links.ensures.items ∙ ap (λ (es : List (ℕ × First)). c.loop-x.self-inside.graph.links.items ++ out_links x es) turned in
-    let more = part_turned_more n x links after starts old now _ (omega (arith, same)) (record { turned = c.loop-x.invariant.turned; rest = c.loop-x.invariant.rest }) turned as_long (take_at mid _ c.loop-x.self-inside.graph.entries.len size ∙ put) in
+links_are : (c : After-has_none_turned) → c.self.inside.graph.links.items ≡ c.args.self.now.links
+links_are c = ap (λ (m : Network). m.links) c.self.view_is
+
+-- the rows before the first node, and after the last
+before : (c : After-deref_mut) → ArePartTurned c.args.self.now c.args.counts.now (is_done c.args.counts.now 0) c.deref.result.now c.deref_mut.result.now
+before c =
+    let here = (goal.at.After-deref_mut c).After-has_none_turned in
+    let net = c.args.self.now in
+    let shown : (x : ℕ) → x < net.nodes → ShowsRow net.nodes net.links c.self.inside.graph.starts.items c.self.inside.graph.entries.items x =
+    subst (λ (m : Network). (x : ℕ) → x < m.nodes → ShowsRow m.nodes m.links c.self.inside.graph.starts.items c.self.inside.graph.entries.items x) c.self.view_is c.self.invariant.rows in
+    rw (c.deref.ensures.value, c.deref_mut.ensures.value)
+    (rows_begin net c.args.counts.now c.self.inside.graph.starts.items c.self.inside.graph.entries.items (clear here).is_net c.requires.one_each
+    (record { one_each = omega (arith, c.self.invariant.starts_length, nodes_are here); shown = shown }))
+
+written : (c : After-deref-3) → c.deref-3.result.now ≡ c.turn_rows.new.entries
+written c = c.deref-3.ensures.value ∙ take_at c.turn_rows.new.entries _ c.self.inside.graph.entries.len (omega (arith, c.turn_rows.auto.entries, c.deref_mut.ensures.len))
+
+rows_after : (c : After-deref-3) → AreRows c.args.self.now.nodes (links_at c.args.self.now.links c.args.counts.now) c.self.inside.graph.starts.items c.deref-3.result.now
+rows_after c =
+    let at = goal.at.After-deref-3 c in
+    let net = c.args.self.now in
+    let ended = c.turn_rows.ensures net (before at.After-deref_mut) in
+    rw (written c, ← c.deref.ensures.value) (rows_end net c.args.counts.now c.deref.result.now c.turn_rows.new.entries c.requires.kept (rw (nodes_are at.After-has_none_turned) at ended))
+
+shows : (c : After-deref-3) → ShowsLinks (after (goal.at.After-deref-3 c).After-has_none_turned) c.self.inside.graph.nodes c.deref_mut-2.result.now c.deref-2.result.now c.deref-3.result.now
+shows c =
+    let here = (goal.at.After-deref-3 c).After-has_none_turned in
     record {
-      nodes = c.loop-x.invariant.nodes;
-      end = c.loop-x.invariant.end;
-      starts_length = c.loop-x.invariant.starts_length;
-      turned = more.turned;
-      rest = more.rest;
-      links = listed_more x (out_rows n after) c.loop-x.self-inside.graph.links.items c.push_out_links.new.links.items c.loop-x.invariant.links listed;
-      room = omega (arith, c.push_out_links.ensures.room, c.loop-x.invariant.room);
+      all = nodes_are here;
+      is_net = (turned here).is_net;
+      as_many = omega (arith, ap length c.deref_mut-2.ensures.value, ap length (links_are here), length-links_at c.args.self.now.links c.args.counts.now c.requires.kept);
+      rows = rw c.deref-2.ensures.value (rows_after c);
     }
+
+listed : (c : After-write_links) → take c.self.inside.graph.links.len (c.write_links.new.links ++ drop (length c.write_links.new.links) c.self.inside.graph.links.items) ≡ in_order (links_at c.args.self.now.links c.args.counts.now)
+listed c =
+    let at = goal.at.After-write_links c in
+    take_at c.write_links.new.links _ c.self.inside.graph.links.len (omega (arith, c.write_links.auto.links, c.deref_mut-2.ensures.len))
+    ∙ c.write_links.ensures (after at.After-has_none_turned) (shows at.After-deref-3)
+
+pub returns-then-has_none_turned : goal.returns-then-has_none_turned
+returns-then-has_none_turned c =
+    let here = (goal.at.returns-then-has_none_turned c).After-has_none_turned in
+    let links = c.args.self.now.links in
+    let counts = c.args.counts.now in
+    let none : (x : ℕ) → get_or counts x 0 ≡ 0 = λ x. elim (cases_lt x (length counts)) [
+      | inl l ↦ c.if-has_none_turned.ensures.0 refl x l
+      | inr past ↦ get_or_past counts x 0 past
+    ] in
+    let order : AreInOrder links = subst (λ (m : Network). AreInOrder m.links) c.self.view_is c.self.invariant.sorted in
+    rw (links_stay links counts none) (made_of c.args.self.now.nodes links links (clear here) (order_of_listed links links (IsPermutation-refl links) order))
+
+pub turn_rows-requires-clause-rows : goal.turn_rows-requires-clause-rows
+turn_rows-requires-clause-rows c = (c.args.self.now, before c)
+
+pub write_links-requires : goal.write_links-requires
+write_links-requires c = (after (goal.at.write_links-requires c).After-has_none_turned, shows c)
 
 pub invariant_of-self : goal.invariant_of-self
 invariant_of-self c =
+    let at = goal.at.invariant_of-self c in
     let n = c.args.self.now.nodes in
-    let links = c.args.self.now.links in
-    let after = links_at links c.args.counts.now in
-    let clear : IsFaultless n links = subst (λ (m : Network). IsFaultless m.nodes m.links) c.self.view_is c.self.invariant.faultless in
-    let turned : IsFaultless n after = turned_faultless n links c.args.counts.now c.requires.kept clear in
-    let all : c.loop-x.x ≡ n = omega (arith, c.loop-x.invariant.end) in
-    let listed : c.loop-x.self-inside.graph.links.items ≡ in_order after = c.loop-x.invariant.links ∙ ap (λ (k : ℕ). rows_below k (out_rows n after)) all ∙ links_of_rows n after turned.is_net in
-    let each : (y : ℕ) → y < n → ShowsRow n after c.loop-x.self-inside.graph.starts.items c.loop-x.self-inside.graph.entries.items y = λ y lt. c.loop-x.invariant.turned y (omega (arith, all)) in
-    rw c.loop-x.invariant.nodes (made_shown n after c.loop-x.self-inside.graph.links.items c.loop-x.self-inside.graph.starts.items c.loop-x.self-inside.graph.entries.items turned listed c.loop-x.invariant.starts_length each)
+    let links = links_at c.args.self.now.links c.args.counts.now in
+    let same = nodes_are at.After-has_none_turned in
+    let rows = rw c.deref-3.ensures.value at (rows_after at.After-deref-3) in
+    let made = made_shown n links _ c.self.inside.graph.starts.items _ (turned at.After-has_none_turned) (listed at.After-write_links) rows.one_each rows.shown in
+    rw same made
 
 pub returns : goal.returns
 returns c =
-    let n = c.args.self.now.nodes in
-    let links = c.args.self.now.links in
-    let after = links_at links c.args.counts.now in
-    let clear : IsFaultless n links = subst (λ (m : Network). IsFaultless m.nodes m.links) c.self.view_is c.self.invariant.faultless in
-    let turned : IsFaultless n after = turned_faultless n links c.args.counts.now c.requires.kept clear in
-    let all : c.loop-x.x ≡ n = omega (arith, c.loop-x.invariant.end) in
-    let listed : c.loop-x.self-inside.graph.links.items ≡ in_order after = c.loop-x.invariant.links ∙ ap (λ (k : ℕ). rows_below k (out_rows n after)) all ∙ links_of_rows n after turned.is_net in
-    rw c.loop-x.invariant.nodes (made_of n after c.loop-x.self-inside.graph.links.items turned listed)
+    let at = goal.at.returns c in
+    let links = links_at c.args.self.now.links c.args.counts.now in
+    rw (nodes_are at.After-has_none_turned) (made_of c.args.self.now.nodes links _ (turned at.After-has_none_turned) (listed at.After-write_links))
