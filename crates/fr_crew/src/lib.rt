@@ -22,7 +22,5 @@ pub use fault::CrewFault;
 pub use gate::{Gate, OpenGate};
 pub use live_walks::{LiveEnd, LiveFault, LiveWalk, live_walk};
 pub use plan::Plan;
-pub use settlement::{
-    Settled, settle, settle_alone, settle_by, settled_counts, settled_counts_alone,
-};
+pub use settlement::{Settled, settle, settle_alone, settled_counts, settled_counts_alone};
 pub use ways::settled_counts_by;

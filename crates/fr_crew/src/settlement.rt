@@ -6,7 +6,7 @@ ghost use Rattle.fr_net.specs.Counts.{AreLawful};
 ghost use Rattle.fr_core.specs.Finish.{HoldsAllThatCanTurn};
 ghost use Rattle.fr_core.specs.History.{moment_of};
 ghost use Rattle.fr_core.specs.Legal.{CanTurn};
-ghost use Rattle.fr_crew.specs.Settlements.{HoldsSinks, IsCounted, IsSettlement, Settles, NeverStarts};
+ghost use Rattle.fr_crew.specs.Settlements.{HoldsSinks, IsCounted, IsSettlement};
 ghost use Rattle.fr_crew.specs.declared.fault.CrewFault.TheVariants.{Range, Start, Memory};
 
 use crate::crew::run_crew;
@@ -88,21 +88,6 @@ pub fn settle_alone(alloc: Global, net: Net, dest: u32) -> Result<Settled, CrewF
 {
     let counts = zeros(alloc, &net, dest)?;
     Ok(finished(net, dest, counts, 0))
-}
-
-/// Turns a network until no node can turn, in a way that is passed in, as a closure over [`settle`] or [`settle_alone`]. The answer
-/// is that of the way, and so `Range` where the destination is no node, and never `Start` where the way never answers it.
-pub fn settle_by<F: Fn(Net, u32) -> Result<Settled, CrewFault>>(
-    way: &F,
-    net: Net,
-    dest: u32,
-) -> Result<Settled, CrewFault>
-    requires { Settles F.pre F.post way.now }
-    ensures settled { IfOk result (λ settled. IsSettlement net.nodes dest net.links settled) }
-    ensures range { IfErr result (λ fault. (fault ≡ Range) ↔ (net.nodes ≤ dest)) }
-    ensures no_start { NeverStarts F.post way.now → IfErr result (λ fault. fault ≢ Start) }
-{
-    way(net, dest)
 }
 
 /// The settled counts of a network, which stays as it is: where a node can turn at all, by the crew of the plan on a copy of

@@ -1,4 +1,4 @@
-use Rattle.std.proofs.Common.{rules, arith, refl, subst, sym, List, [], ◌∷◌, ℕ, ◌<◌, ◌≡◌}
+use Rattle.std.proofs.Common.{rules, arith, refl, subst, sym, List, [], ◌∷◌, ℕ, ◌<◌}
 use Rattle.std.specs.List.{All, Contains}
 use Rattle.fr_core.proofs.SmallNetworks.{sink_of_chain}
 use Rattle.fr_core.specs.Finish.{HoldsAllThatCanTurn}
