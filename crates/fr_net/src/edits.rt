@@ -117,7 +117,12 @@ pub(crate) fn cut_from_rows(starts: &mut [usize], entries: &mut Vec<(u32, First)
 }
 
 /// Puts the entries of a link into the rows of both its ends, which no link has joined yet. There has to be room for them.
-pub(crate) fn put_in_rows(starts: &mut [usize], entries: &mut Vec<(u32, First)>, tail: u32, head: u32)
+pub(crate) fn put_in_rows(
+    starts: &mut [usize],
+    entries: &mut Vec<(u32, First)>,
+    tail: u32,
+    head: u32,
+)
     requires shown { (net : Network) × ShowsNoLink net tail head starts.old entries.old.items }
     requires room { length entries.old.items + 2 ≤ vec_capacity entries.old }
     ensures rows { (net : Network) → ShowsNoLink net tail head starts.old entries.old.items
@@ -129,7 +134,9 @@ pub(crate) fn put_in_rows(starts: &mut [usize], entries: &mut Vec<(u32, First)>,
     let high = tail.max(head);
     let first = place_of_entry(starts, entries, low, high);
     let second = place_of_entry(starts, entries, high, low);
-    entries.insert(second, (low, seen_from(high, tail))).unwrap();
+    entries
+        .insert(second, (low, seen_from(high, tail)))
+        .unwrap();
     entries.insert(first, (high, seen_from(low, tail))).unwrap();
     move_up(&mut starts[high as usize + 1..]);
     move_up(&mut starts[low as usize + 1..]);
