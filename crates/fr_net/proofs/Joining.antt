@@ -99,10 +99,6 @@ cycle_fault n links u v walk clear few free cycle = (
   cycle,
 )
 
--- the other way round the two nodes are not joined either
-pub unjoined_back : (n : ℕ) (links : List (ℕ × ℕ)) (u v : ℕ) → AreUnjoined n links u v → AreUnjoined n links v u
-unjoined_back n links u v free = record { tail = free.head; head = free.tail; apart = λ e. free.apart (sym e); free = λ h. free.free (⊎_elim (λ p. inr p) (λ p. inl p) h) }
-
 -- a join is refused for the first fault of the links with u>v
 pub as_first : (n : ℕ) (links : List (ℕ × ℕ)) (u v : ℕ) (f : NetFault) → IsJoinFault n links u v f → IsFirstFault n (added links u v) f
 as_first n links u v TooMany h = h

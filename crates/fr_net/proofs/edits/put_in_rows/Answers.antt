@@ -70,12 +70,12 @@ move_up-requires-2 c =
 pub returns-clause-rows : goal.returns-clause-rows
 returns-clause-rows c = λ net shown.
     let b = (goal.at.returns-clause-rows c).After-place_of_entry-second in
-    let once = put_rest (λ start. start + 1) (c.max-high.result + 1) c.args.starts.now c.move_up.new.starts c.move_up.ensures in
-    let twice = put_rest (λ start. start + 1) (c.min-low.result + 1) _ c.move_up-2.new.starts c.move_up-2.ensures in
     let once_put = first_put (goal.at.returns-clause-rows c).After-seen_from-2 in
     let long = rw once_put at c.insert.ensures.len in
     let twice_put : IsOk c.insert-2.result = c.insert-2.ensures.succeeds (omega (arith, long, c.insert.ensures.capacity, c.requires.room, c.args.entries.now.ok.0)) in
     let wide = (rw twice_put at c.insert-2.ensures.items) ∙ ap (λ (es : List (ℕ × First)). insert es c.place_of_entry-first.result (c.max-high.result, c.seen_from-2.result)) (rw once_put at c.insert.ensures.items) in
+    let once = put_rest (λ start. start + 1) (c.max-high.result + 1) c.args.starts.now c.move_up.new.starts c.move_up.ensures in
+    let twice = put_rest (λ start. start + 1) (c.min-low.result + 1) _ c.move_up-2.new.starts c.move_up-2.ensures in
     let seen = rw (c.seen_from.ensures, c.seen_from-2.ensures) at wide in
     rows_added net c.args.tail c.args.head c.min-low.result c.max-high.result c.place_of_entry-first.result c.place_of_entry-second.result c.args.starts.now _ _ c.args.entries.now.items c.insert-2.new.self.items
     shown c.min-low.ensures c.max-high.ensures (first b net shown) (second b net shown) once twice seen
