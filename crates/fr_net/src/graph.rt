@@ -1,7 +1,7 @@
 //! What a network keeps, changed where it stands: a link is taken out or put in, and that is undone.
 
-ghost use Rattle.std.specs.Prelude.{◌≡◌, ◌≢◌, ◌<◌, ◌≤◌, ◌+◌, ◌-◌, ◌++◌, [], ◌∷◌, ◌⊎◌, length, IfOk, IfErr, IfSome, IfNone, MatchOption, OnOk, OnErr};
-ghost use Rattle.fr_net.specs.Links.{IsAcyclic, IsCycle, Joins, Points};
+ghost use Rattle.std.specs.Prelude.{◌≡◌, ◌≢◌, ◌<◌, ◌≤◌, ◌+◌, ◌-◌, ◌++◌, [], ◌∷◌, ◌⊎◌, length, IfOk, IfErr, IfSome, IfNone, OnOk, OnErr};
+ghost use Rattle.fr_net.specs.Links.{IsAcyclic, Joins, Points};
 ghost use Rattle.fr_net.specs.Network.{Network};
 ghost use Rattle.fr_net.specs.Rows.{row};
 ghost use Rattle.fr_net.specs.Halves.{AreUnjoined};
@@ -104,17 +104,6 @@ impl Graph {
         Ok(())
     }
 
-    /// The closed walk that a link from `u` to `v` would close, if there is one: a search from `v` alone.
-    fn closing_walk(&self, alloc: Global, u: u32, v: u32) -> Result<Option<Vec<u32>>, AllocError>
-        requires graph { IsGraph self.now }
-        requires nodes { AreUnjoined self.now.nodes self.now.links.items u v }
-        ensures { IfOk result (λ found. MatchOption found
-            (IsAcyclic (self.now.links.items ++ (u, v) ∷ []))
-            (λ walk. IsCycle (self.now.links.items ++ (u, v) ∷ []) walk.items)) }
-    {
-        closing_walk(alloc, self, u, v)
-    }
-
     /// A copy, with room for so many links more.
     pub(crate) fn copied(&self, alloc: Global, more: usize) -> Result<Graph, AllocError>
         requires graph { IsGraph self.now }
@@ -198,7 +187,7 @@ impl Graph {
         ensures unchanged { OnErr result (self.new ≡ self.old) }
     {
         self.test_join(u, v)?;
-        if let Some(walk) = self.closing_walk(alloc, u, v)? {
+        if let Some(walk) = closing_walk(alloc, self, u, v)? {
             return Err(NetFault::Cycle(walk));
         }
         self.put(u, v);
@@ -215,7 +204,7 @@ impl Graph {
         ensures unchanged { OnErr result (self.new ≡ self.old) }
     {
         self.test_join(u, v)?;
-        let (tail, head) = match self.closing_walk(alloc, u, v)? {
+        let (tail, head) = match closing_walk(alloc, self, u, v)? {
             None => (u, v),
             Some(_walk) => (v, u),
         };

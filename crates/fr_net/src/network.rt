@@ -266,6 +266,11 @@ impl Net {
             return;
         }
         turn_rows(nodes, &self.graph.starts, &mut self.graph.entries, counts);
-        write_links(&mut self.graph.links, nodes, &self.graph.starts, &self.graph.entries);
+        write_links(
+            &mut self.graph.links,
+            nodes,
+            &self.graph.starts,
+            &self.graph.entries,
+        );
     }
 }

@@ -105,7 +105,12 @@ fn write_out_links(links: &mut [(u32, u32)], at: usize, x: u32, row: &[(u32, Fir
 }
 
 /// Writes the links that the rows show over links, of which there are as many.
-pub(crate) fn write_links(links: &mut [(u32, u32)], nodes: u32, starts: &[usize], entries: &[(u32, First)])
+pub(crate) fn write_links(
+    links: &mut [(u32, u32)],
+    nodes: u32,
+    starts: &[usize],
+    entries: &[(u32, First)],
+)
     requires { (after : Network) × ShowsLinks after nodes links.old starts.now entries.now }
     ensures { (after : Network) → ShowsLinks after nodes links.old starts.now entries.now → links.new ≡ in_order after.links }
 {

@@ -139,6 +139,33 @@ fn adds_links_and_joins_nodes(rt: HostRuntime) -> Result<(), Fail> {
     Ok(())
 }
 
+/// Links put into a network of seven nodes in which ways from 0 part, meet and end, and what comes of them.
+const FAR: &[((u32, u32), &str)] = &[
+    ((5, 0), "Cycle of 5"),
+    ((6, 0), "Cycle of 6"),
+    ((6, 3), "Cycle of 5"),
+    ((2, 0), "Cycle of 4"),
+    (
+        (2, 5),
+        "[(0, 1), (0, 3), (1, 2), (2, 5), (3, 2), (3, 4), (4, 5), (5, 6)]",
+    ),
+    (
+        (1, 6),
+        "[(0, 1), (0, 3), (1, 2), (1, 6), (3, 2), (3, 4), (4, 5), (5, 6)]",
+    ),
+];
+
+#[test]
+fn finds_walks_past_dead_ends(rt: HostRuntime) -> Result<(), Fail> {
+    let links = &[(0, 1), (1, 2), (0, 3), (3, 2), (3, 4), (4, 5), (5, 6)];
+    for ((u, v), wanted) in FAR {
+        let net = Net::new(rt.alloc(), 7, links)?;
+        let text = told(rt.alloc(), net.with_link(rt.alloc(), *u, *v))?;
+        assert!(rt; text.as_str() == *wanted, "{u} {v}: {text}");
+    }
+    Ok(())
+}
+
 /// Edits of the links 0>3, 1>0 and 2>3 of four nodes, and what is made of them, or the place of the first that is refused and why.
 const EDITED: &[(&[Edit], &str)] = &[
     (&[], "[(0, 3), (1, 0), (2, 3)]"),
@@ -412,6 +439,22 @@ const TURNED: &[(Links, &[u64], &str)] = &[
         &[0, 1, 1, 1, 2],
         "[(1, 0), (1, 2), (2, 3), (3, 0), (4, 3)]",
     ),
+    // One node turns, whose neighbours do not; then all but one, and a node has no link.
+    (
+        &[(0, 2), (1, 2), (1, 3), (3, 2), (4, 2), (4, 3)],
+        &[0, 0, 1, 0, 0],
+        "[(1, 3), (2, 0), (2, 1), (2, 3), (2, 4), (4, 3)]",
+    ),
+    (
+        &[(2, 0), (2, 1), (2, 3), (0, 4), (3, 4), (1, 3)],
+        &[1, 1, 0, 1, 1, 0],
+        "[(0, 2), (0, 4), (1, 2), (1, 3), (3, 2), (3, 4)]",
+    ),
+    (
+        &[(1, 0), (2, 0), (2, 1), (3, 1), (3, 2), (4, 0), (4, 3)],
+        &[2, 1, 1, 1, 1],
+        "[(0, 1), (0, 2), (0, 4), (2, 1), (3, 1), (3, 2), (4, 3)]",
+    ),
 ];
 
 #[test]
@@ -423,10 +466,12 @@ fn turns_links_by_counts(rt: HostRuntime) -> Result<(), Fail> {
         }
         let beside = told(rt.alloc(), net.turned_by(rt.alloc(), counts))?;
         net.turn(counts);
+        let anew = Net::new(rt.alloc(), net.nodes(), net.links())?;
+        let as_anew = rows(rt.alloc(), &net)? == rows(rt.alloc(), &anew)?;
         let in_place = told(rt.alloc(), Ok(net))?;
         assert!(rt;
-            beside.as_str() == *wanted && beside == in_place,
-            "{wanted}"
+            beside.as_str() == *wanted && beside == in_place && as_anew,
+            "{wanted}: {beside}"
         );
     }
     Ok(())
