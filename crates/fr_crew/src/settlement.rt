@@ -60,6 +60,7 @@ pub fn settle<R: Threads + Wait + Sync, G: Gate + Sync>(
 ) -> Result<Settled, CrewFault>
     ensures settled { IfOk result (λ settled. IsSettlement net.nodes dest net.links settled) }
     ensures range { IfErr result (λ fault. (fault ≡ Range) ↔ (net.nodes ≤ dest)) }
+    ensures no_start { plan.now.budget ≡ 0 → IfErr result (λ fault. fault ≢ Start) }
 {
     let counts = zeros(alloc, &net, dest)?;
     if plan.budget() == 0 || !can_any_turn(&net, dest, &counts, None) {
@@ -111,6 +112,7 @@ pub fn settled_counts<R: Threads + Wait + Sync, G: Gate + Sync>(
     requires { IfSome from (λ from. HoldsSinks net.now dest from.now) }
     ensures settled { IfOk result (λ counts. IsCounted net.now.nodes dest net.now.links counts.items) }
     ensures range { IfErr result (λ fault. (fault ≡ Range) ↔ (net.now.nodes ≤ dest)) }
+    ensures no_start { plan.now.budget ≡ 0 → IfErr result (λ fault. fault ≢ Start) }
 {
     let counts = zeros(alloc, net, dest)?;
     if plan.budget() == 0 || !can_any_turn(net, dest, &counts, from) {
