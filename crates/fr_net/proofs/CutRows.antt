@@ -72,7 +72,7 @@ filter-option true p None is = refl
 filter-option false p None is = refl
 filter-option b p (Some x) is = filter_option_by b p x (is x refl)
 
-no_link_between : (links : List (ℕ × ℕ)) (u v a b : ℕ) → is_between u v (a, b) ≡ true → ¬ Points (without u v links) a b
+pub no_link_between : (links : List (ℕ × ℕ)) (u v a b : ℕ) → is_between u v (a, b) ≡ true → ¬ Points (without u v links) a b
 no_link_between links u v a b e h = let kept = filter_passes (λ (l : ℕ × ℕ). not (is_between u v l)) links (a, b) h in cc (e, kept)
 
 still_linked : (links : List (ℕ × ℕ)) (u v a b : ℕ) → is_between u v (a, b) ≡ false → Points links a b → Points (without u v links) a b

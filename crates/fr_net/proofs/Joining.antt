@@ -7,7 +7,7 @@ use Rattle.std.proofs.lemmas.Bool.{cases_Bool}
 use Rattle.std.proofs.lemmas.List.{get_or_append_left, length_push}
 use Rattle.std.proofs.lemmas.List.Elements.{All-contains, All-push, Contains-push}
 use Rattle.std.proofs.lemmas.List.Sums.{sum_by_push}
-use Rattle.fr_net.proofs.AddedLinks.{acyclic_added, added, closed_back, faultless_added, in_range, no_self, path_joins, single_added, within_limits}
+use Rattle.fr_net.proofs.AddedLinks.{acyclic_added, added, closed_back, in_range, no_self, path_joins, single_added, within_limits}
 use Rattle.fr_net.proofs.Building.{cycle_stands}
 use Rattle.fr_net.proofs.Counting.{one_passes, weigh}
 use Rattle.fr_net.proofs.CutRows.{filter_kept}
@@ -17,7 +17,7 @@ use Rattle.fr_net.proofs.Members.{Contains-tail}
 use Rattle.fr_net.proofs.Ordering.{in_order_permutes}
 use Rattle.fr_net.proofs.Refusing.{fault_place, first_fault_place, no_cycle_stands, no_first_fault, no_self_link, not_too_large, range_stands}
 use Rattle.fr_net.specs.Edits.{IsJoined, IsJoinFault, without}
-use Rattle.fr_net.specs.Faults.{IsFaultless, IsFirstFault, IsInRange, IsNetworkOf}
+use Rattle.fr_net.specs.Faults.{IsFaultless, IsFirstFault, IsInRange}
 use Rattle.fr_net.specs.Halves.{AreUnjoined}
 use Rattle.fr_net.specs.Limits.{IsWithinLimits, most_links}
 use Rattle.fr_net.specs.Links.{AreBelow, AreSingle, HasNoSelfLink, HasPath, IsAcyclic, IsClosedWalk, IsCycle, Joins, is_between}
@@ -88,40 +88,17 @@ faultless_turned n links u v acyclic limits range bar single closes =
       };
     }
 
--- the way that the link points, by what the search has found
-abbrev pub IsWay : List (ℕ × ℕ) → ℕ → ℕ → ℕ → ℕ → Option (Vec ℕ Global) → Type 0
-IsWay links u v tail head closed =
-    MatchOption closed
-    ((tail ≡ u) × (head ≡ v) × IsAcyclic (added links u v))
-    (λ walk. (tail ≡ v) × (head ≡ u) × IsCycle (added links u v) walk.items)
-
 pub closes : (links : List (ℕ × ℕ)) (u v : ℕ) (walk : List ℕ) → IsCycle (added links u v) walk → ¬ IsAcyclic (added links u v)
 closes links u v walk cycle acyclic = no_cycle_stands (added links u v) walk acyclic cycle
 
-pub way_unjoined : (n : ℕ) (links : List (ℕ × ℕ)) (u v tail head : ℕ) (closed : Option (Vec ℕ Global)) → AreUnjoined n links u v → IsWay links u v tail head closed → AreUnjoined n links tail head
-way_unjoined n links u v tail head None free way = rw (way.0, way.1) free
-way_unjoined n links u v tail head (Some walk) free way =
-    rw (way.0, way.1) (record { tail = free.head; head = free.tail; apart = λ e. free.apart (sym e); free = λ h. free.free (⊎_elim (λ p. inr p) (λ p. inl p) h) })
-
-pub way_faultless : (n : ℕ) (links : List (ℕ × ℕ)) (u v tail head : ℕ) (closed : Option (Vec ℕ Global)) → IsFaultless n links → length links < most_links → AreUnjoined n links u v → IsWay links u v tail head closed → IsFaultless n (added links tail head)
-way_faultless n links u v tail head None clear few free way = rw (way.0, way.1) (faultless_added n links u v clear few free way.2)
-way_faultless n links u v tail head (Some walk) clear few free way =
-    let free_back = way_unjoined n links u v v u (Some walk) free (refl, refl, way.2) in
-    rw (way.0, way.1) (faultless_added n links v u clear few free_back (one_way_free links u v clear.is_net.acyclic free.apart (closes links u v walk.items way.2)))
-
--- the network with the link, and the closed walk that follows the links with it turned around
-pub way_made : (n : ℕ) (links : List (ℕ × ℕ)) (u v tail head : ℕ) (closed : Option (Vec ℕ Global)) (net : Network) → IsFaultless n links → length links < most_links → AreUnjoined n links u v → IsWay links u v tail head closed → IsNetworkOf n (added links tail head) net
-    → MatchOption closed (IsNetworkOf n (added links u v) net) (λ walk. IsFirstFault n (added links u v) (Cycle walk) × IsNetworkOf n (added links v u) net)
-way_made n links u v tail head None net clear few free way made = rw (way.0, way.1) at made
-way_made n links u v tail head (Some walk) net clear few free way made = (
-  (
-    within_limits n links u v clear.limits few,
-    in_range n links u v clear.is_net.in_range free.tail free.head,
-    no_self links u v clear.is_net.no_self free.apart,
-    single_added links u v clear.is_net.single free.free,
-    way.2,
-  ),
-  rw (way.0, way.1) at made,
+-- the link can be refused for the closed walk alone
+pub cycle_fault : (n : ℕ) (links : List (ℕ × ℕ)) (u v : ℕ) (walk : Vec ℕ Global) → IsFaultless n links → length links < most_links → AreUnjoined n links u v → IsCycle (added links u v) walk.items → IsFirstFault n (added links u v) (Cycle walk)
+cycle_fault n links u v walk clear few free cycle = (
+  within_limits n links u v clear.limits few,
+  in_range n links u v clear.is_net.in_range free.tail free.head,
+  no_self links u v clear.is_net.no_self free.apart,
+  single_added links u v clear.is_net.single free.free,
+  cycle,
 )
 
 -- a join is refused for the first fault of the links with u>v

@@ -33,3 +33,4 @@ pub mod TokenItems
 pub mod WordLines
 pub mod Reordering
 pub mod Outward
+pub mod Undoing

@@ -20,7 +20,7 @@ joined_below n links u v net (inr p) = let t = link_below n links v u net p in (
 pub is_between_itself : (l : ℕ × ℕ) → is_between l.0 l.1 l ≡ true
 is_between_itself l = rw (eq-eqb l.0 l.0 refl, eq-eqb l.1 l.1 refl) refl
 
-is_between_back : (u v : ℕ) → is_between u v (v, u) ≡ true
+pub is_between_back : (u v : ℕ) → is_between u v (v, u) ≡ true
 is_between_back u v = rw (eq-eqb v v refl, eq-eqb u u refl) (or_true _)
 
 pub is_between_turned : (a b u v : ℕ) → is_between a b (u, v) ≡ is_between a b (v, u)

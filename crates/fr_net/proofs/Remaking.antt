@@ -6,10 +6,11 @@ use Rattle.fr_net.proofs.Building.{acyclic_listed, faultless_sorted}
 use Rattle.fr_net.proofs.Neighbours.{Points-has_link, has_link_true}
 use Rattle.fr_net.proofs.Ordering.{in_order_order, in_order_permutes, into_order, out_of_order}
 use Rattle.fr_net.specs.Faults.{IsFaultless, IsNetworkOf}
+use Rattle.fr_net.specs.Graph.{AreKept}
 use Rattle.fr_net.specs.Halves.{ShowsRow}
 use Rattle.fr_net.specs.Links.{Points}
 use Rattle.fr_net.specs.Network.{Network}
-use Rattle.fr_net.specs.Order.{AreInOrder, in_order}
+use Rattle.fr_net.specs.Order.{in_order}
 use Rattle.fr_net.specs.Rows.{has_link, row, row_entry}
 use Rattle.fr_net.specs.declared.rows.First.{First}
 
@@ -33,13 +34,6 @@ row_same zero a b x to from = refl
 row_same (suc w) a b x to from =
     rw (row_same w a b x to from, row_entry_same a b x w (to x w) (from x w) (to w x) (from w x)) refl
 
--- what a network keeps
-pub record IsMade (n : ℕ) (made : List (ℕ × ℕ)) (starts : List ℕ) (entries : List (ℕ × First)) : Type 0 where
-  pub faultless : IsFaultless n made
-  pub order : AreInOrder made
-  pub starts_length : length starts ≡ n + 1
-  pub rows : (x : ℕ) → x < n → ShowsRow n made starts entries x
-
 in_order_faultless : (n : ℕ) (listed : List (ℕ × ℕ)) → IsFaultless n listed → IsFaultless n (in_order listed)
 in_order_faultless n listed clear =
     let same = in_order_permutes listed in
@@ -48,11 +42,11 @@ in_order_faultless n listed clear =
 in_order_row : (n : ℕ) (listed : List (ℕ × ℕ)) (x : ℕ) → row n listed x ≡ row n (in_order listed) x
 in_order_row n listed x = row_same n listed (in_order listed) x (λ u v. into_order listed (u, v)) (λ u v. out_of_order listed (u, v))
 
-pub made_shown : (n : ℕ) (listed made : List (ℕ × ℕ)) (starts : List ℕ) (entries : List (ℕ × First)) → IsFaultless n listed → made ≡ in_order listed → length starts ≡ n + 1 → ((x : ℕ) → x < n → ShowsRow n listed starts entries x) → IsMade n made starts entries
+pub made_shown : (n : ℕ) (listed made : List (ℕ × ℕ)) (starts : List ℕ) (entries : List (ℕ × First)) → IsFaultless n listed → made ≡ in_order listed → length starts ≡ n + 1 → ((x : ℕ) → x < n → ShowsRow n listed starts entries x) → AreKept n made starts entries
 made_shown n listed made starts entries clear is one_each each =
     rw is (record {
       faultless = in_order_faultless n listed clear;
-      order = in_order_order listed;
+      sorted = in_order_order listed;
       starts_length = one_each;
       rows = λ x lt. let shown = each x lt in record { low = shown.low; high = shown.high; is_row = shown.is_row ∙ in_order_row n listed x };
     })

@@ -11,6 +11,7 @@ pub mod Batches
 pub mod RowLists
 pub mod Halves
 pub mod CycleSearch
+pub mod Graph
 pub mod Inside
 pub mod Requests
 pub mod Laws

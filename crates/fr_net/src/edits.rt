@@ -1,27 +1,15 @@
-//! The links and rows of a network with one link taken out or added, each where it stands, and which way a link can point.
+//! The links and rows of a network with one link taken out or put in, each where it stands.
 
-ghost use Rattle.std.specs.Prelude.{◌≡◌, ℕ, ◌<◌, ◌≤◌, ◌+◌, ◌-◌, ◌^◌, ◌==◌, ◌++◌, [], ◌∷◌, if◌then◌else◌, length, map, slice_index_or, All, IfOk, IfErr, OnOk, MatchOption};
+ghost use Rattle.std.specs.Prelude.{◌≡◌, ℕ, ◌<◌, ◌≤◌, ◌+◌, ◌-◌, ◌^◌, ◌==◌, ◌++◌, [], ◌∷◌, if◌then◌else◌, length, map, slice_index_or, vec_capacity, All};
 ghost use Rattle.std.specs.List.Sorted.{IsNonDecreasingBy};
-ghost use Rattle.fr_net.specs.Links.{AreSingle, IsAcyclic, IsCycle, IsNet, Points};
+ghost use Rattle.fr_net.specs.Links.{AreSingle, Points};
 ghost use Rattle.fr_net.specs.Network.{Network};
-ghost use Rattle.fr_net.specs.Halves.{AreRows, AreUnjoined, IsPlaceOf, ShowsLink, ShowsNoLink, ShowsRowOf};
+ghost use Rattle.fr_net.specs.Halves.{AreRows, IsPlaceOf, ShowsLink, ShowsNoLink, ShowsRowOf};
 ghost use Rattle.fr_net.specs.Edits.{without};
 ghost use Rattle.fr_net.specs.Order.{AreInOrder, IsBefore, IsNotAfter, with_in_order};
-ghost use Rattle.fr_net.specs.declared.fault.NetFault.TheVariants.{Memory};
 ghost use Rattle.fr_net.specs.declared.rows.First.TheVariants.{Outward, Inward};
 
-use crate::cycle::find_cycle_from;
-use crate::fault::NetFault;
 use crate::rows::First;
-use std::alloc::{AllocFailed, Global};
-
-/// The link by which two nodes were joined, and the closed walk that follows the links with it turned around, if one does.
-#[derive(Drop)]
-pub(crate) struct Joining {
-    pub(crate) tail: u32,
-    pub(crate) head: u32,
-    pub(crate) closed: Option<Vec<u32>>,
-}
 
 /// The first place among the links, which are in order, whose link is not before the one from `u` to `v`.
 fn place_of_link(links: &[(u32, u32)], u: u32, v: u32) -> usize
@@ -38,59 +26,24 @@ pub(crate) fn cut_link(links: &mut Vec<(u32, u32)>, u: u32, v: u32)
     requires order { AreInOrder links.old.items }
     requires single { AreSingle links.old.items }
     requires stands { Points links.old.items u v }
-    ensures { links.new.items ≡ without u v links.old.items }
+    ensures items { links.new.items ≡ without u v links.old.items }
+    ensures one { length links.new.items + 1 ≡ length links.old.items }
+    ensures room { vec_capacity links.new ≡ vec_capacity links.old }
 {
     let place = place_of_link(links, u, v);
     links.remove(place);
 }
 
-/// Puts the link from `u` to `v` at its place among the links, which are in order.
-pub(crate) fn add_link(
-    links: &mut Vec<(u32, u32)>,
-    u: u32,
-    v: u32,
-) -> Result<(), AllocFailed<(u32, u32)>>
-    requires { AreInOrder links.old.items }
-    ensures { OnOk result (links.new.items ≡ with_in_order (u, v) links.old.items) }
+/// Puts the link from `u` to `v` at its place among the links, which are in order and have room for it.
+pub(crate) fn put_link(links: &mut Vec<(u32, u32)>, u: u32, v: u32)
+    requires order { AreInOrder links.old.items }
+    requires room { length links.old.items < vec_capacity links.old }
+    ensures items { links.new.items ≡ with_in_order (u, v) links.old.items }
+    ensures one { length links.new.items ≡ length links.old.items + 1 }
+    ensures room { vec_capacity links.old ≤ vec_capacity links.new }
 {
     let place = place_of_link(links, u, v);
-    links.insert(place, (u, v))?;
-    Ok(())
-}
-
-/// Puts a link between two nodes at its place among the links, which are in order: from `u` to `v`, or from `v` to `u` where a
-/// closed walk follows the links with the other. One search decides it.
-pub(crate) fn join_link(
-    alloc: Global,
-    nodes: u32,
-    links: &mut Vec<(u32, u32)>,
-    u: u32,
-    v: u32,
-) -> Result<Joining, NetFault>
-    requires net { IsNet nodes links.old.items }
-    requires order { AreInOrder links.old.items }
-    requires nodes { AreUnjoined nodes links.old.items u v }
-    ensures put { IfOk result (λ link. links.new.items ≡ with_in_order (link.tail, link.head) links.old.items) }
-    ensures way { IfOk result (λ link. MatchOption link.closed
-        ((link.tail ≡ u) × (link.head ≡ v) × IsAcyclic (links.old.items ++ (u, v) ∷ []))
-        (λ walk. (link.tail ≡ v) × (link.head ≡ u) × IsCycle (links.old.items ++ (u, v) ∷ []) walk.items)) }
-    ensures memory { IfErr result (λ fault. fault ≡ Memory) }
-{
-    add_link(links, u, v)?;
-    let Some(walk) = find_cycle_from(alloc, nodes, links, v)? else {
-        return Ok(Joining {
-            tail: u,
-            head: v,
-            closed: None,
-        });
-    };
-    cut_link(links, u, v);
-    add_link(links, v, u)?;
-    Ok(Joining {
-        tail: v,
-        head: u,
-        closed: Some(walk),
-    })
+    links.insert(place, (u, v)).unwrap();
 }
 
 /// The first place in the row, which is in rising order of the neighbour, whose neighbour is not below `w`.
@@ -147,8 +100,10 @@ pub(crate) fn move_down(starts: &mut [usize])
 /// Takes the entries of the link between two nodes, whichever way it points, out of the rows of both.
 pub(crate) fn cut_from_rows(starts: &mut [usize], entries: &mut Vec<(u32, First)>, u: u32, v: u32)
     requires { (net : Network) × ShowsLink net u v starts.old entries.old.items }
-    ensures { (net : Network) → ShowsLink net u v starts.old entries.old.items
+    ensures rows { (net : Network) → ShowsLink net u v starts.old entries.old.items
         → AreRows net.nodes (without u v net.links) starts.new entries.new.items }
+    ensures two { length entries.new.items + 2 ≡ length entries.old.items }
+    ensures room { vec_capacity entries.new ≡ vec_capacity entries.old }
 {
     let low = u.min(v);
     let high = u.max(v);
@@ -161,24 +116,28 @@ pub(crate) fn cut_from_rows(starts: &mut [usize], entries: &mut Vec<(u32, First)
     move_down(&mut starts[low as usize + 1..]);
 }
 
-/// Puts the entries of a link into the rows of both its ends, which no link has joined yet.
-pub(crate) fn add_to_rows(
+/// Puts the entries of a link into the rows of both its ends, which no link has joined yet. There has to be room for them.
+pub(crate) fn put_in_rows(
     starts: &mut [usize],
     entries: &mut Vec<(u32, First)>,
     tail: u32,
     head: u32,
-) -> Result<(), AllocFailed<(u32, First)>>
-    requires { (net : Network) × ShowsNoLink net tail head starts.old entries.old.items }
-    ensures { OnOk result ((net : Network) → ShowsNoLink net tail head starts.old entries.old.items
-        → AreRows net.nodes (net.links ++ (tail, head) ∷ []) starts.new entries.new.items) }
+)
+    requires shown { (net : Network) × ShowsNoLink net tail head starts.old entries.old.items }
+    requires room { length entries.old.items + 2 ≤ vec_capacity entries.old }
+    ensures rows { (net : Network) → ShowsNoLink net tail head starts.old entries.old.items
+        → AreRows net.nodes (net.links ++ (tail, head) ∷ []) starts.new entries.new.items }
+    ensures two { length entries.new.items ≡ length entries.old.items + 2 }
+    ensures room { vec_capacity entries.old ≤ vec_capacity entries.new }
 {
     let low = tail.min(head);
     let high = tail.max(head);
     let first = place_of_entry(starts, entries, low, high);
     let second = place_of_entry(starts, entries, high, low);
-    entries.insert(second, (low, seen_from(high, tail)))?;
-    entries.insert(first, (high, seen_from(low, tail)))?;
+    entries
+        .insert(second, (low, seen_from(high, tail)))
+        .unwrap();
+    entries.insert(first, (high, seen_from(low, tail))).unwrap();
     move_up(&mut starts[high as usize + 1..]);
     move_up(&mut starts[low as usize + 1..]);
-    Ok(())
 }

@@ -12,6 +12,7 @@ mod checks;
 mod cycle;
 mod edits;
 mod fault;
+mod graph;
 pub mod laws;
 mod limits;
 mod line_reader;

@@ -5,7 +5,9 @@ ghost use Rattle.fr_net.specs.Counts.{IsKept};
 
 use fr_net::Edit::{Add, Cut, Join};
 use fr_net::laws::{join_law, rows_law};
-use fr_net::{Edit, EditFault, LineFault, MAX_EDITS, MAX_LINKS, MAX_NODES, Net, NetFault};
+use fr_net::{
+    Edit, EditFault, LineFault, MAX_EDITS, MAX_LINKS, MAX_NODES, Net, NetFault, NotEdited,
+};
 use std::alloc::{AllocError, Global};
 use std::fmt::Write;
 use std::test::Fail;
@@ -209,6 +211,107 @@ fn tries_no_edit_of_too_many(rt: HostRuntime) -> Result<(), Fail> {
     let text = edited(rt.alloc(), &net, &edits)?;
     let wanted = format!(in rt.alloc(); "{MAX_EDITS} TooMany")?;
     assert!(rt; text == wanted, "{text}");
+    Ok(())
+}
+
+/// Edits of the links 0>3, 1>0 and 2>3 of four nodes, how many links they may leave, what is answered of them, and what is left.
+const JUDGED: &[(&[Edit], usize, &str)] = &[
+    (&[], 3, "3 links [(0, 3), (1, 0), (2, 3)]"),
+    (&[], 2, "not 3 links [(0, 3), (1, 0), (2, 3)]"),
+    (&[Cut { u: 3, v: 0 }], 3, "2 links [(1, 0), (2, 3)]"),
+    (
+        &[Cut { u: 3, v: 0 }],
+        1,
+        "not 2 links [(0, 3), (1, 0), (2, 3)]",
+    ),
+    (
+        &[Add { u: 1, v: 3 }],
+        4,
+        "4 links [(0, 3), (1, 0), (1, 3), (2, 3)]",
+    ),
+    (
+        &[Add { u: 1, v: 3 }],
+        3,
+        "not 4 links [(0, 3), (1, 0), (2, 3)]",
+    ),
+    // A link from 3 to 1 closes a walk, but none once the one from 0 to 3 is cut.
+    (
+        &[Cut { u: 3, v: 0 }, Join { u: 3, v: 1 }],
+        3,
+        "3 links [(1, 0), (2, 3), (3, 1)]",
+    ),
+    (
+        &[Cut { u: 3, v: 0 }, Join { u: 3, v: 1 }, Add { u: 2, v: 0 }],
+        3,
+        "not 4 links [(0, 3), (1, 0), (2, 3)]",
+    ),
+    // The link between 0 and 3 is put in turned around, and another one is taken out.
+    (
+        &[
+            Cut { u: 0, v: 3 },
+            Add { u: 3, v: 0 },
+            Cut { u: 1, v: 0 },
+            Cut { u: 3, v: 0 },
+        ],
+        0,
+        "not 1 links [(0, 3), (1, 0), (2, 3)]",
+    ),
+    // Refused edits.
+    (
+        &[Cut { u: 0, v: 3 }, Cut { u: 0, v: 3 }],
+        9,
+        "1 NoLink [(0, 3), (1, 0), (2, 3)]",
+    ),
+    (
+        &[Cut { u: 2, v: 3 }, Add { u: 3, v: 1 }, Join { u: 2, v: 0 }],
+        9,
+        "1 Cycle of 4 [(0, 3), (1, 0), (2, 3)]",
+    ),
+    (
+        &[Join { u: 2, v: 1 }, Cut { u: 0, v: 1 }, Add { u: 2, v: 2 }],
+        9,
+        "2 SelfLink(2) [(0, 3), (1, 0), (2, 3)]",
+    ),
+];
+
+/// What is answered where edits may leave so many links, and the links that are left.
+fn judged(alloc: Global, net: &mut Net, edits: &[Edit], most: usize) -> Result<String, AllocError> {
+    let way = |made: &Net| {
+        let links = made.links().len();
+        if links <= most { Ok(links) } else { Err(links) }
+    };
+    let answer = match net.edit_if(alloc, edits, &way) {
+        Ok(links) => format!(in alloc; "{links} links"),
+        Err(NotEdited::Fault(links)) => format!(in alloc; "not {links} links"),
+        Err(NotEdited::Refused(refused)) => {
+            let why = told(alloc, Err(refused.fault))?;
+            format!(in alloc; "{} {why}", refused.at)
+        }
+    }?;
+    format!(in alloc; "{answer} {:?}", net.links())
+}
+
+#[test]
+fn undoes_edits_that_cannot_stay(rt: HostRuntime) -> Result<(), Fail> {
+    for (edits, most, wanted) in JUDGED {
+        let mut net = Net::new(rt.alloc(), 4, &[(0, 3), (1, 0), (2, 3)])?;
+        let text = judged(rt.alloc(), &mut net, edits, *most)?;
+        assert!(rt; text.as_str() == *wanted, "{edits:?} {most}: {text}");
+        let anew = Net::new(rt.alloc(), 4, net.links())?;
+        assert!(rt;
+            rows(rt.alloc(), &net)? == rows(rt.alloc(), &anew)?,
+            "{edits:?} {most}"
+        );
+    }
+    Ok(())
+}
+
+#[test]
+fn copies_a_network(rt: HostRuntime) -> Result<(), Fail> {
+    let net = Net::new(rt.alloc(), 4, &[(0, 3), (1, 0), (2, 3)])?;
+    let copy = net.copied(rt.alloc())?;
+    assert!(rt; rows(rt.alloc(), &net)? == rows(rt.alloc(), &copy)?);
+    assert!(rt; told(rt.alloc(), Ok(copy))?.as_str() == "[(0, 3), (1, 0), (2, 3)]");
     Ok(())
 }
 

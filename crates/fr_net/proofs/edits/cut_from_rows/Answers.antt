@@ -61,9 +61,9 @@ move_down-requires-2 c =
     let one = moved (λ start. start - 1) (c.max-high.result + 1) c.args.starts.now in
     rw (once, take_rest one (c.min-low.result + 1)) (cut_positive _ _ _ _ _ _ _ _ _ (cut b c.requires.0 c.requires.1) refl).1
 
-pub returns : goal.returns
-returns c = λ net shown.
-    let b = (goal.at.returns c).After-place_of_entry-second in
+pub returns-clause-rows : goal.returns-clause-rows
+returns-clause-rows c = λ net shown.
+    let b = (goal.at.returns-clause-rows c).After-place_of_entry-second in
     let once = put_rest (λ start. start - 1) (c.max-high.result + 1) c.args.starts.now c.move_down.new.starts c.move_down.ensures in
     let twice = put_rest (λ start. start - 1) (c.min-low.result + 1) _ c.move_down-2.new.starts c.move_down-2.ensures in
     let left = c.remove-2.ensures.items ∙ ap (λ (es : List (ℕ × First)). remove es c.place_of_entry-first.result) c.remove.ensures.items in

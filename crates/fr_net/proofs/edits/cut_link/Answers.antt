@@ -2,8 +2,8 @@ use Rattle.std.proofs.Common.{sym, ◌∙◌}
 use Rattle.fr_net.proofs.Places.{cut_is_remove, stands_at}
 use Rattle.fr_net.proofs.edits.cut_link.Goals as goal
 
-pub returns : goal.returns
-returns c =
+pub returns-clause-items : goal.returns-clause-items
+returns-clause-items c =
     let links = c.args.links.now.items in
     let u = c.args.u in
     let v = c.args.v in

@@ -7,7 +7,7 @@ use Rattle.fr_net.proofs.network.Net.degree.Goals as goal
 
 pub overflow_cast-result : goal.overflow_cast-result
 overflow_cast-result c =
-    let s = c.self.inside in
+    let s = c.self.inside.graph in
     let same : s.nodes ≡ c.args.self.now.nodes = ap (λ (v : Network). v.nodes) c.self.view_is in
     let shown = c.self.invariant.rows c.args.x (omega (arith, same)) in
     let small = c.self.invariant.faultless.limits.nodes_few in

@@ -64,15 +64,9 @@ invariant_of-result c =
     let faultless : IsFaultless n listed = faultless_listed n listed (in_order listed) halves limits range clear both rising (in_order_permutes listed) acyclic in
     let starts : AreStarts n halves c.in_ok-halves.starts.items = c.in_ok-halves.ensures.starts in
     let entries : c.in_ok-entries.entries.items ≡ map entry_of halves = rw c.deref-4.ensures.value at c.in_ok-entries.ensures in
-    let shown =
-    made_shown n listed c.in_ok-sorted.sorted.items c.in_ok-halves.starts.items (map entry_of halves) faultless made starts.one_each
-    (rows_shown n listed halves c.in_ok-halves.starts.items faultless.is_net both rising starts) in
-    record {
-      faultless = shown.faultless;
-      sorted = shown.order;
-      starts_length = shown.starts_length;
-      rows = rw entries shown.rows;
-    }
+    rw entries
+    (made_shown n listed c.in_ok-sorted.sorted.items c.in_ok-halves.starts.items (map entry_of halves) faultless made starts.one_each
+    (rows_shown n listed halves c.in_ok-halves.starts.items faultless.is_net both rising starts))
 
 pub returns-clause-ok : goal.returns-clause-ok
 returns-clause-ok c =

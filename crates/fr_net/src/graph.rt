@@ -1,0 +1,294 @@
+//! What a network keeps, changed where it stands: a link is taken out or put in, and that is undone.
+
+ghost use Rattle.std.specs.Prelude.{◌≡◌, ◌≢◌, ◌<◌, ◌≤◌, ◌+◌, ◌-◌, ◌++◌, [], ◌∷◌, ◌⊎◌, length, IfOk, IfErr, IfSome, IfNone, MatchOption, OnOk, OnErr};
+ghost use Rattle.fr_net.specs.Links.{IsAcyclic, IsCycle, Joins, Points};
+ghost use Rattle.fr_net.specs.Network.{Network};
+ghost use Rattle.fr_net.specs.Rows.{row};
+ghost use Rattle.fr_net.specs.Halves.{AreUnjoined};
+ghost use Rattle.fr_net.specs.Faults.{IsNetworkOf};
+ghost use Rattle.fr_net.specs.Edits.{IsJoinFault, without};
+ghost use Rattle.fr_net.specs.Batches.{AreMade, IsEditFault, IsRefusedAt};
+ghost use Rattle.fr_net.specs.Limits.{most_edits, most_links};
+ghost use Rattle.fr_net.specs.Graph.{CanUndo, HasRoom, IsDone, IsEdited, IsGraph, KeepsRoom, shown};
+ghost use Rattle.fr_net.specs.declared.fault.NetFault.TheVariants.{Memory};
+ghost use Rattle.fr_net.specs.declared.requests.Edit.TheVariants.{Cut, Add, Join};
+
+use crate::checks::first_outside;
+use crate::cycle::find_cycle_from;
+use crate::edits::{cut_from_rows, cut_link, place_in_row, put_in_rows, put_link};
+use crate::fault::{EditFault, NetFault};
+use crate::limits::MAX_LINKS;
+use crate::requests::Edit;
+use crate::rows::First;
+use std::alloc::{AllocError, Global};
+
+/// The links of a network in rising order of tail, then head, and the rows of its nodes, which show them.
+#[derive(Debug, Drop)]
+pub(crate) struct Graph {
+    pub(crate) nodes: u32,
+    pub(crate) links: Vec<(u32, u32)>,
+    // Compressed rows: the neighbours of node x stand in `entries` from `starts[x]` up to `starts[x + 1]`.
+    pub(crate) starts: Vec<usize>,
+    pub(crate) entries: Vec<(u32, First)>,
+}
+
+/// What an edit did to the links.
+#[derive(Debug, Drop, Clone, Copy)]
+pub(crate) enum Done {
+    /// The link was taken out.
+    Taken {
+        /// Its tail.
+        tail: u32,
+        /// Its head.
+        head: u32,
+    },
+    /// The link was put in.
+    Put {
+        /// Its tail.
+        tail: u32,
+        /// Its head.
+        head: u32,
+    },
+}
+
+impl Graph {
+    /// The neighbours of node `x` in rising order, each with the direction of its link as seen from `x`.
+    pub(crate) fn row(&self, x: u32) -> &[(u32, First)]
+        requires graph { IsGraph self.now }
+        requires node { x < self.now.nodes }
+        ensures { result.now ≡ row self.now.nodes self.now.links.items x }
+    {
+        &self.entries[self.starts[x as usize]..self.starts[x as usize + 1]]
+    }
+
+    /// The link that joins `u` and `v`, from its tail to its head, if there is one.
+    fn link_between(&self, u: u32, v: u32) -> Option<(u32, u32)>
+        requires { IsGraph self.now }
+        ensures stands { IfSome result (λ link. Points self.now.links.items link.0 link.1) }
+        ensures ends { IfSome result (λ link. (link ≡ (u, v)) ⊎ (link ≡ (v, u))) }
+        ensures none { IfNone result (¬ Joins self.now.links.items u v) }
+    {
+        if u >= self.nodes {
+            return None;
+        }
+        let row = self.row(u);
+        let (w, first) = *row.get(place_in_row(row, v))?;
+        if w != v {
+            return None;
+        }
+        match first {
+            First::Outward => Some((u, v)),
+            First::Inward => Some((v, u)),
+        }
+    }
+
+    /// Whether a link can join `u` and `v`, be it one way or the other: Ok, or the fault that both have.
+    fn test_join(&self, u: u32, v: u32) -> Result<(), NetFault>
+        requires { IsGraph self.now }
+        ensures few { OnOk result (length self.now.links.items < most_links) }
+        ensures nodes { OnOk result (AreUnjoined self.now.nodes self.now.links.items u v) }
+        ensures refused { IfErr result (IsJoinFault self.now.nodes self.now.links.items u v) }
+    {
+        if self.links.len() >= MAX_LINKS {
+            return Err(NetFault::TooMany);
+        }
+        if let Some(x) = first_outside(self.nodes, &[(u, v)]) {
+            return Err(NetFault::Range(x));
+        }
+        if u == v {
+            return Err(NetFault::SelfLink(u));
+        }
+        if self.link_between(u, v).is_some() {
+            return Err(NetFault::Twice(u, v));
+        }
+        Ok(())
+    }
+
+    /// The closed walk that a link from `u` to `v` would close, if there is one: a search from `v` alone.
+    fn closing_walk(&self, alloc: Global, u: u32, v: u32) -> Result<Option<Vec<u32>>, AllocError>
+        requires graph { IsGraph self.now }
+        requires nodes { AreUnjoined self.now.nodes self.now.links.items u v }
+        ensures { IfOk result (λ found. MatchOption found
+            (IsAcyclic (self.now.links.items ++ (u, v) ∷ []))
+            (λ walk. IsCycle (self.now.links.items ++ (u, v) ∷ []) walk.items)) }
+    {
+        let mut links = Vec::with_capacity(alloc, self.links.len() + 1)?;
+        links.extend_from_slice(&self.links)?;
+        put_link(&mut links, u, v);
+        find_cycle_from(alloc, self.nodes, &links, v)
+    }
+
+    /// A copy, with room for so many links more.
+    pub(crate) fn copied(&self, alloc: Global, more: usize) -> Result<Graph, AllocError>
+        requires graph { IsGraph self.now }
+        requires few { more ≤ most_edits }
+        ensures graph { IfOk result IsGraph }
+        ensures same { IfOk result (λ copy. shown copy ≡ shown self.now) }
+        ensures room { IfOk result (λ copy. HasRoom copy more) }
+    {
+        let mut links = Vec::with_capacity(alloc, self.links.len() + more)?;
+        links.extend_from_slice(&self.links)?;
+        let starts = self.starts.to_vec(alloc)?;
+        let mut entries = Vec::with_capacity(alloc, self.entries.len() + 2 * more)?;
+        entries.extend_from_slice(&self.entries)?;
+        Ok(Graph {
+            nodes: self.nodes,
+            links,
+            starts,
+            entries,
+        })
+    }
+
+    /// Takes room for so many links more.
+    fn reserve(&mut self, more: usize) -> Result<(), AllocError>
+        requires graph { IsGraph self.old }
+        requires few { more ≤ most_edits }
+        ensures graph { IsGraph self.new }
+        ensures same { shown self.new ≡ shown self.old }
+        ensures room { OnOk result (HasRoom self.new more) }
+    {
+        self.links.reserve(more)?;
+        self.entries.reserve(2 * more)
+    }
+
+    /// Takes out the link from `tail` to `head`.
+    fn take_out(&mut self, tail: u32, head: u32)
+        requires graph { IsGraph self.old }
+        requires stands { Points self.old.links.items tail head }
+        ensures graph { IsGraph self.new }
+        ensures taken { IsNetworkOf self.old.nodes (without tail head self.old.links.items) (shown self.new) }
+        ensures room { KeepsRoom self.old self.new }
+    {
+        cut_link(&mut self.links, tail, head);
+        cut_from_rows(&mut self.starts, &mut self.entries, tail, head);
+    }
+
+    /// Puts in the link from `tail` to `head`, for which there has to be room.
+    fn put(&mut self, tail: u32, head: u32)
+        requires graph { IsGraph self.old }
+        requires few { length self.old.links.items < most_links }
+        requires nodes { AreUnjoined self.old.nodes self.old.links.items tail head }
+        requires acyclic { IsAcyclic (self.old.links.items ++ (tail, head) ∷ []) }
+        requires room { HasRoom self.old 1 }
+        ensures graph { IsGraph self.new }
+        ensures put { IsNetworkOf self.old.nodes (self.old.links.items ++ (tail, head) ∷ []) (shown self.new) }
+        ensures room { KeepsRoom self.old self.new }
+    {
+        put_link(&mut self.links, tail, head);
+        put_in_rows(&mut self.starts, &mut self.entries, tail, head);
+    }
+
+    /// Takes out the link between `u` and `v`, whichever way it points.
+    pub(crate) fn cut(&mut self, u: u32, v: u32) -> Result<Done, NetFault>
+        requires graph { IsGraph self.old }
+        ensures ok { IfOk result (IsEdited self.old (Cut u v) self.new) }
+        ensures refused { IfErr result (IsEditFault (shown self.old) (Cut u v)) }
+        ensures unchanged { OnErr result (self.new ≡ self.old) }
+    {
+        let Some((tail, head)) = self.link_between(u, v) else {
+            return Err(NetFault::NoLink);
+        };
+        self.take_out(tail, head);
+        Ok(Done::Taken { tail, head })
+    }
+
+    /// Puts in the link from `u` to `v`, for which there has to be room.
+    pub(crate) fn add(&mut self, alloc: Global, u: u32, v: u32) -> Result<Done, NetFault>
+        requires graph { IsGraph self.old }
+        requires room { HasRoom self.old 1 }
+        ensures ok { IfOk result (IsEdited self.old (Add u v) self.new) }
+        ensures refused { IfErr result (λ fault. fault ≢ Memory → IsEditFault (shown self.old) (Add u v) fault) }
+        ensures unchanged { OnErr result (self.new ≡ self.old) }
+    {
+        self.test_join(u, v)?;
+        if let Some(walk) = self.closing_walk(alloc, u, v)? {
+            return Err(NetFault::Cycle(walk));
+        }
+        self.put(u, v);
+        Ok(Done::Put { tail: u, head: v })
+    }
+
+    /// Joins `u` and `v`, for which there has to be room: by a link from `u` to `v`, or from `v` to `u` where a closed walk would
+    /// follow the other.
+    pub(crate) fn join(&mut self, alloc: Global, u: u32, v: u32) -> Result<Done, NetFault>
+        requires graph { IsGraph self.old }
+        requires room { HasRoom self.old 1 }
+        ensures ok { IfOk result (IsEdited self.old (Join u v) self.new) }
+        ensures refused { IfErr result (λ fault. fault ≢ Memory → IsEditFault (shown self.old) (Join u v) fault) }
+        ensures unchanged { OnErr result (self.new ≡ self.old) }
+    {
+        self.test_join(u, v)?;
+        let (tail, head) = match self.closing_walk(alloc, u, v)? {
+            None => (u, v),
+            Some(_walk) => (v, u),
+        };
+        self.put(tail, head);
+        Ok(Done::Put { tail, head })
+    }
+
+    /// Makes an edit, for which there has to be room.
+    fn edit(&mut self, alloc: Global, edit: Edit) -> Result<Done, NetFault>
+        requires graph { IsGraph self.old }
+        requires room { HasRoom self.old 1 }
+        ensures ok { IfOk result (IsEdited self.old edit self.new) }
+        ensures refused { IfErr result (λ fault. fault ≢ Memory → IsEditFault (shown self.old) edit fault) }
+        ensures unchanged { OnErr result (self.new ≡ self.old) }
+    {
+        match edit {
+            Edit::Cut { u, v } => self.cut(u, v),
+            Edit::Add { u, v } => self.add(alloc, u, v),
+            Edit::Join { u, v } => self.join(alloc, u, v),
+        }
+    }
+
+    /// Undoes what an edit did: it takes no memory.
+    fn undo(&mut self, done: Done)
+        requires graph { IsGraph self.old }
+        requires done { (net : Network) × (IsDone net done (shown self.old) × HasRoom self.old (length net.links - length self.old.links.items)) }
+        ensures graph { IsGraph self.new }
+        ensures undone { (net : Network) → IsDone net done (shown self.old) → shown self.new ≡ net }
+        ensures room { KeepsRoom self.old self.new }
+    {
+        match done {
+            Done::Taken { tail, head } => self.put(tail, head),
+            Done::Put { tail, head } => self.take_out(tail, head),
+        }
+    }
+
+    /// Undoes what edits did, the last one first: it takes no memory.
+    pub(crate) fn undo_all(&mut self, mut done: Vec<Done>)
+        requires graph { IsGraph self.old }
+        requires done { (first : Network) × CanUndo first done.items self.old }
+        ensures graph { IsGraph self.new }
+        ensures undone { (first : Network) → CanUndo first done.items self.old → shown self.new ≡ first }
+    {
+        while let Some(last) = done.pop() {
+            self.undo(last);
+        }
+    }
+
+    /// Makes these edits, each on the links that those before it left, and answers what they did. Where one is refused, or no
+    /// room could be had, all are undone.
+    pub(crate) fn edit_all(&mut self, alloc: Global, edits: &[Edit]) -> Result<Vec<Done>, EditFault>
+        requires graph { IsGraph self.old }
+        requires few { length edits.now ≤ most_edits }
+        ensures graph { IsGraph self.new }
+        ensures ok { IfOk result (λ done. AreMade (shown self.old) edits.now (shown self.new) × CanUndo (shown self.old) done.items self.new) }
+        ensures refused { IfErr result (λ refused. refused.fault ≢ Memory
+            → IsRefusedAt (shown self.old) edits.now refused.at refused.fault) }
+        ensures unchanged { OnErr result (shown self.new ≡ shown self.old) }
+    {
+        let mut all = Vec::with_capacity(alloc, edits.len())?;
+        self.reserve(edits.len())?;
+        for (at, edit) in edits.iter().enumerate() {
+            match self.edit(alloc, *edit) {
+                Ok(done) => all.push_reserved(done),
+                Err(fault) => {
+                    self.undo_all(all);
+                    return Err(EditFault { at, fault });
+                }
+            }
+        }
+        Ok(all)
+    }
+}
