@@ -1,9 +1,9 @@
 -- Small networks, by computation: the definitions give the links, turns and runs that they are meant to give.
-use Rattle.std.proofs.Common.{◌≡◌, ℕ, List, [], ◌∷◌, ◌⊎◌, inl, inr, refl, arith, Contains}
+use Rattle.std.proofs.Common.{◌≡◌, ℕ, List, [], ◌∷◌, ◌⊎◌, inl, inr, refl, subst, sym, arith, Contains}
 use Rattle.fr_net.specs.Counts.{links_at}
 use Rattle.fr_net.specs.Order.{in_order}
-use Rattle.fr_net.specs.Turn.{turn}
-use Rattle.fr_net.proofs.Members.{Contains-none, Contains-head, Contains-cases}
+use Rattle.fr_net.specs.Turn.{IsSink, turn}
+use Rattle.fr_net.proofs.Members.{Contains-none, Contains-head, Contains-tail, Contains-cases}
 use Rattle.fr_core.specs.History.{Moment, moment_of, after_all, links_after, count_after}
 use Rattle.fr_core.specs.Legal.{CanTurn, IsRun}
 use Rattle.fr_core.specs.declared.entry.Entry.{Entry}
@@ -71,3 +71,17 @@ two_workers_links = refl
 two_workers_count : count_after (0 ∷ 0 ∷ []) two_workers 1 ≡ 1
 unfolding two_workers
 two_workers_count = refl
+
+-- of a chain of three nodes that points away from node 0 the last alone is a sink
+pub sink_of_chain : (x : ℕ) → IsSink ((0, 1) ∷ (1, 2) ∷ []) x → x ≡ 2
+sink_of_chain x sink = here (Contains-cases (sink.0.0, x) (0, 1) ((1, 2) ∷ []) sink.0.1)
+  where
+    last : (◌≡◌ {A = ℕ × ℕ} (1, 2) (sink.0.0, x)) ⊎ Contains {X = ℕ × ℕ} [] (sink.0.0, x) → x ≡ 2
+    last (inl e) = λ i. (sym e i).1
+    last (inr h) = absurd (Contains-none (sink.0.0, x) h)
+
+    here : (◌≡◌ {A = ℕ × ℕ} (0, 1) (sink.0.0, x)) ⊎ Contains {X = ℕ × ℕ} ((1, 2) ∷ []) (sink.0.0, x) → x ≡ 2
+    here (inl e) =
+        let f : ◌≡◌ {A = ℕ} 1 x = λ i. (e i).1 in
+        absurd (sink.1 2 (subst (λ (y : ℕ). Contains {X = ℕ × ℕ} ((0, 1) ∷ (1, 2) ∷ []) (y, 2)) f (Contains-tail (1, 2) (0, 1) ((1, 2) ∷ []) (Contains-head (1, 2) []))))
+    here (inr h) = last (Contains-cases (sink.0.0, x) (1, 2) [] h)

@@ -20,7 +20,7 @@ pub record IsFinish (n d : ℕ) (first : List (ℕ × ℕ)) (before after : List
   -- and each turn has added one to a count
   pub adds : sum after ≡ sum before + made
 
--- these are nodes, and each node that can turn at the counts is one of them
+-- all in this list are nodes, and each that can turn at these counts is among them
 pub record HoldsAllThatCanTurn (n d : ℕ) (first : List (ℕ × ℕ)) (counts from : List ℕ) : Type 0 where
   pub nodes : All (λ (x : ℕ). x < n) from
   pub all : (x : ℕ) → CanTurn n d (moment_of first counts) x → Contains from x

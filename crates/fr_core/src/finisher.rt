@@ -23,7 +23,7 @@ fn settle(net: &Net, dest: u32, counts: &mut [u64], work: &mut Queue)
     ensures { AreSettled net.now.nodes dest net.now.links counts.new }
 {
     if !turn_sinks(net, dest, counts, work) {
-        levels::settle(net, dest, counts);
+        levels::settle(net, dest, counts, work);
     }
 }
 

@@ -105,8 +105,8 @@ fn clear(net: &Net, counts: &mut [u64])
 }
 
 /// Writes the settled counts, level by level: a level is the nodes of one count, and the next one is reached from it. No
-/// memory is taken, and each row is read twice.
-pub(crate) fn settle(net: &Net, dest: u32, counts: &mut [u64])
+/// memory is taken, and each row is read twice. The queue is begun anew.
+pub(crate) fn settle(net: &Net, dest: u32, counts: &mut [u64], queue: &mut Queue)
     requires net { IsNet net.now.nodes net.now.links }
     requires one_each { length counts.old ≡ net.now.nodes }
     requires node { dest < net.now.nodes }
@@ -114,15 +114,14 @@ pub(crate) fn settle(net: &Net, dest: u32, counts: &mut [u64])
 {
     clear(net, counts);
     counts[dest as usize] = 0;
-    let mut queue = Queue::new();
-    queue.push(dest);
+    queue.restart(dest);
     let mut start = 0;
     let mut level = 0;
     while start < queue.len() {
-        close_level(net, level, counts, &mut queue, start);
+        close_level(net, level, counts, queue, start);
         let end = queue.len();
         level += 1;
-        open_level(net, level, counts, &mut queue, start);
+        open_level(net, level, counts, queue, start);
         start = end;
     }
 }

@@ -61,4 +61,12 @@ impl Queue {
         self.places[self.len] = node;
         self.len += 1;
     }
+
+    /// Begins anew with one node.
+    pub fn restart(&mut self, node: u32)
+        ensures { self.new ≡ node ∷ [] }
+    {
+        self.len = 0;
+        self.push(node);
+    }
 }

@@ -1,8 +1,10 @@
 //! A crew that settles a network: many workers in threads of their own turn sinks at once, and whatever the schedule, the
 //! answer is the same.
 //!
-//! [`settle`] opens a round, runs it by the workers of a [`Plan`], and finishes on one thread what these leave. A
-//! [`Gate`] is called round each call of a worker. [`settle_alone`] needs no thread and comes to the same. [`live_walk`] follows the links of an open round while workers turn.
+//! [`settle`] opens a round, runs it by the workers of a [`Plan`], and finishes on one thread what these leave. A [`Gate`] is
+//! called round each call of a worker. [`settle_alone`] needs no thread and comes to the same. [`settled_counts`] and
+//! [`settled_counts_alone`] answer the counts alone, and leave the network as it is. [`live_walk`] follows the links of an open
+//! round while workers turn.
 #![tactic(auto)]
 
 mod crew;
@@ -20,7 +22,5 @@ pub use fault::CrewFault;
 pub use gate::{Gate, OpenGate};
 pub use live_walks::{LiveEnd, LiveFault, LiveWalk, live_walk};
 pub use plan::Plan;
-pub use settlement::{
-    Settled, settle, settle_alone, settle_by, settled_counts, settled_counts_alone,
-};
+pub use settlement::{Settled, settle, settle_alone, settled_counts, settled_counts_alone};
 pub use ways::settled_counts_by;

@@ -6,7 +6,7 @@ ghost use Rattle.fr_net.specs.Counts.{AreLawful};
 ghost use Rattle.fr_core.specs.Finish.{HoldsAllThatCanTurn};
 ghost use Rattle.fr_core.specs.History.{moment_of};
 ghost use Rattle.fr_core.specs.Legal.{CanTurn};
-ghost use Rattle.fr_crew.specs.Settlements.{HoldsSinks, IsCounted, IsSettlement, Settles, NeverStarts};
+ghost use Rattle.fr_crew.specs.Settlements.{HoldsSinks, IsCounted, IsSettlement};
 ghost use Rattle.fr_crew.specs.declared.fault.CrewFault.TheVariants.{Range, Start, Memory};
 
 use crate::crew::run_crew;
@@ -90,29 +90,15 @@ pub fn settle_alone(alloc: Global, net: Net, dest: u32) -> Result<Settled, CrewF
     Ok(finished(net, dest, counts, 0))
 }
 
-/// Turns a network until no node can turn, in a way that is passed in, as a closure over [`settle`] or [`settle_alone`]. The answer
-/// is that of the way, and so `Range` where the destination is no node, and never `Start` where the way never answers it.
-pub fn settle_by<F: Fn(Net, u32) -> Result<Settled, CrewFault>>(
-    way: &F,
-    net: Net,
-    dest: u32,
-) -> Result<Settled, CrewFault>
-    requires { Settles F.pre F.post way.now }
-    ensures settled { IfOk result (λ settled. IsSettlement net.nodes dest net.links settled) }
-    ensures range { IfErr result (λ fault. (fault ≡ Range) ↔ (net.nodes ≤ dest)) }
-    ensures no_start { NeverStarts F.post way.now → IfErr result (λ fault. fault ≢ Start) }
-{
-    way(net, dest)
-}
-
-/// The settled counts of a network, which stays as it is: where a node can turn at all, by the crew of the plan on a copy of the
-/// network, and what they leave by [`finish`](fr_core::finish). Whatever the plan, the gate and the schedule, they are the counts of [`settle`].
+/// The settled counts of a network, which stays as it is: where a node can turn at all, by the crew of the plan on a copy of
+/// the network, and what they leave by [`finish`](fr_core::finish). Whatever the plan, the gate and the schedule, they are the
+/// counts of [`settle`].
 ///
-/// For a caller that knows where sinks can be, as after an edit of a settled network: `from`, where it is given, are nodes among which each sink is but
-/// the destination. So where no node can turn, or the budget is 0, no thread is started, no row is read but those of nodes in `from` and of nodes that turn, and
-/// it is linear in nodes alone as long as these are few.
+/// For a caller that knows where sinks can be, as after an edit of a settled network: all that stand in `from`, where it is
+/// given, are nodes, and each sink but the destination is among them; some may stand there twice. Where none of them can turn
+/// it costs a look at each of them and a few passes over the counts, and no thread is started.
 ///
-/// `Range` where the destination is no node, which is tested first, or else `Start` and `Memory` as in `settle`.
+/// `Range` where the destination is no node, which is tested first, or else `Start` and `Memory` as by `settle`.
 pub fn settled_counts<R: Threads + Wait + Sync, G: Gate + Sync>(
     rt: &R,
     alloc: Global,
@@ -139,9 +125,9 @@ pub fn settled_counts<R: Threads + Wait + Sync, G: Gate + Sync>(
     Ok(finished_counts(&net, dest, counts, None))
 }
 
-/// The settled counts of a network, which stays as it is, on the thread that calls: by [`finish`](fr_core::finish) alone, or where
-/// `from` is given, by [`finish_from`](fr_core::finish_from). They are those of [`settled_counts`]. It starts no thread and waits for
-/// nobody.
+/// The settled counts of a network, which stays as it is, on the thread that calls: by [`finish`](fr_core::finish) alone, or
+/// where `from` is given, by [`finish_from`](fr_core::finish_from). They are those of [`settled_counts`]. It starts no thread and
+/// waits for nobody.
 ///
 /// `Range` where the destination is no node, which is tested first, or else `Memory`; never `Start`.
 pub fn settled_counts_alone(
@@ -159,7 +145,8 @@ pub fn settled_counts_alone(
     Ok(finished_counts(net, dest, counts, from))
 }
 
-/// The counts with which every settlement begins: nobody has turned. `Range` where the destination is no node, or else `Memory`.
+/// The counts with which every settlement begins: no node has turned. `Range` where the destination is no node, or else
+/// `Memory`.
 fn zeros(alloc: Global, net: &Net, dest: u32) -> Result<Vec<u64>, CrewFault>
     ensures zeros { IfOk result (λ counts. (dest < net.now.nodes) × (counts.items ≡ replicate net.now.nodes 0)) }
     ensures range { IfErr result (λ fault. (fault ≡ Range) ↔ (net.now.nodes ≤ dest)) }
@@ -171,7 +158,7 @@ fn zeros(alloc: Global, net: &Net, dest: u32) -> Result<Vec<u64>, CrewFault>
     Ok(vec![in alloc; 0u64; net.nodes() as usize]?)
 }
 
-/// Whether some node of these can turn at these counts.
+/// Whether some node of `from` can turn at these counts.
 fn can_one_turn(net: &Net, dest: u32, counts: &[u64], from: &[u32]) -> bool
     requires lawful { AreLawful net.now.nodes dest net.now.links counts.now }
     requires nodes { All (λ (x : ℕ). x < net.now.nodes) from.now }
@@ -252,8 +239,8 @@ fn finished(mut net: Net, dest: u32, mut counts: Vec<u64>, by_workers: u64) -> S
     }
 }
 
-/// Finishes on one thread what is left to turn, which begins among `from`, where these are given. The links stay as they are. It takes no
-/// memory.
+/// Finishes on one thread what is left to turn, from nodes of `from`, where these are given. The links stay as they are. It takes
+/// no memory.
 fn finished_counts(net: &Net, dest: u32, mut counts: Vec<u64>, from: Option<&[u32]>) -> Vec<u64>
     requires node { dest < net.now.nodes }
     requires lawful { AreLawful net.now.nodes dest net.now.links counts.items }

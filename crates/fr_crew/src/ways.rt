@@ -8,9 +8,10 @@ ghost use Rattle.fr_crew.specs.declared.fault.CrewFault.TheVariants.{Range, Star
 use crate::fault::CrewFault;
 use fr_net::Net;
 
-/// The settled counts of a network in a way that is passed in, as a closure over
-/// [`settled_counts`](crate::settled_counts) or [`settled_counts_alone`](crate::settled_counts_alone). The
-/// answer is that of the way, and so `Range` where the destination is no node, and never `Start` where the way never answers it.
+/// The settled counts of a network in a way that is passed in, as a closure over [`settled_counts`](crate::settled_counts) or
+/// [`settled_counts_alone`](crate::settled_counts_alone). The answer is that of the way, and so `Range` where the destination is
+/// no node, and never `Start` where the way never answers it. A closure over `settled_counts` has to state what that call
+/// requires of `from`.
 pub fn settled_counts_by<F: Fn(&Net, u32, Option<&[u32]>) -> Result<Vec<u64>, CrewFault>>(
     way: &F,
     net: &Net,

@@ -2,7 +2,9 @@
 
 use crate::telling::{number_told, told};
 use fr_core::{Machine, Target, check_run, play};
-use fr_crew::{OpenGate, Plan, live_walk, settle, settle_alone};
+use fr_crew::{
+    OpenGate, Plan, live_walk, settle, settle_alone, settled_counts, settled_counts_alone,
+};
 use fr_net::{Edit, LineFault, LineReader, Net, Question, Request, read_line};
 use fr_round::{OpenWhy, Round};
 use fr_route::{Change, Report, Router, Session, counts_line, links_line};
@@ -57,6 +59,8 @@ pub fn answer_of<R: Threads + Wait + Sync + Alloc<A = Global> + Print + Eprint>(
         15 => routed_alone(rt),
         16 => answered_alone(rt),
         17 => joined_network(rt),
+        18 => counted(rt),
+        19 => counted_alone(rt),
         _ => lines_read(rt),
     }
 }
@@ -242,6 +246,26 @@ fn settled_alone<R: Alloc<A = Global> + Eprint>(rt: &R) -> Option<String> {
     let net = chain(rt)?;
     let settled = told(rt, settle_alone(rt.alloc(), net, 0))?;
     told(rt, counts_line(rt.alloc(), &settled.counts))
+}
+
+/// The settled counts by a crew on a copy of the network, which stays as it is.
+fn counted<R: Threads + Wait + Sync + Alloc<A = Global> + Eprint>(rt: &R) -> Option<String> {
+    let alloc = rt.alloc();
+    let plan = Plan::new(3, 0, 1000)?;
+    let net = chain(rt)?;
+    let counts = told(
+        rt,
+        settled_counts(rt, alloc, &net, 0, None, &plan, &OpenGate),
+    )?;
+    let counts = told(rt, counts_line(alloc, &counts))?;
+    let links = told(rt, links_line(alloc, net.links()))?;
+    told(rt, format!(in alloc; "{counts} {links}"))
+}
+
+fn counted_alone<R: Alloc<A = Global> + Eprint>(rt: &R) -> Option<String> {
+    let net = chain(rt)?;
+    let counts = told(rt, settled_counts_alone(rt.alloc(), &net, 0, None))?;
+    told(rt, counts_line(rt.alloc(), &counts))
 }
 
 /// A router on the calling thread alone. Where its change finds no memory, it has to be as it was.

@@ -16,7 +16,7 @@ use std::sync::Wait;
 use std::thread::Threads;
 
 /// How many calls there are beside the lines of the session.
-const CALLS: u32 = 19;
+const CALLS: u32 = 21;
 
 fn main(rt: HostRuntime) {
     for call in 0..CALLS {

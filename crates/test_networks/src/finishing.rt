@@ -1,6 +1,6 @@
-//! Counts: which are lawful, where `finish` ends, which nodes are sinks, and where a link points.
+//! Counts: which are lawful, where `finish` and `finish_from` end, which nodes are sinks, and where a link points.
 
-use fr_core::{Sense, finish, is_sink, lawful, sense};
+use fr_core::{Sense, finish, finish_from, is_sink, lawful, sense};
 use fr_net::{First, Net};
 use std::alloc::{AllocError, Global};
 use std::test::Fail;
@@ -38,6 +38,19 @@ fn settles_small_networks(rt: HostRuntime) -> Result<(), Fail> {
         let text = finished(rt.alloc(), &net)?;
         assert!(rt; text.as_str() == *wanted, "{links:?}: {text}");
     }
+    Ok(())
+}
+
+#[test]
+fn finishes_from_candidates(rt: HostRuntime) -> Result<(), Fail> {
+    let net = Net::new(rt.alloc(), 3, &[(0, 1), (1, 2)])?;
+    let mut counts = [0, 0, 0];
+    let turns = finish_from(&net, 0, &mut counts, &[2]);
+    assert!(rt; turns == 3 && counts == [0, 1, 2]);
+    // A candidate that stands there twice, and one that cannot turn, change nothing.
+    let mut again = [0, 0, 0];
+    let turns = finish_from(&net, 0, &mut again, &[2, 1, 2]);
+    assert!(rt; turns == 3 && again == [0, 1, 2]);
     Ok(())
 }
 

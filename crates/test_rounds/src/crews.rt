@@ -1,6 +1,6 @@
 //! The answers of worked examples under many plans, and how the turns are split between the workers and the finisher.
 
-use fr_crew::{OpenGate, Plan, settle};
+use fr_crew::{CrewFault, OpenGate, Plan, settle, settled_counts, settled_counts_alone};
 use fr_net::Net;
 use std::alloc::{AllocError, Global};
 use std::rt::HostRuntime;
@@ -141,6 +141,27 @@ fn crews_settle_networks(rt: HostRuntime) -> Result<(), Fail> {
             "{workers} workers, budget {budget}: {text}"
         );
     }
+    Ok(())
+}
+
+/// The settled counts of a chain of three nodes that points away from node 0, by a crew and by the finisher, with the one sink as
+/// candidate and without.
+#[test]
+fn counts_are_settled_beside_the_network(rt: HostRuntime) -> Result<(), Fail> {
+    let alloc = rt.alloc();
+    let net = Net::new(alloc, 3, &[(0, 1), (1, 2)])?;
+    let crew = plan(2, 1000)?;
+    let nobody = plan(2, 0)?;
+    let by_crew = settled_counts(&rt, alloc, &net, 0, Some(&[2]), &crew, &OpenGate)?;
+    let of_all = settled_counts(&rt, alloc, &net, 0, None, &crew, &OpenGate)?;
+    let by_nobody = settled_counts(&rt, alloc, &net, 0, Some(&[2]), &nobody, &OpenGate)?;
+    let alone = settled_counts_alone(alloc, &net, 0, Some(&[2]))?;
+    for counts in [&by_crew, &of_all, &by_nobody, &alone] {
+        assert!(rt; counts.as_slice() == [0, 1, 2].as_slice(), "{counts:?}");
+    }
+    assert!(rt; net.links() == [(0, 1), (1, 2)].as_slice());
+    let none = settled_counts_alone(alloc, &net, 3, None);
+    assert!(rt; matches!(none, Err(CrewFault::Range)));
     Ok(())
 }
 

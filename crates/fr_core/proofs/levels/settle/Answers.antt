@@ -1,4 +1,4 @@
-use Rattle.std.proofs.Common.{List, [], ap, arith, length, slice_index, subst, sym, ℕ, ◌++◌, ◌+◌, ◌∙◌, ◌∷◌, ◌≡◌}
+use Rattle.std.proofs.Common.{List, arith, length, slice_index, subst, sym, ℕ, ◌+◌}
 use Rattle.fr_core.proofs.LevelSearches.{next_level, search_ends}
 use Rattle.fr_core.proofs.LevelStarts.{search_starts}
 use Rattle.fr_core.specs.LevelSearch.{IsLevelSearch}
@@ -7,8 +7,7 @@ use Rattle.fr_core.proofs.levels.settle.Goals as goal
 pub loop-start-init : goal.loop-start-init
 loop-start-init c =
     let net = c.args.net.now in
-    let only : c.push.new.self ≡ c.args.dest ∷ [] = c.push.ensures ∙ ap (λ (q : List ℕ). q ++ c.args.dest ∷ []) c.new-queue.ensures in
-    rw only (search_starts net.nodes c.args.dest net.links c.clear.new.counts (omega arith) c.requires.node c.clear.ensures)
+    rw c.restart.ensures (search_starts net.nodes c.args.dest net.links c.clear.new.counts (omega arith) c.requires.node c.clear.ensures)
 
 pub open_level-requires-clause-search : goal.open_level-requires-clause-search
 open_level-requires-clause-search c =

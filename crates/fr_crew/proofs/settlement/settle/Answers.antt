@@ -1,4 +1,4 @@
-use Rattle.std.proofs.Common.{arith, ap, sum_by, ℕ, ◌^◌, ◌<◌, ◌∙◌, ◌≡◌}
+use Rattle.std.proofs.Common.{arith, ap}
 use Rattle.fr_core.proofs.SettledRuns.{lawful_sum_fits}
 use Rattle.fr_net.specs.Network.{Network}
 use Rattle.fr_crew.proofs.settlement.settle.Goals as goal

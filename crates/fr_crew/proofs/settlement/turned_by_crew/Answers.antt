@@ -1,6 +1,4 @@
-use Rattle.std.proofs.Common.{rules, ◌≡◌, ◌<◌, ◌≤◌, ◌∙◌, ℕ, length, sum, sum_by, ap, arith}
-use Rattle.fr_net.specs.Limits.{most_nodes}
-use Rattle.fr_core.proofs.SettledRuns.{lawful_sum_fits}
+use Rattle.std.proofs.Common.{rules, ◌≡◌, ◌<◌, length, ap, arith}
 use Rattle.fr_round.specs.declared.view.Setup.{Setup}
 use Rattle.fr_crew.proofs.Workers.{new_workers_own, some_worker, all_came_back}
 use Rattle.fr_crew.proofs.settlement.turned_by_crew.Goals as goal
