@@ -1,15 +1,19 @@
--- What a change makes, by the network and the destination with which the round after it begins.
-use Rattle.std.proofs.Common.{List, [], Some, ap, arith, inl, inr, refl, subst, ℕ, ◌++◌, ◌<◌, ◌∙◌, ◌∷◌, ◌≡◌, ◌≤◌, length}
-use Rattle.fr_net.specs.Batches.{AreMade, IsMade}
-use Rattle.fr_net.specs.Edits.{IsJoined, without}
-use Rattle.fr_net.specs.Faults.{IsNetworkOf}
-use Rattle.fr_net.specs.Limits.{most_edits}
-use Rattle.fr_net.specs.Links.{Joins}
+-- What a change makes, by the edits that it makes and the destination toward which the network is then settled.
+use Rattle.std.proofs.Common.{List, [], Some, ap, arith, inl, inr, refl, subst, sym, take, ℕ, ◌++◌, ◌<◌, ◌∙◌, ◌∷◌, ◌≡◌, ◌≢◌}
+use Rattle.std.specs.List.{HoldsAt}
+use Rattle.fr_net.specs.Batches.{AreMade, IsBatchFault, IsEditFault, IsMade}
+use Rattle.fr_net.specs.Edits.{IsCutFault, IsJoinFault, IsJoined, without}
+use Rattle.fr_net.specs.Faults.{IsFirstFault, IsNetworkOf}
+use Rattle.fr_net.specs.declared.fault.EditFault.{EditFault}
+use Rattle.fr_net.specs.declared.fault.NetFault.{NetFault}
+use Rattle.fr_net.specs.declared.fault.NetFault.TheVariants as net
 use Rattle.fr_net.specs.Network.{Network}
 use Rattle.fr_net.specs.declared.requests.Edit.{Edit}
 use Rattle.fr_net.specs.declared.requests.Edit.TheVariants as edit
 use Rattle.fr_route.specs.Answers.{IsAnswer, fault_number}
-use Rattle.fr_route.specs.Changes.{IsBatch, IsChanged, IsOpenFault, IsRouteFault, NamesNoNode}
+use Rattle.fr_route.specs.Changes.{IsChanged, IsOpenFault, IsRouteFault}
+use Rattle.fr_route.specs.Faults.{of_net_fault}
+use Rattle.fr_route.specs.Outcomes.{IsEdited, IsEditingFault}
 use Rattle.fr_route.specs.Refusals.{IsRefusalOf, request_of_change}
 use Rattle.fr_route.specs.States.{State, IsRound, net_at}
 use Rattle.fr_route.specs.declared.change.Change.{Change}
@@ -18,39 +22,12 @@ use Rattle.fr_route.specs.declared.fault.RouteFault.{RouteFault}
 use Rattle.fr_route.specs.declared.fault.RouteFault.TheVariants.{Memory, Net, Range, Start}
 use Rattle.fr_route.proofs.RoundEnds.{round_listed}
 
--- the round after the change begins with this network and this destination
-pub record Begins (s : State) (change : Change) (net : Network) (d : ℕ) : Type 0 where
-  pub round : (new : State) → d < net.nodes → IsRound net.nodes d net.links new → IsChanged s change new
-  pub no_node : net.nodes ≤ d → NamesNoNode s change
-  pub a_node : d < net.nodes → ¬ NamesNoNode s change
-
 nodes_of : (n : ℕ) (links : List (ℕ × ℕ)) (net : Network) → IsNetworkOf n links net → net.nodes ≡ n
 nodes_of n links net made = ap (λ (m : Network). m.nodes) made.is
-
-pub cut_begins : (s : State) (u v : ℕ) (net : Network) → s.dest < s.nodes → Joins s.links u v → IsNetworkOf s.nodes (without u v s.links) net → Begins s (Cut u v) net s.dest
-cut_begins s u v net below joined made = record {
-  round = λ new lt r. (joined, round_listed s.nodes s.dest (without u v s.links) net new made r);
-  no_node = λ le. omega (arith, le, below, nodes_of s.nodes (without u v s.links) net made);
-  a_node = λ lt none. none;
-}
-
-pub add_begins : (s : State) (u v : ℕ) (net : Network) → s.dest < s.nodes → IsNetworkOf s.nodes (s.links ++ (u, v) ∷ []) net → Begins s (Add u v) net s.dest
-add_begins s u v net below made = record {
-  round = λ new lt r. (made.faultless, round_listed s.nodes s.dest (s.links ++ (u, v) ∷ []) net new made r);
-  no_node = λ le. omega (arith, le, below, nodes_of s.nodes (s.links ++ (u, v) ∷ []) net made);
-  a_node = λ lt none. none;
-}
 
 pub joined_nodes : (n : ℕ) (links : List (ℕ × ℕ)) (u v : ℕ) (net : Network) → IsJoined n links u v net → net.nodes ≡ n
 joined_nodes n links u v net (inl made) = nodes_of n (links ++ (u, v) ∷ []) net made
 joined_nodes n links u v net (inr made) = nodes_of n (links ++ (v, u) ∷ []) net made.1
-
-pub join_begins : (s : State) (u v : ℕ) (net : Network) → s.dest < s.nodes → IsJoined s.nodes s.links u v net → Begins s (Join u v) net s.dest
-join_begins s u v net below joined = record {
-  round = λ new lt r. (net, (joined, r));
-  no_node = λ le. omega (arith, le, below, joined_nodes s.nodes s.links u v net joined);
-  a_node = λ lt none. none;
-}
 
 -- no edit makes a node
 edited_nodes : (net : Network) (e : Edit) (after : Network) → IsMade net e after → after.nodes ≡ net.nodes
@@ -62,29 +39,77 @@ pub made_nodes : (net : Network) (edits : List Edit) (after : Network) → AreMa
 made_nodes net [] after made = ap (λ (m : Network). m.nodes) made
 made_nodes net (e ∷ es) after made = made_nodes made.0 es after made.1.1 ∙ edited_nodes net e made.0 made.1.0
 
--- the edits are those of the change
-pub batch_begins : (s : State) (change : Change) (edits : List Edit) (net : Network) → s.dest < s.nodes → length edits ≤ most_edits → AreMade (net_at s) edits net → ((new : State) → IsBatch s edits new → IsChanged s change new) → ¬ NamesNoNode s change → Begins s change net s.dest
-batch_begins s change edits net below few made is nodes = record {
-  round = λ new lt r. is new (few, (net, (made, r)));
-  no_node = λ le. absurd (omega (arith, le, below, made_nodes (net_at s) edits net made));
-  a_node = λ lt. nodes;
-}
+-- why the edits are not made: one is refused,
+refused_for : (s : State) (edits : List Edit) (refused : EditFault) (fault : NetFault) → refused.fault ≡ fault → (refused.fault ≢ net.Memory → IsBatchFault (net_at s) edits refused) → IsEditingFault s edits (of_net_fault fault)
+refused_for s edits refused net.TooMany is why = (refused, (why (λ e. absurd cc), sym is))
+refused_for s edits refused (net.Range x) is why = (refused, (why (λ e. absurd cc), sym is))
+refused_for s edits refused (net.SelfLink x) is why = (refused, (why (λ e. absurd cc), sym is))
+refused_for s edits refused (net.Twice x y) is why = (refused, (why (λ e. absurd cc), sym is))
+refused_for s edits refused (net.Cycle walk) is why = (refused, (why (λ e. absurd cc), sym is))
+refused_for s edits refused net.NoLink is why = (refused, (why (λ e. absurd cc), sym is))
+refused_for s edits refused net.Memory is why = tt
 
-pub dest_begins : (s : State) (d : ℕ) (net : Network) → AreMade (net_at s) [] net → Begins s (Destination d) net d
-dest_begins s d net made =
-    let same : net.nodes ≡ s.nodes = ap (λ (m : Network). m.nodes) made in
-    record {
-      round = λ new lt r. (omega (arith, lt, same), subst (λ (m : Network). IsRound m.nodes d m.links new) made r);
-      no_node = λ le. omega (arith, le, same);
-      a_node = λ lt le. omega (arith, lt, le, same);
-    }
+pub refused_fault : (s : State) (edits : List Edit) (refused : EditFault) → (refused.fault ≢ net.Memory → IsBatchFault (net_at s) edits refused) → IsEditingFault s edits (of_net_fault refused.fault)
+refused_fault s edits refused why = refused_for s edits refused refused.fault refl why
 
--- why the round does not come to pass
-pub begins_fault : (s : State) (change : Change) (net : Network) (d : ℕ) (fault : RouteFault) → Begins s change net d → IsOpenFault net.nodes d fault → IsRouteFault s change fault
-begins_fault s change net d (Net fault) b h = absurd h
-begins_fault s change net d Range b h = b.no_node h
-begins_fault s change net d Start b h = b.a_node h
-begins_fault s change net d Memory b h = tt
+-- or the round on the network that they make does not come to pass
+pub round_fault : (s : State) (edits : List Edit) (n d : ℕ) (fault : RouteFault) → d < n → IsOpenFault n d fault → IsEditingFault s edits fault
+round_fault s edits n d (Net fault) below why = absurd why
+round_fault s edits n d Range below why = omega (arith, below, why)
+round_fault s edits n d Start below why = tt
+round_fault s edits n d Memory below why = tt
+
+-- the change is to make this one edit
+pub record IsBy (s : State) (change : Change) (e : Edit) : Type 0 where
+  pub done : (new : State) → IsEdited s (e ∷ []) s.dest new → IsChanged s change new
+  pub undone : (fault : RouteFault) → IsEditingFault s (e ∷ []) fault → IsRouteFault s change fault
+
+-- the one edit of a change is refused
+refused_edit : (s : State) (e : Edit) (refused : EditFault) → IsBatchFault (net_at s) (e ∷ []) refused → IsEditFault (net_at s) e refused.fault
+refused_edit s e refused (inl more) = absurd (omega (arith, more.0))
+refused_edit s e refused (inr (few, at)) =
+    let first : refused.at ≡ 0 = omega (arith, at.inside) in
+    let before : at.before ≡ net_at s = subst (λ (k : ℕ). AreMade (net_at s) (take k (e ∷ [])) at.before) first at.made in
+    let here : IsEditFault at.before e refused.fault = subst (λ (k : ℕ). HoldsAt (λ edit. IsEditFault at.before edit refused.fault) (e ∷ []) k) first at.refused e in
+    subst (λ (m : Network). IsEditFault m e refused.fault) before here
+
+pub cut_by : (s : State) (u v : ℕ) → IsBy s (Cut u v) (edit.Cut u v)
+cut_by s u v = record { done = done; undone = undone }
+  where
+    done : (new : State) → IsEdited s (edit.Cut u v ∷ []) s.dest new → IsChanged s (Cut u v) new
+    done new (few, (net, ((next, (made, is)), round))) =
+        (made.0, round_listed s.nodes s.dest (without u v s.links) next new made.1 (subst (λ (m : Network). IsRound m.nodes s.dest m.links new) is round))
+
+    undone : (fault : RouteFault) → IsEditingFault s (edit.Cut u v ∷ []) fault → IsRouteFault s (Cut u v) fault
+    undone (Net fault) (refused, (why, is)) = subst (IsCutFault s.links u v) (sym is) (refused_edit s (edit.Cut u v) refused why)
+    undone Range h = h
+    undone Start h = λ none. none
+    undone Memory h = tt
+
+pub add_by : (s : State) (u v : ℕ) → IsBy s (Add u v) (edit.Add u v)
+add_by s u v = record { done = done; undone = undone }
+  where
+    done : (new : State) → IsEdited s (edit.Add u v ∷ []) s.dest new → IsChanged s (Add u v) new
+    done new (few, (net, ((next, (made, is)), round))) =
+        (made.faultless, round_listed s.nodes s.dest (s.links ++ (u, v) ∷ []) next new made (subst (λ (m : Network). IsRound m.nodes s.dest m.links new) is round))
+
+    undone : (fault : RouteFault) → IsEditingFault s (edit.Add u v ∷ []) fault → IsRouteFault s (Add u v) fault
+    undone (Net fault) (refused, (why, is)) = subst (IsFirstFault s.nodes (s.links ++ (u, v) ∷ [])) (sym is) (refused_edit s (edit.Add u v) refused why)
+    undone Range h = h
+    undone Start h = λ none. none
+    undone Memory h = tt
+
+pub join_by : (s : State) (u v : ℕ) → IsBy s (Join u v) (edit.Join u v)
+join_by s u v = record { done = done; undone = undone }
+  where
+    done : (new : State) → IsEdited s (edit.Join u v ∷ []) s.dest new → IsChanged s (Join u v) new
+    done new (few, (net, ((next, (made, is)), round))) = (next, (made, subst (λ (m : Network). IsRound m.nodes s.dest m.links new) is round))
+
+    undone : (fault : RouteFault) → IsEditingFault s (edit.Join u v ∷ []) fault → IsRouteFault s (Join u v) fault
+    undone (Net fault) (refused, (why, is)) = subst (IsJoinFault s.nodes s.links u v) (sym is) (refused_edit s (edit.Join u v) refused why)
+    undone Range h = h
+    undone Start h = λ none. none
+    undone Memory h = tt
 
 -- a change that is refused for this fault is answered by its text
 pub refused_change : (s : State) (change : Change) (fault : RouteFault) (text : List ℕ) → IsRouteFault s change fault → IsRefusalOf fault text → IsAnswer (Some s) (request_of_change change) text (Some s)

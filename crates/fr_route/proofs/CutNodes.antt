@@ -1,13 +1,24 @@
--- How many nodes are cut off, by their hops.
-use Rattle.std.proofs.Common.{Bool, List, [], ◌∷◌, ap, arith, cond, false, get_or, map, refl, sym, suc, true, zero, ℕ, ◌+◌, ◌<◌, ◌↔◌, ◌∙◌, ◌≡◌, IsTrue}
+-- How many nodes are cut off, by their hops, and by the counts of the round and the rows before it.
+use Rattle.std.proofs.Common.{Bool, List, [], ◌∷◌, add-one, ap, arith, cond, false, get_or, inl, inr, length, map, refl, slice_index, sym, suc, true, zero, zero-add, ℕ, ⊎_elim, ◌+◌, ◌<◌, ◌≤◌, ◌↔◌, ◌∙◌, ◌≡◌, ◌⊎◌, ◌==◌, IsTrue}
 use Rattle.std.specs.List.{count_by, range_with_len}
-use Rattle.std.proofs.lemmas.Bool.{false≢true}
-use Rattle.std.proofs.lemmas.List.FromFn.{fill_by_all}
-use Rattle.std.proofs.lemmas.List.Sums.{sum_by-cons}
+use Rattle.std.specs.Prelude.{not, ◌||◌}
+use Rattle.std.proofs.lemmas.Bool.{cases_eq, false≢true}
+use Rattle.std.proofs.lemmas.Bool.Decides.{Decides-and, Decides-eqb, Decides-not, Decides-or}
+use Rattle.std.proofs.lemmas.List.FromFn.{fill_by_all, length-range_with_len}
+use Rattle.std.proofs.lemmas.List.Sums.{count_by-le-length, sum_by-cons}
 use Rattle.std.proofs.lemmas.Option.{slice_get-get_or}
+use Rattle.fr_net.specs.Links.{IsNet}
+use Rattle.fr_net.specs.Network.{Network, net_of}
+use Rattle.fr_net.specs.Counts.{links_at}
+use Rattle.fr_net.specs.Rows.{row}
+use Rattle.fr_net.proofs.Neighbours.{row_alone, row_linked}
+use Rattle.fr_core.specs.Settled.{IsSettledCount}
+use Rattle.fr_crew.specs.Settlements.{IsCounted}
+use Rattle.fr_route.proofs.RoundEnds.{alone_cut_off, capped_cut_off, round_end, round_joined}
 use Rattle.fr_route.proofs.Routing.{route_joined}
+use Rattle.fr_route.specs.Outcomes.{is_parted, state_after}
 use Rattle.fr_route.specs.Routes.{IsHop, AreHops, is_cut_off}
-use Rattle.fr_route.specs.States.{State, IsCutOff, IsCutCount}
+use Rattle.fr_route.specs.States.{State, IsCutOff, IsAfterRound, IsCutCount, IsRound}
 use Rattle.fr_route.specs.declared.hops.Hop.{Hop}
 use Rattle.fr_route.specs.declared.hops.Hop.TheVariants.{Here, To, CutOff}
 
@@ -54,3 +65,64 @@ hops_cut_count s n hops are =
       just = λ x l. hop_cut_off s x (get_or hops x Here) (are.each x (get_or hops x Here) (slice_get-get_or hops x Here (omega (arith, are.one_each))));
       number = ap (count_by is_cut_off) listed ∙ count_by-map is_cut_off at (range_with_len 0 n);
     }
+
+count-range_next : (p : ℕ → Bool) (a n k : ℕ) → a + n ≡ k → count_by p (range_with_len a (suc n)) ≡ count_by p (range_with_len a n) + cond (p k) 1 0
+count-range_next p a zero k is =
+    let f : ℕ → ℕ = λ x. cond (p x) 1 0 in
+    let here : f a ≡ f k = ap f (omega arith) in
+    omega (arith, sum_by-cons f a [], here)
+count-range_next p a (suc n) k is =
+    let f : ℕ → ℕ = λ x. cond (p x) 1 0 in
+    omega (arith, sum_by-cons f a (range_with_len (a + 1) (suc n)), sum_by-cons f a (range_with_len (a + 1) n), count-range_next p (a + 1) n k (omega arith))
+
+-- how many of the numbers from 0 on pass a test, once one more is tried
+count-range_more : (p : ℕ → Bool) (n : ℕ) → count_by p (range_with_len 0 (n + 1)) ≡ count_by p (range_with_len 0 n) + cond (p n) 1 0
+count-range_more p n = rw add-one (count-range_next p 0 n n (zero-add n))
+
+-- the count so far, with the test of one number more
+pub count_next : (p : ℕ → Bool) (n k next : ℕ) (b : Bool) → b ≡ p n → k ≡ count_by p (range_with_len 0 n) → ((b ≡ true) × (next ≡ k + 1)) ⊎ ((b ≡ false) × (next ≡ k)) → next ≡ count_by p (range_with_len 0 (n + 1))
+count_next p n k next b is so_far (inl (passes, more)) =
+    let weight : Bool → ℕ = λ t. cond t 1 0 in
+    let one : weight (p n) ≡ weight true = ap weight (sym is ∙ passes) in
+    omega (arith, count-range_more p n, one, so_far, more)
+count_next p n k next b is so_far (inr (fails, same)) =
+    let weight : Bool → ℕ = λ t. cond t 1 0 in
+    let none : weight (p n) ≡ weight false = ap weight (sym is ∙ fails) in
+    omega (arith, count-range_more p n, none, so_far, same)
+
+pub count-range-le : (p : ℕ → Bool) (a n : ℕ) → count_by p (range_with_len a n) ≤ n
+count-range-le p a n = omega (arith, count_by-le-length p (range_with_len a n), length-range_with_len a n)
+
+-- after a round, just those nodes are cut off that have turned as often as there are nodes or have no link
+module _ (net : Network) (d : ℕ) (counts : List ℕ) (is : IsNet net.nodes net.links) (counted : IsCounted net.nodes d net.links counts) where
+  pub ended : IsRound net.nodes d net.links (state_after net d counts)
+  ended = round_end net.nodes d net.links counts (net_of net.nodes (links_at net.links counts)) counted.settled refl
+
+  pub after_outcome : IsAfterRound (state_after net d counts)
+  after_outcome = record { first = net.links; is_net = is; dest = counted.destination; round = ended }
+
+  parted_from_cut_off : (x : ℕ) → x < net.nodes → IsCutOff d (state_after net d counts).links x → ¬ (x ≡ d) × ((slice_index counts x ≡ net.nodes) ⊎ (length (row net.nodes net.links x) ≡ 0))
+  parted_from_cut_off x below cut = (cut.0, go (counted.settled.settled x below))
+    where
+      go : IsSettledCount net.nodes d net.links x (slice_index counts x) → (slice_index counts x ≡ net.nodes) ⊎ (length (row net.nodes net.links x) ≡ 0)
+      go (inl alone) = ⊎_elim inr
+          (λ some. let link = row_linked net.nodes net.links x (omega (arith, some)) in absurd (alone.0 link.0 link.1))
+          (cases_eq (length (row net.nodes net.links x)) 0)
+      go (inr (inl least)) = absurd (cut.1 ((round_joined net.nodes d net.links (state_after net d counts) is counted.destination ended x).0 (slice_index counts x, least.1.reached)))
+      go (inr (inr capped)) = inl capped.2
+
+  cut_off_from_parted : (x : ℕ) → ¬ (x ≡ d) × ((slice_index counts x ≡ net.nodes) ⊎ (length (row net.nodes net.links x) ≡ 0)) → IsCutOff d (state_after net d counts).links x
+  cut_off_from_parted x parted = ⊎_elim
+      (λ capped. capped_cut_off net.nodes d net.links (state_after net d counts) is counted.destination ended x parted.0 capped)
+      (λ none. alone_cut_off net.nodes d net.links (state_after net d counts) is counted.destination ended x parted.0 (row_alone net.nodes net.links x is none))
+      parted.1
+
+  pub parted_just : (x : ℕ) → x < net.nodes → IsTrue (is_parted net d counts x) ↔ IsCutOff d (state_after net d counts).links x
+  parted_just x below =
+      let capped : Bool = slice_index counts x == net.nodes in
+      let none : Bool = length (row net.nodes net.links x) == 0 in
+      let decides = Decides-and (not (x == d)) (capped || none) (Decides-not (x == d) (Decides-eqb x d))
+          (Decides-or capped none (Decides-eqb (slice_index counts x) net.nodes) (Decides-eqb (length (row net.nodes net.links x)) 0)) in (
+        (λ e. cut_off_from_parted x (decides.0 e)),
+        (λ cut. decides.1 (parted_from_cut_off x below cut)),
+      )

@@ -8,3 +8,8 @@ pub mod Determined
 pub mod FirstFaults
 pub mod EachAnswer
 pub mod ShortTexts
+pub mod Touched
+pub mod Moving
+pub mod Written
+pub mod Shown
+pub mod Inside

@@ -1,17 +1,19 @@
 -- What the end of a round is: which networks lead to it, and what its links and routes are.
-use Rattle.std.proofs.Common.{◌≡◌, ◌∙◌, ℕ, ◌<◌, ◌↔◌, List, ◌∷◌, ap, inl, inr, subst, sym, slice_index, IsPermutation}
+use Rattle.std.proofs.Common.{◌≡◌, ◌∙◌, ℕ, ⊎_elim, ◌<◌, ◌↔◌, List, ◌∷◌, ap, inl, inr, subst, sym, slice_index, IsPermutation}
 use Rattle.std.proofs.lemmas.List.Sorted.{IsPermutation-sym}
-use Rattle.fr_net.specs.Links.{IsAcyclic, IsNet, HaveSameLinks, Points}
+use Rattle.fr_net.specs.Links.{IsAcyclic, IsAlone, IsNet, HaveSameLinks, Joins, Points}
 use Rattle.fr_net.specs.Order.{in_order}
 use Rattle.fr_net.specs.Counts.{AreLawful, links_at}
 use Rattle.fr_net.specs.Network.{Network, net_of}
 use Rattle.fr_net.specs.Faults.{IsNetworkOf}
 use Rattle.fr_net.proofs.Acyclic.{links_at_acyclic}
-use Rattle.fr_net.proofs.Ordering.{into_order, out_of_order}
+use Rattle.fr_net.proofs.Building.{permuted_net}
+use Rattle.fr_net.proofs.Ordering.{in_order_permutes, into_order, out_of_order}
 use Rattle.fr_net.proofs.Reordering.{in_order-links_at}
+use Rattle.fr_net.proofs.TurnedLinks.{net_turned}
 use Rattle.fr_core.specs.Walks.{IsJoined}
 use Rattle.fr_core.specs.Settled.{AreSettled}
-use Rattle.fr_core.proofs.Joining.{joined_at, joins_at}
+use Rattle.fr_core.proofs.Joining.{joined_at, joins_at, walk_linked}
 use Rattle.fr_core.proofs.SameLinks.{same_acyclic, same_from_permutation, same_settled, same_joined, same_sym}
 use Rattle.fr_core.proofs.Unique.{IsLinkedCount, not_joined_from_cap, of_linked, settled_lawful, settled_unique}
 use Rattle.fr_route.specs.States.{State, IsRound, IsCutOff, state_with}
@@ -61,6 +63,11 @@ module _ (n d : ℕ) (first : List (ℕ × ℕ)) (s : State) (net : IsNet n firs
   given_back : HaveSameLinks s.links (links_at first s.counts)
   given_back = same_sym (links_at first s.counts) s.links as_given
 
+  pub round_net : IsNet n s.links
+  round_net =
+      let given : IsNet n (links_at first s.counts) = net_turned n first s.counts lawful.kept net in
+      subst (IsNet n) (sym round.links) (permuted_net n (links_at first s.counts) (in_order (links_at first s.counts)) (in_order_permutes (links_at first s.counts)) given)
+
   -- no closed walk stands among them
   pub round_acyclic : IsAcyclic s.links
   round_acyclic = same_acyclic (links_at first s.counts) s.links as_given (links_at_acyclic first s.counts net.acyclic)
@@ -80,20 +87,34 @@ module _ (n d : ℕ) (first : List (ℕ × ℕ)) (s : State) (net : IsNet n firs
   pub capped_cut_off : (x : ℕ) → ¬ (x ≡ d) → slice_index s.counts x ≡ n → IsCutOff d s.links x
   capped_cut_off x apart capped = (apart, λ j. not_joined_from_cap n d first net below s.counts round.counts x capped ((round_joined x).1 j))
 
+  -- so is a node that no link joins at first
+  pub alone_cut_off : (x : ℕ) → ¬ (x ≡ d) → IsAlone first x → IsCutOff d s.links x
+  alone_cut_off x apart alone = (
+    apart,
+    (λ j. let joined : IsJoined first d x = (round_joined x).1 j in ⊎_elim apart (λ h. alone h.0 h.1) (walk_linked first d joined.1.0 joined.0 x joined.1.1)),
+  )
+
   -- and so is a node from which no link points
   pub still_cut_off : (x : ℕ) → ¬ (x ≡ d) → ((w : ℕ) → ¬ Points s.links x w) → IsCutOff d s.links x
   still_cut_off x apart none = (apart, λ j. let o = out_of_joined n d first net below s.counts round.counts x ((round_joined x).1 j) apart in none o.0 ((as_given x o.0).0 o.1))
 
-  linked_joined : (x y : ℕ) → Points s.links x y → ¬ (slice_index s.counts x ≡ n) → IsJoined first d x
-  linked_joined x y h free = go (of_linked n d first net below s.counts round.counts x y (joins_at first s.counts x y (inl ((given_back x y).0 h))))
+  -- a linked node whose count is below the cap is joined with the destination
+  pub linked_joined : (x y : ℕ) → Joins s.links x y → ¬ (slice_index s.counts x ≡ n) → IsJoined first d x
+  linked_joined x y h free = go (of_linked n d first net below s.counts round.counts x y (joins_at first s.counts x y (⊎_elim (λ a. inl ((given_back x y).0 a)) (λ a. inr ((given_back y x).0 a)) h)))
     where
       go : IsLinkedCount n d first x (slice_index s.counts x) → IsJoined first d x
       go (inl least) = (slice_index s.counts x, least.reached)
       go (inr out) = absurd (free out.1)
 
+  -- and a link points from it, unless it is the destination
+  pub linked_out : (x y : ℕ) → Joins s.links x y → ¬ (slice_index s.counts x ≡ n) → ¬ (x ≡ d) → (w : ℕ) × Points s.links x w
+  linked_out x y h free apart =
+      let out = out_of_joined n d first net below s.counts round.counts x (linked_joined x y h free) apart in
+      (out.0, (as_given x out.0).0 out.1)
+
   -- from every other node but the destination the next hop leads on
   pub hop_leads_on : (x y : ℕ) → ¬ (x ≡ d) → ¬ (slice_index s.counts x ≡ n) → IsNextHop s.links x y → (rest : List ℕ) × IsRoute s.links d x (y ∷ rest)
   hop_leads_on x y apart free hop =
       let link = (given_back x y).0 hop.link in
-      let r = route n d first net below s.counts round.counts y (joined_next n d first net below s.counts round.counts x y link (linked_joined x y hop.link free)) in
+      let r = route n d first net below s.counts round.counts y (joined_next n d first net below s.counts round.counts x y link (linked_joined x y (inl hop.link) free)) in
       (r.0, (apart, hop, same_route (links_at first s.counts) s.links as_given d y r.0 r.1))

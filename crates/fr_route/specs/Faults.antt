@@ -1,6 +1,8 @@
 -- Which fault of a router stands for a fault of the layers below.
 use Rattle.fr_net.specs.declared.fault.NetFault.{NetFault}
 use Rattle.fr_net.specs.declared.fault.NetFault.TheVariants as net
+use Rattle.fr_net.specs.declared.fault.NotEdited.{NotEdited}
+use Rattle.fr_net.specs.declared.fault.NotEdited.TheVariants.{Refused, Fault}
 use Rattle.fr_crew.specs.declared.fault.CrewFault.{CrewFault}
 use Rattle.fr_crew.specs.declared.fault.CrewFault.TheVariants as crew
 use Rattle.fr_route.specs.declared.fault.RouteFault.{RouteFault}
@@ -15,3 +17,7 @@ abbrev pub of_crew_fault : CrewFault → RouteFault
 of_crew_fault crew.Range = Range
 of_crew_fault crew.Start = Start
 of_crew_fault crew.Memory = Memory
+
+abbrev pub of_not_edited : NotEdited RouteFault → RouteFault
+of_not_edited (Refused refused) = of_net_fault refused.fault
+of_not_edited (Fault fault) = fault

@@ -2,6 +2,7 @@ pub mod States
 pub mod Routes
 pub mod Faults
 pub mod Changes
+pub mod Outcomes
 pub mod RouterInside
 pub mod Blank
 pub mod Texts

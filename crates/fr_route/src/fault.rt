@@ -3,10 +3,10 @@
 ghost use Rattle.std.specs.Prelude.{◌≡◌};
 ghost use Rattle.fr_route.specs.declared.fault.RouteFault.TheVariants.{Memory as RouteMemory};
 ghost use Rattle.fr_route.specs.declared.fault.AnswerFault.TheVariants.{Memory as AnswerMemory};
-ghost use Rattle.fr_route.specs.Faults.{of_net_fault, of_crew_fault};
+ghost use Rattle.fr_route.specs.Faults.{of_net_fault, of_crew_fault, of_not_edited};
 
 use fr_crew::CrewFault;
-use fr_net::{EditFault, NetFault};
+use fr_net::{EditFault, NetFault, NotEdited};
 use std::alloc::{AllocError, AllocFailed};
 use thiserror::Error;
 
@@ -60,6 +60,17 @@ impl From<EditFault> for RouteFault {
 
     fn from(refused: EditFault) -> RouteFault {
         RouteFault::from(refused.fault)
+    }
+}
+
+impl From<NotEdited<RouteFault>> for RouteFault {
+    ghost from_gives = { λ reason fault. fault ≡ of_not_edited reason };
+
+    fn from(reason: NotEdited<RouteFault>) -> RouteFault {
+        match reason {
+            NotEdited::Refused(refused) => RouteFault::from(refused),
+            NotEdited::Fault(fault) => fault,
+        }
     }
 }
 

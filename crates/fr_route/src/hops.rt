@@ -1,8 +1,9 @@
 //! Where each node sends on to.
 
-ghost use Rattle.std.specs.Prelude.{◌≡◌, ℕ, ◌<◌, IfOk, MatchOption, count_by};
+ghost use Rattle.std.specs.Prelude.{◌≡◌, ℕ, ◌<◌, length, IfOk, IfSome, MatchOption};
 ghost use Rattle.fr_net.specs.Links.{Points};
-ghost use Rattle.fr_route.specs.Routes.{IsNextHop, IsHop, AreHops, is_cut_off};
+ghost use Rattle.fr_route.specs.Routes.{IsNextHop, IsHop, AreHops};
+ghost use Rattle.fr_route.specs.Outcomes.{HoldsMoved};
 ghost use Rattle.fr_route.specs.States.{IsAfterRound, state_with};
 
 use fr_net::{First, Net};
@@ -72,17 +73,50 @@ pub(crate) fn hop_table(
     requires { IsAfterRound (state_with net.now dest counts.now) }
     ensures { IfOk result (λ hops. AreHops (state_with net.now dest counts.now) net.now.nodes hops.items) }
 {
-    let nodes = net.nodes();
-    let mut hops = Vec::with_capacity(alloc, nodes as usize)?;
-    for x in 0..nodes {
-        hops.push(hop_of(net, dest, counts, x))?;
-    }
+    let mut hops = vec![in alloc; Hop::CutOff; net.nodes() as usize]?;
+    renew_all(&mut hops, net, dest, counts);
     Ok(hops)
 }
 
-/// How many nodes are cut off.
-pub(crate) fn cut_count(hops: &[Hop]) -> u64
-    ensures { result ≡ count_by is_cut_off hops.now }
+/// Makes anew where nodes send on to: the moved ones, where they are given, each other node then being right as it stands; or else
+/// all nodes.
+pub(crate) fn renew_hops(
+    hops: &mut [Hop],
+    net: &Net,
+    dest: u32,
+    counts: &[u64],
+    moved: Option<&[u32]>,
+)
+    requires round { IsAfterRound (state_with net.now dest counts.now) }
+    requires one_each { length hops.old ≡ net.now.nodes }
+    requires moved { IfSome moved (λ moved. HoldsMoved (state_with net.now dest counts.now) hops.old moved.now) }
+    ensures { AreHops (state_with net.now dest counts.now) net.now.nodes hops.new }
 {
-    hops.iter().filter(|hop| **hop == Hop::CutOff).count() as u64
+    match moved {
+        Some(moved) => renew_some(hops, net, dest, counts, moved),
+        None => renew_all(hops, net, dest, counts),
+    }
+}
+
+/// Makes anew where each of these nodes sends on to, the others being right as they stand.
+fn renew_some(hops: &mut [Hop], net: &Net, dest: u32, counts: &[u64], moved: &[u32])
+    requires round { IsAfterRound (state_with net.now dest counts.now) }
+    requires one_each { length hops.old ≡ net.now.nodes }
+    requires moved { HoldsMoved (state_with net.now dest counts.now) hops.old moved.now }
+    ensures { AreHops (state_with net.now dest counts.now) net.now.nodes hops.new }
+{
+    for x in moved {
+        hops[*x as usize] = hop_of(net, dest, counts, *x);
+    }
+}
+
+/// Makes anew where each node sends on to.
+fn renew_all(hops: &mut [Hop], net: &Net, dest: u32, counts: &[u64])
+    requires round { IsAfterRound (state_with net.now dest counts.now) }
+    requires one_each { length hops.old ≡ net.now.nodes }
+    ensures { AreHops (state_with net.now dest counts.now) net.now.nodes hops.new }
+{
+    for x in 0..net.nodes() {
+        hops[x as usize] = hop_of(net, dest, counts, x);
+    }
 }

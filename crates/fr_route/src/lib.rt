@@ -16,6 +16,7 @@ mod change;
 mod fault;
 mod hops;
 pub mod laws;
+mod outcome;
 mod router;
 mod session;
 mod texts;

@@ -1,18 +1,24 @@
 //! A router: a settled network with its next hops and routes, and the changes after which it is settled anew.
 
-ghost use Rattle.std.specs.Prelude.{◌≡◌, ◌≢◌, ◌<◌, length, IfOk, IfErr, OnErr};
-ghost use Rattle.fr_crew.specs.Settlements.{Settles, NeverStarts};
+ghost use Rattle.std.specs.Prelude.{◌≡◌, ◌≢◌, ◌<◌, ◌∷◌, length, sum, Ok, IfOk, IfErr, IfSome, OnErr, Contains};
+ghost use Rattle.fr_crew.specs.Settlements.{HoldsSinks};
+ghost use Rattle.fr_crew.specs.Ways.{Settles, NeverStarts};
+ghost use Rattle.fr_net.specs.Counts.{IsKept, links_at};
+ghost use Rattle.fr_net.specs.Network.{net_of};
+ghost use Rattle.fr_route.specs.declared.change.Report.{Report};
 ghost use Rattle.fr_route.specs.declared.fault.RouteFault.TheVariants.{Start, Memory};
 ghost use Rattle.fr_route.specs.States.{IsRound, IsReport};
 ghost use Rattle.fr_route.specs.Routes.{IsHop, AreHops, IsWalked};
 ghost use Rattle.fr_route.specs.Changes.{IsOpenFault, IsChanged, IsRouteFault};
+ghost use Rattle.fr_route.specs.Outcomes.{IsEdited, IsEditingFault, IsOutcome, touched};
 
 use crate::change::{Change, Report};
 use crate::fault::RouteFault;
-use crate::hops::{Hop, Walked, cut_count, hop_table};
-use fr_crew::{CrewFault, Gate, Plan, Settled, settle, settle_alone, settle_by};
-use fr_net::Net;
-use std::alloc::Global;
+use crate::hops::{Hop, Walked, hop_table};
+use crate::outcome::{Outcome, outcome_of, put_in_place, told_outcome, touched_nodes, turn_links};
+use fr_crew::{CrewFault, Gate, Plan, settled_counts, settled_counts_alone};
+use fr_net::{Edit, MAX_EDITS, Net};
+use std::alloc::{AllocError, Global};
 use std::marker::Model;
 use std::sync::Wait;
 use std::thread::Threads;
@@ -59,7 +65,11 @@ impl Router {
             alloc,
             net,
             dest,
-            &|net, dest| { settle(rt, alloc, net, dest, plan, gate) },
+            &|net, dest, from|
+                requires { IfSome from (λ from. HoldsSinks net.now dest from.now) }
+            {
+                settled_counts(rt, alloc, net, dest, from, plan, gate)
+            },
         )
     }
 
@@ -73,14 +83,14 @@ impl Router {
             alloc,
             net,
             dest,
-            &|net, dest| settle_alone(alloc, net, dest),
+            &|net, dest, from| settled_counts_alone(alloc, net, dest, from),
         )
     }
 
     /// Settles a network in a way that is passed in.
-    pub(crate) fn open_by<F: Fn(Net, u32) -> Result<Settled, CrewFault>>(
+    pub(crate) fn open_by<F: Fn(&Net, u32, Option<&[u32]>) -> Result<Vec<u64>, CrewFault>>(
         alloc: Global,
-        net: Net,
+        mut net: Net,
         dest: u32,
         way: &F,
     ) -> Result<Router, RouteFault>
@@ -90,17 +100,9 @@ impl Router {
         ensures no_start { NeverStarts F.post way.now → IfErr result (λ fault. fault ≢ Start) }
     {
         net.network_law();
-        let Settled {
-            net,
-            counts,
-            by_workers,
-            by_finisher,
-        } = settle_by(way, net, dest)?;
+        let Outcome { counts, report } = outcome_of(&net, dest, None, way)?;
+        turn_links(&mut net, &counts, report.turned);
         let hops = hop_table(alloc, &net, dest, &counts)?;
-        let report = Report {
-            turned: by_workers + by_finisher,
-            cut: cut_count(&hops),
-        };
         Ok(Router {
             net,
             dest,
@@ -108,28 +110,6 @@ impl Router {
             hops,
             report,
         })
-    }
-
-    /// The router of the changed network, settled anew in a way that is passed in. All that the change needs is made here.
-    pub(crate) fn changed<F: Fn(Net, u32) -> Result<Settled, CrewFault>>(
-        &self,
-        alloc: Global,
-        change: &Change,
-        way: &F,
-    ) -> Result<Router, RouteFault>
-        requires { Settles F.pre F.post way.now }
-        ensures changed { IfOk result (IsChanged self.now change.now) }
-        ensures fault { IfErr result (IsRouteFault self.now change.now) }
-        ensures no_start { NeverStarts F.post way.now → IfErr result (λ fault. fault ≢ Start) }
-    {
-        let (net, dest) = match change {
-            Change::Cut { u, v } => (self.net.with_cut(alloc, *u, *v)?, self.dest),
-            Change::Add { u, v } => (self.net.with_link(alloc, *u, *v)?, self.dest),
-            Change::Join { u, v } => (self.net.with_join(alloc, *u, *v)?, self.dest),
-            Change::Batch(edits) => (self.net.with_edits(alloc, edits)?, self.dest),
-            Change::Destination { dest } => (self.net.with_edits(alloc, &[])?, *dest),
-        };
-        Router::open_by(alloc, net, dest, way)
     }
 
     /// Changes the network or its destination and settles it anew by a crew, by the plan and under the gate, and answers what
@@ -153,7 +133,12 @@ impl Router {
         self.change_by(
             alloc,
             &change,
-            &|net, dest| { settle(rt, alloc, net, dest, plan, gate) },
+            &|net, dest, from|
+                requires { IfSome from (λ from. HoldsSinks net.now dest from.now) }
+            {
+                settled_counts(rt, alloc, net, dest, from, plan, gate)
+            },
+            &|report| Ok(report),
         )
     }
 
@@ -165,27 +150,116 @@ impl Router {
         ensures unchanged { OnErr result (self.new ≡ self.old) }
         ensures no_start { IfErr result (λ fault. fault ≢ Start) }
     {
-        self.change_by(alloc, &change, &|net, dest| settle_alone(alloc, net, dest))
+        self.change_by(
+            alloc,
+            &change,
+            &|net, dest, from| settled_counts_alone(alloc, net, dest, from),
+            &|report| Ok(report),
+        )
     }
 
-    /// Changes the network or its destination, settled anew in a way that is passed in.
-    fn change_by<F: Fn(Net, u32) -> Result<Settled, CrewFault>>(
+    /// Changes the network or its destination where it stands, settled anew in a way that is passed in, and answers what is told of
+    /// the report. All that the change needs is made before anything is put in place.
+    pub(crate) fn change_by<
+        T,
+        F: Fn(&Net, u32, Option<&[u32]>) -> Result<Vec<u64>, CrewFault>,
+        K: Fn(Report) -> Result<T, AllocError>,
+    >(
         &mut self,
         alloc: Global,
         change: &Change,
         way: &F,
-    ) -> Result<Report, RouteFault>
-        requires { Settles F.pre F.post way.now }
+        tell: &K,
+    ) -> Result<T, RouteFault>
+        requires settles { Settles F.pre F.post way.now }
+        requires tells { K.IsAlwaysCallable tell.now }
         ensures changed { IfOk result (λ _. IsChanged self.old change.now self.new) }
-        ensures report { IfOk result (λ report. IsReport self.new report.turned report.cut) }
+        ensures told { IfOk result (λ told. (report : Report) × IsReport self.new report.turned report.cut × K.post tell.now report (Ok told)) }
         ensures fault { IfErr result (IsRouteFault self.old change.now) }
         ensures unchanged { OnErr result (self.new ≡ self.old) }
         ensures no_start { NeverStarts F.post way.now → IfErr result (λ fault. fault ≢ Start) }
     {
-        let router = self.changed(alloc, change, way)?;
-        let report = router.report();
-        *self = router;
-        Ok(report)
+        match change {
+            Change::Cut { u, v } => {
+                self.edit_by(alloc, &[Edit::Cut { u: *u, v: *v }], self.dest, way, tell)
+            }
+            Change::Add { u, v } => {
+                self.edit_by(alloc, &[Edit::Add { u: *u, v: *v }], self.dest, way, tell)
+            }
+            Change::Join { u, v } => {
+                self.edit_by(alloc, &[Edit::Join { u: *u, v: *v }], self.dest, way, tell)
+            }
+            Change::Batch(edits) => self.edit_by(alloc, edits, self.dest, way, tell),
+            Change::Destination { dest } => {
+                if *dest >= self.net.nodes() {
+                    return Err(RouteFault::Range);
+                }
+                self.edit_by(alloc, &[], *dest, way, tell)
+            }
+        }
+    }
+
+    /// Makes these edits where the network stands, and settles it anew toward `dest`.
+    fn edit_by<
+        T,
+        F: Fn(&Net, u32, Option<&[u32]>) -> Result<Vec<u64>, CrewFault>,
+        K: Fn(Report) -> Result<T, AllocError>,
+    >(
+        &mut self,
+        alloc: Global,
+        edits: &[Edit],
+        dest: u32,
+        way: &F,
+        tell: &K,
+    ) -> Result<T, RouteFault>
+        requires settles { Settles F.pre F.post way.now }
+        requires tells { K.IsAlwaysCallable tell.now }
+        requires node { dest < self.old.nodes }
+        ensures edited { IfOk result (λ _. IsEdited self.old edits.now dest self.new) }
+        ensures told { IfOk result (λ told. (report : Report) × IsReport self.new report.turned report.cut × K.post tell.now report (Ok told)) }
+        ensures fault { IfErr result (IsEditingFault self.old edits.now) }
+        ensures unchanged { OnErr result (self.new ≡ self.old) }
+        ensures no_start { NeverStarts F.post way.now → IfErr result (λ fault. fault ≢ Start) }
+    {
+        let touched = self.touched(alloc, edits, dest)?;
+        let from = touched.as_deref();
+        let (outcome, told) = self.net.edit_if(
+            alloc,
+            edits,
+            &|net|
+                requires settles { Settles F.pre F.post way.now }
+                requires tells { K.IsAlwaysCallable tell.now }
+                requires from { IfSome from (λ from. HoldsSinks net.now dest from.now) }
+                ensures outcome { IfOk result (λ made. IsOutcome net.entry.now dest made.0) }
+                ensures told { IfOk result (λ made. K.post tell.entry.now made.0.report (Ok made.1)) }
+                ensures fault { IfErr result (IsOpenFault net.entry.now.nodes dest) }
+                ensures no_start { NeverStarts F.post way.entry.now → IfErr result (λ fault. fault ≢ Start) }
+            {
+                told_outcome(net, dest, from, way, tell)
+            },
+        )?;
+        put_in_place(&mut self.net, &mut self.hops, dest, &outcome, from);
+        self.dest = dest;
+        self.counts = outcome.counts;
+        self.report = outcome.report;
+        Ok(told)
+    }
+
+    /// The nodes that the edits and a new destination touch, where each other node has a way on that they leave: where no linked node
+    /// is cut off. For more edits than can be made there is no answer.
+    fn touched(
+        &self,
+        alloc: Global,
+        edits: &[Edit],
+        dest: u32,
+    ) -> Result<Option<Vec<u32>>, AllocError>
+        ensures { IfOk result (λ found. IfSome found (λ nodes.
+            (nodes.items ≡ touched self.now dest edits.now) × ¬ Contains self.now.counts self.now.nodes)) }
+    {
+        if edits.len() > MAX_EDITS || self.counts.contains(&u64::from(self.net.nodes())) {
+            return Ok(None);
+        }
+        Ok(Some(touched_nodes(alloc, self.dest, dest, edits)?))
     }
 
     /// What the last round reported: how many turns it took, and how many nodes are cut off.

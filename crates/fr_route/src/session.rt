@@ -3,7 +3,8 @@
 ghost use Rattle.std.specs.Prelude.{◌≡◌, ◌≢◌, ℕ, ◌<◌, ◌≤◌, ◌⊎◌, length, true, false, Some, None, IfOk, IfErr, OnErr, IfSome, IfNone, string_bytes};
 ghost use Rattle.std.specs.Option.{option_copied};
 ghost use Rattle.fr_net.specs.Requests.{ask, new_network, walk_from, plain, reading};
-ghost use Rattle.fr_crew.specs.Settlements.{Settles, NeverStarts};
+ghost use Rattle.fr_crew.specs.Settlements.{HoldsSinks};
+ghost use Rattle.fr_crew.specs.Ways.{Settles, NeverStarts};
 ghost use Rattle.fr_route.specs.Blank.{is_blank as is_blank_line};
 ghost use Rattle.fr_route.specs.Answers.{IsAnswer, IsLineAnswer, IsReportLine, fault_number as fault_number_of};
 ghost use Rattle.fr_route.specs.Texts.{longest_report};
@@ -19,7 +20,7 @@ use crate::router::Router;
 use crate::texts::{
     counts_line, hops_line, links_line, no_walk_line, refusal_line, report_line, walk_line,
 };
-use fr_crew::{CrewFault, Gate, Plan, Settled, settle, settle_alone};
+use fr_crew::{CrewFault, Gate, Plan, settled_counts, settled_counts_alone};
 use fr_net::{LineFault, LineReader, Net, NetFault, Question, Request};
 use std::alloc::Global;
 use std::marker::Model;
@@ -81,7 +82,11 @@ impl Session {
         self.answer_line_by(
             alloc,
             line,
-            &|net, dest| { settle(rt, alloc, net, dest, plan, gate) },
+            &|net, dest, from|
+                requires { IfSome from (λ from. HoldsSinks net.now dest from.now) }
+            {
+                settled_counts(rt, alloc, net, dest, from, plan, gate)
+            },
         )
     }
 
@@ -98,11 +103,15 @@ impl Session {
         ensures short { IfOk result (λ answer. IfSome answer (λ text. (self.new ≡ self.old) ⊎ (length (string_bytes text) ≤ longest_report))) }
         ensures no_start { IfErr result (λ fault. fault ≢ Start) }
     {
-        self.answer_line_by(alloc, line, &|net, dest| settle_alone(alloc, net, dest))
+        self.answer_line_by(
+            alloc,
+            line,
+            &|net, dest, from| settled_counts_alone(alloc, net, dest, from),
+        )
     }
 
     /// The answer to a line, where networks are settled in a way that is passed in.
-    fn answer_line_by<F: Fn(Net, u32) -> Result<Settled, CrewFault>>(
+    fn answer_line_by<F: Fn(&Net, u32, Option<&[u32]>) -> Result<Vec<u64>, CrewFault>>(
         &mut self,
         alloc: Global,
         line: &[u8],
@@ -142,7 +151,11 @@ impl Session {
         self.answer_by(
             alloc,
             request,
-            &|net, dest| { settle(rt, alloc, net, dest, plan, gate) },
+            &|net, dest, from|
+                requires { IfSome from (λ from. HoldsSinks net.now dest from.now) }
+            {
+                settled_counts(rt, alloc, net, dest, from, plan, gate)
+            },
         )
     }
 
@@ -153,11 +166,15 @@ impl Session {
         ensures short { IfOk result (λ text. (self.new ≡ self.old) ⊎ (length (string_bytes text) ≤ longest_report)) }
         ensures no_start { IfErr result (λ fault. fault ≢ Start) }
     {
-        self.answer_by(alloc, request, &|net, dest| settle_alone(alloc, net, dest))
+        self.answer_by(
+            alloc,
+            request,
+            &|net, dest, from| settled_counts_alone(alloc, net, dest, from),
+        )
     }
 
     /// The answer to a request, where networks are settled in a way that is passed in.
-    fn answer_by<F: Fn(Net, u32) -> Result<Settled, CrewFault>>(
+    fn answer_by<F: Fn(&Net, u32, Option<&[u32]>) -> Result<Vec<u64>, CrewFault>>(
         &mut self,
         alloc: Global,
         request: &Request,
@@ -187,7 +204,7 @@ impl Session {
     }
 
     /// Takes a network, or says for which fault it is refused.
-    fn open<F: Fn(Net, u32) -> Result<Settled, CrewFault>>(
+    fn open<F: Fn(&Net, u32, Option<&[u32]>) -> Result<Vec<u64>, CrewFault>>(
         &mut self,
         alloc: Global,
         nodes: u32,
@@ -212,7 +229,7 @@ impl Session {
     }
 
     /// Changes the network, or says for which fault the change is refused.
-    fn change<F: Fn(Net, u32) -> Result<Settled, CrewFault>>(
+    fn change<F: Fn(&Net, u32, Option<&[u32]>) -> Result<Vec<u64>, CrewFault>>(
         &mut self,
         alloc: Global,
         change: Change,
@@ -224,11 +241,11 @@ impl Session {
         ensures short { IfOk result (λ text. (self.new ≡ self.old) ⊎ (length (string_bytes text) ≤ longest_report)) }
         ensures no_start { NeverStarts F.post way.now → IfErr result (λ fault. fault ≢ Start) }
     {
-        let Some(router) = &self.router else {
+        let Some(router) = &mut self.router else {
             return Ok(refusal_line(alloc, 3)?);
         };
-        match router.changed(alloc, &change, way) {
-            Ok(router) => self.put(alloc, router),
+        match router.change_by(alloc, &change, way, &|report| report_line(alloc, report)) {
+            Ok(text) => Ok(text),
             Err(fault) => refusal(alloc, &fault),
         }
     }

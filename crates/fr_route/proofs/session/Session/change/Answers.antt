@@ -10,6 +10,10 @@ pub returns-clause-text : goal.returns-clause-text
 returns-clause-text g c =
     let router = c.in-Some.router in
     let here : c.args.self.now ≡ Some router = sym c.self.view_is ∙ c.in-Some.is in
+    let same : c.change_by.new.self ≡ router = c.in-Err.ensures.unchanged in
     IfOk-weaker c.refusal.result _ _
-    (λ text is. subst (λ (s : Option State). IsAnswer s (request_of_change c.args.change) (string_bytes text) s) (sym here)
-    (refused_change router c.args.change c.in-Err.fault (string_bytes text) c.in-Err.ensures.fault is)) c.refusal.ensures.text
+    (λ text is.
+    subst (λ (new : State). IsAnswer c.args.self.now (request_of_change c.args.change) (string_bytes text) (Some new)) (sym same)
+    (subst (λ (s : Option State). IsAnswer s (request_of_change c.args.change) (string_bytes text) (Some router)) (sym here)
+    (refused_change router c.args.change c.in-Err.fault (string_bytes text) c.in-Err.ensures.fault is)))
+    c.refusal.ensures.text

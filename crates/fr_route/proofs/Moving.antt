@@ -1,0 +1,111 @@
+-- After a round that cut off no linked node: which nodes can turn once edits are made or the destination moves, and where the nodes
+-- that those do not touch send on to.
+use Rattle.std.proofs.Common.{List, ap, arith, inl, inr, refl, slice_index, subst, sum, sym, ℕ, ⊎_elim, ◌<◌, ◌∙◌, ◌∷◌, ◌≡◌, ◌⊎◌, Contains}
+use Rattle.std.specs.List.{All}
+use Rattle.std.proofs.lemmas.Bool.{cases_eq}
+use Rattle.std.proofs.lemmas.List.Elements.{All-cons, Contains-get_or}
+use Rattle.fr_net.specs.Batches.{AreMade}
+use Rattle.fr_net.specs.Links.{IsNet, Joins, Points}
+use Rattle.fr_net.specs.Network.{Network}
+use Rattle.fr_net.specs.Turn.{IsSink}
+use Rattle.fr_net.specs.declared.requests.Edit.{Edit}
+use Rattle.fr_net.proofs.Linking.{joined_below}
+use Rattle.fr_net.proofs.Members.{Contains-head, Contains-tail, cases_some}
+use Rattle.fr_net.specs.Counts.{links_at}
+use Rattle.fr_net.specs.Order.{AreInOrder}
+use Rattle.fr_net.proofs.Ordering.{in_order_order}
+use Rattle.fr_crew.specs.Settlements.{HoldsSinks, IsCounted}
+use Rattle.fr_route.specs.Outcomes.{HoldsMoved, ends_of, state_after, touched}
+use Rattle.fr_route.specs.Routes.{AreHops, IsHop, IsNextHop}
+use Rattle.fr_route.specs.States.{IsAfterRound, IsRound, State, net_at}
+use Rattle.fr_route.specs.declared.hops.Hop.{Hop}
+use Rattle.fr_route.specs.declared.hops.Hop.TheVariants.{CutOff, Here, To}
+use Rattle.fr_route.proofs.Changing.{made_nodes}
+use Rattle.fr_route.proofs.CutNodes.{ended}
+use Rattle.fr_route.proofs.RoundEnds.{hop_leads_on, linked_joined, linked_out, round_joined, round_net, still_cut_off}
+use Rattle.fr_route.proofs.Touched.{AreAt, HaveSameAt, edits_at, never_turned, still_links}
+
+round_order : (s : State) → IsAfterRound s → AreInOrder s.links
+round_order s after = subst AreInOrder (sym after.round.links) (in_order_order (links_at after.first s.counts))
+
+here : (s : State) → IsAfterRound s → IsNet s.nodes s.links
+here s after = round_net s.nodes s.dest after.first s after.is_net after.dest after.round
+
+-- what edits make of the network of a round is a network
+pub made_net : (s : State) (edits : List Edit) (net : Network) → IsAfterRound s → AreMade (net_at s) edits net → IsNet net.nodes net.links
+made_net s edits net after made = let left : AreAt (net_at s) (ends_of edits) net = edits_at (net_at s) edits net (here s after) made in left.is_net
+
+module _ (s : State) (after : IsAfterRound s) (free : ¬ Contains s.counts s.nodes) where
+  linked_below : (x w : ℕ) → Joins s.links x w → ¬ (slice_index s.counts x ≡ s.nodes)
+  linked_below x w h e =
+      let below : x < s.nodes = (joined_below s.nodes s.links x w (here s after) h).0 in
+      free (subst (Contains s.counts) e (Contains-get_or s.counts x 0 (omega (arith, after.round.counts.one_each))))
+
+  -- a node whose links stay has a link that points from it, as long as it is linked and was not the destination
+  no_sink : (links : List (ℕ × ℕ)) (x : ℕ) → HaveSameAt s.links links x → ¬ (x ≡ s.dest) → ¬ IsSink links x
+  no_sink links x same apart sink =
+      let joins : Joins s.links x sink.0.0 = inr ((same.into sink.0.0).1 sink.0.1) in
+      let out = linked_out s.nodes s.dest after.first s after.is_net after.dest after.round x sink.0.0 joins (linked_below x sink.0.0 joins) apart in
+      sink.1 out.0 ((same.out out.0).0 out.1)
+
+  module _ (edits : List Edit) (net : Network) (d : ℕ) (below : d < s.nodes) (made : AreMade (net_at s) edits net) where
+    left : AreAt (net_at s) (ends_of edits) net
+    left = edits_at (net_at s) edits net (here s after) made
+
+    same_nodes : net.nodes ≡ s.nodes
+    same_nodes = made_nodes (net_at s) edits net made
+
+    -- what is not touched is neither destination, and its links stay
+    untouched : (x : ℕ) → ¬ Contains (touched s d edits) x → (¬ (x ≡ s.dest)) × (¬ (x ≡ d)) × HaveSameAt s.links net.links x
+    untouched x none = (
+      (λ e. none (subst (Contains (touched s d edits)) (sym e) (Contains-head s.dest (d ∷ ends_of edits)))),
+      (λ e. none (subst (Contains (touched s d edits)) (sym e) (Contains-tail d s.dest (d ∷ ends_of edits) (Contains-head d (ends_of edits))))),
+      left.keeps x (λ h. none (Contains-tail x s.dest (d ∷ ends_of edits) (Contains-tail x d (ends_of edits) h))),
+    )
+
+    touched_below : All (λ (x : ℕ). x < net.nodes) (touched s d edits)
+    touched_below = subst (λ (n : ℕ). All (λ (x : ℕ). x < n) (touched s d edits)) (sym same_nodes)
+        (All-cons (λ (x : ℕ). x < s.nodes) s.dest (d ∷ ends_of edits) after.dest (All-cons (λ (x : ℕ). x < s.nodes) d (ends_of edits) below left.below))
+
+    -- each sink is touched
+    pub touched_sinks : HoldsSinks net d (touched s d edits)
+    touched_sinks = record {
+      nodes = touched_below;
+      sinks = λ x sink apart. ⊎_elim
+          (λ some. subst (Contains (touched s d edits)) some.2 some.1)
+          (λ none. let not = untouched x (λ h. none x h refl) in absurd (no_sink net.links x not.2 not.0 sink))
+          (cases_some (λ (y : ℕ). y ≡ x) (λ y. cases_eq y x) (touched s d edits));
+    }
+
+    module _ (counts : List ℕ) (counted : IsCounted net.nodes d net.links counts) (still : sum counts ≡ 0) where
+      round : IsRound net.nodes d net.links (state_after net d counts)
+      round = ended net d counts left.is_net counted
+
+      links_stay : net.links ≡ (state_after net d counts).links
+      links_stay = sym (still_links net.links counts (left.order (round_order s after)) still)
+
+      capless : (x : ℕ) → ¬ (slice_index counts x ≡ net.nodes)
+      capless x e = omega (arith, e, never_turned counts still x, counted.destination)
+
+      next_stands : (x y : ℕ) → HaveSameAt s.links (state_after net d counts).links x → IsNextHop s.links x y → IsNextHop (state_after net d counts).links x y
+      next_stands x y same h = record { link = (same.out y).0 h.link; least = λ w g. h.least w ((same.out w).1 g) }
+
+      -- where the links of a node stay, it sends on to where it did, unless it was or is the destination
+      hop_stands : (x : ℕ) (hop : Hop) → HaveSameAt s.links (state_after net d counts).links x → ¬ (x ≡ s.dest) → ¬ (x ≡ d) → IsHop s x hop → IsHop (state_after net d counts) x hop
+      hop_stands x Here same was becomes h = absurd (was h)
+      hop_stands x (To y) same was becomes h =
+          hop_leads_on net.nodes d net.links (state_after net d counts) left.is_net counted.destination round x y becomes (capless x) (next_stands x y same h.1.1)
+      hop_stands x CutOff same was becomes h =
+          still_cut_off net.nodes d net.links (state_after net d counts) left.is_net counted.destination round x becomes
+          (λ w g.
+          let joins : Joins s.links x w = inl ((same.out w).1 g) in
+          h.1 ((round_joined s.nodes s.dest after.first s after.is_net after.dest after.round x).0 (linked_joined s.nodes s.dest after.first s after.is_net after.dest after.round x w joins (linked_below x w joins))))
+
+      -- and so, where no node turns, the hop of each node that is not touched stays right
+      pub untouched_hops : (hops : List Hop) → AreHops s s.nodes hops → HoldsMoved (state_after net d counts) hops (touched s d edits)
+      untouched_hops hops are = record {
+        below = touched_below;
+        others = λ x hop at none.
+            let not = untouched x none in
+            hop_stands x hop (subst (λ (links : List (ℕ × ℕ)). HaveSameAt s.links links x) links_stay not.2) not.0 not.1 (are.each x hop at);
+      }

@@ -1,0 +1,105 @@
+use Rattle.std.proofs.Common.{◌≡◌, ◌∙◌, ◌<◌, IfSome, List, Contains, arith, length, refl, subst, sym, vec_len, ℕ}
+use Rattle.std.proofs.lemmas.List.{with_items_is}
+use Rattle.std.proofs.lemmas.Result.{err_from_is_err_and}
+use Rattle.std.specs.Vec.{with_items}
+use Rattle.fr_net.specs.Batches.{AreMade}
+use Rattle.fr_net.specs.Network.{Network}
+use Rattle.fr_crew.specs.Settlements.{HoldsSinks}
+use Rattle.fr_net.specs.declared.fault.NotEdited.{NotEdited}
+use Rattle.fr_net.specs.declared.fault.NotEdited.TheVariants.{Fault, Refused}
+use Rattle.fr_route.specs.Changes.{IsOpenFault}
+use Rattle.fr_route.specs.Faults.{of_not_edited}
+use Rattle.fr_route.specs.Outcomes.{HoldsMoved, IsEditingFault, IsOutcome, state_after, touched}
+use Rattle.fr_route.specs.Routes.{AreHops}
+use Rattle.fr_route.specs.RouterInside.{state_of}
+use Rattle.fr_route.specs.States.{State}
+use Rattle.fr_route.specs.declared.fault.RouteFault.{RouteFault}
+use Rattle.fr_route.proofs.Changing.{made_nodes, refused_fault, round_fault}
+use Rattle.fr_route.proofs.Inside.{sound_after}
+use Rattle.fr_route.proofs.Moving.{made_net, touched_sinks, untouched_hops}
+use Rattle.fr_route.proofs.Shown.{shown, some_weaker}
+use Rattle.fr_route.proofs.router.Router.edit_by.Given.{Over}
+use Rattle.fr_route.proofs.router.Router.edit_by.Goals as goal
+use Rattle.fr_route.proofs.router.Router.edit_by.Goals.{After-as_deref-from, After-touched, In_ok-outcome}
+
+-- the nodes from which the round begins, where they are given, are those that are touched, and no linked node was cut off
+from_touched : (g : Over) (c : After-as_deref-from g) → IfSome c.as_deref-from.result (λ from. (from.now ≡ touched (state_of c.self.inside) c.args.dest c.args.edits.now) × ¬ Contains (state_of c.self.inside).counts (state_of c.self.inside).nodes)
+from_touched g c =
+    let s : State = state_of c.self.inside in
+    shown c.as_deref-from.result c.in_ok-touched.touched (λ (nodes : List ℕ). (nodes ≡ touched s c.args.dest c.args.edits.now) × ¬ Contains s.counts s.nodes) c.as_deref-from.ensures.value
+    (subst (λ (now : State). IfSome c.in_ok-touched.touched (λ v. (v.items ≡ touched now c.args.dest c.args.edits.now) × ¬ Contains now.counts now.nodes)) (sym c.self.view_is) c.in_ok-touched.ensures)
+
+-- the edits are made, and the outcome is that of the network which they make
+edits_made : (g : Over) (c : In_ok-outcome g) → AreMade c.self.inside.net c.args.edits.now c.edit_if.new.self
+edits_made g c = c.in_ok-outcome.ensures.ok.0
+
+outcome_is : (g : Over) (c : In_ok-outcome g) → IsOutcome c.edit_if.new.self c.args.dest c.in_ok-outcome.outcome
+outcome_is g c =
+    let ok = c.in_ok-outcome.ensures.ok in
+    subst (λ (m : Network). IsOutcome m c.args.dest c.in_ok-outcome.outcome) ok.1.shows ok.1.says.met.0
+
+in_range : (g : Over) (c : After-touched g) → c.args.dest < (state_of c.self.inside).nodes
+in_range g c = subst (λ (now : State). c.args.dest < now.nodes) (sym c.self.view_is) c.requires.node
+
+pub edit_if-requires : goal.edit_if-requires
+edit_if-requires g c = record {
+  callable = λ made is. (
+    c.requires.settles,
+    (c.requires.tells,
+    some_weaker c.as_deref-from.result _ _
+    (λ from are.
+    let s : State = state_of c.self.inside in
+    let below : c.args.dest < s.nodes = subst (λ (now : State). c.args.dest < now.nodes) (sym c.self.view_is) c.requires.node in
+    subst (HoldsSinks made.now c.args.dest) (sym are.0) (touched_sinks s c.self.invariant.round are.1 c.args.edits.now made.now c.args.dest below is))
+    (from_touched g (goal.at.edit_if-requires g c).After-as_deref-from)),
+  );
+}
+
+pub returns-in_err-outcome-clause-fault : goal.returns-in_err-outcome-clause-fault
+returns-in_err-outcome-clause-fault g c =
+    let s : State = state_of c.self.inside in
+    let edits = c.args.edits.now in
+    let below = in_range g (goal.at.returns-in_err-outcome-clause-fault g c).After-touched in
+    let reason = c.in_err-outcome.field-0.0 in
+    let fault : (r : NotEdited RouteFault) → c.in_err-outcome.field-0.0 ≡ r → IsEditingFault s edits (of_not_edited r) =
+    λ r. elim r as (λ (r : NotEdited RouteFault). c.in_err-outcome.field-0.0 ≡ r → IsEditingFault s edits (of_not_edited r)) [
+      | Refused refused ↦ λ is. refused_fault s edits refused (rw is at c.in_err-outcome.ensures.refused)
+      | Fault fault ↦ λ is.
+          let why = rw is at c.in_err-outcome.ensures.refused in
+          round_fault s edits why.0.nodes c.args.dest fault (omega (arith, below, made_nodes c.self.inside.net edits why.0 why.1.0))
+          (subst (λ (m : Network). IsOpenFault m.nodes c.args.dest fault) why.1.1.1.shows why.1.1.1.says.met.1.1.0)
+    ] in
+    let p = err_from_is_err_and c.from_residual-in_err-outcome.result c.from_residual-in_err-outcome.ensures.1 in
+    rw (p.1, p.2) (subst (λ (now : State). IsEditingFault now edits (of_not_edited reason)) c.self.view_is (fault reason refl))
+
+pub put_in_place-requires-clause-one_each : goal.put_in_place-requires-clause-one_each
+put_in_place-requires-clause-one_each g c =
+    let made = edits_made g (goal.at.put_in_place-requires-clause-one_each g c).In_ok-outcome in
+    rw c.deref_mut.ensures.value (c.self.invariant.hops.one_each ∙ sym (made_nodes c.self.inside.net c.args.edits.now c.edit_if.new.self made))
+
+pub put_in_place-requires-clause-touched : goal.put_in_place-requires-clause-touched
+put_in_place-requires-clause-touched g c =
+    let at = goal.at.put_in_place-requires-clause-touched g c in
+    let s : State = state_of c.self.inside in
+    let made = edits_made g at.In_ok-outcome in
+    let counted = (outcome_is g at.In_ok-outcome).counts in
+    let hops : AreHops s s.nodes c.deref_mut.result.now = rw c.deref_mut.ensures.value c.self.invariant.hops in
+    some_weaker c.as_deref-from.result _ _
+    (λ from are still. subst (HoldsMoved (state_after c.edit_if.new.self c.args.dest c.in_ok-outcome.outcome.counts.items) c.deref_mut.result.now) (sym are.0)
+    (untouched_hops s c.self.invariant.round are.1 c.args.edits.now c.edit_if.new.self c.args.dest (in_range g at.After-touched) made c.in_ok-outcome.outcome.counts.items counted still c.deref_mut.result.now hops))
+    (from_touched g at.After-as_deref-from)
+
+pub invariant_of-self-2 : goal.invariant_of-self-2
+invariant_of-self-2 g c =
+    let at = goal.at.invariant_of-self-2 g c in
+    let s : State = state_of c.self.inside in
+    let made = edits_made g at.In_ok-outcome in
+    let net : Network = c.edit_if.new.self in
+    let outcome = c.in_ok-outcome.outcome in
+    let same : length c.put_in_place.new.hops ≡ vec_len c.self.inside.hops =
+    omega (arith, c.put_in_place.ensures.hops.one_each, made_nodes c.self.inside.net c.args.edits.now net made, c.self.invariant.hops.one_each, c.self.inside.hops.ok.0) in
+    let items : (with_items c.self.inside.hops c.put_in_place.new.hops).items ≡ c.put_in_place.new.hops = with_items_is c.self.inside.hops c.put_in_place.new.hops same in
+    sound_after c.args.dest outcome (with_items c.self.inside.hops c.put_in_place.new.hops) net c.put_in_place.new.net
+    (made_net s c.args.edits.now net c.self.invariant.round made)
+    (outcome_is g at.In_ok-outcome) c.put_in_place.ensures.net
+    (subst (AreHops (state_after net c.args.dest outcome.counts.items) net.nodes) (sym items) c.put_in_place.ensures.hops)
