@@ -51,7 +51,7 @@ made_shown n listed made starts entries clear is one_each each =
       rows = λ x lt. let shown = each x lt in record { low = shown.low; high = shown.high; is_row = shown.is_row ∙ in_order_row n listed x };
     })
 
-abbrev with_links : ℕ → List (ℕ × ℕ) → Network
+abbrev pub with_links : ℕ → List (ℕ × ℕ) → Network
 with_links n links = record { nodes = n; links = links }
 
 pub made_of : (n : ℕ) (listed made : List (ℕ × ℕ)) → IsFaultless n listed → made ≡ in_order listed → IsNetworkOf n listed (with_links n made)

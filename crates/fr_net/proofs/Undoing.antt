@@ -10,6 +10,7 @@ use Rattle.fr_net.proofs.Joining.{cut_put}
 use Rattle.fr_net.proofs.Linking.{is_between_back, is_between_itself}
 use Rattle.fr_net.proofs.Ordering.{into_order, order_of_listed}
 use Rattle.fr_net.proofs.Places.{cut_is_remove}
+use Rattle.fr_net.proofs.Remaking.{with_links}
 use Rattle.fr_net.specs.Edits.{without}
 use Rattle.fr_net.specs.Faults.{IsNetworkOf}
 use Rattle.fr_net.specs.Graph.{AreDone, HasRoom, IsDone, KeepsRoom}
@@ -21,9 +22,6 @@ use Rattle.fr_net.specs.Order.{in_order}
 use Rattle.fr_net.specs.declared.graph.Done.{Done}
 use Rattle.fr_net.specs.declared.graph.Done.TheVariants.{Put, Taken}
 use Rattle.fr_net.specs.declared.graph.Graph.{Graph}
-
-abbrev with_links : ℕ → List (ℕ × ℕ) → Network
-with_links n links = record { nodes = n; links = links }
 
 -- a link taken out and put back
 back_permutes : (links : List (ℕ × ℕ)) (tail head : ℕ) → AreSingle links → Points links tail head → IsPermutation (added (without tail head links) tail head) links

@@ -20,6 +20,7 @@ pub record AreKept (n : ℕ) (links : List (ℕ × ℕ)) (starts : List ℕ) (en
   pub starts_length : length starts ≡ n + 1
   pub rows : (x : ℕ) → x < n → ShowsRow n links starts entries x
 
+-- so a graph keeps them
 abbrev pub IsGraph : Graph → Type 0
 IsGraph g = AreKept g.nodes g.links.items g.starts.items g.entries.items
 

@@ -40,7 +40,8 @@ fn first_unmet(row: &[(u32, First)], met: &[bool], from: usize) -> usize
 fn closed_by(alloc: Global, u: u32, path: &[Step]) -> Result<Vec<u32>, AllocError>
     ensures { IfOk result (λ walk. walk.items ≡ u ∷ (nodes_of path.now ++ u ∷ [])) }
 {
-    let mut walk = vec![in alloc; u]?;
+    let mut walk = Vec::with_capacity(alloc, path.len() + 2)?;
+    walk.push(u)?;
     for step in path {
         walk.push(step.node)?;
     }

@@ -8,7 +8,6 @@ use Rattle.fr_net.specs.ClosingSearch.{IsMet, IsRead, IsSearch, nodes_of}
 use Rattle.fr_net.specs.Limits.{most_nodes}
 use Rattle.fr_net.specs.Links.{Points}
 use Rattle.fr_net.specs.Rows.{row}
-use Rattle.fr_net.specs.declared.closing.Step.{Step}
 use Rattle.fr_net.specs.declared.rows.First.{First}
 use Rattle.fr_net.specs.declared.rows.First.TheVariants.{Outward}
 use Rattle.fr_net.proofs.closing.closing_walk.Goals as goal
@@ -82,10 +81,9 @@ returns-then-head-u c =
     let here = (goal.at.returns-then-head-u c).Then-place-row in
     let links = c.args.graph.now.links.items in
     let path = c.pop.new.self.items in
-    let moved : Step = record { node = c.in-Some.step.node; next = c.first_unmet-place.result + 1 } in
     let nodes : List ℕ = nodes_of path ++ c.in-Some.step.node ∷ [] in
     let before : nodes_of (path ++ c.in-Some.step ∷ []) ≡ nodes = nodes_more path c.in-Some.step in
-    let after : nodes_of c.deref-then-head-u.result.now ≡ nodes = ap nodes_of (c.deref-then-head-u.ensures.value ∙ c.in_ok-push.ensures.items) ∙ nodes_more path moved in
+    let after : nodes_of c.deref-then-head-u.result.now ≡ nodes = ap nodes_of (c.deref-then-head-u.ensures.value ∙ c.in_ok-push.ensures.items) ∙ nodes_more path _ in
     let points : Points links c.in-Some.step.node (head here) = out_of_row c.args.graph.now.nodes links c.in-Some.step.node (head here) (listed here) in
     let last : get_or nodes (length (nodes_of path)) 0 ≡ c.in-Some.step.node = get_or_push (nodes_of path) c.in-Some.step.node 0 (length (nodes_of path)) refl in
     let made : c.in_ok-closed_by.field-0.items ≡ c.args.u ∷ (nodes ++ c.args.u ∷ []) = rw after at c.in_ok-closed_by.ensures in
