@@ -153,8 +153,8 @@ at_first : (net : Network) (u v : ℕ) (next : Network) (rest : List ℕ) (after
 at_first net u v next rest after first then = record {
   keeps = λ x none. let parts = apart u v x rest none in then_at net.links next.links after.links x (first.keeps x parts.0 parts.1) (then.keeps x parts.2);
   below =
-    let others : All (λ (x : ℕ). x < net.nodes) rest = subst (λ (n : ℕ). All (λ (x : ℕ). x < n) rest) first.nodes then.below in
-    All-cons (λ (x : ℕ). x < net.nodes) u (v ∷ rest) first.tail (All-cons (λ (x : ℕ). x < net.nodes) v rest first.head others);
+      let others : All (λ (x : ℕ). x < net.nodes) rest = subst (λ (n : ℕ). All (λ (x : ℕ). x < n) rest) first.nodes then.below in
+      All-cons (λ (x : ℕ). x < net.nodes) u (v ∷ rest) first.tail (All-cons (λ (x : ℕ). x < net.nodes) v rest first.head others);
   is_net = then.is_net;
   order = λ sorted. then.order first.order;
 }
