@@ -122,7 +122,7 @@ module _ (net : Network) (d : ℕ) (counts : List ℕ) (is : IsNet net.nodes net
       let capped : Bool = slice_index counts x == net.nodes in
       let none : Bool = length (row net.nodes net.links x) == 0 in
       let decides = Decides-and (not (x == d)) (capped || none) (Decides-not (x == d) (Decides-eqb x d))
-          (Decides-or capped none (Decides-eqb (slice_index counts x) net.nodes) (Decides-eqb (length (row net.nodes net.links x)) 0)) in (
+      (Decides-or capped none (Decides-eqb (slice_index counts x) net.nodes) (Decides-eqb (length (row net.nodes net.links x)) 0)) in (
         (λ e. cut_off_from_parted x (decides.0 e)),
         (λ cut. decides.1 (parted_from_cut_off x below cut)),
       )

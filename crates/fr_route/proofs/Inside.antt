@@ -1,5 +1,5 @@
 -- What a router keeps once a round on a network is put in place.
-use Rattle.std.proofs.Common.{List, subst, sym, ℕ, ◌≡◌}
+use Rattle.std.proofs.Common.{subst, sym, ℕ, ◌≡◌}
 use Rattle.std.specs.declared.alloc.Global.{Global}
 use Rattle.std.specs.declared.vec.Vec.{Vec}
 use Rattle.fr_net.specs.Counts.{links_at}

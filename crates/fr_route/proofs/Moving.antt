@@ -1,11 +1,11 @@
 -- After a round that cut off no linked node: which nodes can turn once edits are made or the destination moves, and where the nodes
 -- that those do not touch send on to.
-use Rattle.std.proofs.Common.{List, ap, arith, inl, inr, refl, slice_index, subst, sum, sym, ℕ, ⊎_elim, ◌<◌, ◌∙◌, ◌∷◌, ◌≡◌, ◌⊎◌, Contains}
+use Rattle.std.proofs.Common.{List, arith, inl, inr, refl, slice_index, subst, sum, sym, ℕ, ⊎_elim, ◌<◌, ◌∷◌, ◌≡◌, Contains}
 use Rattle.std.specs.List.{All}
 use Rattle.std.proofs.lemmas.Bool.{cases_eq}
 use Rattle.std.proofs.lemmas.List.Elements.{All-cons, Contains-get_or}
 use Rattle.fr_net.specs.Batches.{AreMade}
-use Rattle.fr_net.specs.Links.{IsNet, Joins, Points}
+use Rattle.fr_net.specs.Links.{IsNet, Joins}
 use Rattle.fr_net.specs.Network.{Network}
 use Rattle.fr_net.specs.Turn.{IsSink}
 use Rattle.fr_net.specs.declared.requests.Edit.{Edit}

@@ -4,28 +4,26 @@ use Rattle.std.specs.Prelude.{not}
 use Rattle.std.specs.List.{All, filter}
 use Rattle.std.proofs.lemmas.Bool.{cases_Bool, cases_lt, false≢true}
 use Rattle.std.proofs.lemmas.List.{get_or-replicate, get_or_past, length-replicate, take_more}
-use Rattle.std.proofs.lemmas.List.Elements.{All-cons, All-nil, Contains-append_left, Contains-get_or, Contains-push, Contains-push_cases}
+use Rattle.std.proofs.lemmas.List.Elements.{All-cons, All-nil, Contains-append_left, Contains-push, Contains-push_cases}
 use Rattle.std.proofs.lemmas.List.Sorted.{IsPermutation-refl}
 use Rattle.std.proofs.lemmas.List.Sums.{sum_by-cons}
 use Rattle.fr_net.specs.Batches.{AreMade, IsMade}
 use Rattle.fr_net.specs.Counts.{links_at}
 use Rattle.fr_net.specs.Edits.{without}
 use Rattle.fr_net.specs.Faults.{IsNetworkOf}
-use Rattle.fr_net.specs.Links.{HaveSameLinks, IsNet, Joins, Points, is_between}
+use Rattle.fr_net.specs.Links.{HaveSameLinks, IsNet, Points, is_between}
 use Rattle.fr_net.specs.Network.{Network}
 use Rattle.fr_net.specs.Order.{AreInOrder, AreRising, in_order}
-use Rattle.fr_net.specs.Turn.{IsSink}
 use Rattle.fr_net.specs.declared.requests.Edit.{Edit}
 use Rattle.fr_net.specs.declared.requests.Edit.TheVariants.{Add, Cut, Join}
 use Rattle.fr_net.proofs.Building.{permuted_net}
 use Rattle.fr_net.proofs.Editing.{from_filter}
 use Rattle.fr_net.proofs.Linking.{joined_below, joined_from, link_below}
-use Rattle.fr_net.proofs.Members.{Contains-cases, Contains-head, Contains-none, Contains-tail, cases_some}
+use Rattle.fr_net.proofs.Members.{Contains-cases, Contains-head, Contains-tail}
 use Rattle.fr_net.proofs.Ordering.{in_order_order, order_of_listed}
 use Rattle.fr_core.proofs.Finishing.{links_at-zeros}
 use Rattle.fr_core.proofs.SameLinks.{same_from_permutation}
 use Rattle.fr_route.specs.Outcomes.{ends_of}
-use Rattle.fr_route.proofs.Changing.{made_nodes}
 
 -- the same links join x with others in both lists, and they point the same way
 pub record HaveSameAt (some other : List (ℕ × ℕ)) (x : ℕ) : Type 0 where
@@ -153,8 +151,8 @@ at_first : (net : Network) (u v : ℕ) (next : Network) (rest : List ℕ) (after
 at_first net u v next rest after first then = record {
   keeps = λ x none. let parts = apart u v x rest none in then_at net.links next.links after.links x (first.keeps x parts.0 parts.1) (then.keeps x parts.2);
   below =
-    let others : All (λ (x : ℕ). x < net.nodes) rest = subst (λ (n : ℕ). All (λ (x : ℕ). x < n) rest) first.nodes then.below in
-    All-cons (λ (x : ℕ). x < net.nodes) u (v ∷ rest) first.tail (All-cons (λ (x : ℕ). x < net.nodes) v rest first.head others);
+      let others : All (λ (x : ℕ). x < net.nodes) rest = subst (λ (n : ℕ). All (λ (x : ℕ). x < n) rest) first.nodes then.below in
+      All-cons (λ (x : ℕ). x < net.nodes) u (v ∷ rest) first.tail (All-cons (λ (x : ℕ). x < net.nodes) v rest first.head others);
   is_net = then.is_net;
   order = λ sorted. then.order first.order;
 }

@@ -1,6 +1,6 @@
 //! What a round on a network comes to, before any of it is put in place.
 
-ghost use Rattle.std.specs.Prelude.{◌≡◌, ◌≢◌, ◌<◌, ◌≤◌, [], ◌∷◌, All, length, sum, IfOk, IfErr, IfSome, Ok};
+ghost use Rattle.std.specs.Prelude.{◌≡◌, ◌≢◌, ◌<◌, ◌≤◌, [], ◌∷◌, All, length, sum, IfOk, IfErr, IfSome};
 ghost use Rattle.fr_crew.specs.Settlements.{HoldsSinks, IsCounted};
 ghost use Rattle.fr_crew.specs.Ways.{Settles, NeverStarts};
 ghost use Rattle.fr_net.specs.Counts.{IsKept, links_at};
@@ -50,31 +50,6 @@ pub(crate) fn outcome_of<F: Fn(&Net, u32, Option<&[u32]>) -> Result<Vec<u64>, Cr
         cut: cut_nodes(net, dest, &counts),
     };
     Ok(Outcome { counts, report })
-}
-
-/// The same, and what is told of its report.
-pub(crate) fn told_outcome<
-    T,
-    F: Fn(&Net, u32, Option<&[u32]>) -> Result<Vec<u64>, CrewFault>,
-    K: Fn(Report) -> Result<T, AllocError>,
->(
-    net: &Net,
-    dest: u32,
-    from: Option<&[u32]>,
-    way: &F,
-    tell: &K,
-) -> Result<(Outcome, T), RouteFault>
-    requires settles { Settles F.pre F.post way.now }
-    requires from { IfSome from (λ from. HoldsSinks net.now dest from.now) }
-    requires tells { K.IsAlwaysCallable tell.now }
-    ensures outcome { IfOk result (λ made. IsOutcome net.now dest made.0) }
-    ensures told { IfOk result (λ made. K.post tell.now made.0.report (Ok made.1)) }
-    ensures fault { IfErr result (IsOpenFault net.now.nodes dest) }
-    ensures no_start { NeverStarts F.post way.now → IfErr result (λ fault. fault ≢ Start) }
-{
-    let outcome = outcome_of(net, dest, from, way)?;
-    let told = tell(outcome.report)?;
-    Ok((outcome, told))
 }
 
 /// How many nodes are cut off after the round with these settled counts.
@@ -132,7 +107,11 @@ pub(crate) fn put_in_place(
 {
     net.network_law();
     turn_links(net, &outcome.counts, outcome.report.turned);
-    let moved = if outcome.report.turned == 0 { touched } else { None };
+    let moved = if outcome.report.turned == 0 {
+        touched
+    } else {
+        None
+    };
     renew_hops(hops, net, dest, &outcome.counts, moved);
 }
 

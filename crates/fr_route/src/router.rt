@@ -15,7 +15,7 @@ ghost use Rattle.fr_route.specs.Outcomes.{IsEdited, IsEditingFault, IsOutcome, t
 use crate::change::{Change, Report};
 use crate::fault::RouteFault;
 use crate::hops::{Hop, Walked, hop_table};
-use crate::outcome::{Outcome, outcome_of, put_in_place, told_outcome, touched_nodes, turn_links};
+use crate::outcome::{Outcome, outcome_of, put_in_place, touched_nodes, turn_links};
 use fr_crew::{CrewFault, Gate, Plan, settled_counts, settled_counts_alone};
 use fr_net::{Edit, MAX_EDITS, Net};
 use std::alloc::{AllocError, Global};
@@ -67,9 +67,7 @@ impl Router {
             dest,
             &|net, dest, from|
                 requires { IfSome from (λ from. HoldsSinks net.now dest from.now) }
-            {
-                settled_counts(rt, alloc, net, dest, from, plan, gate)
-            },
+            { settled_counts(rt, alloc, net, dest, from, plan, gate) },
         )
     }
 
@@ -135,9 +133,7 @@ impl Router {
             &change,
             &|net, dest, from|
                 requires { IfSome from (λ from. HoldsSinks net.now dest from.now) }
-            {
-                settled_counts(rt, alloc, net, dest, from, plan, gate)
-            },
+            { settled_counts(rt, alloc, net, dest, from, plan, gate) },
             &|report| Ok(report),
         )
     }
@@ -164,13 +160,7 @@ impl Router {
         T,
         F: Fn(&Net, u32, Option<&[u32]>) -> Result<Vec<u64>, CrewFault>,
         K: Fn(Report) -> Result<T, AllocError>,
-    >(
-        &mut self,
-        alloc: Global,
-        change: &Change,
-        way: &F,
-        tell: &K,
-    ) -> Result<T, RouteFault>
+    >(&mut self, alloc: Global, change: &Change, way: &F, tell: &K) -> Result<T, RouteFault>
         requires settles { Settles F.pre F.post way.now }
         requires tells { K.IsAlwaysCallable tell.now }
         ensures changed { IfOk result (λ _. IsChanged self.old change.now self.new) }
@@ -235,7 +225,9 @@ impl Router {
                 ensures fault { IfErr result (IsOpenFault net.entry.now.nodes dest) }
                 ensures no_start { NeverStarts F.post way.entry.now → IfErr result (λ fault. fault ≢ Start) }
             {
-                told_outcome(net, dest, from, way, tell)
+                let outcome = outcome_of(net, dest, from, way)?;
+                let told = tell(outcome.report)?;
+                Ok((outcome, told))
             },
         )?;
         put_in_place(&mut self.net, &mut self.hops, dest, &outcome, from);

@@ -84,9 +84,7 @@ impl Session {
             line,
             &|net, dest, from|
                 requires { IfSome from (λ from. HoldsSinks net.now dest from.now) }
-            {
-                settled_counts(rt, alloc, net, dest, from, plan, gate)
-            },
+            { settled_counts(rt, alloc, net, dest, from, plan, gate) },
         )
     }
 
@@ -153,9 +151,7 @@ impl Session {
             request,
             &|net, dest, from|
                 requires { IfSome from (λ from. HoldsSinks net.now dest from.now) }
-            {
-                settled_counts(rt, alloc, net, dest, from, plan, gate)
-            },
+            { settled_counts(rt, alloc, net, dest, from, plan, gate) },
         )
     }
 

@@ -2,9 +2,12 @@
 
 use crate::texts::check_text;
 use fr_crew::{OpenGate, Plan};
-use fr_net::{Net, Request, read_line};
+use fr_net::{Edit, Net, Request, read_line};
 use fr_route::{AnswerFault, Change, RouteFault, Router, Session};
 use fr_run::{RunFault, run_end};
+use rand_core::SeedableRng;
+use rand_core::utils::NextWord;
+use rand_pcg::Lcg64Xsh32;
 use std::alloc::{AllocError, Global};
 use std::io::Write;
 use std::sync::Wait;
@@ -187,6 +190,92 @@ fn routers_open_and_change(rt: HostRuntime) -> Result<(), Fail> {
         let text = change_text(&rt, rt.alloc(), &mut router, change, &plan);
         check_text(&rt, line, &text, end);
         check_text(&rt, line, &state_text(rt.alloc(), &router), state);
+    }
+    Ok(())
+}
+
+/// A change of a network of nine nodes, by the next words of a generator: mostly an edit, else a batch of three or a new destination.
+fn drawn_change(alloc: Global, generator: &mut Lcg64Xsh32) -> Result<Change, AllocError> {
+    let kind = generator.next_word() % 8;
+    let (u, v) = (generator.next_word() % 9, generator.next_word() % 9);
+    Ok(match kind {
+        0 | 1 => Change::Cut { u, v },
+        2 | 3 => Change::Add { u, v },
+        4 | 5 => Change::Join { u, v },
+        6 => {
+            let w = generator.next_word() % 9;
+            let edits = [
+                Edit::Join { u, v },
+                Edit::Join { u: v, v: w },
+                Edit::Cut { u, v },
+            ];
+            Change::Batch(edits.to_vec(alloc)?)
+        }
+        _ => Change::Destination { dest: u },
+    })
+}
+
+/// The router that opens on what a change makes of another one's network, if it can be made.
+fn opened_anew(alloc: Global, router: &Router, change: &Change) -> Option<Router> {
+    let (net, dest) = (router.net(), router.dest());
+    let (net, dest) = match change {
+        Change::Cut { u, v } => (net.with_cut(alloc, *u, *v).ok()?, dest),
+        Change::Add { u, v } => (net.with_link(alloc, *u, *v).ok()?, dest),
+        Change::Join { u, v } => (net.with_join(alloc, *u, *v).ok()?, dest),
+        Change::Batch(edits) => (net.with_edits(alloc, edits).ok()?, dest),
+        Change::Destination { dest } => (net.copied(alloc).ok()?, *dest),
+    };
+    Router::open_alone(alloc, net, dest).ok()
+}
+
+/// Whether two routers tell the same of links, counts, the round and each node's hop.
+fn agree(some: &Router, other: &Router) -> bool {
+    let (a, b) = (some.net(), other.net());
+    if a.nodes() != b.nodes() || a.links() != b.links() || some.dest() != other.dest() {
+        return false;
+    }
+    if some.counts() != other.counts() || some.report() != other.report() {
+        return false;
+    }
+    for x in 0..a.nodes() {
+        if some.next_hop(x) != other.next_hop(x) {
+            return false;
+        }
+    }
+    true
+}
+
+#[test]
+fn routers_change_as_they_open(rt: HostRuntime) -> Result<(), Fail> {
+    let alloc = rt.alloc();
+    let mut generator = Lcg64Xsh32::seed_from_u64(1);
+    let links = [
+        (0, 1),
+        (1, 2),
+        (2, 3),
+        (3, 4),
+        (0, 5),
+        (5, 6),
+        (6, 4),
+        (7, 8),
+    ];
+    let mut router = Router::open_alone(alloc, Net::new(alloc, 9, &links)?, 0)?;
+    for step in 0..3_000u32 {
+        let change = drawn_change(alloc, &mut generator)?;
+        let before = state_text(alloc, &router);
+        match opened_anew(alloc, &router, &change) {
+            Some(anew) => {
+                let end = router.change_alone(alloc, change);
+                assert!(rt; end.is_ok() && agree(&router, &anew), "step {step}");
+            }
+            None => {
+                let end = router.change_alone(alloc, change);
+                assert!(rt;
+                    end.is_err() && state_text(alloc, &router) == before,
+                    "step {step}"
+                );
+            }
+        }
     }
     Ok(())
 }

@@ -1,4 +1,4 @@
-use Rattle.std.proofs.Common.{Contains, List, add-one, arith, ap, drop, drop-cons, get_or, subst, sym, ℕ, ⊎_elim, ◌+◌, ◌∙◌, ◌∷◌, ◌≡◌}
+use Rattle.std.proofs.Common.{Contains, List, add-one, arith, drop, drop-cons, get_or, subst, sym, ℕ, ⊎_elim, ◌+◌}
 use Rattle.std.proofs.lemmas.List.{drop_all}
 use Rattle.fr_net.proofs.Members.{Contains-cases, Contains-none}
 use Rattle.fr_route.specs.Routes.{IsHop}

@@ -1,4 +1,4 @@
-use Rattle.std.proofs.Common.{Bool, ap, arith, inl, inr, ℕ, ◌∙◌, ◌≡◌}
+use Rattle.std.proofs.Common.{ap, arith, inl, inr, ℕ, ◌∙◌, ◌≡◌}
 use Rattle.std.specs.List.{count_by, range_with_len}
 use Rattle.fr_route.specs.Outcomes.{is_parted}
 use Rattle.fr_route.proofs.CutNodes.{count-range-le, count_next, parted_just}

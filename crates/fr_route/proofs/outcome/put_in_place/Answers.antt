@@ -1,4 +1,4 @@
-use Rattle.std.proofs.Common.{◌≡◌, ◌∙◌, IfSome, List, arith, ap, subst, sum, sym, ℕ}
+use Rattle.std.proofs.Common.{◌≡◌, ◌∙◌, IfSome, ap, subst, sum, sym, ℕ}
 use Rattle.fr_route.proofs.Shown.{some_weaker}
 use Rattle.fr_net.specs.Counts.{links_at}
 use Rattle.fr_net.specs.Network.{Network, net_of}

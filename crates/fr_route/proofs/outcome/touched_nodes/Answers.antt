@@ -1,4 +1,4 @@
-use Rattle.std.proofs.Common.{[], ap, ◌++◌, ◌∙◌, ◌∷◌, ◌≡◌, List, ℕ}
+use Rattle.std.proofs.Common.{[], ap, ◌++◌, ◌∙◌, ◌∷◌, List, ℕ}
 use Rattle.fr_route.proofs.Touched.{ends_more}
 use Rattle.fr_route.proofs.outcome.touched_nodes.Goals as goal
 

@@ -1,5 +1,4 @@
 use Rattle.std.proofs.Common.{◌≡◌, List, ap, arith, sum, sym, ℕ}
-use Rattle.fr_net.specs.Network.{Network}
 use Rattle.fr_route.proofs.Touched.{rising_order, still_links}
 use Rattle.fr_route.proofs.outcome.turn_links.Goals as goal
 

@@ -45,13 +45,15 @@ pub edit_if-requires : goal.edit_if-requires
 edit_if-requires g c = record {
   callable = λ made is. (
     c.requires.settles,
-    (c.requires.tells,
-    some_weaker c.as_deref-from.result _ _
-    (λ from are.
-    let s : State = state_of c.self.inside in
-    let below : c.args.dest < s.nodes = subst (λ (now : State). c.args.dest < now.nodes) (sym c.self.view_is) c.requires.node in
-    subst (HoldsSinks made.now c.args.dest) (sym are.0) (touched_sinks s c.self.invariant.round are.1 c.args.edits.now made.now c.args.dest below is))
-    (from_touched g (goal.at.edit_if-requires g c).After-as_deref-from)),
+    (
+      c.requires.tells,
+      some_weaker c.as_deref-from.result _ _
+          (λ from are.
+          let s : State = state_of c.self.inside in
+          let below : c.args.dest < s.nodes = subst (λ (now : State). c.args.dest < now.nodes) (sym c.self.view_is) c.requires.node in
+          subst (HoldsSinks made.now c.args.dest) (sym are.0) (touched_sinks s c.self.invariant.round are.1 c.args.edits.now made.now c.args.dest below is))
+          (from_touched g (goal.at.edit_if-requires g c).After-as_deref-from),
+    ),
   );
 }
 
