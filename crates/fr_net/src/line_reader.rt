@@ -1,6 +1,6 @@
 //! Reading line after line with the memory that the first one took.
 
-ghost use Rattle.std.specs.Prelude.{◌≡◌, ◌≢◌, [], ◌∷◌, Ok, Err, IfOk, IfErr, IfSome};
+ghost use Rattle.std.specs.Prelude.{◌≡◌, ◌≢◌, ◌∷◌, Ok, Err, IfOk, IfErr, IfSome};
 ghost use Rattle.json.specs.Lex.{tokens};
 ghost use Rattle.json.specs.Token.{begin_array, string};
 ghost use Rattle.fr_net.specs.declared.requests.LineFault.TheVariants.{Memory};
@@ -9,9 +9,8 @@ ghost use Rattle.fr_net.specs.LineTokens.{Tells, reading_of_tokens};
 
 use crate::read::{request_by_word, request_in};
 use crate::requests::{LineFault, Request};
-use crate::values::{push_items, value};
+use crate::values::{items, value};
 use json::{Reader, Scratch, Token};
-use serde_json::Value;
 use std::alloc::Global;
 use std::fmt;
 use std::str::from_utf8;
@@ -19,27 +18,17 @@ use std::str::from_utf8;
 /// How deep arrays and objects may nest, as `serde_json` has it.
 const DEPTH: usize = 127;
 
-/// How many items of an array a reader has room for from line to line.
-const KEPT_ITEMS: usize = 8;
-
-/// A reader of many lines. From its first line on it keeps the memory that reading takes: a table of 16 KB, room for the longest
-/// line so far, and room for a few items.
+/// A reader of many lines. From its first line on it keeps the memory that reading takes: a table of 16 KB, and room for the
+/// longest line so far.
 #[derive(Drop)]
 pub struct LineReader {
-    kept: Option<Box<Kept>>,
-}
-
-/// What is kept from line to line: the table, and a list for the items of an array.
-#[derive(Drop)]
-struct Kept {
-    scratch: Scratch,
-    items: Vec<Value>,
+    scratch: Option<Box<Scratch>>,
 }
 
 impl LineReader {
     /// A reader that has read no line yet, and holds no memory.
     pub fn new() -> LineReader {
-        LineReader { kept: None }
+        LineReader { scratch: None }
     }
 
     /// The request that a line is, as [`read_line`](crate::read_line) tells it; a fault other than want of memory is settled by
@@ -51,13 +40,12 @@ impl LineReader {
         let Ok(text) = from_utf8(line) else {
             return Err(LineFault::NotJson);
         };
-        let mut kept = match self.kept.take() {
-            Some(kept) => kept,
-            None => first_kept(alloc)?,
+        let mut scratch = match self.scratch.take() {
+            Some(scratch) => scratch,
+            None => new_scratch(alloc)?,
         };
-        let request = request_of_text(alloc, text, &mut kept);
-        empty(alloc, &mut kept.items);
-        self.kept = Some(kept);
+        let request = request_of_text(alloc, text, &mut scratch);
+        self.scratch = Some(scratch);
         request
     }
 }
@@ -68,38 +56,23 @@ impl fmt::Debug for LineReader {
     }
 }
 
-/// What is kept from the first line on, on the heap. The table is cleared here once, and not at each line.
+/// The table for a first line, on the heap. It is cleared here once, and not at each line.
 #[inline(never)]
-fn first_kept(alloc: Global) -> Result<Box<Kept>, LineFault>
+fn new_scratch(alloc: Global) -> Result<Box<Scratch>, LineFault>
     ensures { IfErr result (λ fault. fault ≡ Memory) }
 {
-    let kept = Kept {
-        scratch: Scratch::new(alloc),
-        items: Vec::new(alloc),
-    };
-    Ok(Box::new(alloc, kept)?)
-}
-
-/// Drops the items, and the room for them but for a few.
-fn empty(alloc: Global, items: &mut Vec<Value>)
-    ensures { items.new.items ≡ [] }
-{
-    if items.capacity() > KEPT_ITEMS {
-        *items = Vec::new(alloc);
-    } else {
-        items.clear();
-    }
+    Ok(Box::new(alloc, Scratch::new(alloc))?)
 }
 
 /// The request that a text is. A text that is no array of a word and other items is begun again, and read as one value.
-fn request_of_text(alloc: Global, text: &str, kept: &mut Kept) -> Result<Request, LineFault>
+fn request_of_text(alloc: Global, text: &str, scratch: &mut Scratch) -> Result<Request, LineFault>
     ensures { Tells (reading_of_tokens (tokens text.now)) result }
 {
-    let mut reader = Reader::new(text, &mut kept.scratch)?;
+    let mut reader = Reader::new(text, scratch)?;
     if let Some(word) = opening_word(&mut reader) {
-        return request_of_items(alloc, word, &mut reader, &mut kept.items);
+        return request_of_items(alloc, word, &mut reader);
     }
-    let mut reader = Reader::new(text, &mut kept.scratch)?;
+    let mut reader = Reader::new(text, scratch)?;
     request_of_value(alloc, &mut reader)
 }
 
@@ -117,22 +90,19 @@ fn opening_word<'a>(reader: &mut Reader<'a>) -> Option<&'a str>
     Some(word)
 }
 
-/// The request of an array that this word opens, with no copy of the word; the items after it are next, and `rest` takes them.
+/// The request of an array that this word opens, with no copy of the word; the items after it are next.
 fn request_of_items(
     alloc: Global,
     word: &str,
     reader: &mut Reader<'_>,
-    rest: &mut Vec<Value>,
 ) -> Result<Request, LineFault>
     ensures { Tells (reading_of_tokens (begin_array ∷ string word.now ∷ reader.old)) result }
 {
-    // It is empty already, but no clause says so.
-    rest.clear();
-    push_items(alloc, reader, DEPTH - 1, rest)?;
+    let rest = items(alloc, reader, DEPTH - 1)?;
     if reader.next().is_some() {
         return Err(LineFault::NotJson);
     }
-    request_by_word(alloc, word, rest)
+    request_by_word(alloc, word, &rest)
 }
 
 /// The request of the value that is next.

@@ -1,6 +1,6 @@
 //! Values of JSON from tokens, as `serde_json` has them, which makes a table of its own for each text.
 
-ghost use Rattle.std.specs.Prelude.{◌≡◌, ◌≢◌, ◌<◌, [], length, false, true, Some, None, option_map, IfOk, IfErr, OnOk};
+ghost use Rattle.std.specs.Prelude.{◌≡◌, ◌≢◌, ◌<◌, length, false, true, Some, None, option_map, IfOk, IfErr, OnOk};
 ghost use Rattle.fast_float.specs.Text.{scan};
 ghost use Rattle.json.specs.Json.{value as json_value, items as json_items, members as json_members};
 ghost use Rattle.serde_json.specs.Data.{no_members};
@@ -55,7 +55,11 @@ pub(crate) fn value(
 /// The values up to the end of an array, and its closing bracket.
 #[cycle(value)]
 #[inline(never)]
-fn items(alloc: Global, reader: &mut Reader<'_>, depth: usize) -> Result<Vec<Value>, LineFault>
+pub(crate) fn items(
+    alloc: Global,
+    reader: &mut Reader<'_>,
+    depth: usize,
+) -> Result<Vec<Value>, LineFault>
     ensures ok { IfOk result (λ found. converted of_items (json_items (json_value depth) (length reader.old) reader.old)
         ≡ Some (items_view found.items, reader.new)) }
     ensures refused { IfErr result (λ fault. fault ≢ Memory → (fault ≡ NotJson)
@@ -63,31 +67,11 @@ fn items(alloc: Global, reader: &mut Reader<'_>, depth: usize) -> Result<Vec<Val
     ensures shorter { OnOk result (length reader.new < length reader.old) }
 {
     let mut found = Vec::new(alloc);
-    push_items(alloc, reader, depth, &mut found)?;
-    Ok(found)
-}
-
-/// The same values, pushed onto a list that is empty.
-#[cycle(value)]
-#[inline(always)]
-pub(crate) fn push_items(
-    alloc: Global,
-    reader: &mut Reader<'_>,
-    depth: usize,
-    found: &mut Vec<Value>,
-) -> Result<(), LineFault>
-    requires { found.old.items ≡ [] }
-    ensures ok { OnOk result (converted of_items (json_items (json_value depth) (length reader.old) reader.old)
-        ≡ Some (items_view found.new.items, reader.new)) }
-    ensures refused { IfErr result (λ fault. fault ≢ Memory → (fault ≡ NotJson)
-        × (converted of_items (json_items (json_value depth) (length reader.old) reader.old) ≡ None)) }
-    ensures shorter { OnOk result (length reader.new < length reader.old) }
-{
     'items: while !reader.take_end_array() {
         let item = value(alloc, reader, depth)?;
         found.push(item)?;
     }
-    Ok(())
+    Ok(found)
 }
 
 /// The members up to the end of an object, and its closing brace.

@@ -104,13 +104,13 @@ value-returns-in-EndObject-clause-refused t c _ =
     let none : value c.args.depth c.args.reader.now ≡ None = rw (value_is c.args.depth c.args.reader.now, first) (grind arith) in
     (refl, ap (converted of_json) none)
 
-pub push_items-items-init : goal.push_items-items-init
-push_items-items-init t c =
+pub items-items-init : goal.items-items-init
+items-items-init t c =
     let all = converted of_items (items (value c.args.depth) (length c.args.reader.now) c.args.reader.now) in
-    (length c.args.reader.now, omega arith, none_yet all ∙ ap (λ vs. parse_map (then_items vs) all) (sym c.requires), omega arith)
+    (length c.args.reader.now, omega arith, none_yet all ∙ ap (λ vs. parse_map (then_items vs) all) (sym c.new-found.ensures.items), omega arith)
 
-pub push_items-items-preserved : goal.push_items-items-preserved
-push_items-items-preserved t c =
+pub items-items-preserved : goal.items-items-preserved
+items-items-preserved t c =
     let p = value c.args.depth in
     let l = c.items in
     let most = l.invariant.0 in
@@ -127,8 +127,8 @@ push_items-items-preserved t c =
       omega (arith, l.invariant.3),
     )
 
-pub push_items-returns-in_err-item-clause-refused : goal.push_items-returns-in_err-item-clause-refused
-push_items-returns-in_err-item-clause-refused t c =
+pub items-returns-in_err-item-clause-refused : goal.items-returns-in_err-item-clause-refused
+items-returns-in_err-item-clause-refused t c =
     let p = value c.args.depth in
     let l = c.items in
     let f = c.in_err-item.field-0.0 in
@@ -137,8 +137,8 @@ push_items-returns-in_err-item-clause-refused t c =
     let why = c.in_err-item.ensures.refused other in (why.0, l.invariant.2 ∙ ap (parse_map (then_items l.found.items)) (item_refused p l.invariant.0 l.reader going.0 (rw (← going.1) why.1))) in
     search rules
 
-pub push_items-returns-clause-ok : goal.push_items-returns-clause-ok
-push_items-returns-clause-ok t c =
+pub items-returns-clause-ok : goal.items-returns-clause-ok
+items-returns-clause-ok t c =
     let p = value c.args.depth in
     let l = c.items in
     let r = c.take_end_array.new.self in

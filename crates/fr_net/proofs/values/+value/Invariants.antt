@@ -7,26 +7,23 @@ use Rattle.fr_net.proofs.TokenItems.{then_items}
 use Rattle.fr_net.proofs.values.+value.Given as goal
 
 abbrev pub decreases-value : goal.decreases-value
-decreases-value l = 3 * l.depth
+decreases-value l = 2 * l.depth
 
 abbrev pub decreases-items : goal.decreases-items
-decreases-items l = 3 * l.depth + 2
-
-abbrev pub decreases-push_items : goal.decreases-push_items
-decreases-push_items l = 3 * l.depth + 1
+decreases-items l = 2 * l.depth + 1
 
 abbrev pub decreases-members : goal.decreases-members
-decreases-members l = 3 * l.depth + 1
+decreases-members l = 2 * l.depth + 1
 
 -- the values so far, and those ahead, are the items of the array; `most` is enough turns for those ahead
-abbrev pub invariant-push_items-items : goal.invariant-push_items-items
-invariant-push_items-items l =
+abbrev pub invariant-items-items : goal.invariant-items-items
+invariant-items-items l =
     (most : ℕ) × (length l.reader ≤ most)
     × (converted of_items (items (value l.depth) (length l.initial.reader) l.initial.reader) ≡ parse_map (then_items l.found.items) (converted of_items (items (value l.depth) most l.reader)))
     × (length l.reader ≤ length l.initial.reader)
 
-abbrev pub decreases-push_items-items : goal.decreases-push_items-items
-decreases-push_items-items l = length l.reader
+abbrev pub decreases-items-items : goal.decreases-items-items
+decreases-items-items l = length l.reader
 
 -- the members so far, with those ahead put among them, are the members of the object
 abbrev pub invariant-members-members : goal.invariant-members-members
