@@ -115,6 +115,11 @@ impl Router {
     /// for `NoLink` alone, an added link for what `Net::with_link` names, a join for what `Net::with_join` names, and a batch for the
     /// first edit that `Net::with_edits` refuses, or its length; `Range` for a destination that is no node, and only there; `Start` and `Memory` as in `open`. Any
     /// fault leaves the router as it was.
+    ///
+    /// The change is made where the network stands, and all that can fail is done before any of it stays. Where the last round
+    /// cut off no linked node, only the ends of the links and the two destinations are looked at for what can turn; where none can,
+    /// only their hops are made anew, and all else is a few passes over the counts. Else the hops are made anew in time linear in
+    /// nodes and links, behind the round.
     pub fn change<R: Threads + Wait + Sync, G: Gate + Sync>(
         &mut self,
         rt: &R,

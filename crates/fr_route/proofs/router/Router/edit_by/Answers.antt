@@ -36,7 +36,7 @@ edits_made g c = c.in_ok-outcome.ensures.ok.0
 outcome_is : (g : Over) (c : In_ok-outcome g) → IsOutcome c.edit_if.new.self c.args.dest c.in_ok-outcome.outcome
 outcome_is g c =
     let ok = c.in_ok-outcome.ensures.ok in
-    subst (λ (m : Network). IsOutcome m c.args.dest c.in_ok-outcome.outcome) ok.1.shows ok.1.says.met.0
+    subst (λ (m : Network). IsOutcome m c.args.dest c.in_ok-outcome.outcome) {y = c.edit_if.new.self} ok.1.shows ok.1.says.met.0
 
 in_range : (g : Over) (c : After-touched g) → c.args.dest < (state_of c.self.inside).nodes
 in_range g c = subst (λ (now : State). c.args.dest < now.nodes) (sym c.self.view_is) c.requires.node
@@ -69,7 +69,7 @@ returns-in_err-outcome-clause-fault g c =
       | Fault fault ↦ λ is.
           let why = rw is at c.in_err-outcome.ensures.refused in
           round_fault s edits why.0.nodes c.args.dest fault (omega (arith, below, made_nodes c.self.inside.net edits why.0 why.1.0))
-          (subst (λ (m : Network). IsOpenFault m.nodes c.args.dest fault) why.1.1.1.shows why.1.1.1.says.met.1.1.0)
+          (subst (λ (m : Network). IsOpenFault m.nodes c.args.dest fault) {y = why.0} why.1.1.1.shows why.1.1.1.says.met.1.1.0)
     ] in
     let p = err_from_is_err_and c.from_residual-in_err-outcome.result c.from_residual-in_err-outcome.ensures.1 in
     rw (p.1, p.2) (subst (λ (now : State). IsEditingFault now edits (of_not_edited reason)) c.self.view_is (fault reason refl))
