@@ -11,6 +11,7 @@ pub mod Batches
 pub mod RowLists
 pub mod Halves
 pub mod TurnedRows
+pub mod Tables
 pub mod CycleSearch
 pub mod ClosingSearch
 pub mod Graph

@@ -20,6 +20,7 @@ mod line_reader;
 mod network;
 mod read;
 mod requests;
+mod row_table;
 mod rows;
 mod turned;
 mod values;

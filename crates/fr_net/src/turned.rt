@@ -32,7 +32,7 @@ fn turned_at(entry: (u32, First), x: u32, counts: &[u64]) -> (u32, First)
 }
 
 /// Turns each link of the row of `x` as the counts say.
-fn turn_row(row: &mut [(u32, First)], x: u32, counts: &[u64])
+pub(crate) fn turn_row(row: &mut [(u32, First)], x: u32, counts: &[u64])
     requires node { x < length counts.now }
     requires below { All (λ (e : ℕ × First). e.0 < length counts.now) row.old }
     ensures { row.new ≡ map (turned_entry counts.now x) row.old }
@@ -43,7 +43,7 @@ fn turn_row(row: &mut [(u32, First)], x: u32, counts: &[u64])
 }
 
 /// Reverses the entry of `w` in the row, which has one.
-fn reverse_entry(row: &mut [(u32, First)], w: u32)
+pub(crate) fn reverse_entry(row: &mut [(u32, First)], w: u32)
     requires rising { IsStrictlyIncreasing (map (λ (e : ℕ × First). e.0) row.old) }
     requires stands { Contains (map (λ (e : ℕ × First). e.0) row.old) w }
     ensures { row.new ≡ map (reversed_at w) row.old }

@@ -1,0 +1,254 @@
+//! Rows of neighbours, one for each node, in one list, with room behind each row: a row grows and shrinks where it stands, and no
+//! other moves.
+
+ghost use Rattle.std.specs.Prelude.{◌≡◌, ℕ, ◌<◌, ◌≤◌, ◌+◌, ◌-◌, ◌==◌, ◌++◌, [], ◌∷◌, length, map, take, drop, slice_index, slice_range, insert, remove, count_by, IfOk, OnOk, OnErr, IsTrue, All, Contains};
+ghost use Rattle.std.specs.List.{range_with_len};
+ghost use Rattle.std.specs.List.Sorted.{IsStrictlyIncreasing};
+ghost use Rattle.fr_net.specs.RowLists.{turned_entry};
+ghost use Rattle.fr_net.specs.Tables.{ArePacked, HasRoomIn, KeepsRooms, has_none, row_of, with_row};
+ghost use Rattle.fr_net.specs.TurnedRows.{reversed_at};
+
+use crate::limits::MAX_LINKS;
+use crate::rows::First;
+use crate::turned::{reverse_entry, turn_row};
+use std::alloc::{AllocError, Global};
+use std::marker::Model;
+
+/// How many entries all rows together may have room for before what they do not need is given back: four times as many as a
+/// network has at most.
+const MOST_ROOM: usize = 8 * MAX_LINKS;
+
+/// Rows of neighbours, one for each node. Contracts see the rows, and how many entries each has room for.
+#[derive(Debug, Drop)]
+pub(crate) struct RowTable {
+    // Row x stands in `entries` from `starts[x]` up to `ends[x]`, and its room goes on up to `starts[x + 1]`.
+    starts: Vec<usize>,
+    ends: Vec<usize>,
+    entries: Vec<(u32, First)>,
+    // How many rows are empty.
+    empty: usize,
+}
+
+impl Model for RowTable {
+    ghost use Rattle.fr_net.specs.Tables.{Table};
+
+    ghost Value = { Table };
+
+    ghost use Rattle.fr_net.specs.Tables.{table_of, IsTable};
+
+    ghost view = { table_of };
+
+    ghost invariant = { IsTable };
+}
+
+/// How many of the rows between these starts and ends are empty.
+fn empty_between(starts: &[usize], ends: &[usize]) -> usize
+    requires { length starts.now ≡ length ends.now + 1 }
+    ensures { result ≡ count_by (λ x. slice_index starts.now x == slice_index ends.now x) (range_with_len 0 (length ends.now)) }
+{
+    let mut empty = 0;
+    for x in 0..ends.len() {
+        if starts[x] == ends[x] {
+            empty += 1;
+        }
+    }
+    empty
+}
+
+/// Puts the entry first, and each other one place on: the last one is lost.
+fn shift_in(entries: &mut [(u32, First)], entry: (u32, First))
+    requires { 0 < length entries.old }
+    ensures { entries.new ≡ take (length entries.old) (entry ∷ entries.old) }
+{
+    let mut carried = entry;
+    for here in entries.iter_mut() {
+        let next = *here;
+        *here = carried;
+        carried = next;
+    }
+}
+
+/// Puts each entry but the first one place back: the first one is lost, and the last one stands twice.
+fn shift_out(entries: &mut [(u32, First)])
+    requires { 0 < length entries.old }
+    ensures one_each { length entries.new ≡ length entries.old }
+    ensures rest { take (length entries.old - 1) entries.new ≡ drop 1 entries.old }
+{
+    for place in 1..entries.len() {
+        entries[place - 1] = entries[place];
+    }
+}
+
+impl RowTable {
+    /// No rows yet, and room for so many, with so many entries and places for more.
+    fn with_capacity(alloc: Global, rows: usize, entries: usize) -> Result<RowTable, AllocError>
+        ensures { IfOk result (λ table. (table.rows ≡ []) × (table.rooms ≡ [])) }
+    {
+        let mut starts = Vec::with_capacity(alloc, rows + 1)?;
+        starts.push(0)?;
+        Ok(RowTable {
+            starts,
+            ends: Vec::with_capacity(alloc, rows)?,
+            entries: Vec::with_capacity(alloc, entries)?,
+            empty: 0,
+        })
+    }
+
+    /// Puts a row behind the others, with room for so many entries.
+    fn push_row(&mut self, row: &[(u32, First)], room: usize) -> Result<(), AllocError>
+        requires { length row.now ≤ room }
+        ensures rows { OnOk result (self.new.rows ≡ self.old.rows ++ row.now ∷ []) }
+        ensures rooms { OnOk result (self.new.rooms ≡ self.old.rooms ++ room ∷ []) }
+    {
+        let start = self.entries.len();
+        self.entries.extend_from_slice(row)?;
+        self.ends.push(self.entries.len())?;
+        self.entries.resize(start + room, (0, First::Outward))?;
+        self.starts.push(self.entries.len())?;
+        if row.is_empty() {
+            self.empty += 1;
+        }
+        Ok(())
+    }
+
+    /// The same rows laid out anew, each with room to grow by half and four more; and, if room is kept, with no less than it has.
+    fn laid_out(&self, alloc: Global, keeps_room: bool) -> Result<RowTable, AllocError>
+        ensures rows { IfOk result (λ table. table.rows ≡ self.now.rows) }
+        ensures room { IfOk result (λ table. (x : ℕ) → x < length self.now.rows → HasRoomIn table x) }
+        ensures kept { IsTrue keeps_room → IfOk result (KeepsRooms self.now) }
+    {
+        let rows = self.ends.len();
+        let room = self.entries.len() + self.entries.len() / 2 + 4 * rows;
+        let mut table = RowTable::with_capacity(alloc, rows, room)?;
+        for x in 0..rows {
+            let row = self.row(x as u32);
+            let wide = row.len() + row.len() / 2 + 4;
+            let held = self.starts[x + 1] - self.starts[x];
+            table.push_row(row, if keeps_room { wide.max(held) } else { wide })?;
+        }
+        Ok(table)
+    }
+
+    /// The table of rows that stand one behind the other between these starts, with no room for more.
+    pub(crate) fn packed(
+        alloc: Global,
+        starts: Vec<usize>,
+        entries: Vec<(u32, First)>,
+    ) -> Result<RowTable, AllocError>
+        requires { ArePacked starts.items entries.items }
+        ensures one_each { IfOk result (λ table. length table.rows + 1 ≡ length starts.items) }
+        ensures rows { IfOk result (λ table. (x : ℕ) → x + 1 < length starts.items
+            → row_of table x ≡ slice_range entries.items (slice_index starts.items x) (slice_index starts.items (x + 1))) }
+    {
+        let ends = starts[1..].to_vec(alloc)?;
+        let empty = empty_between(&starts, &ends);
+        Ok(RowTable {
+            starts,
+            ends,
+            entries,
+            empty,
+        })
+    }
+
+    /// The row of `x`.
+    pub(crate) fn row(&self, x: u32) -> &[(u32, First)]
+        requires { x < length self.now.rows }
+        ensures { result.now ≡ row_of self.now x }
+    {
+        &self.entries[self.starts[x as usize]..self.ends[x as usize]]
+    }
+
+    /// How many rows are empty. It takes the same time for each table.
+    pub(crate) fn empty_rows(&self) -> usize
+        ensures { result ≡ count_by has_none self.now.rows }
+    {
+        self.empty
+    }
+
+    /// A copy, with as much room in each row.
+    pub(crate) fn copied(&self, alloc: Global) -> Result<RowTable, AllocError>
+        ensures { IfOk result (λ copy. copy ≡ self.now) }
+    {
+        Ok(RowTable {
+            starts: self.starts.to_vec(alloc)?,
+            ends: self.ends.to_vec(alloc)?,
+            entries: self.entries.to_vec(alloc)?,
+            empty: self.empty,
+        })
+    }
+
+    /// Takes room for one entry more in the row of `x`. Where it has none, all rows are laid out anew, each with room to grow by half and four more.
+    pub(crate) fn make_room(&mut self, alloc: Global, x: u32) -> Result<(), AllocError>
+        requires { x < length self.old.rows }
+        ensures rows { self.new.rows ≡ self.old.rows }
+        ensures kept { KeepsRooms self.old self.new }
+        ensures room { OnOk result (HasRoomIn self.new x) }
+        ensures unchanged { OnErr result (self.new ≡ self.old) }
+    {
+        if self.ends[x as usize] == self.starts[x as usize + 1] {
+            *self = self.laid_out(alloc, true)?;
+        }
+        Ok(())
+    }
+
+    /// Gives back room that rows no longer need, where all rows together have room for far more than a network has entries.
+    pub(crate) fn trim(&mut self, alloc: Global) -> Result<(), AllocError>
+        ensures rows { self.new.rows ≡ self.old.rows }
+    {
+        if self.entries.len() > MOST_ROOM {
+            *self = self.laid_out(alloc, false)?;
+        }
+        Ok(())
+    }
+
+    /// Puts an entry into the row of `x`, which has room for it, before the entry at this place.
+    pub(crate) fn insert(&mut self, x: u32, place: usize, entry: (u32, First))
+        requires row { x < length self.old.rows }
+        requires place { place ≤ length (row_of self.old x) }
+        requires room { HasRoomIn self.old x }
+        ensures { self.new ≡ with_row self.old x (insert (row_of self.old x) place entry) }
+    {
+        let start = self.starts[x as usize];
+        let end = self.ends[x as usize];
+        if start == end {
+            self.empty -= 1;
+        }
+        shift_in(&mut self.entries[start + place..end + 1], entry);
+        self.ends[x as usize] = end + 1;
+    }
+
+    /// Takes the entry at this place out of the row of `x`.
+    pub(crate) fn remove(&mut self, x: u32, place: usize)
+        requires row { x < length self.old.rows }
+        requires place { place < length (row_of self.old x) }
+        ensures { self.new ≡ with_row self.old x (remove (row_of self.old x) place) }
+    {
+        let start = self.starts[x as usize];
+        let end = self.ends[x as usize] - 1;
+        shift_out(&mut self.entries[start + place..end + 1]);
+        self.ends[x as usize] = end;
+        if start == end {
+            self.empty += 1;
+        }
+    }
+
+    /// Turns each link of the row of `x` as the counts say.
+    pub(crate) fn turn_row(&mut self, x: u32, counts: &[u64])
+        requires row { x < length self.old.rows }
+        requires node { x < length counts.now }
+        requires below { All (λ (e : ℕ × First). e.0 < length counts.now) (row_of self.old x) }
+        ensures { self.new ≡ with_row self.old x (map (turned_entry counts.now x) (row_of self.old x)) }
+    {
+        turn_row(&mut self.entries[self.starts[x as usize]..self.ends[x as usize]], x, counts);
+    }
+
+    /// Reverses the entry of `w` in the row of `x`, which has one.
+    pub(crate) fn reverse_entry(&mut self, x: u32, w: u32)
+        requires row { x < length self.old.rows }
+        requires rising { IsStrictlyIncreasing (map (λ (e : ℕ × First). e.0) (row_of self.old x)) }
+        requires stands { Contains (map (λ (e : ℕ × First). e.0) (row_of self.old x)) w }
+        ensures { self.new ≡ with_row self.old x (map (reversed_at w) (row_of self.old x)) }
+    {
+        reverse_entry(&mut self.entries[self.starts[x as usize]..self.ends[x as usize]], w);
+    }
+}
