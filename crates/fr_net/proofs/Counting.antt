@@ -1,8 +1,9 @@
 -- How many elements of a list pass a test.
-use Rattle.std.proofs.Common.{Bool, List, None, Option, Some, [], ap, arith, cond, count_by, false, get_or, inl, inr, length, refl, suc, true, zero, ℕ, ◌+◌, ◌<◌, ◌∷◌, ◌≡◌, ◌≤◌, ◌⊎◌}
-use Rattle.std.specs.List.{cons_option, filter_map}
+use Rattle.std.proofs.Common.{add-one, Bool, List, None, Option, Some, [], ap, arith, cond, count_by, false, get_or, inl, inr, length, refl, suc, sym, true, zero, zero-add, ℕ, ◌∙◌, ◌+◌, ◌<◌, ◌∷◌, ◌≡◌, ◌≤◌, ◌⊎◌}
+use Rattle.std.specs.List.{cons_option, filter_map, range_with_len}
 use Rattle.std.proofs.lemmas.Bool.{cases_Bool, cases_lt}
-use Rattle.std.proofs.lemmas.List.Sums.{get_or-le-sum_by, sum_by-cons}
+use Rattle.std.proofs.lemmas.List.FromFn.{length-range_with_len}
+use Rattle.std.proofs.lemmas.List.Sums.{count_by-le-length, get_or-le-sum_by, sum_by-cons}
 
 -- a link counts once, whichever of its halves_of_link is at (u, v)
 abbrev pub weigh : Bool → ℕ
@@ -75,3 +76,39 @@ count-filter_map p f [] = refl
 count-filter_map {X} p f (x ∷ xs) =
     let weight : X → ℕ = λ y. weigh (passes p (f y)) in
     omega (arith, count-cons_option p (f x) (filter_map f xs), sum_by-cons weight x xs, count-filter_map p f xs)
+
+-- two tests that agree below a + n count alike
+pub count-range_agree : (p q : ℕ → Bool) (a n : ℕ) → ((x : ℕ) → x < a + n → p x ≡ q x) → count_by p (range_with_len a n) ≡ count_by q (range_with_len a n)
+count-range_agree p q a zero same = refl
+count-range_agree p q a (suc n) same =
+    let f : ℕ → ℕ = λ x. cond (p x) 1 0 in
+    let g : ℕ → ℕ = λ x. cond (q x) 1 0 in
+    let here : f a ≡ g a = ap (λ (b : Bool). cond b 1 0) (same a (omega arith)) in
+    omega (arith, sum_by-cons f a (range_with_len (a + 1) n), sum_by-cons g a (range_with_len (a + 1) n), here, count-range_agree p q (a + 1) n (λ x l. same x (omega arith)))
+
+count-range_next : (p : ℕ → Bool) (a n k : ℕ) → a + n ≡ k → count_by p (range_with_len a (suc n)) ≡ count_by p (range_with_len a n) + cond (p k) 1 0
+count-range_next p a zero k is =
+    let f : ℕ → ℕ = λ x. cond (p x) 1 0 in
+    let here : f a ≡ f k = ap f (omega arith) in
+    omega (arith, sum_by-cons f a [], here)
+count-range_next p a (suc n) k is =
+    let f : ℕ → ℕ = λ x. cond (p x) 1 0 in
+    omega (arith, sum_by-cons f a (range_with_len (a + 1) (suc n)), sum_by-cons f a (range_with_len (a + 1) n), count-range_next p (a + 1) n k (omega arith))
+
+-- how many of the numbers from 0 on pass a test, once one more is tried
+pub count-range_more : (p : ℕ → Bool) (n : ℕ) → count_by p (range_with_len 0 (n + 1)) ≡ count_by p (range_with_len 0 n) + cond (p n) 1 0
+count-range_more p n = rw add-one (count-range_next p 0 n n (zero-add n))
+
+-- the count so far, with the test of one number more
+pub count_next : (p : ℕ → Bool) (n k next : ℕ) (b : Bool) → b ≡ p n → k ≡ count_by p (range_with_len 0 n) → ((b ≡ true) × (next ≡ k + 1)) ⊎ ((b ≡ false) × (next ≡ k)) → next ≡ count_by p (range_with_len 0 (n + 1))
+count_next p n k next b is so_far (inl (passes, more)) =
+    let weight : Bool → ℕ = λ t. cond t 1 0 in
+    let one : weight (p n) ≡ weight true = ap weight (sym is ∙ passes) in
+    omega (arith, count-range_more p n, one, so_far, more)
+count_next p n k next b is so_far (inr (fails, same)) =
+    let weight : Bool → ℕ = λ t. cond t 1 0 in
+    let none : weight (p n) ≡ weight false = ap weight (sym is ∙ fails) in
+    omega (arith, count-range_more p n, none, so_far, same)
+
+pub count-range-le : (p : ℕ → Bool) (a n : ℕ) → count_by p (range_with_len a n) ≤ n
+count-range-le p a n = omega (arith, count_by-le-length p (range_with_len a n), length-range_with_len a n)

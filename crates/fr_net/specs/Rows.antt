@@ -1,6 +1,6 @@
 -- The neighbours of a node, as a row.
-use Rattle.std.specs.Prelude.{ℕ, zero, suc, ◌==◌, ◌&&◌, ◌++◌, Bool, if◌then◌else◌, List, [], Option, Some, None, option_to_list}
-use Rattle.std.specs.List.{list_any}
+use Rattle.std.specs.Prelude.{ℕ, zero, suc, ◌==◌, ◌&&◌, ◌++◌, Bool, if◌then◌else◌, List, [], length, Option, Some, None, option_to_list, count_by}
+use Rattle.std.specs.List.{list_any, range_with_len}
 use Rattle.fr_net.specs.declared.rows.First.{First}
 use Rattle.fr_net.specs.declared.rows.First.TheVariants.{Outward, Inward}
 
@@ -19,3 +19,11 @@ row_entry links x w =
 abbrev pub row : ℕ → List (ℕ × ℕ) → ℕ → List (ℕ × First)
 row zero links x = []
 row (suc w) links x = row w links x ++ option_to_list (row_entry links x w)
+
+-- whether x has no neighbour
+abbrev pub has_no_neighbour : ℕ → List (ℕ × ℕ) → ℕ → Bool
+has_no_neighbour n links x = length (row n links x) == 0
+
+-- how many of n nodes have none
+abbrev pub alone_count : ℕ → List (ℕ × ℕ) → ℕ
+alone_count n links = count_by (has_no_neighbour n links) (range_with_len 0 n)

@@ -8,7 +8,7 @@ ghost use Rattle.fr_net.specs.Network.{Network};
 ghost use Rattle.fr_net.specs.Links.{Joins};
 ghost use Rattle.fr_net.specs.Order.{AreRising};
 ghost use Rattle.fr_net.specs.Counts.{IsKept, links_at};
-ghost use Rattle.fr_net.specs.Rows.{row};
+ghost use Rattle.fr_net.specs.Rows.{alone_count, row};
 ghost use Rattle.fr_net.specs.declared.fault.NetFault.TheVariants.{Memory, TooMany};
 ghost use Rattle.fr_net.specs.Faults.{IsFaultless, IsFirstFault, IsNetworkOf};
 ghost use Rattle.fr_net.specs.Edits.{IsCutFault, IsJoined, IsJoinFault, without};
@@ -111,12 +111,40 @@ impl Net {
         let _nodes = self.graph.nodes;
     }
 
-    /// The links in rising order of tail, then head, none twice.
-    pub fn links(&self) -> &[(u32, u32)]
-        ensures value { result.now ≡ self.now.links }
-        ensures rising { AreRising self.now.links }
+    /// How many links there are.
+    pub fn link_count(&self) -> usize
+        ensures { result ≡ length self.now.links }
     {
-        &self.graph.links
+        self.graph.links.len()
+    }
+
+    /// The links in rising order of tail, then head, none twice: a list of them, written from the rows in time linear in nodes and links.
+    /// `AllocError` where no room could be had.
+    pub fn links(&self, alloc: Global) -> Result<Vec<(u32, u32)>, AllocError>
+        ensures { IfOk result (λ links. links.items ≡ self.now.links) }
+    {
+        self.graph.links.to_vec(alloc)
+    }
+
+    /// The law of the order of a network's links: each is before the next one, by tail, then head. It does nothing, as
+    /// [`network_law`](Net::network_law).
+    pub fn order_law(&self)
+        ensures { AreRising self.now.links }
+    {
+        let _nodes = self.graph.nodes;
+    }
+
+    /// How many nodes no link joins with another.
+    pub fn alone(&self) -> u32
+        ensures { result ≡ alone_count self.now.nodes self.now.links }
+    {
+        let mut alone = 0;
+        for x in 0..self.nodes() {
+            if self.degree(x) == 0 {
+                alone += 1;
+            }
+        }
+        alone
     }
 
     /// How many neighbours node `x` has, which has to be a node.

@@ -11,6 +11,7 @@ use Rattle.fr_net.specs.Links.{IsNet}
 use Rattle.fr_net.specs.Network.{Network, net_of}
 use Rattle.fr_net.specs.Counts.{links_at}
 use Rattle.fr_net.specs.Rows.{row}
+use Rattle.fr_net.proofs.Counting.{count-range_agree}
 use Rattle.fr_net.proofs.Neighbours.{row_alone, row_linked}
 use Rattle.fr_core.specs.Settled.{IsSettledCount}
 use Rattle.fr_crew.specs.Settlements.{IsCounted}
@@ -21,15 +22,6 @@ use Rattle.fr_route.specs.Routes.{IsHop, AreHops, is_cut_off}
 use Rattle.fr_route.specs.States.{State, IsCutOff, IsAfterRound, IsCutCount, IsRound}
 use Rattle.fr_route.specs.declared.hops.Hop.{Hop}
 use Rattle.fr_route.specs.declared.hops.Hop.TheVariants.{Here, To, CutOff}
-
--- two tests that agree below a + n count alike
-pub count-range_agree : (p q : ℕ → Bool) (a n : ℕ) → ((x : ℕ) → x < a + n → p x ≡ q x) → count_by p (range_with_len a n) ≡ count_by q (range_with_len a n)
-count-range_agree p q a zero same = refl
-count-range_agree p q a (suc n) same =
-    let f : ℕ → ℕ = λ x. cond (p x) 1 0 in
-    let g : ℕ → ℕ = λ x. cond (q x) 1 0 in
-    let here : f a ≡ g a = ap (λ (b : Bool). cond b 1 0) (same a (omega arith)) in
-    omega (arith, sum_by-cons f a (range_with_len (a + 1) n), sum_by-cons g a (range_with_len (a + 1) n), here, count-range_agree p q (a + 1) n (λ x l. same x (omega arith)))
 
 same_bool : (a b : Bool) → (IsTrue a ↔ IsTrue b) → a ≡ b
 same_bool true true e = refl
@@ -65,33 +57,6 @@ hops_cut_count s n hops are =
       just = λ x l. hop_cut_off s x (get_or hops x Here) (are.each x (get_or hops x Here) (slice_get-get_or hops x Here (omega (arith, are.one_each))));
       number = ap (count_by is_cut_off) listed ∙ count_by-map is_cut_off at (range_with_len 0 n);
     }
-
-count-range_next : (p : ℕ → Bool) (a n k : ℕ) → a + n ≡ k → count_by p (range_with_len a (suc n)) ≡ count_by p (range_with_len a n) + cond (p k) 1 0
-count-range_next p a zero k is =
-    let f : ℕ → ℕ = λ x. cond (p x) 1 0 in
-    let here : f a ≡ f k = ap f (omega arith) in
-    omega (arith, sum_by-cons f a [], here)
-count-range_next p a (suc n) k is =
-    let f : ℕ → ℕ = λ x. cond (p x) 1 0 in
-    omega (arith, sum_by-cons f a (range_with_len (a + 1) (suc n)), sum_by-cons f a (range_with_len (a + 1) n), count-range_next p (a + 1) n k (omega arith))
-
--- how many of the numbers from 0 on pass a test, once one more is tried
-count-range_more : (p : ℕ → Bool) (n : ℕ) → count_by p (range_with_len 0 (n + 1)) ≡ count_by p (range_with_len 0 n) + cond (p n) 1 0
-count-range_more p n = rw add-one (count-range_next p 0 n n (zero-add n))
-
--- the count so far, with the test of one number more
-pub count_next : (p : ℕ → Bool) (n k next : ℕ) (b : Bool) → b ≡ p n → k ≡ count_by p (range_with_len 0 n) → ((b ≡ true) × (next ≡ k + 1)) ⊎ ((b ≡ false) × (next ≡ k)) → next ≡ count_by p (range_with_len 0 (n + 1))
-count_next p n k next b is so_far (inl (passes, more)) =
-    let weight : Bool → ℕ = λ t. cond t 1 0 in
-    let one : weight (p n) ≡ weight true = ap weight (sym is ∙ passes) in
-    omega (arith, count-range_more p n, one, so_far, more)
-count_next p n k next b is so_far (inr (fails, same)) =
-    let weight : Bool → ℕ = λ t. cond t 1 0 in
-    let none : weight (p n) ≡ weight false = ap weight (sym is ∙ fails) in
-    omega (arith, count-range_more p n, none, so_far, same)
-
-pub count-range-le : (p : ℕ → Bool) (a n : ℕ) → count_by p (range_with_len a n) ≤ n
-count-range-le p a n = omega (arith, count_by-le-length p (range_with_len a n), length-range_with_len a n)
 
 -- after a round, just those nodes are cut off that have turned as often as there are nodes or have no link
 module _ (net : Network) (d : ℕ) (counts : List ℕ) (is : IsNet net.nodes net.links) (counted : IsCounted net.nodes d net.links counts) where

@@ -1,7 +1,8 @@
 use Rattle.std.proofs.Common.{ap, arith, inl, inr, ℕ, ◌∙◌, ◌≡◌}
 use Rattle.std.specs.List.{count_by, range_with_len}
 use Rattle.fr_route.specs.Outcomes.{is_parted}
-use Rattle.fr_route.proofs.CutNodes.{count-range-le, count_next, parted_just}
+use Rattle.fr_net.proofs.Counting.{count-range-le, count_next}
+use Rattle.fr_route.proofs.CutNodes.{parted_just}
 use Rattle.fr_route.proofs.outcome.cut_nodes.Goals as goal
 use Rattle.fr_route.proofs.outcome.cut_nodes.Goals.{then-is_cut_off, else-is_cut_off}
 

@@ -1,8 +1,0 @@
-use Rattle.std.proofs.Common.{subst}
-use Rattle.fr_net.proofs.Rising.{links_rise}
-use Rattle.fr_net.specs.Network.{Network}
-use Rattle.fr_net.specs.Order.{AreRising}
-use Rattle.fr_net.proofs.network.Net.links.Goals as goal
-
-pub returns-clause-rising : goal.returns-clause-rising
-returns-clause-rising c = subst (λ (m : Network). AreRising m.links) c.self.view_is (links_rise c.self.inside.graph.links.items c.self.invariant.sorted c.self.invariant.faultless.is_net.single)
