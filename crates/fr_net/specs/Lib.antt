@@ -12,6 +12,7 @@ pub mod RowLists
 pub mod Halves
 pub mod TurnedRows
 pub mod Tables
+pub mod KeptRows
 pub mod CycleSearch
 pub mod ClosingSearch
 pub mod Graph

@@ -1,10 +1,10 @@
 -- How far the rows of a network are turned, while they turn where they stand. For `turn` alone.
-use Rattle.std.specs.Prelude.{◌≡◌, ℕ, ◌<◌, ◌+◌, ◌==◌, if◌then◌else◌, Bool, nat_lt, List, length, map, slice_index}
-use Rattle.fr_net.specs.Halves.{AreRows, ShowsEntries}
+use Rattle.std.specs.Prelude.{◌≡◌, ℕ, ◌<◌, ◌==◌, if◌then◌else◌, Bool, nat_lt, List, length, map, slice_index}
 use Rattle.fr_net.specs.Links.{IsNet}
 use Rattle.fr_net.specs.Network.{Network}
 use Rattle.fr_net.specs.RowLists.{opposite, turned_entry}
 use Rattle.fr_net.specs.Rows.{row}
+use Rattle.fr_net.specs.Tables.{Table, row_of}
 use Rattle.fr_net.specs.declared.rows.First.{First}
 
 -- whether the entry of w in the row of y is done with once the nodes below k are: a node that has turned sees to its own row, and
@@ -20,16 +20,9 @@ entry_done done counts y entry = if done y entry.0 then turned_entry counts y en
 abbrev pub reversed_at : ℕ → ℕ × First → ℕ × First
 reversed_at w entry = if entry.0 == w then (entry.0, opposite entry.1) else entry
 
--- the entries between the starts are the rows of the network, with those turned that are done with
-pub record ArePartTurned (net : Network) (counts : List ℕ) (done : ℕ → ℕ → Bool) (starts : List ℕ) (entries : List (ℕ × First)) : Type 0 where
+-- the table holds the rows of the network, with those entries turned that are done with
+pub record ArePartTurned (net : Network) (counts : List ℕ) (done : ℕ → ℕ → Bool) (table : Table) : Type 0 where
   pub is_net : IsNet net.nodes net.links
   pub counted : length counts ≡ net.nodes
-  pub one_each : length starts ≡ net.nodes + 1
-  pub shown : (y : ℕ) → y < net.nodes → ShowsEntries (map (entry_done done counts y) (row net.nodes net.links y)) starts entries y
-
--- these are the rows of the network, which has so many nodes and as many links as the list
-pub record ShowsLinks (net : Network) (nodes : ℕ) (links : List (ℕ × ℕ)) (starts : List ℕ) (entries : List (ℕ × First)) : Type 0 where
-  pub all : nodes ≡ net.nodes
-  pub is_net : IsNet net.nodes net.links
-  pub as_many : length links ≡ length net.links
-  pub rows : AreRows net.nodes net.links starts entries
+  pub one_each : length table.rows ≡ net.nodes
+  pub shown : (y : ℕ) → y < net.nodes → row_of table y ≡ map (entry_done done counts y) (row net.nodes net.links y)

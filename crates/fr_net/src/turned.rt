@@ -1,14 +1,16 @@
 //! Rows and links as counts turn them, each where it stands.
 
-ghost use Rattle.std.specs.Prelude.{◌≡◌, ℕ, ◌<◌, ◌≤◌, ◌+◌, ◌++◌, ◌↔◌, length, slice_index, map, take, All, Contains, EachIndex, IsTrue};
+ghost use Rattle.std.specs.Prelude.{◌≡◌, ℕ, ◌<◌, ◌+◌, ◌++◌, ◌↔◌, length, slice_index, map, All, Contains, EachIndex, IfOk, OnOk, IsTrue};
 ghost use Rattle.std.specs.List.Sorted.{IsStrictlyIncreasing};
 ghost use Rattle.fr_net.specs.Network.{Network};
-ghost use Rattle.fr_net.specs.Order.{in_order};
+ghost use Rattle.fr_net.specs.KeptRows.{links_in};
 ghost use Rattle.fr_net.specs.RowLists.{out_links, turned_entry};
-ghost use Rattle.fr_net.specs.TurnedRows.{ArePartTurned, ShowsLinks, is_done, reversed_at};
+ghost use Rattle.fr_net.specs.TurnedRows.{ArePartTurned, is_done, reversed_at};
 
 use crate::edits::place_in_row;
+use crate::row_table::RowTable;
 use crate::rows::First;
+use std::alloc::{AllocError, Global};
 
 /// Whether no node has turned.
 pub(crate) fn has_none_turned(counts: &[u64]) -> bool
@@ -54,69 +56,61 @@ pub(crate) fn reverse_entry(row: &mut [(u32, First)], w: u32)
 }
 
 /// Turns the row of `x`, which has turned, as the counts say, and its entries in the rows of neighbours that have not.
-fn turn_node(starts: &[usize], entries: &mut [(u32, First)], x: u32, counts: &[u64])
+fn turn_node(rows: &mut RowTable, x: u32, counts: &[u64])
     requires node { x < length counts.now }
     requires turned { 0 < slice_index counts.now x }
-    requires rows { (net : Network) × ArePartTurned net counts.now (is_done counts.now x) starts.now entries.old }
-    ensures { (net : Network) → ArePartTurned net counts.now (is_done counts.now x) starts.now entries.old
-        → ArePartTurned net counts.now (is_done counts.now (x + 1)) starts.now entries.new }
+    requires rows { (net : Network) × ArePartTurned net counts.now (is_done counts.now x) rows.old }
+    ensures { (net : Network) → ArePartTurned net counts.now (is_done counts.now x) rows.old
+        → ArePartTurned net counts.now (is_done counts.now (x + 1)) rows.new }
 {
-    let start = starts[x as usize];
-    let end = starts[x as usize + 1];
-    turn_row(&mut entries[start..end], x, counts);
-    for place in start..end {
-        let w = entries[place].0 as usize;
-        if counts[w] == 0 {
-            reverse_entry(&mut entries[starts[w]..starts[w + 1]], x);
+    rows.turn_row(x, counts);
+    for place in 0..rows.row(x).len() {
+        let w = rows.row(x)[place].0;
+        if counts[w as usize] == 0 {
+            rows.reverse_entry(w, x);
         }
     }
 }
 
 /// Turns the rows as the counts say: only those of nodes that have turned are touched, and in the others their entries.
-pub(crate) fn turn_rows(nodes: u32, starts: &[usize], entries: &mut [(u32, First)], counts: &[u64])
+pub(crate) fn turn_rows(rows: &mut RowTable, nodes: u32, counts: &[u64])
     requires nodes { nodes ≡ length counts.now }
-    requires rows { (net : Network) × ArePartTurned net counts.now (is_done counts.now 0) starts.now entries.old }
-    ensures { (net : Network) → ArePartTurned net counts.now (is_done counts.now 0) starts.now entries.old
-        → ArePartTurned net counts.now (is_done counts.now nodes) starts.now entries.new }
+    requires rows { (net : Network) × ArePartTurned net counts.now (is_done counts.now 0) rows.old }
+    ensures { (net : Network) → ArePartTurned net counts.now (is_done counts.now 0) rows.old
+        → ArePartTurned net counts.now (is_done counts.now nodes) rows.new }
 {
     for x in 0..nodes {
         if counts[x as usize] > 0 {
-            turn_node(starts, entries, x, counts);
+            turn_node(rows, x, counts);
         }
     }
 }
 
-/// Writes the links of the row of `x` that point away from it over the links from the place `at` on, and answers the place
-/// after them.
-fn write_out_links(links: &mut [(u32, u32)], at: usize, x: u32, row: &[(u32, First)]) -> usize
-    requires { at + length (out_links x row.now) ≤ length links.old }
-    ensures place { result ≡ at + length (out_links x row.now) }
-    ensures written { take result links.new ≡ take at links.old ++ out_links x row.now }
+/// Puts the links of the row of `x` that point away from it behind the others.
+fn push_out_links(links: &mut Vec<(u32, u32)>, x: u32, row: &[(u32, First)]) -> Result<(), AllocError>
+    ensures { OnOk result (links.new.items ≡ links.old.items ++ out_links x row.now) }
 {
-    let mut end = at;
     for (w, first) in row {
-        // Each is written, and what follows is written over one that points to `x`: no branch hangs on the direction.
-        if end < links.len() {
-            links[end] = (x, *w);
+        if *first == First::Outward {
+            links.push((x, *w))?;
         }
-        end += usize::from(*first == First::Outward);
     }
-    end
+    Ok(())
 }
 
-/// Writes the links that the rows show over links, of which there are as many.
-pub(crate) fn write_links(
-    links: &mut [(u32, u32)],
+/// The links that the rows show, row by row, with room for so many.
+pub(crate) fn links_of_rows(
+    alloc: Global,
+    rows: &RowTable,
     nodes: u32,
-    starts: &[usize],
-    entries: &[(u32, First)],
-)
-    requires { (after : Network) × ShowsLinks after nodes links.old starts.now entries.now }
-    ensures { (after : Network) → ShowsLinks after nodes links.old starts.now entries.now → links.new ≡ in_order after.links }
+    count: usize,
+) -> Result<Vec<(u32, u32)>, AllocError>
+    requires { nodes ≡ length rows.now.rows }
+    ensures { IfOk result (λ links. links.items ≡ links_in nodes rows.now) }
 {
-    let mut at = 0;
+    let mut links = Vec::with_capacity(alloc, count)?;
     for x in 0..nodes {
-        let row = &entries[starts[x as usize]..starts[x as usize + 1]];
-        at = write_out_links(links, at, x, row);
+        push_out_links(&mut links, x, rows.row(x))?;
     }
+    Ok(links)
 }
