@@ -20,9 +20,9 @@ pub mod PartTurned
 pub mod Remaking
 pub mod CutRows
 pub mod Places
-pub mod EditedRows
 pub mod AddedLinks
 pub mod AddedRows
+pub mod KeptRows
 pub mod EditedNets
 pub mod Joining
 pub mod Batches

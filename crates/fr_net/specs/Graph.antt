@@ -1,43 +1,34 @@
--- What a `Graph` keeps, how much room it has, and what edits that were made are undone by.
-use Rattle.std.specs.Prelude.{◌≡◌, ℕ, ◌<◌, ◌≤◌, ◌+◌, ◌-◌, ◌*◌, ◌++◌, List, [], ◌∷◌, length, vec_capacity}
+-- What a `Graph` keeps, which networks its rows have room for, and what edits that were made are undone by.
+use Rattle.std.specs.Prelude.{◌≡◌, ℕ, ◌<◌, ◌≤◌, ◌++◌, List, [], ◌∷◌, length}
 use Rattle.fr_net.specs.Batches.{IsMade}
 use Rattle.fr_net.specs.Edits.{without}
 use Rattle.fr_net.specs.Faults.{IsFaultless, IsNetworkOf}
-use Rattle.fr_net.specs.Halves.{AreUnjoined, ShowsRow}
+use Rattle.fr_net.specs.Halves.{AreUnjoined}
+use Rattle.fr_net.specs.KeptRows.{AreRows, links_in}
 use Rattle.fr_net.specs.Links.{Points}
 use Rattle.fr_net.specs.Network.{Network}
 use Rattle.fr_net.specs.Order.{AreInOrder}
+use Rattle.fr_net.specs.Rows.{row}
+use Rattle.fr_net.specs.Tables.{KeepsRooms, room_of}
 use Rattle.fr_net.specs.declared.graph.Done.{Done}
 use Rattle.fr_net.specs.declared.graph.Done.TheVariants.{Taken, Put}
 use Rattle.fr_net.specs.declared.graph.Graph.{Graph}
 use Rattle.fr_net.specs.declared.requests.Edit.{Edit}
-use Rattle.fr_net.specs.declared.rows.First.{First}
 
--- the links are in order and without a fault, and the entries between the starts are the rows of the nodes
-pub record AreKept (n : ℕ) (links : List (ℕ × ℕ)) (starts : List ℕ) (entries : List (ℕ × First)) : Type 0 where
-  pub faultless : IsFaultless n links
-  pub sorted : AreInOrder links
-  pub starts_length : length starts ≡ n + 1
-  pub rows : (x : ℕ) → x < n → ShowsRow n links starts entries x
-
--- so a graph keeps them
-abbrev pub IsGraph : Graph → Type 0
-IsGraph g = AreKept g.nodes g.links.items g.starts.items g.entries.items
-
--- the network that a graph shows
+-- the network that a graph shows: the links are those of its rows
 abbrev pub shown : Graph → Network
-shown g = record { nodes = g.nodes; links = g.links.items }
+shown g = record { nodes = g.nodes; links = links_in g.nodes g.rows }
 
--- so many links more have room
-pub record HasRoom (g : Graph) (more : ℕ) : Type 0 where
-  pub links : length g.links.items + more ≤ vec_capacity g.links
-  pub entries : length g.entries.items + 2 * more ≤ vec_capacity g.entries
+-- the links are in order, without a fault, and counted, and the rows are those of the nodes
+pub record IsGraph (g : Graph) : Type 0 where
+  pub faultless : IsFaultless g.nodes (shown g).links
+  pub sorted : AreInOrder (shown g).links
+  pub counted : g.link_count ≡ length (shown g).links
+  pub rows : AreRows g.nodes (shown g).links g.rows
 
--- the room for links and entries is no less, and with each link two entries came or went
-pub record KeepsRoom (before after : Graph) : Type 0 where
-  pub links : vec_capacity before.links ≤ vec_capacity after.links
-  pub entries : vec_capacity before.entries ≤ vec_capacity after.entries
-  pub twice : length after.entries.items + 2 * length before.links.items ≡ length before.entries.items + 2 * length after.links.items
+-- each row of the network has room in the graph
+abbrev pub HasRoomFor : Graph → Network → Type 0
+HasRoomFor g net = (x : ℕ) → x < net.nodes → length (row net.nodes net.links x) ≤ room_of g.rows x
 
 -- a link was taken out or put in
 abbrev pub IsStep : Network → Done → Network → Type 0
@@ -50,21 +41,25 @@ pub record IsDone (net : Network) (done : Done) (after : Network) : Type 0 where
   pub sorted : AreInOrder net.links
   pub step : IsStep net done after
 
--- one after the other, and no network before a step had more links than this
-abbrev pub AreDone : ℕ → Network → List Done → Network → Type 0
-AreDone most net [] after = after ≡ net
-AreDone most net (done ∷ rest) after = (length net.links ≤ most) × ((next : Network) × (IsDone net done next × AreDone most next rest after))
+-- one after the other, and the graph has room for each network before a step
+abbrev pub AreDone : Graph → Network → List Done → Network → Type 0
+AreDone g net [] after = after ≡ net
+AreDone g net (done ∷ rest) after = HasRoomFor g net × ((next : Network) × (IsDone net done next × AreDone g next rest after))
 
 -- these steps led from the first network to the graph, which has room for all of them to be undone
-pub record CanUndo (first : Network) (done : List Done) (g : Graph) : Type 0 where
-  pub most : ℕ
-  pub steps : AreDone most first done (shown g)
-  pub within : length g.links.items ≤ most
-  pub room : HasRoom g (most - length g.links.items)
+abbrev pub CanUndo : Network → List Done → Graph → Type 0
+CanUndo first done g = AreDone g first done (shown g)
 
--- the edit made the one graph into the other by this step
+-- the same network, with no less room
+pub record IsSame (before after : Graph) : Type 0 where
+  pub graph : IsGraph after
+  pub same : shown after ≡ shown before
+  pub rooms : KeepsRooms before.rows after.rows
+
+-- the edit made the one graph into the other by this step, which can be undone
 pub record IsEdited (before : Graph) (edit : Edit) (after : Graph) (done : Done) : Type 0 where
   pub graph : IsGraph after
   pub made : IsMade (shown before) edit (shown after)
   pub by : IsDone (shown before) done (shown after)
-  pub room : KeepsRoom before after
+  pub rooms : KeepsRooms before.rows after.rows
+  pub back : HasRoomFor after (shown before)

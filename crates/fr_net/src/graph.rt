@@ -1,6 +1,6 @@
 //! What a network keeps, changed where it stands: a link is taken out or put in, and that is undone.
 
-ghost use Rattle.std.specs.Prelude.{◌≡◌, ◌≢◌, ◌<◌, ◌≤◌, ◌+◌, ◌-◌, ◌++◌, [], ◌∷◌, ◌⊎◌, length, IfOk, IfErr, IfSome, IfNone, OnOk, OnErr};
+ghost use Rattle.std.specs.Prelude.{◌≡◌, ◌≢◌, ◌<◌, ◌≤◌, ◌++◌, [], ◌∷◌, ◌⊎◌, length, IfOk, IfErr, IfSome, IfNone, OnOk, OnErr};
 ghost use Rattle.fr_net.specs.Links.{IsAcyclic, Joins, Points};
 ghost use Rattle.fr_net.specs.Network.{Network};
 ghost use Rattle.fr_net.specs.Rows.{row};
@@ -9,27 +9,27 @@ ghost use Rattle.fr_net.specs.Faults.{IsNetworkOf};
 ghost use Rattle.fr_net.specs.Edits.{IsJoinFault, without};
 ghost use Rattle.fr_net.specs.Batches.{AreMade, IsEditFault, IsRefusedAt};
 ghost use Rattle.fr_net.specs.Limits.{most_edits, most_links};
-ghost use Rattle.fr_net.specs.Graph.{CanUndo, HasRoom, IsDone, IsEdited, IsGraph, KeepsRoom, shown};
+ghost use Rattle.fr_net.specs.Graph.{CanUndo, HasRoomFor, IsDone, IsEdited, IsGraph, IsSame, shown};
+ghost use Rattle.fr_net.specs.Tables.{HasRoomIn};
 ghost use Rattle.fr_net.specs.declared.fault.NetFault.TheVariants.{Memory};
 ghost use Rattle.fr_net.specs.declared.requests.Edit.TheVariants.{Cut, Add, Join};
 
 use crate::checks::first_outside;
 use crate::closing::closing_walk;
-use crate::edits::{cut_from_rows, cut_link, place_in_row, put_in_rows, put_link};
+use crate::edits::{cut_from_rows, place_in_row, put_in_rows};
 use crate::fault::{EditFault, NetFault};
 use crate::limits::MAX_LINKS;
 use crate::requests::Edit;
+use crate::row_table::RowTable;
 use crate::rows::First;
 use std::alloc::{AllocError, Global};
 
-/// The links of a network in rising order of tail, then head, and the rows of its nodes, which show them.
+/// The rows of a network's nodes, which show its links.
 #[derive(Debug, Drop)]
 pub(crate) struct Graph {
     pub(crate) nodes: u32,
-    pub(crate) links: Vec<(u32, u32)>,
-    // Compressed rows: the neighbours of node x stand in `entries` from `starts[x]` up to `starts[x + 1]`.
-    pub(crate) starts: Vec<usize>,
-    pub(crate) entries: Vec<(u32, First)>,
+    pub(crate) link_count: usize,
+    pub(crate) rows: RowTable,
 }
 
 /// What an edit did to the links.
@@ -56,17 +56,17 @@ impl Graph {
     pub(crate) fn row(&self, x: u32) -> &[(u32, First)]
         requires graph { IsGraph self.now }
         requires node { x < self.now.nodes }
-        ensures { result.now ≡ row self.now.nodes self.now.links.items x }
+        ensures { result.now ≡ row self.now.nodes (shown self.now).links x }
     {
-        &self.entries[self.starts[x as usize]..self.starts[x as usize + 1]]
+        self.rows.row(x)
     }
 
     /// The link that joins `u` and `v`, from its tail to its head, if there is one.
     fn link_between(&self, u: u32, v: u32) -> Option<(u32, u32)>
         requires { IsGraph self.now }
-        ensures stands { IfSome result (λ link. Points self.now.links.items link.0 link.1) }
+        ensures stands { IfSome result (λ link. Points (shown self.now).links link.0 link.1) }
         ensures ends { IfSome result (λ link. (link ≡ (u, v)) ⊎ (link ≡ (v, u))) }
-        ensures none { IfNone result (¬ Joins self.now.links.items u v) }
+        ensures none { IfNone result (¬ Joins (shown self.now).links u v) }
     {
         if u >= self.nodes {
             return None;
@@ -85,11 +85,11 @@ impl Graph {
     /// Whether a link can join `u` and `v`, be it one way or the other: Ok, or the fault that both have.
     fn test_join(&self, u: u32, v: u32) -> Result<(), NetFault>
         requires { IsGraph self.now }
-        ensures few { OnOk result (length self.now.links.items < most_links) }
-        ensures nodes { OnOk result (AreUnjoined self.now.nodes self.now.links.items u v) }
-        ensures refused { IfErr result (IsJoinFault self.now.nodes self.now.links.items u v) }
+        ensures few { OnOk result (length (shown self.now).links < most_links) }
+        ensures nodes { OnOk result (AreUnjoined self.now.nodes (shown self.now).links u v) }
+        ensures refused { IfErr result (IsJoinFault self.now.nodes (shown self.now).links u v) }
     {
-        if self.links.len() >= MAX_LINKS {
+        if self.link_count >= MAX_LINKS {
             return Err(NetFault::TooMany);
         }
         if let Some(x) = first_outside(self.nodes, &[(u, v)]) {
@@ -104,64 +104,57 @@ impl Graph {
         Ok(())
     }
 
-    /// A copy, with room for so many links more.
-    pub(crate) fn copied(&self, alloc: Global, more: usize) -> Result<Graph, AllocError>
-        requires graph { IsGraph self.now }
-        requires few { more ≤ most_edits }
-        ensures graph { IfOk result IsGraph }
-        ensures same { IfOk result (λ copy. shown copy ≡ shown self.now) }
-        ensures room { IfOk result (λ copy. HasRoom copy more) }
+    /// A copy, with as much room.
+    pub(crate) fn copied(&self, alloc: Global) -> Result<Graph, AllocError>
+        requires { IsGraph self.now }
+        ensures { IfOk result (λ copy. copy ≡ self.now) }
     {
-        let mut links = Vec::with_capacity(alloc, self.links.len() + more)?;
-        links.extend_from_slice(&self.links)?;
-        let starts = self.starts.to_vec(alloc)?;
-        let mut entries = Vec::with_capacity(alloc, self.entries.len() + 2 * more)?;
-        entries.extend_from_slice(&self.entries)?;
         Ok(Graph {
             nodes: self.nodes,
-            links,
-            starts,
-            entries,
+            link_count: self.link_count,
+            rows: self.rows.copied(alloc)?,
         })
-    }
-
-    /// Takes room for so many links more.
-    fn reserve(&mut self, more: usize) -> Result<(), AllocError>
-        requires graph { IsGraph self.old }
-        requires few { more ≤ most_edits }
-        ensures graph { IsGraph self.new }
-        ensures same { shown self.new ≡ shown self.old }
-        ensures room { OnOk result (HasRoom self.new more) }
-    {
-        self.links.reserve(more)?;
-        self.entries.reserve(2 * more)
     }
 
     /// Takes out the link from `tail` to `head`.
     fn take_out(&mut self, tail: u32, head: u32)
         requires graph { IsGraph self.old }
-        requires stands { Points self.old.links.items tail head }
+        requires stands { Points (shown self.old).links tail head }
         ensures graph { IsGraph self.new }
-        ensures taken { IsNetworkOf self.old.nodes (without tail head self.old.links.items) (shown self.new) }
-        ensures room { KeepsRoom self.old self.new }
+        ensures taken { IsNetworkOf self.old.nodes (without tail head (shown self.old).links) (shown self.new) }
+        ensures rooms { self.new.rows.rooms ≡ self.old.rows.rooms }
     {
-        cut_link(&mut self.links, tail, head);
-        cut_from_rows(&mut self.starts, &mut self.entries, tail, head);
+        cut_from_rows(&mut self.rows, tail, head);
+        self.link_count -= 1;
+    }
+
+    /// Takes room for a link between `u` and `v`, which are nodes.
+    fn make_room(&mut self, alloc: Global, u: u32, v: u32) -> Result<(), AllocError>
+        requires graph { IsGraph self.old }
+        requires u { u < self.old.nodes }
+        requires v { v < self.old.nodes }
+        ensures same { IsSame self.old self.new }
+        ensures u_room { OnOk result (HasRoomIn self.new.rows u) }
+        ensures v_room { OnOk result (HasRoomIn self.new.rows v) }
+    {
+        self.rows.make_room(alloc, u)?;
+        self.rows.make_room(alloc, v)
     }
 
     /// Puts in the link from `tail` to `head`, for which there has to be room.
     fn put(&mut self, tail: u32, head: u32)
         requires graph { IsGraph self.old }
-        requires few { length self.old.links.items < most_links }
-        requires nodes { AreUnjoined self.old.nodes self.old.links.items tail head }
-        requires acyclic { IsAcyclic (self.old.links.items ++ (tail, head) ∷ []) }
-        requires room { HasRoom self.old 1 }
+        requires few { length (shown self.old).links < most_links }
+        requires nodes { AreUnjoined self.old.nodes (shown self.old).links tail head }
+        requires acyclic { IsAcyclic ((shown self.old).links ++ (tail, head) ∷ []) }
+        requires tail_room { HasRoomIn self.old.rows tail }
+        requires head_room { HasRoomIn self.old.rows head }
         ensures graph { IsGraph self.new }
-        ensures put { IsNetworkOf self.old.nodes (self.old.links.items ++ (tail, head) ∷ []) (shown self.new) }
-        ensures room { KeepsRoom self.old self.new }
+        ensures put { IsNetworkOf self.old.nodes ((shown self.old).links ++ (tail, head) ∷ []) (shown self.new) }
+        ensures rooms { self.new.rows.rooms ≡ self.old.rows.rooms }
     {
-        put_link(&mut self.links, tail, head);
-        put_in_rows(&mut self.starts, &mut self.entries, tail, head);
+        put_in_rows(&mut self.rows, tail, head);
+        self.link_count += 1;
     }
 
     /// Takes out the link between `u` and `v`, whichever way it points.
@@ -174,51 +167,52 @@ impl Graph {
         let Some((tail, head)) = self.link_between(u, v) else {
             return Err(NetFault::NoLink);
         };
+        self.rows.room_law();
         self.take_out(tail, head);
         Ok(Done::Taken { tail, head })
     }
 
-    /// Puts in the link from `u` to `v`, for which there has to be room.
+    /// Puts in the link from `u` to `v`.
     pub(crate) fn add(&mut self, alloc: Global, u: u32, v: u32) -> Result<Done, NetFault>
-        requires graph { IsGraph self.old }
-        requires room { HasRoom self.old 1 }
+        requires { IsGraph self.old }
         ensures ok { IfOk result (IsEdited self.old (Add u v) self.new) }
         ensures refused { IfErr result (λ fault. fault ≢ Memory → IsEditFault (shown self.old) (Add u v) fault) }
-        ensures unchanged { OnErr result (self.new ≡ self.old) }
+        ensures unchanged { OnErr result (IsSame self.old self.new) }
     {
         self.test_join(u, v)?;
         if let Some(walk) = closing_walk(alloc, self, u, v)? {
             return Err(NetFault::Cycle(walk));
         }
+        self.make_room(alloc, u, v)?;
+        self.rows.room_law();
         self.put(u, v);
         Ok(Done::Put { tail: u, head: v })
     }
 
-    /// Joins `u` and `v`, for which there has to be room: by a link from `u` to `v`, or from `v` to `u` where a closed walk would
-    /// follow the other.
+    /// Joins `u` and `v`: by a link from `u` to `v`, or from `v` to `u` where a closed walk would follow the other.
     pub(crate) fn join(&mut self, alloc: Global, u: u32, v: u32) -> Result<Done, NetFault>
-        requires graph { IsGraph self.old }
-        requires room { HasRoom self.old 1 }
+        requires { IsGraph self.old }
         ensures ok { IfOk result (IsEdited self.old (Join u v) self.new) }
         ensures refused { IfErr result (λ fault. fault ≢ Memory → IsEditFault (shown self.old) (Join u v) fault) }
-        ensures unchanged { OnErr result (self.new ≡ self.old) }
+        ensures unchanged { OnErr result (IsSame self.old self.new) }
     {
         self.test_join(u, v)?;
         let (tail, head) = match closing_walk(alloc, self, u, v)? {
             None => (u, v),
             Some(_walk) => (v, u),
         };
+        self.make_room(alloc, u, v)?;
+        self.rows.room_law();
         self.put(tail, head);
         Ok(Done::Put { tail, head })
     }
 
-    /// Makes an edit, for which there has to be room.
+    /// Makes an edit. Where it is refused, or no room could be had, the network is as it was.
     fn edit(&mut self, alloc: Global, edit: Edit) -> Result<Done, NetFault>
-        requires graph { IsGraph self.old }
-        requires room { HasRoom self.old 1 }
+        requires { IsGraph self.old }
         ensures ok { IfOk result (IsEdited self.old edit self.new) }
         ensures refused { IfErr result (λ fault. fault ≢ Memory → IsEditFault (shown self.old) edit fault) }
-        ensures unchanged { OnErr result (self.new ≡ self.old) }
+        ensures unchanged { OnErr result (IsSame self.old self.new) }
     {
         match edit {
             Edit::Cut { u, v } => self.cut(u, v),
@@ -230,10 +224,10 @@ impl Graph {
     /// Undoes what an edit did: it takes no memory.
     fn undo(&mut self, done: Done)
         requires graph { IsGraph self.old }
-        requires done { (net : Network) × (IsDone net done (shown self.old) × HasRoom self.old (length net.links - length self.old.links.items)) }
+        requires done { (net : Network) × IsDone net done (shown self.old) × HasRoomFor self.old net }
         ensures graph { IsGraph self.new }
         ensures undone { (net : Network) → IsDone net done (shown self.old) → shown self.new ≡ net }
-        ensures room { KeepsRoom self.old self.new }
+        ensures rooms { self.new.rows.rooms ≡ self.old.rows.rooms }
     {
         match done {
             Done::Taken { tail, head } => self.put(tail, head),
@@ -265,7 +259,7 @@ impl Graph {
         ensures unchanged { OnErr result (shown self.new ≡ shown self.old) }
     {
         let mut all = Vec::with_capacity(alloc, edits.len())?;
-        self.reserve(edits.len())?;
+        self.rows.trim(alloc)?;
         for (at, edit) in edits.iter().enumerate() {
             match self.edit(alloc, *edit) {
                 Ok(done) => all.push_reserved(done),

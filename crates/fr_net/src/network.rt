@@ -21,8 +21,9 @@ use crate::fault::{EditFault, NetFault, NotEdited};
 use crate::graph::Graph;
 use crate::limits::{MAX_EDITS, MAX_LINKS, MAX_NODES};
 use crate::requests::Edit;
+use crate::row_table::RowTable;
 use crate::rows::{First, entries_of, first_twice, outward_links, sorted_halves};
-use crate::turned::{has_none_turned, turn_rows, write_links};
+use crate::turned::{links_of_rows, turn_rows};
 use std::alloc::{AllocError, Global};
 use std::marker::Model;
 
@@ -87,9 +88,8 @@ impl Net {
         let entries = entries_of(alloc, &halves)?;
         let graph = Graph {
             nodes,
-            links: sorted,
-            starts,
-            entries,
+            link_count: links.len(),
+            rows: RowTable::packed(alloc, starts, entries)?,
         };
         Ok(Net { graph })
     }
@@ -115,7 +115,7 @@ impl Net {
     pub fn link_count(&self) -> usize
         ensures { result ≡ length self.now.links }
     {
-        self.graph.links.len()
+        self.graph.link_count
     }
 
     /// The links in rising order of tail, then head, none twice: a list of them, written from the rows in time linear in nodes and links.
@@ -123,7 +123,12 @@ impl Net {
     pub fn links(&self, alloc: Global) -> Result<Vec<(u32, u32)>, AllocError>
         ensures { IfOk result (λ links. links.items ≡ self.now.links) }
     {
-        self.graph.links.to_vec(alloc)
+        let Graph {
+            nodes,
+            link_count,
+            rows,
+        } = &self.graph;
+        links_of_rows(alloc, rows, *nodes, *link_count)
     }
 
     /// The law of the order of a network's links: each is before the next one, by tail, then head. It does nothing, as
@@ -138,13 +143,7 @@ impl Net {
     pub fn alone(&self) -> u32
         ensures { result ≡ alone_count self.now.nodes self.now.links }
     {
-        let mut alone = 0;
-        for x in 0..self.nodes() {
-            if self.degree(x) == 0 {
-                alone += 1;
-            }
-        }
-        alone
+        self.graph.rows.empty_rows() as u32
     }
 
     /// How many neighbours node `x` has, which has to be a node.
@@ -152,7 +151,7 @@ impl Net {
         requires { x < self.now.nodes }
         ensures { result ≡ length (row self.now.nodes self.now.links x) }
     {
-        (self.graph.starts[x as usize + 1] - self.graph.starts[x as usize]) as u32
+        self.graph.row(x).len() as u32
     }
 
     /// The neighbour at place `j` of the row of node `x`, counted from 0 in rising order of the neighbours, and the
@@ -163,7 +162,7 @@ impl Net {
         ensures value { slice_get (row self.now.nodes self.now.links x) j ≡ Some result }
         ensures at { HoldsAt (λ e. e ≡ result) (row self.now.nodes self.now.links x) j }
     {
-        self.graph.entries[self.graph.starts[x as usize] + j as usize]
+        self.graph.row(x)[j as usize]
     }
 
     /// All neighbours of node `x` in rising order, each with the direction of its link as seen from `x`: what
@@ -179,7 +178,7 @@ impl Net {
     pub fn copied(&self, alloc: Global) -> Result<Net, AllocError>
         ensures { IfOk result (λ net. net ≡ self.now) }
     {
-        let graph = self.graph.copied(alloc, 0)?;
+        let graph = self.graph.copied(alloc)?;
         Ok(Net { graph })
     }
 
@@ -191,7 +190,7 @@ impl Net {
         ensures ok { IfOk result (IsNetworkOf self.now.nodes (without u v self.now.links)) }
         ensures refused { IfErr result (λ fault. fault ≢ Memory → IsCutFault self.now.links u v fault) }
     {
-        let mut graph = self.graph.copied(alloc, 0)?;
+        let mut graph = self.graph.copied(alloc)?;
         graph.cut(u, v)?;
         Ok(Net { graph })
     }
@@ -204,7 +203,7 @@ impl Net {
         ensures refused { IfErr result (λ fault. fault ≢ Memory
             → IsFirstFault self.now.nodes (self.now.links ++ (u, v) ∷ []) fault) }
     {
-        let mut graph = self.graph.copied(alloc, 1)?;
+        let mut graph = self.graph.copied(alloc)?;
         graph.add(alloc, u, v)?;
         Ok(Net { graph })
     }
@@ -216,7 +215,7 @@ impl Net {
         ensures ok { IfOk result (IsJoined self.now.nodes self.now.links u v) }
         ensures refused { IfErr result (λ fault. fault ≢ Memory → IsJoinFault self.now.nodes self.now.links u v fault) }
     {
-        let mut graph = self.graph.copied(alloc, 1)?;
+        let mut graph = self.graph.copied(alloc)?;
         graph.join(alloc, u, v)?;
         Ok(Net { graph })
     }
@@ -230,7 +229,7 @@ impl Net {
         ensures refused { IfErr result (λ refused. refused.fault ≢ Memory → IsBatchFault self.now edits.now refused) }
     {
         test_few(edits)?;
-        let mut graph = self.graph.copied(alloc, edits.len())?;
+        let mut graph = self.graph.copied(alloc)?;
         graph.edit_all(alloc, edits)?;
         Ok(Net { graph })
     }
@@ -281,24 +280,13 @@ impl Net {
         Ok(net)
     }
 
-    /// Turns the links as the counts say, as `turned_by`, but where the network stands: it takes no memory and has no fault. Where
-    /// no count is above 0 nothing is done. Else only the rows of nodes that turned are touched, with the entries of these in the rows of
-    /// others, and the list of links is written anew, in time linear in it and in nodes.
+    /// Turns the links as the counts say, as `turned_by`, but where the network stands: it takes no memory and has no fault. Only the rows
+    /// of nodes that turned are touched, with the entries of these in the rows of others.
     pub fn turn(&mut self, counts: &[u64])
         requires one_each { length counts.now ≡ self.old.nodes }
         requires kept { All (IsKept counts.now) self.old.links }
         ensures { IsNetworkOf self.old.nodes (links_at self.old.links counts.now) self.new }
     {
-        let nodes = self.graph.nodes;
-        if has_none_turned(counts) {
-            return;
-        }
-        turn_rows(nodes, &self.graph.starts, &mut self.graph.entries, counts);
-        write_links(
-            &mut self.graph.links,
-            nodes,
-            &self.graph.starts,
-            &self.graph.entries,
-        );
+        turn_rows(&mut self.graph.rows, self.graph.nodes, counts);
     }
 }

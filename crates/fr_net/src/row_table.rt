@@ -5,7 +5,7 @@ ghost use Rattle.std.specs.Prelude.{◌≡◌, ℕ, ◌<◌, ◌≤◌, ◌+◌,
 ghost use Rattle.std.specs.List.{range_with_len};
 ghost use Rattle.std.specs.List.Sorted.{IsStrictlyIncreasing};
 ghost use Rattle.fr_net.specs.RowLists.{turned_entry};
-ghost use Rattle.fr_net.specs.Tables.{ArePacked, HasRoomIn, KeepsRooms, has_none, row_of, with_row};
+ghost use Rattle.fr_net.specs.Tables.{ArePacked, HasRoomIn, KeepsRooms, has_none, room_of, row_of, with_row};
 ghost use Rattle.fr_net.specs.TurnedRows.{reversed_at};
 
 use crate::limits::MAX_LINKS;
@@ -163,6 +163,13 @@ impl RowTable {
         ensures { result ≡ count_by has_none self.now.rows }
     {
         self.empty
+    }
+
+    /// The law of room: no row has more entries than it has room for. It does nothing.
+    pub(crate) fn room_law(&self)
+        ensures { (x : ℕ) → length (row_of self.now x) ≤ room_of self.now x }
+    {
+        let _empty = self.empty;
     }
 
     /// A copy, with as much room in each row.

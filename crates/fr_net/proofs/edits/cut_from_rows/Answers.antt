@@ -1,71 +1,66 @@
-use Rattle.std.proofs.Common.{List, ap, arith, refl, ℕ, ◌+◌, ◌-◌, ◌∙◌}
-use Rattle.std.specs.List.{remove}
-use Rattle.std.proofs.lemmas.List.{take_rest}
-use Rattle.fr_net.proofs.EditedNets.{AreSortedEnds, IsCutting, cut_places, cut_positive, cutting_at, joined_ends, rows_cut}
-use Rattle.fr_net.proofs.EditedRows.{moved, put_rest}
-use Rattle.fr_net.specs.Halves.{IsPlaceOf, ShowsLink}
+use Rattle.std.proofs.Common.{List, ap, arith, length, map, sym, ℕ, ◌<◌, ◌∙◌, ◌≡◌, ◌≢◌}
+use Rattle.std.specs.List.{Contains, remove}
+use Rattle.std.specs.List.Sorted.{IsStrictlyIncreasing}
+use Rattle.fr_net.proofs.EditedNets.{end_listed, joined_apart, joins_back, length_beside, row_beside, row_rising, rows_cut}
+use Rattle.fr_net.proofs.Linking.{joined_below}
+use Rattle.fr_net.proofs.Neighbours.{neighbours_rise}
+use Rattle.fr_net.specs.KeptRows.{ShowsLink}
 use Rattle.fr_net.specs.Network.{Network}
+use Rattle.fr_net.specs.Rows.{row}
+use Rattle.fr_net.specs.Tables.{Table, row_of}
 use Rattle.fr_net.specs.declared.rows.First.{First}
 use Rattle.fr_net.proofs.edits.cut_from_rows.Goals as goal
-use Rattle.fr_net.proofs.edits.cut_from_rows.Goals.{After-max-high, After-place_of_entry-second}
+use Rattle.fr_net.proofs.edits.cut_from_rows.Goals.{After-cut_entry}
 
--- the ends of the link, and the places of its entries
-ends : (c : After-max-high) (net : Network) → ShowsLink net c.args.u c.args.v c.args.starts.now c.args.entries.now.items → AreSortedEnds net.nodes c.args.u c.args.v c.min-low.result c.max-high.result
-ends c net shown = joined_ends net.nodes net.links c.args.u c.args.v c.min-low.result c.max-high.result shown.is_net shown.joins c.min-low.ensures c.max-high.ensures
+below : (net : Network) (u v : ℕ) (table : Table) → ShowsLink net u v table → (u < net.nodes) × (v < net.nodes)
+below net u v table shown = joined_below net.nodes net.links u v shown.is_net shown.joins
 
-first : (c : After-place_of_entry-second) (net : Network) → ShowsLink net c.args.u c.args.v c.args.starts.now c.args.entries.now.items → IsPlaceOf net c.min-low.result c.max-high.result c.args.starts.now c.place_of_entry-first.result
-first c net shown =
-    let e = ends (goal.at.After-place_of_entry-second c).After-max-high net shown in
-    c.place_of_entry-first.ensures net (record { node = omega (arith, e.order, e.inside); rows = rw c.deref.ensures.value shown.rows })
+apart : (net : Network) (u v : ℕ) (table : Table) → ShowsLink net u v table → u ≢ v
+apart net u v table shown = joined_apart net.nodes net.links u v shown.is_net shown.joins
 
-second : (c : After-place_of_entry-second) (net : Network) → ShowsLink net c.args.u c.args.v c.args.starts.now c.args.entries.now.items → IsPlaceOf net c.max-high.result c.min-low.result c.args.starts.now c.place_of_entry-second.result
-second c net shown =
-    let e = ends (goal.at.After-place_of_entry-second c).After-max-high net shown in
-    c.place_of_entry-second.ensures net (record { node = e.inside; rows = rw c.deref-2.ensures.value shown.rows })
-
-cut : (c : After-place_of_entry-second) (net : Network) (shown : ShowsLink net c.args.u c.args.v c.args.starts.now c.args.entries.now.items) → IsCutting net.nodes net.links c.min-low.result c.max-high.result (first c net shown).0 (second c net shown).0 c.args.starts.now c.args.entries.now.items
-cut c net shown = cutting_at net c.args.u c.args.v c.min-low.result c.max-high.result c.place_of_entry-first.result c.place_of_entry-second.result c.args.starts.now c.args.entries.now.items shown c.min-low.ensures c.max-high.ensures (first c net shown) (second c net shown)
-
-pub place_of_entry-first-requires : goal.place_of_entry-first-requires
-place_of_entry-first-requires c =
+-- the row of v stays while that of u is cut
+beside : (c : After-cut_entry) → row_of c.cut_entry.new.rows c.args.v ≡ row c.requires.0.nodes c.requires.0.links c.args.v
+beside c =
+    let net = c.requires.0 in
     let shown = c.requires.1 in
-    let e = ends (goal.at.place_of_entry-first-requires c).After-max-high c.requires.0 shown in
-    (c.requires.0, record { node = omega (arith, e.order, e.inside); rows = rw c.deref.ensures.value shown.rows })
+    row_beside net.nodes net.links c.args.rows.now c.cut_entry.new.rows c.args.u c.args.v (remove (row_of c.args.rows.now c.args.u) c.cut_entry.ensures.0) shown.rows
+    (below net c.args.u c.args.v c.args.rows.now shown).1 (apart net c.args.u c.args.v c.args.rows.now shown) c.cut_entry.ensures.2
 
-pub place_of_entry-second-requires : goal.place_of_entry-second-requires
-place_of_entry-second-requires c =
+pub cut_entry-requires-clause-row : goal.cut_entry-requires-clause-row
+cut_entry-requires-clause-row c = omega (arith, (below c.requires.0 c.args.u c.args.v c.args.rows.now c.requires.1).0, c.requires.1.rows.one_each)
+
+pub cut_entry-requires-clause-rising : goal.cut_entry-requires-clause-rising
+cut_entry-requires-clause-rising c =
+    let net = c.requires.0 in
+    row_rising net.nodes net.links c.args.rows.now c.args.u c.requires.1.rows (below net c.args.u c.args.v c.args.rows.now c.requires.1).0
+
+pub cut_entry-requires-clause-stands : goal.cut_entry-requires-clause-stands
+cut_entry-requires-clause-stands c =
+    let net = c.requires.0 in
     let shown = c.requires.1 in
-    let e = ends (goal.at.place_of_entry-second-requires c).After-max-high c.requires.0 shown in
-    (c.requires.0, record { node = e.inside; rows = rw c.deref-2.ensures.value shown.rows })
+    rw (shown.rows.shown c.args.u (below net c.args.u c.args.v c.args.rows.now shown).0) (end_listed net.nodes net.links c.args.u c.args.v shown.is_net shown.joins)
 
-pub remove-requires : goal.remove-requires
-remove-requires c =
-    let b = (goal.at.remove-requires c).After-place_of_entry-second in
-    omega (arith, (second b c.requires.0 c.requires.1).1, (cut_places _ _ _ _ _ _ _ _ (cut b c.requires.0 c.requires.1)).1, c.args.entries.now.ok.0)
+pub cut_entry-requires-2-clause-row : goal.cut_entry-requires-2-clause-row
+cut_entry-requires-2-clause-row c =
+    let net = c.requires.0 in
+    let shown = c.requires.1 in
+    let long = length_beside net.nodes net.links c.args.rows.now c.cut_entry.new.rows c.args.u (remove (row_of c.args.rows.now c.args.u) c.cut_entry.ensures.0) shown.rows c.cut_entry.ensures.2 in
+    omega (arith, (below net c.args.u c.args.v c.args.rows.now shown).1, long)
 
-pub remove-requires-2 : goal.remove-requires-2
-remove-requires-2 c =
-    let b = (goal.at.remove-requires-2 c).After-place_of_entry-second in
-    let places = cut_places _ _ _ _ _ _ _ _ (cut b c.requires.0 c.requires.1) in
-    omega (arith, (first b c.requires.0 c.requires.1).1, places.0, places.1, c.args.entries.now.ok.0, c.remove.ensures.len)
+pub cut_entry-requires-2-clause-rising : goal.cut_entry-requires-2-clause-rising
+cut_entry-requires-2-clause-rising c = rw (beside (goal.at.cut_entry-requires-2-clause-rising c).After-cut_entry) (neighbours_rise c.requires.0.nodes c.requires.0.links c.args.v)
 
-pub move_down-requires : goal.move_down-requires
-move_down-requires c =
-    let b = (goal.at.move_down-requires c).After-place_of_entry-second in
-    rw (take_rest c.args.starts.now (c.max-high.result + 1)) (cut_positive _ _ _ _ _ _ _ _ _ (cut b c.requires.0 c.requires.1) refl).0
-
-pub move_down-requires-2 : goal.move_down-requires-2
-move_down-requires-2 c =
-    let b = (goal.at.move_down-requires-2 c).After-place_of_entry-second in
-    let once = put_rest (λ start. start - 1) (c.max-high.result + 1) c.args.starts.now c.move_down.new.starts c.move_down.ensures in
-    let one = moved (λ start. start - 1) (c.max-high.result + 1) c.args.starts.now in
-    rw (once, take_rest one (c.min-low.result + 1)) (cut_positive _ _ _ _ _ _ _ _ _ (cut b c.requires.0 c.requires.1) refl).1
+pub cut_entry-requires-2-clause-stands : goal.cut_entry-requires-2-clause-stands
+cut_entry-requires-2-clause-stands c =
+    let net = c.requires.0 in
+    let shown = c.requires.1 in
+    rw (beside (goal.at.cut_entry-requires-2-clause-stands c).After-cut_entry) (end_listed net.nodes net.links c.args.v c.args.u shown.is_net (joins_back net.links c.args.u c.args.v shown.joins))
 
 pub returns-clause-rows : goal.returns-clause-rows
 returns-clause-rows c = λ net shown.
-    let b = (goal.at.returns-clause-rows c).After-place_of_entry-second in
-    let once = put_rest (λ start. start - 1) (c.max-high.result + 1) c.args.starts.now c.move_down.new.starts c.move_down.ensures in
-    let twice = put_rest (λ start. start - 1) (c.min-low.result + 1) _ c.move_down-2.new.starts c.move_down-2.ensures in
-    let left = c.remove-2.ensures.items ∙ ap (λ (es : List (ℕ × First)). remove es c.place_of_entry-first.result) c.remove.ensures.items in
-    rows_cut net c.args.u c.args.v c.min-low.result c.max-high.result c.place_of_entry-first.result c.place_of_entry-second.result c.args.starts.now _ _ c.args.entries.now.items c.remove-2.new.self.items
-    shown c.min-low.ensures c.max-high.ensures (first b net shown) (second b net shown) once twice left
+    let first = c.cut_entry.ensures in
+    let second = c.cut_entry-2.ensures in
+    rows_cut net c.args.u c.args.v first.0 second.0 c.args.rows.now c.cut_entry.new.rows c.cut_entry-2.new.rows shown first.1 first.2 second.1 second.2
+
+pub returns-clause-rooms : goal.returns-clause-rooms
+returns-clause-rooms c = ap (λ (t : Table). t.rooms) c.cut_entry-2.ensures.2 ∙ ap (λ (t : Table). t.rooms) c.cut_entry.ensures.2

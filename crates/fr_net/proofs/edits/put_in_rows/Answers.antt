@@ -1,81 +1,53 @@
-use Rattle.std.proofs.Common.{IsOk, List, ap, arith, refl, ℕ, ◌+◌, ◌∙◌}
+use Rattle.std.proofs.Common.{List, ap, arith, length, ℕ, ◌<◌, ◌∙◌, ◌≡◌}
 use Rattle.std.specs.List.{insert}
-use Rattle.std.proofs.lemmas.List.{take_rest}
-use Rattle.fr_net.proofs.EditedNets.{AreSortedEnds, IsAdding, adding_at, put_inside, put_places, rows_added, sorted_ends}
-use Rattle.fr_net.proofs.EditedRows.{moved, put_rest}
-use Rattle.fr_net.specs.Halves.{IsPlaceOf, ShowsNoLink}
-use Rattle.fr_net.specs.Network.{Network}
+use Rattle.fr_net.proofs.EditedNets.{length_beside, row_beside, row_rising, rows_added}
+use Rattle.fr_net.proofs.Neighbours.{neighbours_rise}
+use Rattle.fr_net.specs.Rows.{row}
+use Rattle.fr_net.specs.Tables.{Table, room_of, row_of}
 use Rattle.fr_net.specs.declared.rows.First.{First}
+use Rattle.fr_net.specs.declared.rows.First.TheVariants.{Outward}
 use Rattle.fr_net.proofs.edits.put_in_rows.Goals as goal
-use Rattle.fr_net.proofs.edits.put_in_rows.Goals.{After-max-high, After-place_of_entry-second, After-seen_from-2}
+use Rattle.fr_net.proofs.edits.put_in_rows.Goals.{After-put_entry}
 
--- the ends of the link, and the places of its entries
-ends : (c : After-max-high) (net : Network) → ShowsNoLink net c.args.tail c.args.head c.args.starts.now c.args.entries.now.items → AreSortedEnds net.nodes c.args.tail c.args.head c.min-low.result c.max-high.result
-ends c net shown = sorted_ends net.nodes c.args.tail c.args.head c.min-low.result c.max-high.result c.min-low.ensures c.max-high.ensures shown.nodes.apart shown.nodes.tail shown.nodes.head
-
-first : (c : After-place_of_entry-second) (net : Network) → ShowsNoLink net c.args.tail c.args.head c.args.starts.now c.args.entries.now.items → IsPlaceOf net c.min-low.result c.max-high.result c.args.starts.now c.place_of_entry-first.result
-first c net shown =
-    let e = ends (goal.at.After-place_of_entry-second c).After-max-high net shown in
-    c.place_of_entry-first.ensures net (record { node = omega (arith, e.order, e.inside); rows = rw c.deref.ensures.value shown.rows })
-
-second : (c : After-place_of_entry-second) (net : Network) → ShowsNoLink net c.args.tail c.args.head c.args.starts.now c.args.entries.now.items → IsPlaceOf net c.max-high.result c.min-low.result c.args.starts.now c.place_of_entry-second.result
-second c net shown =
-    let e = ends (goal.at.After-place_of_entry-second c).After-max-high net shown in
-    c.place_of_entry-second.ensures net (record { node = e.inside; rows = rw c.deref-2.ensures.value shown.rows })
-
-put : (c : After-place_of_entry-second) (net : Network) (shown : ShowsNoLink net c.args.tail c.args.head c.args.starts.now c.args.entries.now.items) → IsAdding net.nodes net.links c.args.tail c.args.head c.min-low.result c.max-high.result (first c net shown).0 (second c net shown).0 c.args.starts.now c.args.entries.now.items
-put c net shown = adding_at net c.args.tail c.args.head c.min-low.result c.max-high.result c.place_of_entry-first.result c.place_of_entry-second.result c.args.starts.now c.args.entries.now.items shown c.min-low.ensures c.max-high.ensures (first c net shown) (second c net shown)
-
-pub place_of_entry-first-requires : goal.place_of_entry-first-requires
-place_of_entry-first-requires c =
+-- the row of the head stays while that of the tail is written
+beside : (c : After-put_entry) → row_of c.put_entry.new.rows c.args.head ≡ row c.requires.shown.0.nodes c.requires.shown.0.links c.args.head
+beside c =
+    let net = c.requires.shown.0 in
     let shown = c.requires.shown.1 in
-    let e = ends (goal.at.place_of_entry-first-requires c).After-max-high c.requires.shown.0 shown in
-    (c.requires.shown.0, record { node = omega (arith, e.order, e.inside); rows = rw c.deref.ensures.value shown.rows })
+    row_beside net.nodes net.links c.args.rows.now c.put_entry.new.rows c.args.tail c.args.head (insert (row_of c.args.rows.now c.args.tail) c.put_entry.ensures.0 (c.args.head, Outward)) shown.rows
+    shown.nodes.head shown.nodes.apart c.put_entry.ensures.2
 
-pub place_of_entry-second-requires : goal.place_of_entry-second-requires
-place_of_entry-second-requires c =
+pub put_entry-requires-clause-row : goal.put_entry-requires-clause-row
+put_entry-requires-clause-row c = let shown = c.requires.shown.1 in omega (arith, shown.nodes.tail, shown.rows.one_each)
+
+pub put_entry-requires-clause-rising : goal.put_entry-requires-clause-rising
+put_entry-requires-clause-rising c =
+    let net = c.requires.shown.0 in
+    row_rising net.nodes net.links c.args.rows.now c.args.tail c.requires.shown.1.rows c.requires.shown.1.nodes.tail
+
+pub put_entry-requires-2-clause-row : goal.put_entry-requires-2-clause-row
+put_entry-requires-2-clause-row c =
+    let net = c.requires.shown.0 in
     let shown = c.requires.shown.1 in
-    let e = ends (goal.at.place_of_entry-second-requires c).After-max-high c.requires.shown.0 shown in
-    (c.requires.shown.0, record { node = e.inside; rows = rw c.deref-2.ensures.value shown.rows })
+    let long = length_beside net.nodes net.links c.args.rows.now c.put_entry.new.rows c.args.tail (insert (row_of c.args.rows.now c.args.tail) c.put_entry.ensures.0 (c.args.head, Outward)) shown.rows c.put_entry.ensures.2 in
+    omega (arith, shown.nodes.head, long)
 
-pub insert-requires : goal.insert-requires
-insert-requires c =
-    let b = (goal.at.insert-requires c).After-place_of_entry-second in
-    omega (arith, (second b c.requires.shown.0 c.requires.shown.1).1, (put_places _ _ _ _ _ _ _ _ _ _ (put b c.requires.shown.0 c.requires.shown.1)).1, c.args.entries.now.ok.0)
+pub put_entry-requires-2-clause-rising : goal.put_entry-requires-2-clause-rising
+put_entry-requires-2-clause-rising c = rw (beside (goal.at.put_entry-requires-2-clause-rising c).After-put_entry) (neighbours_rise c.requires.shown.0.nodes c.requires.shown.0.links c.args.head)
 
--- there is room for the first entry
-first_put : (c : After-seen_from-2) → IsOk c.insert.result
-first_put c = c.insert.ensures.succeeds (omega (arith, c.requires.room, c.args.entries.now.ok.0))
-
-pub insert-requires-2 : goal.insert-requires-2
-insert-requires-2 c =
-    let b = (goal.at.insert-requires-2 c).After-place_of_entry-second in
-    let places = put_places _ _ _ _ _ _ _ _ _ _ (put b c.requires.shown.0 c.requires.shown.1) in
-    omega (arith, (first b c.requires.shown.0 c.requires.shown.1).1, places.0, places.1, c.args.entries.now.ok.0, rw (first_put (goal.at.insert-requires-2 c).After-seen_from-2) at c.insert.ensures.len)
-
-pub move_up-requires : goal.move_up-requires
-move_up-requires c =
-    let b = (goal.at.move_up-requires c).After-place_of_entry-second in
-    let parts = (put_inside _ _ _ _ _ _ _ _ _ _ _ (put b c.requires.shown.0 c.requires.shown.1) refl).0 in
-    rw (take_rest c.args.starts.now (c.max-high.result + 1)) (λ i d l. omega (arith, parts i d l, c.args.entries.now.ok.0, c.args.entries.now.small))
-
-pub move_up-requires-2 : goal.move_up-requires-2
-move_up-requires-2 c =
-    let b = (goal.at.move_up-requires-2 c).After-place_of_entry-second in
-    let parts = (put_inside _ _ _ _ _ _ _ _ _ _ _ (put b c.requires.shown.0 c.requires.shown.1) refl).1 in
-    let once = put_rest (λ start. start + 1) (c.max-high.result + 1) c.args.starts.now c.move_up.new.starts c.move_up.ensures in
-    let one = moved (λ start. start + 1) (c.max-high.result + 1) c.args.starts.now in
-    rw (once, take_rest one (c.min-low.result + 1)) (λ i d l. omega (arith, parts i d l, c.args.entries.now.ok.0, c.args.entries.now.small))
+pub put_entry-requires-2-clause-room : goal.put_entry-requires-2-clause-room
+put_entry-requires-2-clause-room c =
+    let net = c.requires.shown.0 in
+    let rooms : room_of c.put_entry.new.rows c.args.head ≡ room_of c.args.rows.now c.args.head = ap (λ (t : Table). room_of t c.args.head) c.put_entry.ensures.2 in
+    let same = ap length (beside (goal.at.put_entry-requires-2-clause-room c).After-put_entry) in
+    let first = ap length (c.requires.shown.1.rows.shown c.args.head c.requires.shown.1.nodes.head) in
+    omega (arith, rooms, same, first, c.requires.head_room)
 
 pub returns-clause-rows : goal.returns-clause-rows
 returns-clause-rows c = λ net shown.
-    let b = (goal.at.returns-clause-rows c).After-place_of_entry-second in
-    let once_put = first_put (goal.at.returns-clause-rows c).After-seen_from-2 in
-    let long = rw once_put at c.insert.ensures.len in
-    let twice_put : IsOk c.insert-2.result = c.insert-2.ensures.succeeds (omega (arith, long, c.insert.ensures.capacity, c.requires.room, c.args.entries.now.ok.0)) in
-    let wide = (rw twice_put at c.insert-2.ensures.items) ∙ ap (λ (es : List (ℕ × First)). insert es c.place_of_entry-first.result (c.max-high.result, c.seen_from-2.result)) (rw once_put at c.insert.ensures.items) in
-    let once = put_rest (λ start. start + 1) (c.max-high.result + 1) c.args.starts.now c.move_up.new.starts c.move_up.ensures in
-    let twice = put_rest (λ start. start + 1) (c.min-low.result + 1) _ c.move_up-2.new.starts c.move_up-2.ensures in
-    let seen = rw (c.seen_from.ensures, c.seen_from-2.ensures) at wide in
-    rows_added net c.args.tail c.args.head c.min-low.result c.max-high.result c.place_of_entry-first.result c.place_of_entry-second.result c.args.starts.now _ _ c.args.entries.now.items c.insert-2.new.self.items
-    shown c.min-low.ensures c.max-high.ensures (first b net shown) (second b net shown) once twice seen
+    let first = c.put_entry.ensures in
+    let second = c.put_entry-2.ensures in
+    rows_added net c.args.tail c.args.head first.0 second.0 c.args.rows.now c.put_entry.new.rows c.put_entry-2.new.rows shown first.1 first.2 second.1 second.2
+
+pub returns-clause-rooms : goal.returns-clause-rooms
+returns-clause-rooms c = ap (λ (t : Table). t.rooms) c.put_entry-2.ensures.2 ∙ ap (λ (t : Table). t.rooms) c.put_entry.ensures.2
