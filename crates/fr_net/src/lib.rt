@@ -21,6 +21,7 @@ mod network;
 mod read;
 mod requests;
 mod rows;
+mod short_lines;
 mod turned;
 mod values;
 
