@@ -2,7 +2,7 @@
 use Rattle.std.proofs.Common.{List, [], ap, append_assoc, arith, decimal, drop, get_or, length, length-drop, sym, take, take_all, ℕ, ◌*◌, ◌+◌, ◌++◌, ◌-◌, ◌/◌, ◌%◌, ◌<◌, ◌≤◌, ◌^◌, ◌∙◌, ◌∷◌, ◌≡◌}
 use Rattle.std.specs.Prelude.{⊤}
 use Rattle.std.proofs.lemmas.Fmt.{decimal_step}
-use Rattle.std.proofs.lemmas.List.{drop_more}
+use Rattle.std.proofs.lemmas.List.{append-nil, drop_all, drop_more}
 
 -- these bytes stand from the place k on, as a pattern finds them
 abbrev pub StandFrom : ℕ → List ℕ → List ℕ → Type 0
@@ -22,6 +22,12 @@ front_and_rest front bytes long h =
     let none : 0 + n ≡ n = omega arith in
     let all = take_all (length bytes - n) (drop n bytes) (omega (arith, length-drop n bytes)) in
     from_place 0 front bytes (omega arith) h ∙ ap (λ k. front ++ drop k bytes) none ∙ ap (λ rest. front ++ rest) (sym all)
+
+-- bytes that are no more than those at their front
+pub whole_front : (front bytes : List ℕ) → length bytes ≡ length front → StandFrom 0 front bytes → bytes ≡ front
+whole_front front bytes same h =
+    let n = length front in
+    from_place 0 front bytes (omega arith) h ∙ ap (λ rest. front ++ rest) (drop_all (0 + n) bytes (omega arith)) ∙ append-nil front
 
 -- a number grows by the digit that stands behind those before
 pub one_digit_more : (n digit m : ℕ) (behind : List ℕ) → m ≡ n * 10 + (digit - 48) → 0 < n → 48 ≤ digit → digit ≤ 57 → m < 2 ^ 64 → decimal n ++ digit ∷ behind ≡ decimal m ++ behind

@@ -12,26 +12,75 @@ pub(crate) fn short_request(line: &[u8]) -> Option<Request>
     ensures { IfSome result (λ request. reading line.now ≡ Ok (plain request)) }
 {
     match line {
-        [b'[', b'"', b'c', b'u', b't', b'"', rest @ ..] => {
-            let (u, v) = two_numbers(rest)?;
-            Some(Request::Cut { u, v })
-        }
-        [b'[', b'"', b'a', b'd', b'd', b'"', rest @ ..] => {
-            let (u, v) = two_numbers(rest)?;
-            Some(Request::Add { u, v })
-        }
-        [b'[', b'"', b'j', b'o', b'i', b'n', b'"', rest @ ..] => {
-            let (u, v) = two_numbers(rest)?;
-            Some(Request::Join { u, v })
-        }
-        [b'[', b'"', b'd', b'e', b's', b't', b'"', rest @ ..] => {
-            let dest = one_number(rest)?;
-            Some(Request::Destination { dest })
-        }
-        [b'[', b'"', b'w', b'a', b'l', b'k', b'"', rest @ ..] => {
-            let x = one_number(rest)?;
-            Some(Request::Walk { x })
-        }
+        [_, _, b'c', b'u', ..] => cut(line),
+        [_, _, b'a', b'd', ..] => add(line),
+        [_, _, b'j', b'o', ..] => join(line),
+        [_, _, b'd', b'e', ..] => destination(line),
+        [_, _, b'w', b'a', ..] => walk(line),
+        _ => question(line),
+    }
+}
+
+/// A cut: `["cut",u,v]`.
+fn cut(line: &[u8]) -> Option<Request>
+    ensures { IfSome result (λ request. reading line.now ≡ Ok (plain request)) }
+{
+    let [b'[', b'"', b'c', b'u', b't', b'"', rest @ ..] = line else {
+        return None;
+    };
+    let (u, v) = two_numbers(rest)?;
+    Some(Request::Cut { u, v })
+}
+
+/// An added link: `["add",u,v]`.
+fn add(line: &[u8]) -> Option<Request>
+    ensures { IfSome result (λ request. reading line.now ≡ Ok (plain request)) }
+{
+    let [b'[', b'"', b'a', b'd', b'd', b'"', rest @ ..] = line else {
+        return None;
+    };
+    let (u, v) = two_numbers(rest)?;
+    Some(Request::Add { u, v })
+}
+
+/// A join: `["join",u,v]`.
+fn join(line: &[u8]) -> Option<Request>
+    ensures { IfSome result (λ request. reading line.now ≡ Ok (plain request)) }
+{
+    let [b'[', b'"', b'j', b'o', b'i', b'n', b'"', rest @ ..] = line else {
+        return None;
+    };
+    let (u, v) = two_numbers(rest)?;
+    Some(Request::Join { u, v })
+}
+
+/// Another destination: `["dest",d]`.
+fn destination(line: &[u8]) -> Option<Request>
+    ensures { IfSome result (λ request. reading line.now ≡ Ok (plain request)) }
+{
+    let [b'[', b'"', b'd', b'e', b's', b't', b'"', rest @ ..] = line else {
+        return None;
+    };
+    let dest = one_number(rest)?;
+    Some(Request::Destination { dest })
+}
+
+/// A walk: `["walk",x]`.
+fn walk(line: &[u8]) -> Option<Request>
+    ensures { IfSome result (λ request. reading line.now ≡ Ok (plain request)) }
+{
+    let [b'[', b'"', b'w', b'a', b'l', b'k', b'"', rest @ ..] = line else {
+        return None;
+    };
+    let x = one_number(rest)?;
+    Some(Request::Walk { x })
+}
+
+/// A question: `["links"]`, `["counts"]` or `["hops"]`.
+fn question(line: &[u8]) -> Option<Request>
+    ensures { IfSome result (λ request. reading line.now ≡ Ok (plain request)) }
+{
+    match line {
         b"[\"links\"]" => Some(Request::Ask(Question::Links)),
         b"[\"counts\"]" => Some(Request::Ask(Question::Counts)),
         b"[\"hops\"]" => Some(Request::Ask(Question::Hops)),

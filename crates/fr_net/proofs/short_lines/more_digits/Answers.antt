@@ -1,4 +1,4 @@
-use Rattle.std.proofs.Common.{[], ap, arith, decimal, drop, get_or, length, refl, take, ◌*◌, ◌+◌, ◌++◌, ◌-◌, ◌<◌, ◌∙◌, ◌∷◌, ◌≡◌, ◌≤◌, ◌^◌}
+use Rattle.std.proofs.Common.{[], ap, arith, decimal, get_or, refl, ◌*◌, ◌+◌, ◌++◌, ◌-◌, ◌<◌, ◌∙◌, ◌∷◌, ◌≡◌, ◌≤◌, ◌^◌}
 use Rattle.fr_net.proofs.ShortLineTexts.{front_and_rest, one_digit_more}
 use Rattle.fr_net.proofs.short_lines.more_digits.Goals as goal
 
