@@ -22,8 +22,8 @@ returns-in-44-2 c =
     let start = c.from.result in
     let glyph : digit ≡ 48 + start = omega (arith, c.from.ensures) in
     let text : rest ≡ 44 ∷ (decimal start ++ behind) =
-        front_and_rest (44 ∷ digit ∷ []) rest c.in-44-2.len_at_least (comma, (refl, tt))
-        ∙ ap (λ d. 44 ∷ d ∷ behind) glyph ∙ ap (λ digits. 44 ∷ (digits ++ behind)) (sym (decimal_digit start (omega (arith, c.from.ensures)))) in
+    front_and_rest (44 ∷ digit ∷ []) rest c.in-44-2.len_at_least (comma, (refl, tt))
+    ∙ ap (λ d. 44 ∷ d ∷ behind) glyph ∙ ap (λ digits. 44 ∷ (digits ++ behind)) (sym (decimal_digit start (omega (arith, c.from.ensures)))) in
     go behind (decimal start) text c.more_digits.result c.more_digits.ensures
   where
     go : {rest : List ℕ} (behind digits : List ℕ) → rest ≡ 44 ∷ (digits ++ behind) → (found : Option (ℕ × Bor (List ℕ))) → IfSome found (λ next. digits ++ behind ≡ decimal next.0 ++ next.1.now)
