@@ -36,3 +36,5 @@ pub mod WordLines
 pub mod Reordering
 pub mod Outward
 pub mod Undoing
+pub mod ShortLineTexts
+pub mod ShortLineValues

@@ -20,3 +20,4 @@ pub mod Inside
 pub mod Requests
 pub mod LineTokens
 pub mod Laws
+pub mod ShortLines

@@ -22,6 +22,7 @@ mod read;
 mod requests;
 mod row_table;
 mod rows;
+mod short_lines;
 mod turned;
 mod values;
 

@@ -9,6 +9,7 @@ ghost use Rattle.fr_net.specs.LineTokens.{Tells, reading_of_tokens};
 
 use crate::read::{request_by_word, request_in};
 use crate::requests::{LineFault, Request};
+use crate::short_lines::short_request;
 use crate::values::{items, value};
 use json::{Reader, Scratch, Token};
 use std::alloc::Global;
@@ -18,8 +19,8 @@ use std::str::from_utf8;
 /// How deep arrays and objects may nest, as `serde_json` has it.
 const DEPTH: usize = 127;
 
-/// A reader of many lines. From its first line on it keeps the memory that reading takes: a table of 16 KB, and room for the
-/// longest line so far.
+/// A reader of many lines. A short request that is written without whitespace, as `["walk",3]`, it reads by its bytes. From the first
+/// other line on it keeps the memory that reading takes: a table of 16 KB, and room for the longest line so far.
 #[derive(Drop)]
 pub struct LineReader {
     scratch: Option<Box<Scratch>>,
@@ -34,6 +35,18 @@ impl LineReader {
     /// The request that a line is, as [`read_line`](crate::read_line) tells it; a fault other than want of memory is settled by
     /// the line alone.
     pub fn read(&mut self, alloc: Global, line: &[u8]) -> Result<Request, LineFault>
+        ensures ok { IfOk result (λ request. reading line.now ≡ Ok (plain request)) }
+        ensures refused { IfErr result (λ fault. fault ≢ Memory → reading line.now ≡ Err fault) }
+    {
+        match short_request(line) {
+            Some(request) => Ok(request),
+            None => self.read_tokens(alloc, line),
+        }
+    }
+
+    /// The request that a line is, by its tokens. It is kept out of the short lines' way, which pays for no locals then.
+    #[inline(never)]
+    fn read_tokens(&mut self, alloc: Global, line: &[u8]) -> Result<Request, LineFault>
         ensures ok { IfOk result (λ request. reading line.now ≡ Ok (plain request)) }
         ensures refused { IfErr result (λ fault. fault ≢ Memory → reading line.now ≡ Err fault) }
     {

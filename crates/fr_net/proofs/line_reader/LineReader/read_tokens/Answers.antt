@@ -4,7 +4,7 @@ use Rattle.serde_json.specs.Read.{read}
 use Rattle.fr_net.proofs.LineValues.{no_value, value_of_text}
 use Rattle.fr_net.specs.LineTokens.{reading_of_tokens}
 use Rattle.fr_net.specs.Requests.{reading, reading_of_value}
-use Rattle.fr_net.proofs.line_reader.LineReader.read.Goals as goal
+use Rattle.fr_net.proofs.line_reader.LineReader.read_tokens.Goals as goal
 
 pub returns-in_default-clause-refused : goal.returns-in_default-clause-refused
 returns-in_default-clause-refused c _ = rw (no_value _ (λ text. absurd (c.in_default.ensures.cases.0 text)))
