@@ -13,6 +13,7 @@ pub mod Halves
 pub mod TurnedRows
 pub mod CycleSearch
 pub mod ClosingSearch
+pub mod MeetingSearch
 pub mod Graph
 pub mod Inside
 pub mod Requests

@@ -56,7 +56,7 @@ impl Graph {
     pub(crate) fn row(&self, x: u32) -> &[(u32, First)]
         requires graph { IsGraph self.now }
         requires node { x < self.now.nodes }
-        ensures { result.now ≡ row self.now.nodes self.now.links.items x }
+        ensures { result.now ≡ row self.now.nodes (shown self.now).links x }
     {
         &self.entries[self.starts[x as usize]..self.starts[x as usize + 1]]
     }
