@@ -139,8 +139,8 @@ pub other_was : (f : First) (before after : Side) (old new : List Met) (x : ℕ)
 other_was f before after old new x first_is more h =
     elim (more.met x) [ inl e ↦ sym e ∙ h | inr w ↦ absurd (sides_apart f (sym (rw first_is at w.1) ∙ h)) ]
 
--- a side as it begins
-pub side_begins : (net : Network) (f : First) (start : ℕ) (met : List Met) (side : Side) → length met ≡ net.nodes → HasMet f met start → ((x : ℕ) → HasMet f met x → x ≡ start) → never_count met + 1 ≤ net.nodes → HasBegun f start net.nodes side → IsSide net f start met side
+-- a side that has met its start alone
+side_begins : (net : Network) (f : First) (start : ℕ) (met : List Met) (side : Side) → length met ≡ net.nodes → HasMet f met start → ((x : ℕ) → HasMet f met x → x ≡ start) → never_count met + 1 ≤ net.nodes → HasBegun f start net.nodes side → IsSide net f start met side
 side_begins net f start met side long here alone few b =
     record {
       one_each = long;
@@ -252,16 +252,62 @@ side_reads net f start x met side is_net unread at_read passed s =
       room = s.room;
     }
 
+-- a side with its direction and its start as it keeps them itself
+pub side_itself : (net : Network) (f : First) (start : ℕ) (met : List Met) (side : Side) → IsSide net f start met side → IsSide net side.first (start_of side) met side
+side_itself net f start met side s =
+    subst (λ (g : First). IsSide net g (start_of side) met side) (sym s.first_is) (subst (λ (x : ℕ). IsSide net f x met side) (sym s.start_is) s)
+
 -- a way leads to each node that a side has met
 pub way_to_met : (net : Network) (f : First) (start : ℕ) (met : List Met) (side : Side) (x : ℕ) → IsSide net f start met side → HasMet f met x → HasWay f net.links start x
 way_to_met net f start met side x s h = All-contains (HasWay f net.links start) side.nodes.items x s.ways (s.listed x h)
 
--- a side that has read all rows of its nodes has met each node to which a way leads
-pub met_by_way : (net : Network) (f : First) (start : ℕ) (met : List Met) (side : Side) (y : ℕ) → IsSide net f start met side → length side.nodes.items ≤ side.read → HasWay f net.links start y → HasMet f met y
+start_met : (net : Network) (f : First) (start : ℕ) (met : List Met) (side : Side) → IsSide net f start met side → HasMet f met start
+start_met net f start met side s = rw s.start_is at (s.all_met 0 0 s.begun)
+
+-- a side that has read all rows of its nodes has met each node to which a way leads, and so none to the start of the other
+met_by_way : (net : Network) (f : First) (start : ℕ) (met : List Met) (side : Side) (y : ℕ) → IsSide net f start met side → length side.nodes.items ≤ side.read → HasWay f net.links start y → HasMet f met y
 met_by_way net f start met side y s all way =
     let closed : (x w : ℕ) → HasMet f met x → LeadsOn f net.links x w → HasMet f met w = λ x w h step.
     let at = s.listed x h in
     let is : get_or side.nodes.items at.0 0 ≡ x = get_or_default side.nodes.items at.0 0 x at.1 ∙ at.2 in
     s.leads_on at.0 w (omega (arith, at.1, all)) (rw is step) in
-    let start_met : HasMet f met start = rw s.start_is at (s.all_met 0 0 s.begun) in
-    way_keeps f net.links (HasMet f met) closed start y way start_met
+    way_keeps f net.links (HasMet f met) closed start y way (start_met net f start met side s)
+
+pub no_way : (net : Network) (f : First) (a b : ℕ) (met : List Met) (side other : Side) → IsSide net f a met side → IsSide net (opposite f) b met other → ¬ (side.read < length side.nodes.items) → ¬ HasWay f net.links a b
+no_way net f a b met side other s o all way =
+    let none_left : length side.nodes.items ≤ side.read = omega arith in
+    let reached : HasMet f met b = met_by_way net f a met side b s none_left way in
+    sides_apart f (sym reached ∙ start_met net (opposite f) b met other o)
+
+-- both sides as they begin
+none_met : (n x : ℕ) → met_of (replicate n Never) x ≡ Never
+none_met n x =
+    elim (cases_lt x n) [
+      | inl l ↦ get_or-replicate n x Never Never l
+      | inr g ↦ get_or_past (replicate n Never) x Never (omega (arith, length-replicate n Never))
+    ]
+
+pub sides_begin : (net : Network) (from to : ℕ) (met : List Met) (ahead behind : Side) → from < net.nodes → to < net.nodes → from ≢ to → met ≡ set (set (replicate net.nodes Never) from Forward) to Backward → HasBegun Outward from net.nodes ahead → HasBegun Inward to net.nodes behind → IsSide net Outward from met ahead × IsSide net Inward to met behind
+sides_begin net from to met ahead behind from_below to_below apart met_is a b =
+    let none : List Met = replicate net.nodes Never in
+    let one : List Met = set none from Forward in
+    let long : length none ≡ net.nodes = length-replicate net.nodes Never in
+    let one_long : length one ≡ net.nodes = length-set none from Forward ∙ long in
+    let met_long : length met ≡ net.nodes = rw met_is (length-set one to Backward ∙ one_long) in
+    let l : from < length none = omega (arith, long) in
+    let m : to < length one = omega (arith, one_long) in
+    let to_fresh : met_of one to ≡ Never = get_or-set_other none from to Forward Never (λ e. apart (sym e)) ∙ none_met net.nodes to in
+    let few : never_count met + 1 ≤ net.nodes = rw met_is (omega (arith, long, count_by-le-length is_never none, fewer_never none from Outward l (none_met net.nodes from), fewer_never one to Inward m to_fresh)) in
+    let from_met : met_of met from ≡ Forward = rw met_is (get_or-set_other one to from Backward Never apart ∙ get_or-set_same none from Forward Never l) in
+    let to_met : met_of met to ≡ Backward = rw met_is (get_or-set_same one to Backward Never m) in
+    let cases : (x : ℕ) → ((x ≡ to) × (met_of met x ≡ Backward)) ⊎ (((x ≡ from) × (met_of met x ≡ Forward)) ⊎ (met_of met x ≡ Never)) = λ x.
+    rw met_is (elim (met_set one to x Backward m) [
+      | inl w ↦ inl w
+      | inr e ↦ elim (met_set none from x Forward l) [ inl v ↦ inr (inl (v.0, e ∙ v.1)) | inr q ↦ inr (inr (e ∙ q ∙ none_met net.nodes x)) ]
+    ]) in
+    let from_alone : (x : ℕ) → met_of met x ≡ Forward → x ≡ from = λ x h. elim (cases x) [ inl w ↦ cc (w.1, h) | inr r ↦ elim r [ inl v ↦ v.0 | inr q ↦ cc (q, h) ] ] in
+    let to_alone : (x : ℕ) → met_of met x ≡ Backward → x ≡ to = λ x h. elim (cases x) [ inl w ↦ w.0 | inr r ↦ elim r [ inl v ↦ cc (v.1, h) | inr q ↦ cc (q, h) ] ] in
+    (
+      side_begins net Outward from met ahead met_long from_met from_alone few a,
+      side_begins net Inward to met behind met_long to_met to_alone few b,
+    )

@@ -18,6 +18,7 @@ use crate::closing::closing_walk;
 use crate::edits::{cut_from_rows, cut_link, place_in_row, put_in_rows, put_link};
 use crate::fault::{EditFault, NetFault};
 use crate::limits::MAX_LINKS;
+use crate::meeting::leads;
 use crate::requests::Edit;
 use crate::rows::First;
 use std::alloc::{AllocError, Global};
@@ -187,7 +188,12 @@ impl Graph {
         ensures unchanged { OnErr result (self.new ≡ self.old) }
     {
         self.test_join(u, v)?;
-        if let Some(walk) = closing_walk(alloc, self, u, v)? {
+        // Few added links close a walk, and the search from both ends reads little to tell so. The one that names the walk starts
+        // from one end alone.
+        if leads(alloc, self, v, u)? {
+            let Some(walk) = closing_walk(alloc, self, u, v)? else {
+                unreachable!();
+            };
             return Err(NetFault::Cycle(walk));
         }
         self.put(u, v);
@@ -204,9 +210,10 @@ impl Graph {
         ensures unchanged { OnErr result (self.new ≡ self.old) }
     {
         self.test_join(u, v)?;
-        let (tail, head) = match closing_walk(alloc, self, u, v)? {
-            None => (u, v),
-            Some(_walk) => (v, u),
+        let (tail, head) = if leads(alloc, self, v, u)? {
+            (v, u)
+        } else {
+            (u, v)
         };
         self.put(tail, head);
         Ok(Done::Put { tail, head })
