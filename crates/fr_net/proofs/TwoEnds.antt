@@ -306,8 +306,7 @@ sides_begin net from to met ahead behind from_below to_below apart met_is a b =
       | inr e ↦ elim (met_set none from x Forward l) [ inl v ↦ inr (inl (v.0, e ∙ v.1)) | inr q ↦ inr (inr (e ∙ q ∙ none_met net.nodes x)) ]
     ]) in
     let from_alone : (x : ℕ) → met_of met x ≡ Forward → x ≡ from = λ x h. elim (cases x) [ inl w ↦ cc (w.1, h) | inr r ↦ elim r [ inl v ↦ v.0 | inr q ↦ cc (q, h) ] ] in
-    let to_alone : (x : ℕ) → met_of met x ≡ Backward → x ≡ to = λ x h. elim (cases x) [ inl w ↦ w.0 | inr r ↦ elim r [ inl v ↦ cc (v.1, h) | inr q ↦ cc (q, h) ] ] in
-    (
+    let to_alone : (x : ℕ) → met_of met x ≡ Backward → x ≡ to = λ x h. elim (cases x) [ inl w ↦ w.0 | inr r ↦ elim r [ inl v ↦ cc (v.1, h) | inr q ↦ cc (q, h) ] ] in (
       side_begins net Outward from met ahead met_long from_met from_alone few a,
       side_begins net Inward to met behind met_long to_met to_alone few b,
     )

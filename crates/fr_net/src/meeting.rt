@@ -79,7 +79,7 @@ impl Side {
                 self.nodes.push_reserved(node);
                 false
             }
-            by => by != own,
+            side => side != own,
         }
     }
 
@@ -105,12 +105,7 @@ impl Side {
 }
 
 /// Whether the links lead from `from` to `to`.
-pub(crate) fn leads(
-    alloc: Global,
-    graph: &Graph,
-    from: u32,
-    to: u32,
-) -> Result<bool, AllocError>
+pub(crate) fn leads(alloc: Global, graph: &Graph, from: u32, to: u32) -> Result<bool, AllocError>
     requires graph { IsGraph graph.now }
     requires from { from < graph.now.nodes }
     requires to { to < graph.now.nodes }
