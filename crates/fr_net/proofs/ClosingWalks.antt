@@ -183,7 +183,7 @@ search_ends net u v met acyclic s a vs walk =
     s.not_found (subst (IsMet met) way.1.1 (path_keeps net.links (IsMet met) closed v way.0 s.begun way.1.0))
 
 -- one step more at the end of a path
-path_step : (links : List (ℕ × ℕ)) (a : ℕ) (vs : List ℕ) (b : ℕ) → IsPath links a vs → Points links (end_of a vs) b → IsPath links a (vs ++ b ∷ []) × (end_of a (vs ++ b ∷ []) ≡ b)
+pub path_step : (links : List (ℕ × ℕ)) (a : ℕ) (vs : List ℕ) (b : ℕ) → IsPath links a vs → Points links (end_of a vs) b → IsPath links a (vs ++ b ∷ []) × (end_of a (vs ++ b ∷ []) ≡ b)
 path_step links a [] b path step = ((step, tt), refl)
 path_step links a (w ∷ ws) b path step = let rest = path_step links w ws b path.1 step in ((path.0, rest.0), rest.1)
 

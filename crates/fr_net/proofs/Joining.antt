@@ -5,24 +5,42 @@ use Rattle.std.specs.declared.alloc.Global.{Global}
 use Rattle.std.specs.declared.vec.Vec.{Vec}
 use Rattle.std.proofs.lemmas.Bool.{cases_Bool}
 use Rattle.std.proofs.lemmas.List.{get_or_append_left, length_push}
-use Rattle.std.proofs.lemmas.List.Elements.{All-contains, All-push, Contains-push}
+use Rattle.std.proofs.lemmas.List.Elements.{All-contains, All-push, Contains-append_left, Contains-push}
 use Rattle.std.proofs.lemmas.List.Sums.{sum_by_push}
 use Rattle.fr_net.proofs.AddedLinks.{added, closed_back, in_range, no_self, path_joins, single_added, within_limits}
 use Rattle.fr_net.proofs.Counting.{one_passes, weigh}
 use Rattle.fr_net.proofs.CutRows.{filter_kept}
 use Rattle.fr_net.proofs.Cycles.{points_at}
-use Rattle.fr_net.proofs.Linking.{is_between_itself, is_between_turned, joined_from, not_twice}
+use Rattle.fr_net.proofs.Linking.{is_between_itself, is_between_turned, joined_from, not_twice, path_carries}
 use Rattle.fr_net.proofs.Members.{Contains-tail}
 use Rattle.fr_net.proofs.Refusing.{fault_place, first_fault_place, no_cycle_stands, no_first_fault, no_self_link, not_too_large, range_stands}
 use Rattle.fr_net.specs.Edits.{IsJoined, IsJoinFault, without}
 use Rattle.fr_net.specs.Faults.{IsFaultless, IsFirstFault, IsInRange}
 use Rattle.fr_net.specs.Halves.{AreUnjoined}
 use Rattle.fr_net.specs.Limits.{IsWithinLimits, most_links}
-use Rattle.fr_net.specs.Links.{AreBelow, AreSingle, HasNoSelfLink, HasPath, IsAcyclic, IsCycle, Joins, is_between}
+use Rattle.fr_net.specs.Links.{AreBelow, AreSingle, HasNoSelfLink, HasPath, IsAcyclic, IsCycle, IsPath, Joins, is_between}
 use Rattle.fr_net.specs.Network.{Network}
 use Rattle.fr_net.specs.Order.{is_not_after, with_in_order}
 use Rattle.fr_net.specs.declared.fault.NetFault.{NetFault}
 use Rattle.fr_net.specs.declared.fault.NetFault.TheVariants.{Cycle, Memory, NoLink, Range, SelfLink, TooMany, Twice}
+
+-- a link closes a walk exactly where a path leads from its head to its tail
+pub path_closes : (links : List (ℕ × ℕ)) (u v : ℕ) → HasPath links v u → ¬ IsAcyclic (added links u v)
+path_closes links u v path acyclic =
+    let along : IsPath (added links u v) v path.0 = path_carries links (added links u v) (λ x y p. Contains-append_left links ((u, v) ∷ []) (x, y) p) v path.0 path.1.0 in
+    acyclic u (v ∷ path.0) ((Contains-push links (u, v), along), path.1.1)
+
+pub no_path_free : (links : List (ℕ × ℕ)) (u v : ℕ) → IsAcyclic links → ¬ HasPath links v u → IsAcyclic (added links u v)
+no_path_free links u v acyclic none a vs walk = none (closed_back links u v a vs acyclic walk)
+
+-- two nodes that no link joins, the other way round
+pub unjoined_turned : (n : ℕ) (links : List (ℕ × ℕ)) (u v : ℕ) → AreUnjoined n links u v → AreUnjoined n links v u
+unjoined_turned n links u v free = record {
+  tail = free.head;
+  head = free.tail;
+  apart = λ e. free.apart (sym e);
+  free = λ h. free.free (⊎_elim (λ p. inr p) (λ p. inl p) h);
+}
 
 -- a path there and one back would make a closed walk
 no_return : (links : List (ℕ × ℕ)) (u v : ℕ) → IsAcyclic links → u ≢ v → HasPath links u v → ¬ HasPath links v u

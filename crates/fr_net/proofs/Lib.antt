@@ -29,6 +29,7 @@ pub mod Batches
 pub mod ByNode
 pub mod Cycles
 pub mod ClosingWalks
+pub mod TwoEnds
 pub mod Items
 pub mod LineValues
 pub mod TokenItems

@@ -19,6 +19,7 @@ use crate::closing::closing_walk;
 use crate::edits::{cut_from_rows, place_in_row, put_in_rows};
 use crate::fault::{EditFault, NetFault};
 use crate::limits::MAX_LINKS;
+use crate::meeting::leads;
 use crate::requests::Edit;
 use crate::row_table::RowTable;
 use crate::rows::First;
@@ -180,7 +181,12 @@ impl Graph {
         ensures unchanged { OnErr result (IsSame self.old self.new) }
     {
         self.test_join(u, v)?;
-        if let Some(walk) = closing_walk(alloc, self, u, v)? {
+        // Few added links close a walk, and the search from both ends reads little to tell so. The one that names the walk starts
+        // from one end alone.
+        if leads(alloc, self, v, u)? {
+            let Some(walk) = closing_walk(alloc, self, u, v)? else {
+                unreachable!();
+            };
             return Err(NetFault::Cycle(walk));
         }
         self.make_room(alloc, u, v)?;
@@ -197,9 +203,10 @@ impl Graph {
         ensures unchanged { OnErr result (IsSame self.old self.new) }
     {
         self.test_join(u, v)?;
-        let (tail, head) = match closing_walk(alloc, self, u, v)? {
-            None => (u, v),
-            Some(_walk) => (v, u),
+        let (tail, head) = if leads(alloc, self, v, u)? {
+            (v, u)
+        } else {
+            (u, v)
         };
         self.make_room(alloc, u, v)?;
         self.rows.room_law();

@@ -17,6 +17,7 @@ mod graph;
 pub mod laws;
 mod limits;
 mod line_reader;
+mod meeting;
 mod network;
 mod read;
 mod requests;

@@ -1,0 +1,88 @@
+use Rattle.std.proofs.Common.{Bool, List, arith, false, get_or, inl, inr, length, refl, rules, subst, sym, true, ℕ, ◌+◌, ◌<◌, ◌∙◌, ◌≡◌, ◌≢◌, ◌≤◌, ◌⊎◌}
+use denote.Enum.Bare.{same_false, same_true}
+use Rattle.std.proofs.lemmas.List.{get_or_default}
+use Rattle.fr_net.proofs.TwoEnds.{entry_below, entry_leads, graph_faultless, met_stays, more_after, other_was, passed_more, side_goes_on, side_reads, way_on}
+use Rattle.fr_net.specs.Graph.{shown}
+use Rattle.fr_net.specs.Links.{IsNet}
+use Rattle.fr_net.specs.MeetingSearch.{HasMet, HasMetMore, HasPassed, HasWay, IsSide, LeadsOn, MeetsNew, start_of}
+use Rattle.fr_net.specs.Network.{Network}
+use Rattle.fr_net.specs.RowLists.{opposite}
+use Rattle.fr_net.specs.Rows.{row}
+use Rattle.fr_net.specs.contracts.rows.First.{the_type}
+use Rattle.fr_net.specs.declared.meeting.Met.{Met}
+use Rattle.fr_net.specs.declared.meeting.Side.{Side}
+use Rattle.fr_net.specs.declared.rows.First.{First}
+use Rattle.fr_net.specs.declared.rows.First.TheVariants.{Outward}
+use Rattle.fr_net.proofs.meeting.Side.read_next.Goals as goal
+use Rattle.fr_net.proofs.meeting.Side.read_next.Goals.{After-eq, else-eq-via-then-eq+else-meet, else-eq-via-else-eq}
+
+-- the entry that is read, which leads on where its link leaves in the direction of the side
+abbrev entry : (c : After-eq) → ℕ × First
+entry c = get_or c.row-row.result.now c.loop-neighbour.neighbour-index (0, Outward)
+
+below : (c : After-eq) → (entry c).0 < c.args.graph.now.nodes
+below c =
+    let net = shown c.args.graph.now in
+    entry_below net.nodes net.links c.index.result.now c.row-row.result.now c.loop-neighbour.neighbour-index (0, Outward) c.row-row.ensures c.loop-neighbour-test.true
+
+same : (c : After-eq) → c.eq.result ≡ true → (entry c).1 ≡ c.args.self.now.first
+same c is = same_true the_type (search rules) _ _ (sym c.eq.ensures ∙ is) ∙ c.loop-neighbour.invariant.side.first_is
+
+way : (c : After-eq) → c.eq.result ≡ true → HasWay c.args.self.now.first (shown c.args.graph.now).links (start_of c.args.self.now) (entry c).0
+way c is =
+    let net = shown c.args.graph.now in
+    let f = c.args.self.now.first in
+    let at_read : get_or c.args.self.now.nodes.items c.args.self.now.read 0 ≡ c.index.result.now = get_or_default c.args.self.now.nodes.items c.args.self.now.read 0 c.index.result.now c.requires.unread ∙ sym c.index.ensures in
+    way_on f net.links (start_of c.args.self.now) c.index.result.now (entry c).0 (rw at_read at (c.requires.side.ways c.args.self.now.read 0 c.requires.unread))
+    (entry_leads f net.nodes net.links c.index.result.now c.row-row.result.now c.loop-neighbour.neighbour-index (0, Outward) c.row-row.ensures c.loop-neighbour-test.true (same c is))
+
+pub meet-requires-clause-node : goal.meet-requires-clause-node
+meet-requires-clause-node c = omega (arith, below (goal.at.meet-requires-clause-node c).After-eq, c.loop-neighbour.invariant.side.one_each)
+
+pub returns-then-meet-clause-found : goal.returns-then-meet-clause-found
+returns-then-meet-clause-found c =
+    let at = (goal.at.returns-then-meet-clause-found c).After-eq in
+    let inv = c.loop-neighbour.invariant in
+    let f = c.args.self.now.first in
+    let other : HasMet (opposite f) c.loop-neighbour.met (entry at).0 = rw inv.side.first_is at (c.meet.ensures.other c.if-meet.true) in
+    λ _. ((entry at).0, (other_was f c.args.self.now c.loop-neighbour.self c.args.met.now c.loop-neighbour.met (entry at).0 refl inv.more other, way at c.if-eq.true))
+
+pub loop-neighbour-preserved : goal.loop-neighbour-preserved
+loop-neighbour-preserved c =
+    let at = (goal.at.loop-neighbour-preserved c).After-eq in
+    let inv = c.loop-neighbour.invariant in
+    let net = shown c.args.graph.now in
+    let f = c.args.self.now.first in
+    let before = c.loop-neighbour.self in
+    let old = c.loop-neighbour.met in
+    let place = c.loop-neighbour.neighbour-index in
+    elim c.else-eq.branch [
+      | else-eq-via-then-eq+else-meet w ↦
+          let after = w.meet.new.self in
+          let new = w.meet.new.met in
+          let on = side_goes_on net f (start_of c.args.self.now) old new before after (entry at).0 (below at) (way at w.if-eq.true) w.meet.ensures.change inv.side in
+          let met : HasMet f new (entry at).0 = rw inv.side.first_is at (w.meet.ensures.met (λ is. cc (is, w.if-meet.false))) in
+          rw (w.self-is, w.met-is) record {
+            side = on.0;
+            more = more_after c.args.self.now before after c.args.met.now old new inv.more on.1;
+            same_read = on.2 ∙ inv.same_read;
+            passed = passed_more f old new c.row-row.result.now place (0, Outward) (λ x h. met_stays f before after old new x inv.side.first_is on.1 h) inv.passed c.loop-neighbour-test.true (λ _. met);
+          }
+      | else-eq-via-else-eq w ↦
+          let passes : (entry at).1 ≡ f → HasMet f old (entry at).0 = λ is. absurd (same_false the_type _ _ (sym c.eq.ensures ∙ w.if-eq.false) (is ∙ sym inv.side.first_is)) in
+          rw (w.self-is, w.met-is) record {
+            side = inv.side;
+            more = inv.more;
+            same_read = inv.same_read;
+            passed = passed_more f old old c.row-row.result.now place (0, Outward) (λ x h. h) inv.passed c.loop-neighbour-test.true passes;
+          }
+    ]
+
+pub returns-clause-side : goal.returns-clause-side
+returns-clause-side c =
+    let inv = c.loop-neighbour.invariant in
+    let net = shown c.args.graph.now in
+    let x = c.index.result.now in
+    let at_read : get_or c.loop-neighbour.self.nodes.items c.loop-neighbour.self.read 0 ≡ x = rw inv.same_read (inv.more.stands c.args.self.now.read c.requires.unread ∙ get_or_default c.args.self.now.nodes.items c.args.self.now.read 0 x c.requires.unread ∙ sym c.index.ensures) in
+    let all : c.loop-neighbour.neighbour-index ≡ length c.row-row.result.now = omega arith in
+    λ _. side_reads net c.args.self.now.first (start_of c.args.self.now) x c.loop-neighbour.met c.loop-neighbour.self (graph_faultless c.args.graph.now c.requires.graph).is_net (omega (arith, inv.same_read, inv.more.longer, c.requires.unread)) at_read (subst (λ (entries : List (ℕ × First)). HasPassed c.args.self.now.first c.loop-neighbour.met entries (length entries)) c.row-row.ensures (rw all at inv.passed)) inv.side

@@ -1,0 +1,12 @@
+use Rattle.std.proofs.Common.{◌≡◌}
+use Rattle.fr_net.specs.Graph.{shown}
+use Rattle.fr_net.specs.MeetingSearch.{HasMetMore, HasPassed, IsSide, start_of}
+use Rattle.fr_net.proofs.meeting.Side.read_next.Given as goal
+
+abbrev pub invariant-loop-neighbour : goal.invariant-loop-neighbour
+invariant-loop-neighbour l = record {
+  side : IsSide (shown l.graph) l.fn.self.first (start_of l.fn.self) l.met l.self;
+  more : HasMetMore l.fn.self l.self l.fn.met l.met;
+  same_read : l.self.read ≡ l.fn.self.read;
+  passed : HasPassed l.fn.self.first l.met l.row l.neighbour-index;
+}

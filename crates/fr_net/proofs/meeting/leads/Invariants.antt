@@ -1,0 +1,14 @@
+use Rattle.std.proofs.Common.{◌*◌, ◌+◌}
+use Rattle.fr_net.specs.Graph.{shown}
+use Rattle.fr_net.specs.MeetingSearch.{IsSide, never_count, unread_count}
+use Rattle.fr_net.specs.declared.rows.First.TheVariants.{Inward, Outward}
+use Rattle.fr_net.proofs.meeting.leads.Given as goal
+
+abbrev pub invariant-loop-behind : goal.invariant-loop-behind
+invariant-loop-behind l = record {
+  ahead : IsSide (shown l.graph) Outward l.from l.met l.ahead;
+  behind : IsSide (shown l.graph) Inward l.to l.met l.behind;
+}
+
+abbrev pub decreases-loop-behind : goal.decreases-loop-behind
+decreases-loop-behind l = 2 * never_count l.met + unread_count l.ahead + unread_count l.behind

@@ -1,0 +1,98 @@
+-- The state of the search for a way between two nodes from both ends. For `leads` alone.
+use Rattle.std.specs.Prelude.{◌≡◌, ℕ, ◌<◌, ◌≤◌, ◌+◌, ◌-◌, ◌++◌, ◌⊎◌, Bool, true, false, List, [], ◌∷◌, length, slice_index, slice_index_or, slice_set, vec_capacity, count_by}
+use Rattle.std.specs.List.{All, Contains}
+use Rattle.fr_net.specs.Links.{HasPath, Points}
+use Rattle.fr_net.specs.Network.{Network}
+use Rattle.fr_net.specs.declared.meeting.Met.{Met}
+use Rattle.fr_net.specs.declared.meeting.Met.TheVariants.{Never, Forward, Backward}
+use Rattle.fr_net.specs.declared.meeting.Side.{Side}
+use Rattle.fr_net.specs.declared.rows.First.{First}
+use Rattle.fr_net.specs.declared.rows.First.TheVariants.{Outward, Inward}
+
+-- a link leads on from x to w for the side that goes this way: along the link, or against it
+abbrev pub LeadsOn : First → List (ℕ × ℕ) → ℕ → ℕ → Type 0
+LeadsOn Outward links x w = Points links x w
+LeadsOn Inward links x w = Points links w x
+
+-- such links lead from x to y
+abbrev pub HasWay : First → List (ℕ × ℕ) → ℕ → ℕ → Type 0
+HasWay Outward links x y = HasPath links x y
+HasWay Inward links x y = HasPath links y x
+
+-- what stands at the nodes that the side which goes this way has met
+abbrev pub met_by : First → Met
+met_by Outward = Forward
+met_by Inward = Backward
+
+-- which side has met x
+abbrev pub met_of : List Met → ℕ → Met
+met_of met x = slice_index_or met x Never
+
+-- the side that goes this way has met x
+abbrev pub HasMet : First → List Met → ℕ → Type 0
+HasMet first met x = met_of met x ≡ met_by first
+
+abbrev pub is_never : Met → Bool
+is_never Never = true
+is_never Forward = false
+is_never Backward = false
+
+-- how many nodes no side has met
+abbrev pub never_count : List Met → ℕ
+never_count met = count_by is_never met
+
+-- the node that the side started from
+abbrev pub start_of : Side → ℕ
+start_of side = slice_index side.nodes.items 0
+
+-- the side has room for each node that no side has met
+abbrev pub HasRoom : Side → List Met → Type 0
+HasRoom side met = length side.nodes.items + never_count met ≤ vec_capacity side.nodes
+
+-- the side goes this way from the start, which alone it has met, and has room for so many nodes
+pub record HasBegun (first : First) (start nodes : ℕ) (side : Side) : Type 0 where
+  pub first_is : side.first ≡ first
+  pub met_alone : side.nodes.items ≡ start ∷ []
+  pub none_read : side.read ≡ 0
+  pub room : nodes ≤ vec_capacity side.nodes
+
+-- the side goes this way from the start. Its nodes are those that it has met; a way leads from the start to each; and the rows of the
+-- first of them, so many as were read, lead on to nodes that it has met
+pub record IsSide (net : Network) (first : First) (start : ℕ) (met : List Met) (side : Side) : Type 0 where
+  pub one_each : length met ≡ net.nodes
+  pub first_is : side.first ≡ first
+  pub start_is : start_of side ≡ start
+  pub begun : 0 < length side.nodes.items
+  pub all_met : All (HasMet first met) side.nodes.items
+  pub listed : (x : ℕ) → HasMet first met x → Contains side.nodes.items x
+  pub ways : All (HasWay first net.links start) side.nodes.items
+  pub inside : side.read ≤ length side.nodes.items
+  pub leads_on : (k w : ℕ) → k < side.read → LeadsOn first net.links (slice_index side.nodes.items k) w → HasMet first met w
+  pub room : HasRoom side met
+
+-- the side has met the neighbour of each entry of the row before this place whose link leaves in its direction
+abbrev pub HasPassed : First → List Met → List (ℕ × First) → ℕ → Type 0
+HasPassed first met entries place =
+    (k : ℕ) (d : ℕ × First) → k < place → (slice_index_or entries k d).1 ≡ first → HasMet first met (slice_index_or entries k d).0
+
+-- the side met x, which no side had met
+pub record MeetsNew (before after : Side) (met_before met_after : List Met) (x : ℕ) : Type 0 where
+  pub fresh : met_of met_before x ≡ Never
+  pub met : met_after ≡ slice_set met_before x (met_by before.first)
+  pub same_first : after.first ≡ before.first
+  pub nodes : after.nodes.items ≡ before.nodes.items ++ x ∷ []
+  pub same_read : after.read ≡ before.read
+  pub same_room : vec_capacity after.nodes ≡ vec_capacity before.nodes
+
+-- the side met nodes that no side had met, or none
+pub record HasMetMore (before after : Side) (met_before met_after : List Met) : Type 0 where
+  pub same_first : after.first ≡ before.first
+  pub longer : length before.nodes.items ≤ length after.nodes.items
+  pub stands : (k : ℕ) → k < length before.nodes.items → slice_index after.nodes.items k ≡ slice_index before.nodes.items k
+  pub met : (x : ℕ) → (met_of met_after x ≡ met_of met_before x) ⊎ ((met_of met_before x ≡ Never) × HasMet before.first met_after x)
+  pub one_each : length met_after ≡ length met_before
+  pub counted : length after.nodes.items + never_count met_after ≡ length before.nodes.items + never_count met_before
+
+-- how many nodes the side has met and not read
+abbrev pub unread_count : Side → ℕ
+unread_count side = length side.nodes.items - side.read
