@@ -1,5 +1,5 @@
 -- The rows of a network with one link added.
-use Rattle.std.proofs.Common.{Bool, Contains, List, None, Option, Some, [], ap, arith, cond, drop, eq-eqb, eqb, false, get_or, inl, inr, length, ne_eqb, option_to_list, refl, suc, sym, take, true, zero, ℕ, ◌++◌, ◌<◌, ◌∙◌, ◌∷◌, ◌≡◌, ◌≢◌, ◌≤◌, ◌⊎◌}
+use Rattle.std.proofs.Common.{Bool, Contains, List, None, Option, Some, [], ap, arith, cond, drop, eq-eqb, eqb, false, get_or, inl, inr, length, ne_eqb, option_to_list, refl, suc, sym, take, true, zero, ℕ, ◌++◌, ◌+◌, ◌<◌, ◌∙◌, ◌∷◌, ◌≡◌, ◌≢◌, ◌≤◌, ◌⊎◌}
 use Rattle.std.specs.Prelude.{nat_le}
 use Rattle.std.proofs.lemmas.Bool.{cases_eq, cond-false, cond-true, le-leb, lt-leb}
 use Rattle.std.proofs.lemmas.List.{append-nil}
@@ -9,6 +9,7 @@ use Rattle.fr_net.proofs.Members.{Contains-head, Contains-tail}
 use Rattle.fr_net.proofs.Neighbours.{row_entry_node, row_entry_out, row_holds}
 use Rattle.fr_net.proofs.Remaking.{row_entry_same}
 use Rattle.fr_net.proofs.TurnedRows.{entry, row_entry_back, row_entry_none}
+use Rattle.fr_net.specs.Halves.{AreUnjoined}
 use Rattle.fr_net.specs.Links.{Joins, Points}
 use Rattle.fr_net.specs.Rows.{row, row_entry}
 use Rattle.fr_net.specs.declared.rows.First.{First}
@@ -29,6 +30,14 @@ put_in_row e [] (suc k) le before stops = absurd (omega arith)
 put_in_row e (f ∷ fs) zero le before stops = rw (le-leb e.0 f.0 (stops f (omega arith))) refl
 put_in_row e (f ∷ fs) (suc k) le before stops =
     rw (lt-leb e.0 f.0 (before 0 f (omega arith)), put_in_row e fs k (omega arith) (λ i d lt. before (suc i) d (omega arith)) (λ d lt. stops d (omega arith))) refl
+
+length-with_entry_by : (b : Bool) (e f : ℕ × First) (fs : List (ℕ × First)) → length (with_entry e fs) ≡ length fs + 1 → length (cond b (e ∷ (f ∷ fs)) (f ∷ with_entry e fs)) ≡ length (f ∷ fs) + 1
+length-with_entry_by true e f fs rest = omega arith
+length-with_entry_by false e f fs rest = omega (arith, rest)
+
+length-with_entry : (e : ℕ × First) (es : List (ℕ × First)) → length (with_entry e es) ≡ length es + 1
+length-with_entry e [] = refl
+length-with_entry e (f ∷ fs) = length-with_entry_by (nat_le e.0 f.0) e f fs (length-with_entry e fs)
 
 -- an entry above all goes to the end
 put_last : (e : ℕ × First) (es : List (ℕ × First)) → ((f : ℕ × First) → Contains es f → f.0 < e.0) → with_entry e es ≡ es ++ e ∷ []
@@ -114,3 +123,11 @@ row_added n links u v x a b apart free =
     no_back : (links : List (ℕ × ℕ)) (u v : ℕ) → u ≢ v → ¬ Joins links u v → ¬ (Contains links (v, u) ⊎ (◌≡◌ {A = ℕ × ℕ} (u, v) (v, u)))
     no_back links u v apart free (inl h) = free (inr h)
     no_back links u v apart free (inr e) = apart (ap (λ (l : ℕ × ℕ). l.0) e)
+
+-- with the link each of its ends has an entry more
+pub ends_more : (n : ℕ) (links : List (ℕ × ℕ)) (u v : ℕ) → AreUnjoined n links u v → (length (row n (added links u v) u) ≡ length (row n links u) + 1) × (length (row n (added links u v) v) ≡ length (row n links v) + 1)
+ends_more n links u v free = (
+  ap length (row_added n links u v u free.tail free.head free.apart free.free ∙ cond-true _ _ _ (eq-eqb u u refl)) ∙ length-with_entry (v, Outward) (row n links u),
+  ap length (row_added n links u v v free.tail free.head free.apart free.free ∙ cond-false _ _ _ (ne_eqb v u (λ e. free.apart (sym e))) ∙ cond-true _ _ _ (eq-eqb v v refl))
+      ∙ length-with_entry (u, Inward) (row n links v),
+)

@@ -1,18 +1,21 @@
--- A network from links in order and the rows of its nodes.
-use Rattle.std.proofs.Common.{List, ap, inl, inr, length, refl, suc, sym, zero, ℕ, ◌+◌, ◌<◌, ◌∙◌, ◌≡◌}
+-- A graph from the rows of its nodes.
+use Rattle.std.proofs.Common.{List, ap, arith, inl, inr, length, refl, suc, sym, zero, ℕ, ◌+◌, ◌<◌, ◌∙◌, ◌≡◌}
 use Rattle.std.proofs.lemmas.Bool.{cases_Bool}
-use Rattle.std.proofs.lemmas.List.Sorted.{IsPermutation-sym}
+use Rattle.std.proofs.lemmas.List.Sorted.{IsPermutation-sym, length_permutation}
 use Rattle.fr_net.proofs.Building.{acyclic_listed, faultless_sorted}
 use Rattle.fr_net.proofs.Neighbours.{Points-has_link, has_link_true}
 use Rattle.fr_net.proofs.Ordering.{in_order_order, in_order_permutes, into_order, out_of_order}
+use Rattle.fr_net.proofs.TurnedRows.{links_of_rows, out_rows}
 use Rattle.fr_net.specs.Faults.{IsFaultless, IsNetworkOf}
-use Rattle.fr_net.specs.Graph.{AreKept}
-use Rattle.fr_net.specs.Halves.{ShowsRow}
-use Rattle.fr_net.specs.Links.{Points}
+use Rattle.fr_net.specs.Graph.{IsGraph}
+use Rattle.fr_net.specs.KeptRows.{AreRows, links_in}
+use Rattle.fr_net.specs.Links.{IsNet, Points}
 use Rattle.fr_net.specs.Network.{Network}
 use Rattle.fr_net.specs.Order.{in_order}
+use Rattle.fr_net.specs.RowLists.{out_links, rows_below}
 use Rattle.fr_net.specs.Rows.{has_link, row, row_entry}
-use Rattle.fr_net.specs.declared.rows.First.{First}
+use Rattle.fr_net.specs.Tables.{Table, row_of}
+use Rattle.fr_net.specs.declared.graph.Graph.{Graph}
 
 -- rows depend on which links there are alone
 same_test : (a b : List (ℕ × ℕ)) (u v : ℕ) → (Points a u v → Points b u v) → (Points b u v → Points a u v) → has_link a u v ≡ has_link b u v
@@ -39,17 +42,29 @@ in_order_faultless n listed clear =
     let same = in_order_permutes listed in
     faultless_sorted n listed (in_order listed) same (acyclic_listed (in_order listed) listed (IsPermutation-sym listed (in_order listed) same) clear.is_net.acyclic) clear
 
-in_order_row : (n : ℕ) (listed : List (ℕ × ℕ)) (x : ℕ) → row n listed x ≡ row n (in_order listed) x
+pub in_order_row : (n : ℕ) (listed : List (ℕ × ℕ)) (x : ℕ) → row n listed x ≡ row n (in_order listed) x
 in_order_row n listed x = row_same n listed (in_order listed) x (λ u v. into_order listed (u, v)) (λ u v. out_of_order listed (u, v))
 
-pub made_shown : (n : ℕ) (listed made : List (ℕ × ℕ)) (starts : List ℕ) (entries : List (ℕ × First)) → IsFaultless n listed → made ≡ in_order listed → length starts ≡ n + 1 → ((x : ℕ) → x < n → ShowsRow n listed starts entries x) → AreKept n made starts entries
-made_shown n listed made starts entries clear is one_each each =
-    rw is (record {
-      faultless = in_order_faultless n listed clear;
-      sorted = in_order_order listed;
-      starts_length = one_each;
-      rows = λ x lt. let shown = each x lt in record { low = shown.low; high = shown.high; is_row = shown.is_row ∙ in_order_row n listed x };
-    })
+-- rows show their links in order
+rows_alike : {X : Type 0} (k : ℕ) (some other : ℕ → List X) → ((x : ℕ) → x < k → some x ≡ other x) → rows_below k some ≡ rows_below k other
+rows_alike zero some other same = refl
+rows_alike (suc k) some other same = rw (rows_alike k some other (λ x l. same x (omega arith)), same k (omega arith)) refl
+
+pub links_shown : (n : ℕ) (listed : List (ℕ × ℕ)) (table : Table) → IsNet n listed → AreRows n listed table → links_in n table ≡ in_order listed
+links_shown n listed table net rows =
+    rows_alike n (λ x. out_links x (row_of table x)) (out_rows n listed) (λ x less. ap (out_links x) (rows.shown x less)) ∙ links_of_rows n listed net
+
+-- so a graph of the rows of links without a fault, counted, shows their network
+pub graph_of : (g : Graph) (listed : List (ℕ × ℕ)) → IsFaultless g.nodes listed → g.link_count ≡ length listed → AreRows g.nodes listed g.rows → IsGraph g
+graph_of g listed clear count rows =
+    let n = g.nodes in
+    let is = links_shown n listed g.rows clear.is_net rows in
+    record {
+      faultless = rw is (in_order_faultless n listed clear);
+      sorted = rw is (in_order_order listed);
+      counted = count ∙ sym (length_permutation listed (in_order listed) (in_order_permutes listed)) ∙ sym (ap length is);
+      rows = record { one_each = rows.one_each; shown = λ x less. rows.shown x less ∙ in_order_row n listed x ∙ ap (λ (ls : List (ℕ × ℕ)). row n ls x) (sym is) };
+    }
 
 abbrev pub with_links : ℕ → List (ℕ × ℕ) → Network
 with_links n links = record { nodes = n; links = links }
@@ -60,3 +75,6 @@ made_of n listed made clear is = record {
   same_links = rw is (in_order_permutes listed);
   faultless = clear;
 }
+
+pub network_of_rows : (n : ℕ) (listed : List (ℕ × ℕ)) (table : Table) → IsFaultless n listed → AreRows n listed table → IsNetworkOf n listed (with_links n (links_in n table))
+network_of_rows n listed table clear rows = made_of n listed (links_in n table) clear (links_shown n listed table clear.is_net rows)

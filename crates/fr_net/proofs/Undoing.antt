@@ -1,24 +1,27 @@
 -- What edits did is undone: a link that was taken out is put back at its place, and one that was put in is taken out.
-use Rattle.std.proofs.Common.{IsPermutation, List, [], ap, arith, length, refl, subst, sym, ℕ, ⊎_elim, ◌++◌, ◌+◌, ◌-◌, ◌<◌, ◌∙◌, ◌∷◌, ◌≡◌, ◌≤◌}
+use Rattle.std.proofs.Common.{IsPermutation, List, [], ap, arith, get_or, length, refl, subst, sym, ℕ, ⊎_elim, ◌++◌, ◌+◌, ◌-◌, ◌<◌, ◌∙◌, ◌∷◌, ◌≡◌, ◌≤◌}
 use Rattle.std.proofs.lemmas.List.{append-nil, length_push}
 use Rattle.std.proofs.lemmas.List.Elements.{All-contains, Contains-push}
 use Rattle.std.proofs.lemmas.List.Sorted.{IsPermutation-middle, IsPermutation-refl, IsPermutation-remove, IsPermutation-sym, IsPermutation-trans, length_permutation}
 use Rattle.fr_net.proofs.AddedLinks.{added, added_in_order}
+use Rattle.fr_net.proofs.AddedRows.{ends_more}
 use Rattle.fr_net.proofs.Building.{acyclic_listed}
 use Rattle.fr_net.proofs.CutRows.{cut_in_order, no_link_between}
 use Rattle.fr_net.proofs.Joining.{cut_put}
 use Rattle.fr_net.proofs.Linking.{is_between_back, is_between_itself}
 use Rattle.fr_net.proofs.Ordering.{into_order, order_of_listed}
 use Rattle.fr_net.proofs.Places.{cut_is_remove}
-use Rattle.fr_net.proofs.Remaking.{with_links}
+use Rattle.fr_net.proofs.Remaking.{in_order_row, with_links}
 use Rattle.fr_net.specs.Edits.{without}
 use Rattle.fr_net.specs.Faults.{IsNetworkOf}
-use Rattle.fr_net.specs.Graph.{AreDone, HasRoom, IsDone, KeepsRoom}
+use Rattle.fr_net.specs.Graph.{AreDone, HasRoomFor, IsDone, IsGraph, IsSame, shown}
 use Rattle.fr_net.specs.Halves.{AreUnjoined}
 use Rattle.fr_net.specs.Limits.{most_links}
 use Rattle.fr_net.specs.Links.{AreSingle, IsAcyclic, Points}
 use Rattle.fr_net.specs.Network.{Network}
 use Rattle.fr_net.specs.Order.{in_order}
+use Rattle.fr_net.specs.Rows.{row}
+use Rattle.fr_net.specs.Tables.{HasRoomIn, KeepsRooms, room_of, row_of}
 use Rattle.fr_net.specs.declared.graph.Done.{Done}
 use Rattle.fr_net.specs.declared.graph.Done.TheVariants.{Put, Taken}
 use Rattle.fr_net.specs.declared.graph.Graph.{Graph}
@@ -33,6 +36,10 @@ back_permutes links tail head single stands =
     (IsPermutation-sym links (p ∷ gone)
     (subst (λ (ls : List (ℕ × ℕ)). IsPermutation links (p ∷ ls)) (sym (cut_is_remove links tail head stands.0 single stands.1 stands.2))
     (IsPermutation-remove links stands.0 p stands.1 (sym stands.2))))
+
+pub cut_one : (links : List (ℕ × ℕ)) (tail head : ℕ) → AreSingle links → Points links tail head → length links ≡ length (without tail head links) + 1
+cut_one links tail head single stands =
+    length_permutation (added (without tail head links) tail head) links (back_permutes links tail head single stands) ∙ length_push (without tail head links) (tail, head)
 
 taken_is : (net : Network) (tail head : ℕ) (after : Network) → IsDone net (Taken tail head) after → after ≡ with_links net.nodes (without tail head net.links)
 taken_is net tail head after done = done.step.1.is ∙ ap (with_links net.nodes) (sym (cut_in_order net.links tail head done.sorted))
@@ -94,35 +101,76 @@ put_back net tail head after back done made =
     ∙ ap (with_links net.nodes) (sym (order_of_listed net.links net.links (IsPermutation-refl net.links) done.sorted))
 
 -- one step more, and the last one
-pub more_done : (most : ℕ) (net : Network) (done : List Done) (mid : Network) (last : Done) (after : Network) → AreDone most net done mid → length mid.links ≤ most → IsDone mid last after → AreDone most net (done ++ last ∷ []) after
-more_done most net [] mid last after steps few h =
-    subst (λ (m : Network). AreDone most m (last ∷ []) after) steps (few, (after, (h, refl)))
-more_done most net (d ∷ ds) mid last after steps few h =
-    (steps.0, (steps.1.0, (steps.1.1.0, more_done most steps.1.0 ds mid last after steps.1.1.1 few h)))
+pub more_done : (g : Graph) (net : Network) (done : List Done) (mid : Network) (last : Done) (after : Network) → AreDone g net done mid → HasRoomFor g mid → IsDone mid last after → AreDone g net (done ++ last ∷ []) after
+more_done g net [] mid last after steps room h =
+    subst (λ (m : Network). AreDone g m (last ∷ []) after) steps (room, (after, (h, refl)))
+more_done g net (d ∷ ds) mid last after steps room h =
+    (steps.0, (steps.1.0, (steps.1.1.0, more_done g steps.1.0 ds mid last after steps.1.1.1 room h)))
 
-pub last_done : (most : ℕ) (net : Network) (done : List Done) (last : Done) (after : Network) → AreDone most net (done ++ last ∷ []) after
-    → (mid : Network) × (AreDone most net done mid × ((length mid.links ≤ most) × IsDone mid last after))
-last_done most net [] last after steps =
+pub last_done : (g : Graph) (net : Network) (done : List Done) (last : Done) (after : Network) → AreDone g net (done ++ last ∷ []) after
+    → (mid : Network) × (AreDone g net done mid × (HasRoomFor g mid × IsDone mid last after))
+last_done g net [] last after steps =
     (net, (refl, (steps.0, subst (λ (m : Network). IsDone net last m) (sym steps.1.1.1) steps.1.1.0)))
-last_done most net (d ∷ ds) last after steps =
-    let rest = last_done most steps.1.0 ds last after steps.1.1.1 in
+last_done g net (d ∷ ds) last after steps =
+    let rest = last_done g steps.1.0 ds last after steps.1.1.1 in
     (rest.0, ((steps.0, (steps.1.0, (steps.1.1.0, rest.1.0))), rest.1.1))
 
--- the room for as many links as there may be stays
-pub room_kept : (before after : Graph) (most : ℕ) → KeepsRoom before after → length before.links.items ≤ most → length after.links.items ≤ most → HasRoom before (most - length before.links.items) → HasRoom after (most - length after.links.items)
-room_kept before after most kept few few_after room = record {
-  links = omega (arith, kept.links, room.links, few, few_after);
-  entries = omega (arith, kept.entries, kept.twice, room.entries, few, few_after);
-}
+-- no step changes nothing
+pub no_steps : (g : Graph) (net : Network) (done : List Done) (after : Network) → length done ≡ 0 → AreDone g net done after → after ≡ net
+no_steps g net [] after none steps = steps
+no_steps g net (d ∷ ds) after none steps = absurd (omega (arith, none))
 
-pub room_less : (g : Graph) (more less : ℕ) → less ≤ more → HasRoom g more → HasRoom g less
-room_less g more less le room = record { links = omega (arith, le, room.links); entries = omega (arith, le, room.entries) }
+-- what has room keeps it where no row has less
+pub still_room : (before after : Graph) (net : Network) → KeepsRooms before.rows after.rows → HasRoomFor before net → HasRoomFor after net
+still_room before after net kept room = λ x less. omega (arith, room x less, kept x)
 
--- no step changes nothing, and one adds no more than one link
-pub no_steps : (most : ℕ) (net : Network) (done : List Done) (after : Network) → length done ≡ 0 → AreDone most net done after → after ≡ net
-no_steps most net [] after none steps = steps
-no_steps most net (d ∷ ds) after none steps = absurd (omega (arith, none))
+pub still_done : (before after : Graph) (net : Network) (done : List Done) (end : Network) → KeepsRooms before.rows after.rows → AreDone before net done end → AreDone after net done end
+still_done before after net [] end kept steps = steps
+still_done before after net (d ∷ ds) end kept steps =
+    (still_room before after net kept steps.0, (steps.1.0, (steps.1.1.0, still_done before after steps.1.0 ds end kept steps.1.1.1)))
 
-pub done_grows : (net : Network) (done : Done) (after : Network) → IsDone net done after → length after.links ≤ length net.links + 1
-done_grows net (Taken tail head) after done = omega (arith, taken_one net tail head after done)
-done_grows net (Put tail head) after done = omega (arith, put_one net tail head after done)
+-- a graph has room for the network that it shows
+pub own_room : (g : Graph) → IsGraph g → ((x : ℕ) → length (row_of g.rows x) ≤ room_of g.rows x) → HasRoomFor g (shown g)
+own_room g graph room = λ x less. omega (arith, room x, ap length (graph.rows.shown x less))
+
+-- a row as it was before its link was taken out
+row_before : (net : Network) (tail head : ℕ) (after : Network) (x : ℕ) → IsDone net (Taken tail head) after → row net.nodes net.links x ≡ row after.nodes (added after.links tail head) x
+row_before net tail head after x done =
+    let more = added after.links tail head in
+    let nodes : after.nodes ≡ net.nodes = ap (λ (m : Network). m.nodes) (taken_is net tail head after done) in
+    ap (λ (ls : List (ℕ × ℕ)). row net.nodes ls x) (order_of_listed more net.links (permuted net tail head after done) done.sorted)
+    ∙ sym (in_order_row net.nodes more x) ∙ ap (λ (n : ℕ). row n more x) (sym nodes)
+
+-- where there is room for the network with a link, there is room to put it back
+pub taken_room : (net : Network) (tail head : ℕ) (g : Graph) → IsGraph g → IsDone net (Taken tail head) (shown g) → HasRoomFor g net → HasRoomIn g.rows tail × HasRoomIn g.rows head
+taken_room net tail head g graph done room =
+    let after = shown g in
+    let free = taken_unjoined net tail head after done in
+    let nodes : after.nodes ≡ net.nodes = ap (λ (m : Network). m.nodes) (taken_is net tail head after done) in
+    let more = ends_more after.nodes after.links tail head free in (
+      omega (arith, more.0, ap length (row_before net tail head after tail done), room tail (omega (arith, nodes, free.tail)), ap length (graph.rows.shown tail free.tail)),
+      omega (arith, more.1, ap length (row_before net tail head after head done), room head (omega (arith, nodes, free.head)), ap length (graph.rows.shown head free.head)),
+    )
+
+-- the same rooms are no less
+pub rooms_kept : (before after : Graph) → after.rows.rooms ≡ before.rows.rooms → KeepsRooms before.rows after.rows
+rooms_kept before after is = λ x. let same = ap (λ (rooms : List ℕ). get_or rooms x 0) is in omega (arith, same)
+
+-- a link was put in, once room was made for it
+pub record IsPut (before after : Graph) (tail head : ℕ) : Type 0 where
+  pub by : IsDone (shown before) (Put tail head) (shown after)
+  pub made : IsNetworkOf before.nodes (added (shown before).links tail head) (shown after)
+  pub rooms : KeepsRooms before.rows after.rows
+  pub back : HasRoomFor after (shown before)
+
+pub put_with_room : (before mid after : Graph) (tail head : ℕ) → IsGraph before → IsSame before mid → ((x : ℕ) → length (row_of mid.rows x) ≤ room_of mid.rows x) → AreUnjoined before.nodes (shown before).links tail head
+    → after.rows.rooms ≡ mid.rows.rooms → IsNetworkOf mid.nodes (added (shown mid).links tail head) (shown after) → IsPut before after tail head
+put_with_room before mid after tail head graph same law free is made =
+    let here : IsNetworkOf before.nodes (added (shown before).links tail head) (shown after) = subst (λ (m : Network). IsNetworkOf m.nodes (added m.links tail head) (shown after)) same.same made in
+    let kept = rooms_kept mid after is in
+    record {
+      by = record { faultless = graph.faultless; sorted = graph.sorted; step = (free, here) };
+      made = here;
+      rooms = λ x. omega (arith, same.rooms x, kept x);
+      back = subst (λ (m : Network). HasRoomFor after m) same.same (still_room mid after (shown mid) kept (own_room mid same.graph law));
+    }

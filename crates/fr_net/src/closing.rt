@@ -3,7 +3,7 @@
 
 ghost use Rattle.std.specs.Prelude.{◌≡◌, ℕ, ◌<◌, ◌≤◌, ◌++◌, [], ◌∷◌, length, slice_index_or, All, IfOk, MatchOption};
 ghost use Rattle.fr_net.specs.Links.{IsAcyclic, IsCycle};
-ghost use Rattle.fr_net.specs.Graph.{IsGraph};
+ghost use Rattle.fr_net.specs.Graph.{IsGraph, shown};
 ghost use Rattle.fr_net.specs.Halves.{AreUnjoined};
 ghost use Rattle.fr_net.specs.ClosingSearch.{LeadsToMet, LeadsToUnmet, nodes_of};
 
@@ -57,10 +57,10 @@ pub(crate) fn closing_walk(
     v: u32,
 ) -> Result<Option<Vec<u32>>, AllocError>
     requires graph { IsGraph graph.now }
-    requires nodes { AreUnjoined graph.now.nodes graph.now.links.items u v }
+    requires nodes { AreUnjoined graph.now.nodes (shown graph.now).links u v }
     ensures { IfOk result (λ found. MatchOption found
-        (IsAcyclic (graph.now.links.items ++ (u, v) ∷ []))
-        (λ walk. IsCycle (graph.now.links.items ++ (u, v) ∷ []) walk.items)) }
+        (IsAcyclic ((shown graph.now).links ++ (u, v) ∷ []))
+        (λ walk. IsCycle ((shown graph.now).links ++ (u, v) ∷ []) walk.items)) }
 {
     let mut met = vec![in alloc; false; graph.nodes as usize]?;
     let mut path = vec![in alloc; Step { node: v, next: 0 }]?;

@@ -27,20 +27,20 @@ head c = (get_or c.row-row.result.now c.first_unmet-place.result (0, Outward)).0
 entry_is : (e : ℕ × First) (f : First) → e.1 ≡ f → e ≡ (e.0, f)
 entry_is (w, g) f e = cc
 
-inside : (c : Then-place-row) → c.first_unmet-place.result < length (row c.args.graph.now.nodes c.args.graph.now.links.items c.in-Some.step.node)
+inside : (c : Then-place-row) → c.first_unmet-place.result < length (row c.args.graph.now.nodes (shown c.args.graph.now).links c.in-Some.step.node)
 inside c = omega (arith, ap length c.row-row.ensures, c.if-place-row.true)
 
-found : (c : Then-place-row) (d : ℕ × First) → get_or (row c.args.graph.now.nodes c.args.graph.now.links.items c.in-Some.step.node) c.first_unmet-place.result d ≡ (head c, Outward)
+found : (c : Then-place-row) (d : ℕ × First) → get_or (row c.args.graph.now.nodes (shown c.args.graph.now).links c.in-Some.step.node) c.first_unmet-place.result d ≡ (head c, Outward)
 found c d =
     rw (← c.row-row.ensures)
     (get_or_default c.row-row.result.now c.first_unmet-place.result d (0, Outward) c.if-place-row.true
     ∙ entry_is (get_or c.row-row.result.now c.first_unmet-place.result (0, Outward)) Outward (c.first_unmet-place.ensures.stops (0, Outward) c.if-place-row.true).0)
 
-listed : (c : Then-place-row) → Contains (row c.args.graph.now.nodes c.args.graph.now.links.items c.in-Some.step.node) (head c, Outward)
+listed : (c : Then-place-row) → Contains (row c.args.graph.now.nodes (shown c.args.graph.now).links c.in-Some.step.node) (head c, Outward)
 listed c = (c.first_unmet-place.result, inside c, found c (head c, Outward))
 
 head_below : (c : Then-place-row) → head c < c.args.graph.now.nodes
-head_below c = (row_holds c.args.graph.now.nodes c.args.graph.now.links.items c.in-Some.step.node (head c, Outward) (listed c)).0
+head_below c = (row_holds c.args.graph.now.nodes (shown c.args.graph.now).links c.in-Some.step.node (head c, Outward) (listed c)).0
 
 fresh : (c : Then-place-row) → ¬ IsMet c.loop-step.met.items (head c)
 fresh c = subst (λ (met : List Bool). ¬ IsMet met (head c)) c.deref.ensures.value (c.first_unmet-place.ensures.stops (0, Outward) c.if-place-row.true).1
@@ -59,15 +59,15 @@ pub first_unmet-place-requires-clause-below : goal.first_unmet-place-requires-cl
 first_unmet-place-requires-clause-below c =
     rw (c.row-row.ensures, c.deref.ensures.value)
     (λ k d l.
-    let entries = row c.args.graph.now.nodes c.args.graph.now.links.items c.in-Some.step.node in
-    omega (arith, (row_holds c.args.graph.now.nodes c.args.graph.now.links.items c.in-Some.step.node (get_or entries k d) (Contains-get_or entries k d l)).0, c.loop-step.invariant.one_each))
+    let entries = row c.args.graph.now.nodes (shown c.args.graph.now).links c.in-Some.step.node in
+    omega (arith, (row_holds c.args.graph.now.nodes (shown c.args.graph.now).links c.in-Some.step.node (get_or entries k d) (Contains-get_or entries k d l)).0, c.loop-step.invariant.one_each))
 
 pub first_unmet-place-requires-clause-from : goal.first_unmet-place-requires-clause-from
 first_unmet-place-requires-clause-from c = rw c.row-row.ensures (reads (goal.at.first_unmet-place-requires-clause-from c).In-Some).inside
 
 few : (c : Then-place-row) → c.first_unmet-place.result + 1 ≤ most_nodes
 few c =
-    let short = length-row-le c.args.graph.now.nodes c.args.graph.now.links.items c.in-Some.step.node in
+    let short = length-row-le c.args.graph.now.nodes (shown c.args.graph.now).links c.in-Some.step.node in
     omega (arith, short, ap length c.row-row.ensures, c.if-place-row.true, c.requires.graph.faultless.limits.nodes_few)
 
 pub overflow_cast-place : goal.overflow_cast-place
@@ -79,7 +79,7 @@ overflow_add-place c = omega (arith, few (goal.at.overflow_add-place c).Then-pla
 pub returns-then-head-u : goal.returns-then-head-u
 returns-then-head-u c =
     let here = (goal.at.returns-then-head-u c).Then-place-row in
-    let links = c.args.graph.now.links.items in
+    let links = (shown c.args.graph.now).links in
     let path = c.pop.new.self.items in
     let nodes : List ℕ = nodes_of path ++ c.in-Some.step.node ∷ [] in
     let before : nodes_of (path ++ c.in-Some.step ∷ []) ≡ nodes = nodes_more path c.in-Some.step in

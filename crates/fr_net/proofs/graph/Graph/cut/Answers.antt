@@ -1,5 +1,6 @@
 use Rattle.std.proofs.Common.{List, subst, ℕ}
 use Rattle.fr_net.proofs.Places.{joins_ends, without_ends}
+use Rattle.fr_net.proofs.Undoing.{own_room, rooms_kept, still_room}
 use Rattle.fr_net.specs.Faults.{IsNetworkOf}
 use Rattle.fr_net.specs.Graph.{shown}
 use Rattle.fr_net.proofs.graph.Graph.cut.Goals as goal
@@ -7,11 +8,12 @@ use Rattle.fr_net.proofs.graph.Graph.cut.Goals as goal
 pub returns-clause-ok : goal.returns-clause-ok
 returns-clause-ok c =
     let g = c.args.self.now in
-    let links = g.links.items in
+    let links = (shown g).links in
     let link : ℕ × ℕ = (c.in-Some.tail, c.in-Some.head) in
     let ends = rw c.in-Some.is at c.link_between.ensures.ends in
     let stands = rw c.in-Some.is at c.link_between.ensures.stands in
     let after = shown c.take_out.new.self in
+    let kept = rooms_kept g c.take_out.new.self c.take_out.ensures.rooms in
     record {
       graph = c.take_out.ensures.graph;
       made = (
@@ -19,5 +21,6 @@ returns-clause-ok c =
         subst (λ (ls : List (ℕ × ℕ)). IsNetworkOf g.nodes ls after) (without_ends c.args.u c.args.v link links ends) c.take_out.ensures.taken,
       );
       by = record { faultless = c.requires.graph.faultless; sorted = c.requires.graph.sorted; step = (stands, c.take_out.ensures.taken) };
-      room = c.take_out.ensures.room;
+      rooms = kept;
+      back = still_room g c.take_out.new.self (shown g) kept (own_room g c.requires.graph c.room_law.ensures);
     }

@@ -2,6 +2,7 @@ use Rattle.std.proofs.Common.{ap, arith, ℕ, ◌∙◌, ◌≡◌}
 use Rattle.std.proofs.lemmas.List.{get_or_read}
 use Rattle.fr_net.proofs.Neighbours.{row_rises}
 use Rattle.fr_net.proofs.Places.{entry_in, entry_out, not_joined, rises_by}
+use Rattle.fr_net.specs.Graph.{shown}
 use Rattle.fr_net.specs.Links.{IsNet}
 use Rattle.fr_net.specs.Rows.{row}
 use Rattle.fr_net.specs.declared.rows.First.{First}
@@ -10,12 +11,12 @@ use Rattle.fr_net.proofs.graph.Graph.link_between.Goals as goal
 pub place_in_row-requires : goal.place_in_row-requires
 place_in_row-requires c =
     let n = c.args.self.now.nodes in
-    rw c.row-row.ensures (rises_by (row n c.args.self.now.links.items c.args.u) (row_rises n c.args.self.now.links.items c.args.u))
+    rw c.row-row.ensures (rises_by (row n (shown c.args.self.now).links c.args.u) (row_rises n (shown c.args.self.now).links c.args.u))
 
 pub returns-in_err-w-clause-none : goal.returns-in_err-w-clause-none
 returns-in_err-w-clause-none c =
     let n = c.args.self.now.nodes in
-    let links = c.args.self.now.links.items in
+    let links = (shown c.args.self.now).links in
     let u = c.args.u in
     let net : IsNet n links = c.requires.faultless.is_net in
     let is : c.row-row.result.now ≡ row n links u = c.row-row.ensures in
@@ -26,7 +27,7 @@ returns-in_err-w-clause-none c =
 pub returns-then-w-v-clause-none : goal.returns-then-w-v-clause-none
 returns-then-w-v-clause-none c =
     let n = c.args.self.now.nodes in
-    let links = c.args.self.now.links.items in
+    let links = (shown c.args.self.now).links in
     let u = c.args.u in
     let net : IsNet n links = c.requires.faultless.is_net in
     let is : c.row-row.result.now ≡ row n links u = c.row-row.ensures in
@@ -37,7 +38,7 @@ returns-then-w-v-clause-none c =
 pub returns-in-Outward-clause-stands : goal.returns-in-Outward-clause-stands
 returns-in-Outward-clause-stands c =
     let n = c.args.self.now.nodes in
-    let links = c.args.self.now.links.items in
+    let links = (shown c.args.self.now).links in
     let u = c.args.u in
     let is : c.row-row.result.now ≡ row n links u = c.row-row.ensures in
     let seen = rw is at c.in_ok-w.ensures.lookup in
@@ -46,7 +47,7 @@ returns-in-Outward-clause-stands c =
 pub returns-in-Inward-clause-stands : goal.returns-in-Inward-clause-stands
 returns-in-Inward-clause-stands c =
     let n = c.args.self.now.nodes in
-    let links = c.args.self.now.links.items in
+    let links = (shown c.args.self.now).links in
     let u = c.args.u in
     let is : c.row-row.result.now ≡ row n links u = c.row-row.ensures in
     let seen = rw is at c.in_ok-w.ensures.lookup in

@@ -1,42 +1,36 @@
-use Rattle.std.proofs.Common.{List, arith, inl, subst, sym, ℕ, ◌∙◌, ◌≡◌}
-use Rattle.std.proofs.lemmas.List.{take_at}
-use Rattle.fr_net.proofs.CutRows.{cut_in_order}
+use Rattle.std.proofs.Common.{arith, inl, length, ◌+◌, ◌≡◌}
 use Rattle.fr_net.proofs.Editing.{faultless_cut}
-use Rattle.fr_net.proofs.Remaking.{made_of, made_shown}
+use Rattle.fr_net.proofs.Remaking.{graph_of, network_of_rows}
+use Rattle.fr_net.proofs.Undoing.{cut_one}
 use Rattle.fr_net.specs.Edits.{without}
-use Rattle.fr_net.specs.Graph.{AreKept, shown}
-use Rattle.fr_net.specs.Halves.{AreRows, ShowsLink}
-use Rattle.fr_net.specs.Order.{in_order}
+use Rattle.fr_net.specs.Faults.{IsFaultless}
+use Rattle.fr_net.specs.Graph.{shown}
+use Rattle.fr_net.specs.KeptRows.{AreRows, ShowsLink}
 use Rattle.fr_net.proofs.graph.Graph.take_out.Goals as goal
-use Rattle.fr_net.proofs.graph.Graph.take_out.Goals.{After-cut_from_rows, After-deref_mut}
+use Rattle.fr_net.proofs.graph.Graph.take_out.Goals.{After-cut_from_rows, Start}
 
--- the rows with the link
-before : (c : After-deref_mut) → ShowsLink (shown c.args.self.now) c.args.tail c.args.head c.deref_mut.result.now c.args.self.now.entries.items
-before c = record {
-  is_net = c.requires.graph.faultless.is_net;
-  joins = inl c.requires.stands;
-  rows = rw c.deref_mut.ensures.value (record { one_each = c.requires.graph.starts_length; shown = c.requires.graph.rows });
-}
+-- the rows with the link, and without it
+before : (c : Start) → ShowsLink (shown c.args.self.now) c.args.tail c.args.head c.args.self.now.rows
+before c = record { is_net = c.requires.graph.faultless.is_net; joins = inl c.requires.stands; rows = c.requires.graph.rows }
 
--- the links without it
-kept : (c : After-cut_from_rows) → c.cut_link.new.links.items ≡ in_order (without c.args.tail c.args.head c.args.self.now.links.items)
-kept c = c.cut_link.ensures.items ∙ cut_in_order c.args.self.now.links.items c.args.tail c.args.head c.requires.graph.sorted
+clear : (c : Start) → IsFaultless c.args.self.now.nodes (without c.args.tail c.args.head (shown c.args.self.now).links)
+clear c = faultless_cut c.args.self.now.nodes (shown c.args.self.now).links c.args.tail c.args.head c.requires.graph.faultless
+
+fewer : (c : Start) → c.args.self.now.link_count ≡ length (without c.args.tail c.args.head (shown c.args.self.now).links) + 1
+fewer c = omega (arith, c.requires.graph.counted, cut_one (shown c.args.self.now).links c.args.tail c.args.head c.requires.graph.faultless.is_net.single c.requires.stands)
+
+rows : (c : After-cut_from_rows) → AreRows c.args.self.now.nodes (without c.args.tail c.args.head (shown c.args.self.now).links) c.cut_from_rows.new.rows
+rows c = c.cut_from_rows.ensures.rows (shown c.args.self.now) (before (goal.at.After-cut_from_rows c).Start)
 
 pub cut_from_rows-requires : goal.cut_from_rows-requires
-cut_from_rows-requires c = (shown c.args.self.now, before (goal.at.cut_from_rows-requires c).After-deref_mut)
+cut_from_rows-requires c = (shown c.args.self.now, before (goal.at.cut_from_rows-requires c).Start)
 
 pub returns-clause-graph : goal.returns-clause-graph
 returns-clause-graph c =
     let at = goal.at.returns-clause-graph c in
-    let g = c.args.self.now in
-    let gone = without c.args.tail c.args.head g.links.items in
-    let starts = c.cut_from_rows.new.starts in
-    let rows : AreRows g.nodes gone starts c.cut_from_rows.new.entries.items = c.cut_from_rows.ensures.rows (shown g) (before at.After-deref_mut) in
-    let back = take_at starts _ g.starts.len (omega (arith, rows.one_each, c.requires.graph.starts_length, g.starts.ok.0)) in
-    let made = made_shown g.nodes gone c.cut_link.new.links.items starts c.cut_from_rows.new.entries.items (faultless_cut g.nodes g.links.items c.args.tail c.args.head c.requires.graph.faultless) (kept at.After-cut_from_rows) rows.one_each rows.shown in
-    subst (λ (xs : List ℕ). AreKept g.nodes c.cut_link.new.links.items xs c.cut_from_rows.new.entries.items) (sym back) made
+    graph_of _ (without c.args.tail c.args.head (shown c.args.self.now).links) (clear at.Start) (omega (arith, fewer at.Start)) (rows at.After-cut_from_rows)
 
 pub returns-clause-taken : goal.returns-clause-taken
 returns-clause-taken c =
-    let g = c.args.self.now in
-    made_of g.nodes (without c.args.tail c.args.head g.links.items) c.cut_link.new.links.items (faultless_cut g.nodes g.links.items c.args.tail c.args.head c.requires.graph.faultless) (kept (goal.at.returns-clause-taken c).After-cut_from_rows)
+    let at = goal.at.returns-clause-taken c in
+    network_of_rows c.args.self.now.nodes (without c.args.tail c.args.head (shown c.args.self.now).links) c.cut_from_rows.new.rows (clear at.Start) (rows at.After-cut_from_rows)

@@ -1,5 +1,5 @@
-use Rattle.std.proofs.Common.{arith, subst}
-use Rattle.fr_net.proofs.Undoing.{put_back, put_stands, taken_acyclic, taken_back, taken_few, taken_one, taken_unjoined}
+use Rattle.std.proofs.Common.{subst}
+use Rattle.fr_net.proofs.Undoing.{put_back, put_stands, taken_acyclic, taken_back, taken_few, taken_room, taken_unjoined}
 use Rattle.fr_net.specs.Graph.{IsDone, shown}
 use Rattle.fr_net.specs.Network.{Network}
 use Rattle.fr_net.specs.declared.graph.Done.{Done}
@@ -16,29 +16,32 @@ put c net done = subst (λ (d : Done). IsDone net d (shown c.args.self.now)) c.i
 pub put-requires-clause-few : goal.put-requires-clause-few
 put-requires-clause-few c =
     let net = c.requires.done.0 in
-    taken_few net c.in-Taken.tail c.in-Taken.head (shown c.args.self.now) (taken (goal.at.put-requires-clause-few c).In-Taken net c.requires.done.1.0)
+    taken_few net c.in-Taken.tail c.in-Taken.head (shown c.args.self.now) (taken (goal.at.put-requires-clause-few c).In-Taken net c.requires.done.1)
 
 pub put-requires-clause-nodes : goal.put-requires-clause-nodes
 put-requires-clause-nodes c =
     let net = c.requires.done.0 in
-    taken_unjoined net c.in-Taken.tail c.in-Taken.head (shown c.args.self.now) (taken (goal.at.put-requires-clause-nodes c).In-Taken net c.requires.done.1.0)
+    taken_unjoined net c.in-Taken.tail c.in-Taken.head (shown c.args.self.now) (taken (goal.at.put-requires-clause-nodes c).In-Taken net c.requires.done.1)
 
 pub put-requires-clause-acyclic : goal.put-requires-clause-acyclic
 put-requires-clause-acyclic c =
     let net = c.requires.done.0 in
-    taken_acyclic net c.in-Taken.tail c.in-Taken.head (shown c.args.self.now) (taken (goal.at.put-requires-clause-acyclic c).In-Taken net c.requires.done.1.0)
+    taken_acyclic net c.in-Taken.tail c.in-Taken.head (shown c.args.self.now) (taken (goal.at.put-requires-clause-acyclic c).In-Taken net c.requires.done.1)
 
-pub put-requires-clause-room : goal.put-requires-clause-room
-put-requires-clause-room c =
+pub put-requires-clause-tail_room : goal.put-requires-clause-tail_room
+put-requires-clause-tail_room c =
     let net = c.requires.done.0 in
-    let room = c.requires.done.1.1 in
-    let one = taken_one net c.in-Taken.tail c.in-Taken.head (shown c.args.self.now) (taken (goal.at.put-requires-clause-room c).In-Taken net c.requires.done.1.0) in
-    record { links = omega (arith, room.links, one); entries = omega (arith, room.entries, one) }
+    (taken_room net c.in-Taken.tail c.in-Taken.head c.args.self.now c.requires.graph (taken (goal.at.put-requires-clause-tail_room c).In-Taken net c.requires.done.1) c.requires.done.2).0
+
+pub put-requires-clause-head_room : goal.put-requires-clause-head_room
+put-requires-clause-head_room c =
+    let net = c.requires.done.0 in
+    (taken_room net c.in-Taken.tail c.in-Taken.head c.args.self.now c.requires.graph (taken (goal.at.put-requires-clause-head_room c).In-Taken net c.requires.done.1) c.requires.done.2).1
 
 pub take_out-requires-clause-stands : goal.take_out-requires-clause-stands
 take_out-requires-clause-stands c =
     let net = c.requires.done.0 in
-    put_stands net c.in-Put.tail c.in-Put.head (shown c.args.self.now) (put (goal.at.take_out-requires-clause-stands c).In-Put net c.requires.done.1.0)
+    put_stands net c.in-Put.tail c.in-Put.head (shown c.args.self.now) (put (goal.at.take_out-requires-clause-stands c).In-Put net c.requires.done.1)
 
 pub returns-in-Taken-clause-undone : goal.returns-in-Taken-clause-undone
 returns-in-Taken-clause-undone c = λ net done.
