@@ -1,0 +1,23 @@
+-- The rows of a table, one of which is written anew.
+use Rattle.std.proofs.Common.{List, [], get_or, inl, inr, length, refl, ℕ, ◌<◌, ◌∙◌, ◌≡◌, ◌≢◌}
+use Rattle.std.proofs.lemmas.Bool.{cases_eq}
+use Rattle.std.proofs.lemmas.List.{get_or-set_other, get_or-set_same, length-set}
+use Rattle.fr_net.specs.Tables.{Table, row_of, with_row}
+use Rattle.fr_net.specs.declared.rows.First.{First}
+
+pub row_of_with_row_at : (table : Table) (x : ℕ) (entries : List (ℕ × First)) → x < length table.rows → row_of (with_row table x entries) x ≡ entries
+row_of_with_row_at table x entries inside = get_or-set_same table.rows x entries [] inside
+
+pub row_of_with_row_beside : (table : Table) (x y : ℕ) (entries : List (ℕ × First)) → y ≢ x → row_of (with_row table x entries) y ≡ row_of table y
+row_of_with_row_beside table x y entries apart = get_or-set_other table.rows x y entries [] apart
+
+pub length-rows : (table : Table) (x : ℕ) (entries : List (ℕ × First)) → length (with_row table x entries).rows ≡ length table.rows
+length-rows table x entries = length-set table.rows x entries
+
+-- the rows are those that are wanted once the one that is not yet is written
+pub rows_with_row : (n k : ℕ) (wanted : ℕ → List (ℕ × First)) (table : Table) → k < length table.rows → ((y : ℕ) → y < n → y ≢ k → row_of table y ≡ wanted y) → (y : ℕ) → y < n → row_of (with_row table k (wanted k)) y ≡ wanted y
+rows_with_row n k wanted table inside others y less =
+    elim (cases_eq y k) [
+      | inl e ↦ rw e (row_of_with_row_at table k (wanted k) inside)
+      | inr ne ↦ row_of_with_row_beside table k y (wanted k) ne ∙ others y less ne
+    ]
