@@ -301,13 +301,12 @@ pub record IsNext (net : Network) (counts : List ℕ) (x place : ℕ) (table : T
 pub length_shown : (net : Network) (counts : List ℕ) (done : ℕ → ℕ → Bool) (y : ℕ) (table : Table) → ArePartTurned net counts done table → y < net.nodes → length (row_of table y) ≡ length (row net.nodes net.links y)
 length_shown net counts done y table part lt = ap length (part.shown y lt) ∙ length-map (row net.nodes net.links y) (entry_done done counts y)
 
-pub next_neighbour : (net : Network) (counts : List ℕ) (x place : ℕ) (table : Table) → IsHalfTurned net counts x place table → x < net.nodes → place < length (row_of table x) → IsNext net counts x place table (get_or (row_of table x) place (0, Outward)).0
-next_neighbour net counts x place table half lt before_end =
+pub next_neighbour : (net : Network) (counts : List ℕ) (x place : ℕ) (table : Table) → IsHalfTurned net counts x place table → x < net.nodes → place < length (row net.nodes net.links x) → IsNext net counts x place table (get_or (row_of table x) place (0, Outward)).0
+next_neighbour net counts x place table half lt inside =
     let d : ℕ × First = (0, Outward) in
     let node : ℕ × First → ℕ = λ e. e.0 in
     let done = is_halfway counts x half.bound in
     let row_x = row net.nodes net.links x in
-    let inside : place < length row_x = omega (arith, before_end, length_shown net counts done x table half.rows lt) in
     let read : (get_or (row_of table x) place d).0 ≡ (get_or row_x place d).0 =
     ap (λ (es : List (ℕ × First)). node (get_or es place d)) (half.rows.shown x lt)
     ∙ ap node (get_or-map (entry_done done counts x) row_x place d d inside)
@@ -335,9 +334,9 @@ half_begins net counts x table rows = record {
   rows = rows;
 }
 
-pub half_ends : (net : Network) (counts : List ℕ) (x place : ℕ) (table : Table) → IsHalfTurned net counts x place table → x < net.nodes → length (row_of table x) ≤ place → ArePartTurned net counts (is_done counts (x + 1)) table
-half_ends net counts x place table half lt past =
-    let all : place ≡ length (row net.nodes net.links x) = omega (arith, length_shown net counts (is_halfway counts x half.bound) x table half.rows lt, half.at.inside, past) in
+pub half_ends : (net : Network) (counts : List ℕ) (x place : ℕ) (table : Table) → IsHalfTurned net counts x place table → length (row net.nodes net.links x) ≤ place → ArePartTurned net counts (is_done counts (x + 1)) table
+half_ends net counts x place table half past =
+    let all : place ≡ length (row net.nodes net.links x) = omega (arith, half.at.inside, past) in
     node_done net counts x half.bound table (rw all at half.at) half.rows
 
 -- the neighbours of a row that rows show, as it turns, are nodes
