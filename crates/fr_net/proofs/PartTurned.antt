@@ -1,8 +1,8 @@
 -- The steps by which the rows of a network turn where they stand.
-use Rattle.std.proofs.Common.{All, Bool, Contains, List, Some, [], ap, arith, cond, drop, eq-eqb, eqb, false, get_or, inl, inr, leb, length, ltb, map, ne_eqb, refl, set, suc, sym, true, zero, ℕ, ◌&&◌, ◌+◌, ◌-◌, ◌<◌, ◌||◌, ◌∙◌, ◌∷◌, ◌≡◌, ◌≢◌, ◌≤◌}
+use Rattle.std.proofs.Common.{All, Bool, Contains, List, Some, [], ap, arith, cond, eq-eqb, eqb, false, get_or, inl, inr, leb, length, ltb, map, ne_eqb, refl, set, suc, sym, true, zero, ℕ, ◌&&◌, ◌+◌, ◌<◌, ◌||◌, ◌∙◌, ◌∷◌, ◌≡◌, ◌≢◌, ◌≤◌}
 use Rattle.std.proofs.lemmas.Bool.{cases_Bool, cases_eq, cases_lt, cond-false, cond-true}
 use Rattle.std.proofs.lemmas.Bool.Decides.{nat_tests}
-use Rattle.std.proofs.lemmas.List.{get_or-drop, get_or-map, get_or-take, get_or_default, length-map, map-id}
+use Rattle.std.proofs.lemmas.List.{get_or-map, get_or_default, length-map, map-id}
 use Rattle.std.proofs.lemmas.List.Elements.{Contains-get_or}
 use Rattle.std.proofs.lemmas.List.Kept.{AllPairs-from_increasing}
 use Rattle.std.proofs.lemmas.Simd.{map-map}

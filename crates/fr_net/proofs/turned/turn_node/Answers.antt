@@ -1,4 +1,4 @@
-use Rattle.std.proofs.Common.{Contains, ap, arith, get_or, length, ◌<◌, ◌≡◌, ◌∙◌}
+use Rattle.std.proofs.Common.{Contains, ap, arith, get_or, length, ◌≡◌, ◌∙◌}
 use Rattle.std.proofs.lemmas.List.Elements.{Contains-get_or}
 use Rattle.fr_net.proofs.Neighbours.{neighbours_rise}
 use Rattle.fr_net.proofs.PartTurned.{IsNext, half_begins, half_ends, half_more, is_halfway, length_shown, neighbour_back, neighbour_listed, neighbour_passed, neighbour_turned, next_neighbour, nodes_done, own_row_turned, shown_below}
