@@ -1,5 +1,5 @@
 -- The rows of a table, one of which is written anew.
-use Rattle.std.proofs.Common.{List, [], get_or, inl, inr, length, refl, ℕ, ◌<◌, ◌∙◌, ◌≡◌, ◌≢◌}
+use Rattle.std.proofs.Common.{List, [], inl, inr, length, ℕ, ◌<◌, ◌∙◌, ◌≡◌, ◌≢◌}
 use Rattle.std.proofs.lemmas.Bool.{cases_eq}
 use Rattle.std.proofs.lemmas.List.{get_or-set_other, get_or-set_same, length-set}
 use Rattle.fr_net.specs.Tables.{Table, row_of, with_row}

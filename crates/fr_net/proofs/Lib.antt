@@ -16,6 +16,7 @@ pub mod RowLists
 pub mod TurnedRows
 pub mod Rising
 pub mod RowsInPlace
+pub mod KeptRows
 pub mod PartTurned
 pub mod Remaking
 pub mod CutRows

@@ -1,24 +1,24 @@
 -- The steps by which the rows of a network turn where they stand.
-use Rattle.std.proofs.Common.{All, Bool, Contains, List, Some, [], ap, arith, cond, drop, eq-eqb, eqb, false, get_or, inl, inr, leb, length, ltb, map, ne_eqb, refl, set, suc, sym, true, zero, ℕ, ◌&&◌, ◌+◌, ◌-◌, ◌<◌, ◌||◌, ◌∙◌, ◌∷◌, ◌≡◌, ◌≢◌, ◌≤◌}
+use Rattle.std.proofs.Common.{All, Bool, Contains, List, Some, [], ap, arith, cond, eq-eqb, eqb, false, get_or, inl, inr, leb, length, ltb, map, ne_eqb, refl, set, suc, sym, true, zero, ℕ, ◌&&◌, ◌+◌, ◌<◌, ◌||◌, ◌∙◌, ◌∷◌, ◌≡◌, ◌≢◌, ◌≤◌}
 use Rattle.std.proofs.lemmas.Bool.{cases_Bool, cases_eq, cases_lt, cond-false, cond-true}
 use Rattle.std.proofs.lemmas.Bool.Decides.{nat_tests}
-use Rattle.std.proofs.lemmas.List.{get_or-drop, get_or-map, get_or-take, get_or_default, length-map, map-id}
+use Rattle.std.proofs.lemmas.List.{get_or-map, get_or_default, length-map, map-id}
 use Rattle.std.proofs.lemmas.List.Elements.{Contains-get_or}
 use Rattle.std.proofs.lemmas.List.Kept.{AllPairs-from_increasing}
 use Rattle.std.proofs.lemmas.Simd.{map-map}
 use Rattle.std.specs.List.Sorted.{IsStrictlyIncreasing}
-use borrow.Rule.Slice.PartMut.{put_mid}
-use Rattle.fr_net.proofs.HalfLinks.{length_shown}
+use Rattle.fr_net.proofs.KeptRows.{length-rows, rows_with_row}
 use Rattle.fr_net.proofs.Members.{Contains-head, Contains-tail}
 use Rattle.fr_net.proofs.Neighbours.{Rises, in_of_row, out_of_row, row_holds, row_of_in, row_of_out, row_rises}
-use Rattle.fr_net.proofs.RowsInPlace.{row_written}
 use Rattle.fr_net.proofs.TurnedRows.{row_turned}
 use Rattle.fr_net.specs.Counts.{IsKept, link_at, links_at}
-use Rattle.fr_net.specs.Halves.{AreRows, IsPlaceIn, IsPlaceOf, ShowsEntries}
+use Rattle.fr_net.specs.Halves.{IsPlaceIn}
+use Rattle.fr_net.specs.KeptRows.{AreRows}
 use Rattle.fr_net.specs.Links.{IsNet}
 use Rattle.fr_net.specs.Network.{Network}
 use Rattle.fr_net.specs.RowLists.{opposite, turned_entry}
 use Rattle.fr_net.specs.Rows.{row}
+use Rattle.fr_net.specs.Tables.{Table, row_of, with_row}
 use Rattle.fr_net.specs.TurnedRows.{ArePartTurned, entry_done, is_done, reversed_at}
 use Rattle.fr_net.specs.declared.rows.First.{First}
 use Rattle.fr_net.specs.declared.rows.First.TheVariants.{Inward, Outward}
@@ -35,29 +35,22 @@ abbrev IsAlike : Network → List ℕ → (ℕ → ℕ → Bool) → (ℕ → �
 IsAlike net counts done later y = (e : ℕ × First) → Contains (row net.nodes net.links y) e → entry_done done counts y e ≡ entry_done later counts y e
 
 -- no entry is written where it is the same whether it is done with or not
-pub none_written : (net : Network) (counts : List ℕ) (done later : ℕ → ℕ → Bool) (starts : List ℕ) (entries : List (ℕ × First)) → ArePartTurned net counts done starts entries → ((y : ℕ) → y < net.nodes → IsAlike net counts done later y) → ArePartTurned net counts later starts entries
-none_written net counts done later starts entries at same = record {
+pub none_written : (net : Network) (counts : List ℕ) (done later : ℕ → ℕ → Bool) (table : Table) → ArePartTurned net counts done table → ((y : ℕ) → y < net.nodes → IsAlike net counts done later y) → ArePartTurned net counts later table
+none_written net counts done later table at same = record {
   is_net = at.is_net;
   counted = at.counted;
   one_each = at.one_each;
-  shown = λ y l.
-      let t = at.shown y l in
-      record { low = t.low; high = t.high; is_row = t.is_row ∙ map_alike (entry_done done counts y) (entry_done later counts y) (row net.nodes net.links y) (same y l) };
+  shown = λ y l. at.shown y l ∙ map_alike (entry_done done counts y) (entry_done later counts y) (row net.nodes net.links y) (same y l);
 }
 
-pub one_written : (net : Network) (counts : List ℕ) (done later : ℕ → ℕ → Bool) (starts : List ℕ) (k : ℕ) (old now new : List (ℕ × First)) → ArePartTurned net counts done starts old → k < net.nodes → now ≡ rows_done net counts later k → ((y : ℕ) → y < net.nodes → y ≢ k → IsAlike net counts done later y)
-    → new ≡ put_mid (get_or starts k 0) (get_or starts (k + 1) 0 - get_or starts k 0) old now → ArePartTurned net counts later starts new
-one_written net counts done later starts k old now new at lt is same put =
-    let entries = row net.nodes net.links k in
-    record {
-      is_net = at.is_net;
-      counted = at.counted;
-      one_each = at.one_each;
-      shown = row_written net.nodes k (rows_done net counts done) (rows_done net counts later) starts old now new lt at.shown is
-          (ap length is ∙ length-map entries (entry_done later counts k) ∙ sym (length-map entries (entry_done done counts k)))
-          (λ y l ne. map_alike (entry_done done counts y) (entry_done later counts y) (row net.nodes net.links y) (same y l ne))
-          put;
-    }
+pub one_written : (net : Network) (counts : List ℕ) (done later : ℕ → ℕ → Bool) (k : ℕ) (table : Table) → ArePartTurned net counts done table → k < net.nodes → ((y : ℕ) → y < net.nodes → y ≢ k → IsAlike net counts done later y) → ArePartTurned net counts later (with_row table k (rows_done net counts later k))
+one_written net counts done later k table at lt same = record {
+  is_net = at.is_net;
+  counted = at.counted;
+  one_each = length-rows table k (rows_done net counts later k) ∙ at.one_each;
+  shown = rows_with_row net.nodes k (rows_done net counts later) table (omega (arith, lt, at.one_each))
+      (λ y l ne. at.shown y l ∙ map_alike (entry_done done counts y) (entry_done later counts y) (row net.nodes net.links y) (same y l ne));
+}
 
 -- tests that agree on an entry, and entries that stay as they are
 tests_agree : (counts : List ℕ) (done later : ℕ → ℕ → Bool) (y : ℕ) (e : ℕ × First) → done y e.0 ≡ later y e.0 → entry_done done counts y e ≡ entry_done later counts y e
@@ -79,9 +72,9 @@ entry_done_node counts done y e =
     ]
 
 -- a node that has not turned has nothing to do
-pub node_skipped : (net : Network) (counts : List ℕ) (x : ℕ) (starts : List ℕ) (entries : List (ℕ × First)) → get_or counts x 0 ≡ 0 → ArePartTurned net counts (is_done counts x) starts entries → ArePartTurned net counts (is_done counts (x + 1)) starts entries
-node_skipped net counts x starts entries none at =
-    none_written net counts (is_done counts x) (is_done counts (x + 1)) starts entries at
+pub node_skipped : (net : Network) (counts : List ℕ) (x : ℕ) (table : Table) → get_or counts x 0 ≡ 0 → ArePartTurned net counts (is_done counts x) table → ArePartTurned net counts (is_done counts (x + 1)) table
+node_skipped net counts x table none at =
+    none_written net counts (is_done counts x) (is_done counts (x + 1)) table at
     (λ y l e h. elim (cases_eq (get_or counts y 0) 0) [
       | inl zero_y ↦ elim (cases_eq e.0 x) [
         | inl it ↦
@@ -99,21 +92,20 @@ abbrev pub is_halfway : List ℕ → ℕ → ℕ → ℕ → ℕ → Bool
 is_halfway counts x bound y w = cond (eqb (get_or counts y 0) 0) (ltb w x || ((eqb w x) && ltb y bound)) (leb y x)
 
 -- the row of x was turned
-pub own_row_turned : (net : Network) (counts : List ℕ) (x : ℕ) (starts : List ℕ) (old now new : List (ℕ × First)) → 0 < get_or counts x 0 → x < net.nodes → ArePartTurned net counts (is_done counts x) starts old → now ≡ map (turned_entry counts x) (rows_done net counts (is_done counts x) x)
-    → new ≡ put_mid (get_or starts x 0) (get_or starts (x + 1) 0 - get_or starts x 0) old now → ArePartTurned net counts (is_halfway counts x 0) starts new
-own_row_turned net counts x starts old now new turned lt at is put =
+pub own_row_turned : (net : Network) (counts : List ℕ) (x : ℕ) (table : Table) → 0 < get_or counts x 0 → x < net.nodes → ArePartTurned net counts (is_done counts x) table → ArePartTurned net counts (is_halfway counts x 0) (with_row table x (map (turned_entry counts x) (row_of table x)))
+own_row_turned net counts x table turned lt at =
     let entries = row net.nodes net.links x in
-    let here : now ≡ rows_done net counts (is_halfway counts x 0) x =
-    is ∙ map-map (turned_entry counts x) (entry_done (is_done counts x) counts x) entries
+    let here : map (turned_entry counts x) (row_of table x) ≡ rows_done net counts (is_halfway counts x 0) x =
+    ap (map (turned_entry counts x)) (at.shown x lt) ∙ map-map (turned_entry counts x) (entry_done (is_done counts x) counts x) entries
     ∙ map_alike (λ e. turned_entry counts x (entry_done (is_done counts x) counts x e)) (entry_done (is_halfway counts x 0) counts x) entries
     (λ e h.
     let before : is_done counts x x e.0 ≡ false = grind (arith, nat_tests) in
     let after : is_halfway counts x 0 x e.0 ≡ true = grind (arith, nat_tests) in
     rw (before, after) refl) in
-    one_written net counts (is_done counts x) (is_halfway counts x 0) starts x old now new at lt here
+    rw here
+    (one_written net counts (is_done counts x) (is_halfway counts x 0) x table at lt
     (λ y l ne e h. tests_agree counts (is_done counts x) (is_halfway counts x 0) y e
-    (elim (cases_eq (get_or counts y 0) 0) [ inl none ↦ grind (arith, nat_tests) | inr some ↦ grind (arith, nat_tests) ]))
-    put
+    (elim (cases_eq (get_or counts y 0) 0) [ inl none ↦ grind (arith, nat_tests) | inr some ↦ grind (arith, nat_tests) ])))
 
 -- a node is a neighbour of its neighbours
 pub neighbour_back : (net : Network) (x : ℕ) (e : ℕ × First) → IsNet net.nodes net.links → Contains (row net.nodes net.links x) e → Contains (row net.nodes net.links e.0) (x, opposite e.1)
@@ -154,22 +146,22 @@ bounds_alike net counts x bound j w is_net at inside here y other e h =
     ]
 
 -- the next neighbour has turned, and sees to its own row
-pub neighbour_passed : (net : Network) (counts : List ℕ) (x bound j w : ℕ) (starts : List ℕ) (entries : List (ℕ × First)) → IsPlaceIn (row net.nodes net.links x) bound j → j < length (row net.nodes net.links x) → ((d : ℕ × First) → (get_or (row net.nodes net.links x) j d).0 ≡ w) → get_or counts w 0 ≢ 0 → ArePartTurned net counts (is_halfway counts x bound) starts entries → ArePartTurned net counts (is_halfway counts x (w + 1)) starts entries
-neighbour_passed net counts x bound j w starts entries at inside here turned now =
-    none_written net counts (is_halfway counts x bound) (is_halfway counts x (w + 1)) starts entries now
+pub neighbour_passed : (net : Network) (counts : List ℕ) (x bound j w : ℕ) (table : Table) → IsPlaceIn (row net.nodes net.links x) bound j → j < length (row net.nodes net.links x) → ((d : ℕ × First) → (get_or (row net.nodes net.links x) j d).0 ≡ w) → get_or counts w 0 ≢ 0 → ArePartTurned net counts (is_halfway counts x bound) table → ArePartTurned net counts (is_halfway counts x (w + 1)) table
+neighbour_passed net counts x bound j w table at inside here turned now =
+    none_written net counts (is_halfway counts x bound) (is_halfway counts x (w + 1)) table now
     (λ y l. bounds_alike net counts x bound j w now.is_net at inside here y (λ q. rw q turned))
 
 -- the next neighbour has not turned, and its entry of x was reversed
-pub neighbour_turned : (net : Network) (counts : List ℕ) (x bound j w : ℕ) (starts : List ℕ) (old now new : List (ℕ × First)) → 0 < get_or counts x 0 → IsPlaceIn (row net.nodes net.links x) bound j → j < length (row net.nodes net.links x) → ((d : ℕ × First) → (get_or (row net.nodes net.links x) j d).0 ≡ w) → get_or counts w 0 ≡ 0 → w < net.nodes
-    → ArePartTurned net counts (is_halfway counts x bound) starts old → now ≡ map (reversed_at x) (rows_done net counts (is_halfway counts x bound) w) → new ≡ put_mid (get_or starts w 0) (get_or starts (w + 1) 0 - get_or starts w 0) old now → ArePartTurned net counts (is_halfway counts x (w + 1)) starts new
-neighbour_turned net counts x bound j w starts old now new turned at inside here none below part is put =
+pub neighbour_turned : (net : Network) (counts : List ℕ) (x bound j w : ℕ) (table : Table) → 0 < get_or counts x 0 → IsPlaceIn (row net.nodes net.links x) bound j → j < length (row net.nodes net.links x) → ((d : ℕ × First) → (get_or (row net.nodes net.links x) j d).0 ≡ w) → get_or counts w 0 ≡ 0 → w < net.nodes
+    → ArePartTurned net counts (is_halfway counts x bound) table → ArePartTurned net counts (is_halfway counts x (w + 1)) (with_row table w (map (reversed_at x) (row_of table w)))
+neighbour_turned net counts x bound j w table turned at inside here none below part =
     let entries = row net.nodes net.links w in
     let d : ℕ × First = (0, Outward) in
     let low : bound ≤ w = omega (arith, at.stops j d (omega arith) inside, here d) in
     let done = is_halfway counts x bound in
     let later = is_halfway counts x (w + 1) in
-    let written : now ≡ rows_done net counts later w =
-    is ∙ map-map (reversed_at x) (entry_done done counts w) entries
+    let written : map (reversed_at x) (row_of table w) ≡ rows_done net counts later w =
+    ap (map (reversed_at x)) (part.shown w below) ∙ map-map (reversed_at x) (entry_done done counts w) entries
     ∙ map_alike (λ e. reversed_at x (entry_done done counts w e)) (entry_done later counts w) entries
     (λ e h. elim (cases_eq e.0 x) [
       | inl it ↦
@@ -181,9 +173,9 @@ neighbour_turned net counts x bound j w starts old now new turned at inside here
           let kept : (entry_done done counts w e).0 ≢ x = rw (entry_done_node counts done w e) other in
           cond-false _ _ _ (ne_eqb _ _ kept) ∙ tests_agree counts done later w e (grind (arith, nat_tests))
     ]) in
-    one_written net counts done later starts w old now new part below written
-    (λ y l ne. bounds_alike net counts x bound j w part.is_net at inside here y (λ q. absurd (ne q)))
-    put
+    rw written
+    (one_written net counts done later w table part below
+    (λ y l ne. bounds_alike net counts x bound j w part.is_net at inside here y (λ q. absurd (ne q))))
 
 -- the place after a neighbour
 pub place_after : (net : Network) (x bound j w : ℕ) → IsPlaceIn (row net.nodes net.links x) bound j → j < length (row net.nodes net.links x) → ((d : ℕ × First) → (get_or (row net.nodes net.links x) j d).0 ≡ w) → IsPlaceIn (row net.nodes net.links x) (w + 1) (j + 1)
@@ -197,9 +189,9 @@ place_after net x bound j w at inside here = record {
 }
 
 -- x has seen to all its entries
-pub node_done : (net : Network) (counts : List ℕ) (x bound : ℕ) (starts : List ℕ) (entries : List (ℕ × First)) → IsPlaceIn (row net.nodes net.links x) bound (length (row net.nodes net.links x)) → ArePartTurned net counts (is_halfway counts x bound) starts entries → ArePartTurned net counts (is_done counts (x + 1)) starts entries
-node_done net counts x bound starts entries at part =
-    none_written net counts (is_halfway counts x bound) (is_done counts (x + 1)) starts entries part
+pub node_done : (net : Network) (counts : List ℕ) (x bound : ℕ) (table : Table) → IsPlaceIn (row net.nodes net.links x) bound (length (row net.nodes net.links x)) → ArePartTurned net counts (is_halfway counts x bound) table → ArePartTurned net counts (is_done counts (x + 1)) table
+node_done net counts x bound table at part =
+    none_written net counts (is_halfway counts x bound) (is_done counts (x + 1)) table part
     (λ y l e h.
     let agree = tests_agree counts (is_halfway counts x bound) (is_done counts (x + 1)) y e in
     elim (cases_eq (get_or counts y 0) 0) [
@@ -214,32 +206,27 @@ node_done net counts x bound starts entries at part =
     ])
 
 -- before the first node, and after the last
-pub rows_begin : (net : Network) (counts starts : List ℕ) (entries : List (ℕ × First)) → IsNet net.nodes net.links → length counts ≡ net.nodes → AreRows net.nodes net.links starts entries → ArePartTurned net counts (is_done counts 0) starts entries
-rows_begin net counts starts entries is_net counted rows = record {
+pub rows_begin : (net : Network) (counts : List ℕ) (table : Table) → IsNet net.nodes net.links → length counts ≡ net.nodes → AreRows net.nodes net.links table → ArePartTurned net counts (is_done counts 0) table
+rows_begin net counts table is_net counted rows = record {
   is_net = is_net;
   counted = counted;
   one_each = rows.one_each;
   shown = λ y l.
-      let t = rows.shown y l in
-      let same : row net.nodes net.links y ≡ rows_done net counts (is_done counts 0) y =
-      sym (map-id (row net.nodes net.links y)) ∙ map_alike (λ e. e) (entry_done (is_done counts 0) counts y) (row net.nodes net.links y)
-      (λ e h. let none : is_done counts 0 y e.0 ≡ false = grind (arith, nat_tests) in sym (cond-false _ _ _ none)) in
-      record { low = t.low; high = t.high; is_row = t.is_row ∙ same };
+      rows.shown y l ∙ sym (map-id (row net.nodes net.links y)) ∙ map_alike (λ e. e) (entry_done (is_done counts 0) counts y) (row net.nodes net.links y)
+      (λ e h. let none : is_done counts 0 y e.0 ≡ false = grind (arith, nat_tests) in sym (cond-false _ _ _ none));
 }
 
-pub rows_end : (net : Network) (counts starts : List ℕ) (entries : List (ℕ × First)) → All (IsKept counts) net.links → ArePartTurned net counts (is_done counts net.nodes) starts entries → AreRows net.nodes (links_at net.links counts) starts entries
-rows_end net counts starts entries kept part = record {
+pub rows_end : (net : Network) (counts : List ℕ) (table : Table) → All (IsKept counts) net.links → ArePartTurned net counts (is_done counts net.nodes) table → AreRows net.nodes (links_at net.links counts) table
+rows_end net counts table kept part = record {
   one_each = part.one_each;
   shown = λ y l.
-      let t = part.shown y l in
-      let same : rows_done net counts (is_done counts net.nodes) y ≡ row net.nodes (links_at net.links counts) y =
-      map_alike (entry_done (is_done counts net.nodes) counts y) (turned_entry counts y) (row net.nodes net.links y)
+      part.shown y l
+      ∙ map_alike (entry_done (is_done counts net.nodes) counts y) (turned_entry counts y) (row net.nodes net.links y)
       (λ e h.
       let below : e.0 < net.nodes = (row_holds net.nodes net.links y e h).0 in
       let all : is_done counts net.nodes y e.0 ≡ true = grind (arith, nat_tests) in
       cond-true _ _ _ all)
-      ∙ sym (row_turned net.nodes net.links counts y kept part.is_net) in
-      record { low = t.low; high = t.high; is_row = t.is_row ∙ same };
+      ∙ sym (row_turned net.nodes net.links counts y kept part.is_net);
 }
 
 -- the neighbours of a row as it turns, and the entry of one of them reversed
@@ -295,78 +282,62 @@ entry_reversed es w k f d y rises inside here is =
     ] in
     cond-false _ _ _ (ne_eqb _ _ apart))
 
--- the state while x sees to its entries in the rows of others, as far as the place among all entries
-pub record IsHalfTurned (net : Network) (counts : List ℕ) (x : ℕ) (starts : List ℕ) (place : ℕ) (entries : List (ℕ × First)) : Type 0 where
+-- the state while x sees to its entries in the rows of others, as far as this place in its row
+pub record IsHalfTurned (net : Network) (counts : List ℕ) (x place : ℕ) (table : Table) : Type 0 where
   pub bound : ℕ
-  pub at : IsPlaceOf net x bound starts place
-  pub rows : ArePartTurned net counts (is_halfway counts x bound) starts entries
+  pub at : IsPlaceIn (row net.nodes net.links x) bound place
+  pub rows : ArePartTurned net counts (is_halfway counts x bound) table
 
 -- the neighbour that comes next
-pub record IsNext (net : Network) (counts : List ℕ) (x : ℕ) (starts : List ℕ) (place : ℕ) (entries : List (ℕ × First)) (w : ℕ) : Type 0 where
+pub record IsNext (net : Network) (counts : List ℕ) (x place : ℕ) (table : Table) (w : ℕ) : Type 0 where
   pub bound : ℕ
-  pub j : ℕ
-  pub is : place ≡ get_or starts x 0 + j
-  pub at : IsPlaceIn (row net.nodes net.links x) bound j
-  pub inside : j < length (row net.nodes net.links x)
-  pub here : (d : ℕ × First) → (get_or (row net.nodes net.links x) j d).0 ≡ w
+  pub at : IsPlaceIn (row net.nodes net.links x) bound place
+  pub inside : place < length (row net.nodes net.links x)
+  pub here : (d : ℕ × First) → (get_or (row net.nodes net.links x) place d).0 ≡ w
   pub below : w < net.nodes
-  pub rows : ArePartTurned net counts (is_halfway counts x bound) starts entries
+  pub rows : ArePartTurned net counts (is_halfway counts x bound) table
 
-entry_shown : (shown : List (ℕ × First)) (starts : List ℕ) (entries : List (ℕ × First)) (x j : ℕ) (d : ℕ × First) → ShowsEntries shown starts entries x → j < length shown → get_or entries (get_or starts x 0 + j) d ≡ get_or shown j d
-entry_shown shown starts entries x j d at inside =
-    let a = get_or starts x 0 in
-    let b = get_or starts (x + 1) 0 in
-    sym (get_or-take (b - a) (drop a entries) j d (omega (arith, length_shown shown starts entries x at, inside)) ∙ get_or-drop a entries j d)
-    ∙ ap (λ (es : List (ℕ × First)). get_or es j d) at.is_row
+-- a row is as long while it turns
+pub length_shown : (net : Network) (counts : List ℕ) (done : ℕ → ℕ → Bool) (y : ℕ) (table : Table) → ArePartTurned net counts done table → y < net.nodes → length (row_of table y) ≡ length (row net.nodes net.links y)
+length_shown net counts done y table part lt = ap length (part.shown y lt) ∙ length-map (row net.nodes net.links y) (entry_done done counts y)
 
-pub next_neighbour : (net : Network) (counts : List ℕ) (x : ℕ) (starts : List ℕ) (place : ℕ) (entries : List (ℕ × First)) → IsHalfTurned net counts x starts place entries → x < net.nodes → place < get_or starts (x + 1) 0 → IsNext net counts x starts place entries (get_or entries place (0, Outward)).0
-next_neighbour net counts x starts place entries half lt before_end =
+pub next_neighbour : (net : Network) (counts : List ℕ) (x place : ℕ) (table : Table) → IsHalfTurned net counts x place table → x < net.nodes → place < length (row net.nodes net.links x) → IsNext net counts x place table (get_or (row_of table x) place (0, Outward)).0
+next_neighbour net counts x place table half lt inside =
     let d : ℕ × First = (0, Outward) in
     let node : ℕ × First → ℕ = λ e. e.0 in
     let done = is_halfway counts x half.bound in
     let row_x = row net.nodes net.links x in
-    let shown = half.rows.shown x lt in
-    let j = half.at.0 in
-    let long : length (rows_done net counts done x) ≡ length row_x = length-map row_x (entry_done done counts x) in
-    let inside : j < length row_x = omega (arith, length_shown (rows_done net counts done x) starts entries x shown, long, half.at.1, shown.low) in
-    let read : (get_or entries place d).0 ≡ (get_or row_x j d).0 =
-    ap (λ (k : ℕ). node (get_or entries k d)) half.at.1
-    ∙ ap node (entry_shown (rows_done net counts done x) starts entries x j d shown (omega (arith, inside, long)) ∙ get_or-map (entry_done done counts x) row_x j d d inside)
-    ∙ entry_done_node counts done x (get_or row_x j d) in
-    let here : (e : ℕ × First) → (get_or row_x j e).0 ≡ (get_or entries place d).0 = λ e. ap node (get_or_default row_x j e d inside) ∙ sym read in
+    let read : (get_or (row_of table x) place d).0 ≡ (get_or row_x place d).0 =
+    ap (λ (es : List (ℕ × First)). node (get_or es place d)) (half.rows.shown x lt)
+    ∙ ap node (get_or-map (entry_done done counts x) row_x place d d inside)
+    ∙ entry_done_node counts done x (get_or row_x place d) in
     record {
       bound = half.bound;
-      j = j;
-      is = half.at.1;
-      at = half.at.2;
+      at = half.at;
       inside = inside;
-      here = here;
-      below = omega (arith, (row_holds net.nodes net.links x (get_or row_x j d) (Contains-get_or row_x j d inside)).0, read);
+      here = λ e. ap node (get_or_default row_x place e d inside) ∙ sym read;
+      below = omega (arith, (row_holds net.nodes net.links x (get_or row_x place d) (Contains-get_or row_x place d inside)).0, read);
       rows = half.rows;
     }
 
-pub half_more : (net : Network) (counts : List ℕ) (x : ℕ) (starts : List ℕ) (place : ℕ) (old new : List (ℕ × First)) (w : ℕ) → IsNext net counts x starts place old w → ArePartTurned net counts (is_halfway counts x (w + 1)) starts new → IsHalfTurned net counts x starts (place + 1) new
-half_more net counts x starts place old new w next rows = record {
+pub half_more : (net : Network) (counts : List ℕ) (x place : ℕ) (old new : Table) (w : ℕ) → IsNext net counts x place old w → ArePartTurned net counts (is_halfway counts x (w + 1)) new → IsHalfTurned net counts x (place + 1) new
+half_more net counts x place old new w next rows = record {
   bound = w + 1;
-  at = (next.j + 1, omega (arith, next.is), place_after net x next.bound next.j w next.at next.inside next.here);
+  at = place_after net x next.bound place w next.at next.inside next.here;
   rows = rows;
 }
 
-pub half_begins : (net : Network) (counts : List ℕ) (x : ℕ) (starts : List ℕ) (entries : List (ℕ × First)) → ArePartTurned net counts (is_halfway counts x 0) starts entries → IsHalfTurned net counts x starts (get_or starts x 0) entries
-half_begins net counts x starts entries rows = record {
+pub half_begins : (net : Network) (counts : List ℕ) (x : ℕ) (table : Table) → ArePartTurned net counts (is_halfway counts x 0) table → IsHalfTurned net counts x 0 table
+half_begins net counts x table rows = record {
   bound = 0;
-  at = (0, omega arith, record { inside = omega arith; before = λ k d l. absurd (omega arith); stops = λ k d l m. omega arith });
+  at = record { inside = omega arith; before = λ k d l. absurd (omega arith); stops = λ k d l m. omega arith };
   rows = rows;
 }
 
-pub half_ends : (net : Network) (counts : List ℕ) (x : ℕ) (starts : List ℕ) (place : ℕ) (entries : List (ℕ × First)) → IsHalfTurned net counts x starts place entries → x < net.nodes → get_or starts (x + 1) 0 ≤ place → ArePartTurned net counts (is_done counts (x + 1)) starts entries
-half_ends net counts x starts place entries half lt past =
-    let row_x = row net.nodes net.links x in
-    let done = is_halfway counts x half.bound in
-    let shown = half.rows.shown x lt in
-    let long : length (rows_done net counts done x) ≡ length row_x = length-map row_x (entry_done done counts x) in
-    let all : half.at.0 ≡ length row_x = omega (arith, length_shown (rows_done net counts done x) starts entries x shown, long, half.at.1, half.at.2.inside, past) in
-    node_done net counts x half.bound starts entries (rw all at half.at.2) half.rows
+pub half_ends : (net : Network) (counts : List ℕ) (x place : ℕ) (table : Table) → IsHalfTurned net counts x place table → length (row net.nodes net.links x) ≤ place → ArePartTurned net counts (is_done counts (x + 1)) table
+half_ends net counts x place table half past =
+    let all : place ≡ length (row net.nodes net.links x) = omega (arith, half.at.inside, past) in
+    node_done net counts x half.bound table (rw all at half.at) half.rows
 
 -- the neighbours of a row that rows show, as it turns, are nodes
 pub shown_below : (net : Network) (counts : List ℕ) (done : ℕ → ℕ → Bool) (y : ℕ) → All (λ (e : ℕ × First). e.0 < net.nodes) (rows_done net counts done y)
@@ -376,11 +347,6 @@ shown_below net counts done y k d l =
     let e = get_or entries k d in
     let at : get_or (rows_done net counts done y) k d ≡ entry_done done counts y e = get_or-map (entry_done done counts y) entries k d d inside in
     rw (at, entry_done_node counts done y e) (row_holds net.nodes net.links y e (Contains-get_or entries k d inside)).0
-
-pub next_of : (counts : List ℕ) (x : ℕ) (starts : List ℕ) (place : ℕ) (first entries : List (ℕ × First)) (rows : (net : Network) × ArePartTurned net counts (is_done counts x) starts first)
-    → ((net : Network) → ArePartTurned net counts (is_done counts x) starts first → IsHalfTurned net counts x starts place entries) → x < length counts → place < get_or starts (x + 1) 0 → IsNext rows.0 counts x starts place entries (get_or entries place (0, Outward)).0
-next_of counts x starts place first entries rows half lt before_end =
-    next_neighbour rows.0 counts x starts place entries (half rows.0 rows.1) (omega (arith, rows.1.counted)) before_end
 
 -- where no node has turned the links are what they were
 pub links_stay : (links : List (ℕ × ℕ)) (counts : List ℕ) → ((x : ℕ) → get_or counts x 0 ≡ 0) → links_at links counts ≡ links

@@ -87,7 +87,11 @@ pub(crate) fn turn_rows(rows: &mut RowTable, nodes: u32, counts: &[u64])
 }
 
 /// Puts the links of the row of `x` that point away from it behind the others.
-fn push_out_links(links: &mut Vec<(u32, u32)>, x: u32, row: &[(u32, First)]) -> Result<(), AllocError>
+fn push_out_links(
+    links: &mut Vec<(u32, u32)>,
+    x: u32,
+    row: &[(u32, First)],
+) -> Result<(), AllocError>
     ensures { OnOk result (links.new.items ≡ links.old.items ++ out_links x row.now) }
 {
     for (w, first) in row {

@@ -10,8 +10,8 @@ pub loop-x-preserved : goal.loop-x-preserved
 loop-x-preserved c = λ net part.
     let at = c.loop-x.invariant net part in
     elim c.if-counts-x-gt0.branch [
-      | then-counts-x-gt0 w ↦ rw w.entries-is (w.turn_node.ensures net at)
-      | else-counts-x-gt0 w ↦ rw w.entries-is (node_skipped net c.args.counts.now c.loop-x.x c.args.starts.now c.loop-x.entries (omega (arith, w.if-counts-x-gt0.false)) at)
+      | then-counts-x-gt0 w ↦ rw w.rows-is (w.turn_node.ensures net at)
+      | else-counts-x-gt0 w ↦ rw w.rows-is (node_skipped net c.args.counts.now c.loop-x.x c.loop-x.rows (omega (arith, w.if-counts-x-gt0.false)) at)
     ]
 
 pub returns : goal.returns
