@@ -106,7 +106,7 @@ impl RowTable {
             mut entries,
             mut empty,
         } = self;
-        let start = starts[ends.len()];
+        let start = starts[starts.len() - 1];
         let next = start.checked_add(room).ok_or(AllocError)?;
         // Entries behind the room of the last row are of no row.
         entries.truncate(start);

@@ -1,0 +1,146 @@
+-- Rows laid one behind the other, each with room behind it.
+use Rattle.std.proofs.Common.{Bool, List, [], ap, arith, cond, count_by, drop, false, get_or, inl, inr, length, length-append, map, ne_eqb, refl, slice_range, suc, sym, take, true, zero, ℕ, ◌++◌, ◌+◌, ◌-◌, ◌<◌, ◌==◌, ◌∙◌, ◌∷◌, ◌≡◌, ◌≢◌, ◌≤◌}
+use Rattle.std.specs.List.{range_with_len}
+use Rattle.std.proofs.lemmas.Bool.{cases_eq, cases_lt}
+use Rattle.std.proofs.lemmas.List.{drop_at, get_or_append_left, get_or_past, get_or_push, length-take-le, length_push, same_lists, take-append-le, take-take, take_at}
+use Rattle.std.proofs.lemmas.List.FromFn.{get_or-map-range_with_len, length-map-range_with_len, map-range_with_len_more}
+use Rattle.std.proofs.lemmas.List.Edits.{length-between}
+use Rattle.std.proofs.lemmas.List.Sums.{sum_by-append}
+use Rattle.std.proofs.lemmas.Slice.{between_is}
+use Rattle.fr_net.proofs.RowsInPlace.{starts_up}
+use Rattle.fr_net.specs.Tables.{IsTable, has_none, room_between, row_between, table_of}
+use Rattle.fr_net.specs.declared.row_table.RowTable.TheInside.{Inside}
+use Rattle.fr_net.specs.declared.rows.First.{First}
+
+-- a list by its places says the same of functions that agree at each
+pub alike_below : {X : Type 0} (f g : ℕ → X) (n : ℕ) → ((x : ℕ) → x < n → f x ≡ g x) → map f (range_with_len 0 n) ≡ map g (range_with_len 0 n)
+alike_below f g n same =
+    same_lists (map f (range_with_len 0 n)) (map g (range_with_len 0 n)) (length-map-range_with_len f 0 n ∙ sym (length-map-range_with_len g 0 n))
+    (λ k d l.
+    let lt : k < n = omega (arith, l, length-map-range_with_len f 0 n) in
+    get_or-map-range_with_len f 0 n k k d lt (omega arith) ∙ same k lt ∙ sym (get_or-map-range_with_len g 0 n k k d lt (omega arith)))
+
+-- what stands below a place stays where what follows is laid anew
+pub part_before : {X : Type 0} (xs rest : List X) (s a b : ℕ) → b ≤ s → s ≤ length xs → slice_range (take s xs ++ rest) a b ≡ slice_range xs a b
+part_before xs rest s a b low high =
+    between_is (take s xs ++ rest) a b
+    ∙ ap (drop a) (take-append-le b (take s xs) rest (omega (arith, length-take-le s xs high, low)) ∙ take-take b s xs low)
+    ∙ sym (between_is xs a b)
+
+-- and what is laid there stands from there on
+pub part_behind : {X : Type 0} (xs row rest : List X) (s : ℕ) → s ≤ length xs → slice_range (take s xs ++ (row ++ rest)) s (s + length row) ≡ row
+part_behind xs row rest s high =
+    ap (take (s + length row - s)) (drop_at (take s xs) (row ++ rest) s (length-take-le s xs high)) ∙ take_at row rest (s + length row - s) (omega arith)
+
+-- where a row that is laid behind the others starts
+abbrev pub start_behind : Inside → ℕ
+start_behind t = get_or t.starts.items (length t.ends.items) 0
+
+-- the fields once a row is laid behind the others, with this room
+pub record IsBehind (t u : Inside) (row rest : List (ℕ × First)) (room : ℕ) : Type 0 where
+  pub within : length row + length rest ≡ room
+  pub starts : u.starts.items ≡ t.starts.items ++ (start_behind t + room) ∷ []
+  pub ends : u.ends.items ≡ t.ends.items ++ (start_behind t + length row) ∷ []
+  pub entries : u.entries.items ≡ take (start_behind t) t.entries.items ++ (row ++ rest)
+  pub empty : u.empty ≡ t.empty + count_by has_none (row ∷ [])
+
+-- the starts of rows never fall
+pub starts_rise : (t : Inside) → IsTable t → (x k : ℕ) → x ≤ k → k ≤ length t.ends.items → get_or t.starts.items x 0 ≤ get_or t.starts.items k 0
+starts_rise t is = starts_up (λ x. get_or t.starts.items x 0) (length t.ends.items) (λ y l. omega (arith, is.low y l, is.high y l))
+
+rows_more : (t u : Inside) (row rest : List (ℕ × First)) (room : ℕ) → IsBehind t u row rest room → length u.ends.items ≡ length t.ends.items + 1
+rows_more t u row rest room to = ap length to.ends ∙ length_push t.ends.items (start_behind t + length row)
+
+start_stays : (t u : Inside) (row rest : List (ℕ × First)) (room : ℕ) → IsTable t → IsBehind t u row rest room → (x : ℕ) → x ≤ length t.ends.items → get_or u.starts.items x 0 ≡ get_or t.starts.items x 0
+start_stays t u row rest room is to x le = ap (λ ss. get_or ss x 0) to.starts ∙ get_or_append_left t.starts.items ((start_behind t + room) ∷ []) 0 x (omega (arith, is.one_each))
+
+end_stays : (t u : Inside) (row rest : List (ℕ × First)) (room : ℕ) → IsBehind t u row rest room → (x : ℕ) → x < length t.ends.items → get_or u.ends.items x 0 ≡ get_or t.ends.items x 0
+end_stays t u row rest room to x lt = ap (λ es. get_or es x 0) to.ends ∙ get_or_append_left t.ends.items ((start_behind t + length row) ∷ []) 0 x lt
+
+start_more : (t u : Inside) (row rest : List (ℕ × First)) (room : ℕ) → IsTable t → IsBehind t u row rest room → get_or u.starts.items (length t.ends.items + 1) 0 ≡ start_behind t + room
+start_more t u row rest room is to = ap (λ ss. get_or ss (length t.ends.items + 1) 0) to.starts ∙ get_or_push t.starts.items (start_behind t + room) 0 (length t.ends.items + 1) is.one_each
+
+end_more : (t u : Inside) (row rest : List (ℕ × First)) (room : ℕ) → IsBehind t u row rest room → get_or u.ends.items (length t.ends.items) 0 ≡ start_behind t + length row
+end_more t u row rest room to = ap (λ es. get_or es (length t.ends.items) 0) to.ends ∙ get_or_push t.ends.items (start_behind t + length row) 0 (length t.ends.items) refl
+
+entries_more : (t u : Inside) (row rest : List (ℕ × First)) (room : ℕ) → IsTable t → IsBehind t u row rest room → length u.entries.items ≡ start_behind t + room
+entries_more t u row rest room is to =
+    omega (
+      arith,
+      ap length to.entries,
+      length-append (take (start_behind t) t.entries.items) (row ++ rest),
+      length-append row rest,
+      length-take-le (start_behind t) t.entries.items (is.inside (length t.ends.items)),
+      to.within,
+    )
+
+row_stays : (t u : Inside) (row rest : List (ℕ × First)) (room : ℕ) → IsTable t → IsBehind t u row rest room → (x : ℕ) → x < length t.ends.items → row_between u x ≡ row_between t x
+row_stays t u row rest room is to x lt =
+    let low : get_or t.ends.items x 0 ≤ start_behind t = omega (arith, is.high x lt, starts_rise t is (x + 1) (length t.ends.items) (omega arith) (omega arith)) in
+    rw (start_stays t u row rest room is to x (omega arith), end_stays t u row rest room to x lt, to.entries)
+    (part_before t.entries.items (row ++ rest) (start_behind t) (get_or t.starts.items x 0) (get_or t.ends.items x 0) low (is.inside (length t.ends.items)))
+
+row_behind : (t u : Inside) (row rest : List (ℕ × First)) (room : ℕ) → IsTable t → IsBehind t u row rest room → row_between u (length t.ends.items) ≡ row
+row_behind t u row rest room is to =
+    rw (start_stays t u row rest room is to (length t.ends.items) (omega arith), end_more t u row rest room to, to.entries)
+    (part_behind t.entries.items row rest (start_behind t) (is.inside (length t.ends.items)))
+
+-- the rows that the fields show are those before and the one laid behind them
+pub rows_behind : (t u : Inside) (row rest : List (ℕ × First)) (room : ℕ) → IsTable t → IsBehind t u row rest room → (table_of u).rows ≡ (table_of t).rows ++ row ∷ []
+rows_behind t u row rest room is to =
+    let n = length t.ends.items in
+    ap (λ m. map (row_between u) (range_with_len 0 m)) (rows_more t u row rest room to)
+    ∙ map-range_with_len_more (row_between u) 0 n n (omega arith)
+    ∙ ap (λ rows. rows ++ row_between u n ∷ []) (alike_below (row_between u) (row_between t) n (row_stays t u row rest room is to))
+    ∙ ap (λ r. (table_of t).rows ++ r ∷ []) (row_behind t u row rest room is to)
+
+-- and so are the rooms
+pub rooms_behind : (t u : Inside) (row rest : List (ℕ × First)) (room : ℕ) → IsTable t → IsBehind t u row rest room → (table_of u).rooms ≡ (table_of t).rooms ++ room ∷ []
+rooms_behind t u row rest room is to =
+    let n = length t.ends.items in
+    let last : room_between u n ≡ room = omega (arith, start_more t u row rest room is to, start_stays t u row rest room is to n (omega arith)) in
+    ap (λ m. map (room_between u) (range_with_len 0 m)) (rows_more t u row rest room to)
+    ∙ map-range_with_len_more (room_between u) 0 n n (omega arith)
+    ∙ ap (λ rooms. rooms ++ room_between u n ∷ [])
+    (alike_below (room_between u) (room_between t) n
+    (λ x lt. rw (start_stays t u row rest room is to (x + 1) (omega arith), start_stays t u row rest room is to x (omega arith)) refl))
+    ∙ ap (λ r. (table_of t).rooms ++ r ∷ []) last
+
+-- and the fields are those of a table again
+pub table_behind : (t u : Inside) (row rest : List (ℕ × First)) (room : ℕ) → IsTable t → IsBehind t u row rest room → IsTable u
+table_behind t u row rest room is to =
+    let n = length t.ends.items in
+    let more = rows_more t u row rest room to in
+    record {
+      one_each = omega (arith, ap length to.starts, length_push t.starts.items (start_behind t + room), is.one_each, more);
+      low = λ x lt. elim (cases_eq x n) [
+        | inl e ↦ rw e (omega (arith, start_stays t u row rest room is to n (omega arith), end_more t u row rest room to))
+        | inr ne ↦
+            let less : x < n = omega (arith, lt, ne, more) in
+            omega (arith, start_stays t u row rest room is to x (omega arith), end_stays t u row rest room to x less, is.low x less)
+      ];
+      high = λ x lt. elim (cases_eq x n) [
+        | inl e ↦ rw e (omega (arith, start_more t u row rest room is to, end_more t u row rest room to, to.within))
+        | inr ne ↦
+            let less : x < n = omega (arith, lt, ne, more) in
+            omega (arith, start_stays t u row rest room is to (x + 1) (omega arith), end_stays t u row rest room to x less, is.high x less)
+      ];
+      inside = λ x. elim (cases_lt n x) [
+        | inl past ↦ elim (cases_eq x (n + 1)) [
+          | inl e ↦ rw e (omega (arith, start_more t u row rest room is to, entries_more t u row rest room is to))
+          | inr ne ↦
+              let none : get_or u.starts.items x 0 ≡ 0 =
+              get_or_past u.starts.items x 0 (omega (arith, past, ne, ap length to.starts, length_push t.starts.items (start_behind t + room), is.one_each)) in
+              omega (arith, none)
+        ]
+        | inr le ↦ omega (arith, start_stays t u row rest room is to x le, starts_rise t is x n le (omega arith), entries_more t u row rest room is to)
+      ];
+      counted =
+          to.empty ∙ ap (λ k. k + count_by has_none (row ∷ [])) is.counted
+          ∙ sym (ap (count_by has_none) (rows_behind t u row rest room is to) ∙ sum_by-append (λ r. cond (has_none r) 1 0) (table_of t).rows (row ∷ []));
+    }
+
+-- a row counts as an empty one where it has no entry
+pub none_by_length : (row : List (ℕ × First)) → has_none row ≡ (length row == 0)
+none_by_length [] = refl
+none_by_length (entry ∷ rest) = sym (ne_eqb (length (entry ∷ rest)) 0 (λ e. omega (arith, e)))
