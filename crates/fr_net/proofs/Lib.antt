@@ -36,3 +36,4 @@ pub mod WordLines
 pub mod Reordering
 pub mod Outward
 pub mod Undoing
+pub mod RowTables
