@@ -7,7 +7,7 @@ use Rattle.std.proofs.lemmas.List.FromFn.{get_or-map-range_with_len, length-map-
 use Rattle.std.proofs.lemmas.List.Edits.{length-between}
 use Rattle.std.proofs.lemmas.List.Sums.{sum_by-append}
 use Rattle.std.proofs.lemmas.Slice.{between_is}
-use Rattle.fr_net.proofs.RowsInPlace.{starts_up}
+use Rattle.fr_net.proofs.RowTables.{end_of, rows_in, start_of, starts_rise}
 use Rattle.fr_net.specs.Tables.{IsTable, has_none, room_between, row_between, table_of}
 use Rattle.fr_net.specs.declared.row_table.RowTable.TheInside.{Inside}
 use Rattle.fr_net.specs.declared.rows.First.{First}
@@ -34,7 +34,7 @@ part_behind xs row rest s high =
 
 -- where a row that is laid behind the others starts
 abbrev pub start_behind : Inside → ℕ
-start_behind t = get_or t.starts.items (length t.ends.items) 0
+start_behind t = start_of t (rows_in t)
 
 -- the fields once a row is laid behind the others, with this room
 pub record IsBehind (t u : Inside) (row rest : List (ℕ × First)) (room : ℕ) : Type 0 where
@@ -44,24 +44,20 @@ pub record IsBehind (t u : Inside) (row rest : List (ℕ × First)) (room : ℕ)
   pub entries : u.entries.items ≡ take (start_behind t) t.entries.items ++ (row ++ rest)
   pub empty : u.empty ≡ t.empty + count_by has_none (row ∷ [])
 
--- the starts of rows never fall
-pub starts_rise : (t : Inside) → IsTable t → (x k : ℕ) → x ≤ k → k ≤ length t.ends.items → get_or t.starts.items x 0 ≤ get_or t.starts.items k 0
-starts_rise t is = starts_up (λ x. get_or t.starts.items x 0) (length t.ends.items) (λ y l. omega (arith, is.low y l, is.high y l))
-
-rows_more : (t u : Inside) (row rest : List (ℕ × First)) (room : ℕ) → IsBehind t u row rest room → length u.ends.items ≡ length t.ends.items + 1
+rows_more : (t u : Inside) (row rest : List (ℕ × First)) (room : ℕ) → IsBehind t u row rest room → rows_in u ≡ rows_in t + 1
 rows_more t u row rest room to = ap length to.ends ∙ length_push t.ends.items (start_behind t + length row)
 
-start_stays : (t u : Inside) (row rest : List (ℕ × First)) (room : ℕ) → IsTable t → IsBehind t u row rest room → (x : ℕ) → x ≤ length t.ends.items → get_or u.starts.items x 0 ≡ get_or t.starts.items x 0
+start_stays : (t u : Inside) (row rest : List (ℕ × First)) (room : ℕ) → IsTable t → IsBehind t u row rest room → (x : ℕ) → x ≤ rows_in t → start_of u x ≡ start_of t x
 start_stays t u row rest room is to x le = ap (λ ss. get_or ss x 0) to.starts ∙ get_or_append_left t.starts.items ((start_behind t + room) ∷ []) 0 x (omega (arith, is.one_each))
 
-end_stays : (t u : Inside) (row rest : List (ℕ × First)) (room : ℕ) → IsBehind t u row rest room → (x : ℕ) → x < length t.ends.items → get_or u.ends.items x 0 ≡ get_or t.ends.items x 0
+end_stays : (t u : Inside) (row rest : List (ℕ × First)) (room : ℕ) → IsBehind t u row rest room → (x : ℕ) → x < rows_in t → end_of u x ≡ end_of t x
 end_stays t u row rest room to x lt = ap (λ es. get_or es x 0) to.ends ∙ get_or_append_left t.ends.items ((start_behind t + length row) ∷ []) 0 x lt
 
-start_more : (t u : Inside) (row rest : List (ℕ × First)) (room : ℕ) → IsTable t → IsBehind t u row rest room → get_or u.starts.items (length t.ends.items + 1) 0 ≡ start_behind t + room
-start_more t u row rest room is to = ap (λ ss. get_or ss (length t.ends.items + 1) 0) to.starts ∙ get_or_push t.starts.items (start_behind t + room) 0 (length t.ends.items + 1) is.one_each
+start_more : (t u : Inside) (row rest : List (ℕ × First)) (room : ℕ) → IsTable t → IsBehind t u row rest room → start_of u (rows_in t + 1) ≡ start_behind t + room
+start_more t u row rest room is to = ap (λ ss. get_or ss (rows_in t + 1) 0) to.starts ∙ get_or_push t.starts.items (start_behind t + room) 0 (rows_in t + 1) is.one_each
 
-end_more : (t u : Inside) (row rest : List (ℕ × First)) (room : ℕ) → IsBehind t u row rest room → get_or u.ends.items (length t.ends.items) 0 ≡ start_behind t + length row
-end_more t u row rest room to = ap (λ es. get_or es (length t.ends.items) 0) to.ends ∙ get_or_push t.ends.items (start_behind t + length row) 0 (length t.ends.items) refl
+end_more : (t u : Inside) (row rest : List (ℕ × First)) (room : ℕ) → IsBehind t u row rest room → end_of u (rows_in t) ≡ start_behind t + length row
+end_more t u row rest room to = ap (λ es. get_or es (rows_in t) 0) to.ends ∙ get_or_push t.ends.items (start_behind t + length row) 0 (rows_in t) refl
 
 entries_more : (t u : Inside) (row rest : List (ℕ × First)) (room : ℕ) → IsTable t → IsBehind t u row rest room → length u.entries.items ≡ start_behind t + room
 entries_more t u row rest room is to =
@@ -70,25 +66,25 @@ entries_more t u row rest room is to =
       ap length to.entries,
       length-append (take (start_behind t) t.entries.items) (row ++ rest),
       length-append row rest,
-      length-take-le (start_behind t) t.entries.items (is.inside (length t.ends.items)),
+      length-take-le (start_behind t) t.entries.items (is.inside (rows_in t)),
       to.within,
     )
 
-row_stays : (t u : Inside) (row rest : List (ℕ × First)) (room : ℕ) → IsTable t → IsBehind t u row rest room → (x : ℕ) → x < length t.ends.items → row_between u x ≡ row_between t x
+row_stays : (t u : Inside) (row rest : List (ℕ × First)) (room : ℕ) → IsTable t → IsBehind t u row rest room → (x : ℕ) → x < rows_in t → row_between u x ≡ row_between t x
 row_stays t u row rest room is to x lt =
-    let low : get_or t.ends.items x 0 ≤ start_behind t = omega (arith, is.high x lt, starts_rise t is (x + 1) (length t.ends.items) (omega arith) (omega arith)) in
+    let low : end_of t x ≤ start_behind t = omega (arith, is.high x lt, starts_rise t is (x + 1) (rows_in t) (omega arith) (omega arith)) in
     rw (start_stays t u row rest room is to x (omega arith), end_stays t u row rest room to x lt, to.entries)
-    (part_before t.entries.items (row ++ rest) (start_behind t) (get_or t.starts.items x 0) (get_or t.ends.items x 0) low (is.inside (length t.ends.items)))
+    (part_before t.entries.items (row ++ rest) (start_behind t) (start_of t x) (end_of t x) low (is.inside (rows_in t)))
 
-row_behind : (t u : Inside) (row rest : List (ℕ × First)) (room : ℕ) → IsTable t → IsBehind t u row rest room → row_between u (length t.ends.items) ≡ row
+row_behind : (t u : Inside) (row rest : List (ℕ × First)) (room : ℕ) → IsTable t → IsBehind t u row rest room → row_between u (rows_in t) ≡ row
 row_behind t u row rest room is to =
-    rw (start_stays t u row rest room is to (length t.ends.items) (omega arith), end_more t u row rest room to, to.entries)
-    (part_behind t.entries.items row rest (start_behind t) (is.inside (length t.ends.items)))
+    rw (start_stays t u row rest room is to (rows_in t) (omega arith), end_more t u row rest room to, to.entries)
+    (part_behind t.entries.items row rest (start_behind t) (is.inside (rows_in t)))
 
 -- the rows that the fields show are those before and the one laid behind them
 pub rows_behind : (t u : Inside) (row rest : List (ℕ × First)) (room : ℕ) → IsTable t → IsBehind t u row rest room → (table_of u).rows ≡ (table_of t).rows ++ row ∷ []
 rows_behind t u row rest room is to =
-    let n = length t.ends.items in
+    let n = rows_in t in
     ap (λ m. map (row_between u) (range_with_len 0 m)) (rows_more t u row rest room to)
     ∙ map-range_with_len_more (row_between u) 0 n n (omega arith)
     ∙ ap (λ rows. rows ++ row_between u n ∷ []) (alike_below (row_between u) (row_between t) n (row_stays t u row rest room is to))
@@ -97,7 +93,7 @@ rows_behind t u row rest room is to =
 -- and so are the rooms
 pub rooms_behind : (t u : Inside) (row rest : List (ℕ × First)) (room : ℕ) → IsTable t → IsBehind t u row rest room → (table_of u).rooms ≡ (table_of t).rooms ++ room ∷ []
 rooms_behind t u row rest room is to =
-    let n = length t.ends.items in
+    let n = rows_in t in
     let last : room_between u n ≡ room = omega (arith, start_more t u row rest room is to, start_stays t u row rest room is to n (omega arith)) in
     ap (λ m. map (room_between u) (range_with_len 0 m)) (rows_more t u row rest room to)
     ∙ map-range_with_len_more (room_between u) 0 n n (omega arith)
@@ -109,7 +105,7 @@ rooms_behind t u row rest room is to =
 -- and the fields are those of a table again
 pub table_behind : (t u : Inside) (row rest : List (ℕ × First)) (room : ℕ) → IsTable t → IsBehind t u row rest room → IsTable u
 table_behind t u row rest room is to =
-    let n = length t.ends.items in
+    let n = rows_in t in
     let more = rows_more t u row rest room to in
     record {
       one_each = omega (arith, ap length to.starts, length_push t.starts.items (start_behind t + room), is.one_each, more);
@@ -129,7 +125,7 @@ table_behind t u row rest room is to =
         | inl past ↦ elim (cases_eq x (n + 1)) [
           | inl e ↦ rw e (omega (arith, start_more t u row rest room is to, entries_more t u row rest room is to))
           | inr ne ↦
-              let none : get_or u.starts.items x 0 ≡ 0 =
+              let none : start_of u x ≡ 0 =
               get_or_past u.starts.items x 0 (omega (arith, past, ne, ap length to.starts, length_push t.starts.items (start_behind t + room), is.one_each)) in
               omega (arith, none)
         ]

@@ -36,4 +36,5 @@ pub mod WordLines
 pub mod Reordering
 pub mod Outward
 pub mod Undoing
+pub mod RowTables
 pub mod LaidOut
