@@ -142,11 +142,8 @@ impl RowTable {
     {
         let long = self.row_at(x).len();
         let wide = long + long / 2 + 4;
-        if keeps_room {
-            wide.max(self.starts[x + 1] - self.starts[x])
-        } else {
-            wide
-        }
+        let held = self.starts[x + 1] - self.starts[x];
+        if keeps_room { wide.max(held) } else { wide }
     }
 
     /// How many entries all rows together have room for once they are laid out anew.
