@@ -1,14 +1,14 @@
 -- Rows laid one behind the other, each with room behind it.
-use Rattle.std.proofs.Common.{Bool, List, [], ap, arith, cond, count_by, drop, false, get_or, inl, inr, length, length-append, map, ne_eqb, refl, slice_range, suc, sym, take, true, zero, ℕ, ◌++◌, ◌+◌, ◌-◌, ◌<◌, ◌==◌, ◌∙◌, ◌∷◌, ◌≡◌, ◌≢◌, ◌≤◌}
+use Rattle.std.proofs.Common.{Bool, IsTrue, List, [], ap, arith, cond, count_by, drop, false, get_or, inl, inr, length, length-append, map, ne_eqb, refl, slice_range, suc, sym, take, true, zero, ℕ, ◌++◌, ◌+◌, ◌-◌, ◌<◌, ◌==◌, ◌∙◌, ◌∷◌, ◌≡◌, ◌≢◌, ◌≤◌}
 use Rattle.std.specs.List.{range_with_len}
 use Rattle.std.proofs.lemmas.Bool.{cases_eq, cases_lt}
-use Rattle.std.proofs.lemmas.List.{drop_at, get_or_append_left, get_or_past, get_or_push, length-take-le, length_push, same_lists, take-append-le, take-take, take_at}
+use Rattle.std.proofs.lemmas.List.{drop_at, get_or_append_left, get_or_past, get_or_push, length-take-le, length_push, same_lists, take-append-le, take-take, take_all, take_at, take_more}
 use Rattle.std.proofs.lemmas.List.FromFn.{get_or-map-range_with_len, length-map-range_with_len, map-range_with_len_more}
 use Rattle.std.proofs.lemmas.List.Edits.{length-between}
 use Rattle.std.proofs.lemmas.List.Sums.{sum_by-append}
 use Rattle.std.proofs.lemmas.Slice.{between_is}
-use Rattle.fr_net.proofs.RowTables.{end_of, rows_in, start_of, starts_rise}
-use Rattle.fr_net.specs.Tables.{IsTable, has_none, room_between, row_between, table_of}
+use Rattle.fr_net.proofs.RowTables.{end_of, length_rows, rows_in, start_of, starts_rise}
+use Rattle.fr_net.specs.Tables.{HasRoomIn, IsTable, KeepsRooms, Table, has_none, room_between, room_of, row_between, row_of, table_of}
 use Rattle.fr_net.specs.declared.row_table.RowTable.TheInside.{Inside}
 use Rattle.fr_net.specs.declared.rows.First.{First}
 
@@ -140,3 +140,51 @@ table_behind t u row rest room is to =
 pub none_by_length : (row : List (ℕ × First)) → has_none row ≡ (length row == 0)
 none_by_length [] = refl
 none_by_length (entry ∷ rest) = sym (ne_eqb (length (entry ∷ rest)) 0 (λ e. omega (arith, e)))
+
+-- the rows below x are laid out in another table, with room for more and, if room is kept, with no less than they had
+pub record AreLaidOut (before : Table) (keeps_room : Bool) (x : ℕ) (after : Table) : Type 0 where
+  pub rows : after.rows ≡ take x before.rows
+  pub one_each : length after.rooms ≡ x
+  pub room : (y : ℕ) → y < x → length (row_of before y) < room_of after y
+  pub kept : IsTrue keeps_room → (y : ℕ) → y < x → room_of before y ≤ room_of after y
+
+pub one_more_laid_out : (before : Table) (keeps_room : Bool) (x : ℕ) (after next : Table) (room : ℕ) → AreLaidOut before keeps_room x after → x < length before.rows → next.rows ≡ after.rows ++ row_of before x ∷ [] → next.rooms ≡ after.rooms ++ room ∷ []
+    → length (row_of before x) < room → (IsTrue keeps_room → room_of before x ≤ room) → AreLaidOut before keeps_room (x + 1) next
+one_more_laid_out before keeps_room x after next room to lt rows rooms wide no_less =
+    let here : room_of next x ≡ room = ap (λ rs. get_or rs x 0) rooms ∙ get_or_push after.rooms room 0 x to.one_each in
+    let stays : (y : ℕ) → y < x → room_of next y ≡ room_of after y = λ y l.
+    ap (λ rs. get_or rs y 0) rooms ∙ get_or_append_left after.rooms (room ∷ []) 0 y (omega (arith, l, to.one_each)) in
+    record {
+      rows = rows ∙ ap (λ rs. rs ++ row_of before x ∷ []) to.rows ∙ sym (take_more before.rows x [] lt);
+      one_each = ap length rooms ∙ length_push after.rooms room ∙ ap (λ n. n + 1) to.one_each;
+      room = λ y l. elim (cases_eq y x) [
+        | inl e ↦ rw e (omega (arith, here, wide))
+        | inr ne ↦ omega (arith, stays y (omega (arith, l, ne)), to.room y (omega (arith, l, ne)))
+      ];
+      kept = λ keeps y l. elim (cases_eq y x) [
+        | inl e ↦ rw e (omega (arith, here, no_less keeps))
+        | inr ne ↦ omega (arith, stays y (omega (arith, l, ne)), to.kept keeps y (omega (arith, l, ne)))
+      ];
+    }
+
+-- once all are, the rows are the same, each has room for more, and none has less
+pub same_rows : (before : Table) (keeps_room : Bool) (after : Table) → AreLaidOut before keeps_room (length before.rows) after → after.rows ≡ before.rows
+same_rows before keeps_room after to = to.rows ∙ take_all (length before.rows) before.rows (omega arith)
+
+pub all_have_room : (before : Table) (keeps_room : Bool) (after : Table) → AreLaidOut before keeps_room (length before.rows) after → (x : ℕ) → x < length before.rows → HasRoomIn after x
+all_have_room before keeps_room after to x lt = omega (arith, to.room x lt, ap (λ rows. length (get_or rows x [])) (same_rows before keeps_room after to))
+
+pub room_kept : (before : Table) (keeps_room : Bool) (after : Table) → length before.rooms ≡ length before.rows → AreLaidOut before keeps_room (length before.rows) after → IsTrue keeps_room → KeepsRooms before after
+room_kept before keeps_room after same to keeps x =
+    elim (cases_lt x (length before.rows)) [
+      | inl lt ↦ to.kept keeps x lt
+      | inr past ↦ omega (arith, get_or_past before.rooms x 0 (omega (arith, past, same)))
+    ]
+
+-- a table has as many rows as its fields have ends, and a room for each
+pub rows_counted : (t : Inside) (table : Table) → table_of t ≡ table → length table.rows ≡ rows_in t
+rows_counted t table view = ap (λ (v : Table). length v.rows) (sym view) ∙ length_rows t
+
+pub rooms_counted : (t : Inside) (table : Table) → table_of t ≡ table → length table.rooms ≡ length table.rows
+rooms_counted t table view =
+    ap (λ (v : Table). length v.rooms) (sym view) ∙ length-map-range_with_len (room_between t) 0 (rows_in t) ∙ sym (rows_counted t table view)
