@@ -1,10 +1,9 @@
 -- Rows laid one behind the other, each with room behind it.
-use Rattle.std.proofs.Common.{Bool, IsTrue, List, [], ap, arith, cond, count_by, drop, false, get_or, inl, inr, length, length-append, map, ne_eqb, refl, slice_range, suc, sym, take, true, zero, ℕ, ◌++◌, ◌+◌, ◌-◌, ◌<◌, ◌==◌, ◌∙◌, ◌∷◌, ◌≡◌, ◌≢◌, ◌≤◌}
+use Rattle.std.proofs.Common.{Bool, IsTrue, List, [], ap, arith, cond, count_by, drop, get_or, inl, inr, length, length-append, map, ne_eqb, refl, slice_range, sym, take, ℕ, ◌++◌, ◌+◌, ◌-◌, ◌<◌, ◌==◌, ◌∙◌, ◌∷◌, ◌≡◌, ◌≤◌}
 use Rattle.std.specs.List.{range_with_len}
 use Rattle.std.proofs.lemmas.Bool.{cases_eq, cases_lt}
 use Rattle.std.proofs.lemmas.List.{drop_at, get_or_append_left, get_or_past, get_or_push, length-take-le, length_push, same_lists, take-append-le, take-take, take_all, take_at, take_more}
 use Rattle.std.proofs.lemmas.List.FromFn.{get_or-map-range_with_len, length-map-range_with_len, map-range_with_len_more}
-use Rattle.std.proofs.lemmas.List.Edits.{length-between}
 use Rattle.std.proofs.lemmas.List.Sums.{sum_by-append}
 use Rattle.std.proofs.lemmas.Slice.{between_is}
 use Rattle.fr_net.proofs.RowTables.{end_of, length_rows, rows_in, start_of, starts_rise}

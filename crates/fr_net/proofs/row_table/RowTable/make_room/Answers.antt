@@ -1,4 +1,4 @@
-use Rattle.std.proofs.Common.{arith, ◌+◌, ◌<◌, ◌≡◌}
+use Rattle.std.proofs.Common.{arith, ◌+◌, ◌≡◌}
 use Rattle.std.proofs.lemmas.List.{get_or_read}
 use Rattle.fr_net.proofs.RowTables.{IsRowAt, end_of, row_at, start_of}
 use Rattle.fr_net.proofs.row_table.RowTable.make_room.Goals as goal

@@ -1,7 +1,6 @@
-use Rattle.std.proofs.Common.{arith, ◌+◌, ◌-◌, ◌<◌, ◌≡◌, ◌≤◌}
+use Rattle.std.proofs.Common.{arith, ◌+◌, ◌≡◌}
 use Rattle.std.proofs.lemmas.List.{get_or_read}
 use Rattle.fr_net.proofs.RowTables.{IsRowAt, row_at, start_of}
-use Rattle.fr_net.specs.Tables.{room_of}
 use Rattle.fr_net.proofs.row_table.RowTable.room_anew.Goals as goal
 use Rattle.fr_net.proofs.row_table.RowTable.room_anew.Goals.{After-index-2, After-self}
 

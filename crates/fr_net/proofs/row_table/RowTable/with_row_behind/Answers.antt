@@ -1,4 +1,4 @@
-use Rattle.std.proofs.Common.{List, Some, [], add-zero, ap, arith, cond, count_by, false, get_or, length, length-append, refl, replicate, rules, sym, take, true, vec_len, ℕ, ◌+◌, ◌++◌, ◌-◌, ◌<◌, ◌^◌, ◌∙◌, ◌∷◌, ◌≡◌, ◌≤◌}
+use Rattle.std.proofs.Common.{List, [], add-zero, ap, arith, cond, count_by, false, get_or, length, length-append, replicate, sym, take, true, vec_len, ℕ, ◌+◌, ◌++◌, ◌-◌, ◌<◌, ◌^◌, ◌∙◌, ◌∷◌, ◌≡◌}
 use Rattle.std.proofs.lemmas.List.{append_assoc, get_or_read, length-replicate, length-take-le, take_all}
 use Rattle.std.proofs.lemmas.List.Sums.{count_by-le-length}
 use Rattle.std.proofs.lemmas.List.FromFn.{length-map-range_with_len}
