@@ -1,8 +1,13 @@
-use Rattle.std.proofs.Common.{ap, arith, eqb, get_or, insert, length, map, refl, rules, slice_range, take, ◌+◌, ◌-◌, ◌<◌, ◌∙◌, ◌∷◌, ◌≡◌, ◌≤◌}
+use Rattle.std.proofs.Common.{ap, arith, eqb, inl, inr, insert, length, refl, rules, set, slice_range, ◌+◌, ◌-◌, ◌<◌, ◌∙◌, ◌∷◌, ◌≡◌, ◌≤◌}
+use Rattle.std.proofs.lemmas.Bool.{cases_Bool}
 use Rattle.std.proofs.lemmas.List.{get_or_read}
 use Rattle.std.proofs.lemmas.List.Edits.{length-between}
+use Rattle.std.specs.Vec.{with_item, with_items}
+use borrow.Rule.Slice.PartMut.{put_mid}
 use Rattle.fr_net.proofs.Counting.{weigh}
 use Rattle.fr_net.proofs.RowTables.{IsRowAt, ShowsRowWritten, end_of, entry_inserted, none_counted, none_where, part_put, row_at, start_of}
+use Rattle.fr_net.specs.Tables.{row_between, row_of}
+use Rattle.fr_net.specs.declared.row_table.RowTable.TheInside.{Inside}
 use Rattle.fr_net.proofs.row_table.RowTable.insert.Goals as goal
 use Rattle.fr_net.proofs.row_table.RowTable.insert.Goals.{After-deref_mut, After-from, After-index-end, After-index-start, After-self, After-shift_in}
 
@@ -70,9 +75,52 @@ index_mut-requires c = omega (arith, (at (goal.at.index_mut-requires c).After-se
 
 -- whether the row was empty
 was_none : (c : After-from) → c.from.result ≡ weigh (eqb (start_of c.self.inside c.args.x) (end_of c.self.inside c.args.x))
-was_none c = ?
+was_none c =
+    let b = goal.at.After-from c in
+    rw (c.from.ensures, start b.After-index-start, end b.After-index-end)
+    (elim (cases_Bool (eqb (start_of c.self.inside c.args.x) (end_of c.self.inside c.args.x))) [ inl none ↦ rw none refl | inr some ↦ rw some refl ])
+
+counted : (c : After-from) → c.from.result ≤ c.self.inside.empty
+counted c =
+    let b = at (goal.at.After-from c).After-self in
+    let none = none_where (row_between c.self.inside c.args.x) (start_of c.self.inside c.args.x) (end_of c.self.inside c.args.x) (omega (arith, ap length b.is_row, b.long, b.low)) in
+    omega (arith, was_none c, ap weigh none, none_counted c.self.inside c.args.x c.self.invariant b.has)
 
 pub overflow_sub-self : goal.overflow_sub-self
-overflow_sub-self c =
-    let b = (goal.at.overflow_sub-self c) in
-    ?
+overflow_sub-self c = counted (goal.at.overflow_sub-self c).After-from
+
+-- the fields as they are then
+abbrev after : (c : After-from) → Inside
+after c = record {
+  starts = c.self.inside.starts;
+  ends = with_item c.self.inside.ends c.args.x (c.index-end.result.now + 1);
+  entries = with_items c.self.inside.entries (put_mid (c.index-start.result.now + c.args.place) (c.index-end.result.now + 1 - (c.index-start.result.now + c.args.place)) c.deref_mut.result.now c.shift_in.new.entries);
+  empty = c.self.inside.empty - c.from.result;
+}
+
+shows : (c : After-from) → ShowsRowWritten (after c) c.args.self.now c.args.x (insert (row_of c.args.self.now c.args.x) c.args.place c.args.entry)
+shows c =
+    let b = goal.at.After-from c in
+    let t = c.self.inside in
+    let x = c.args.x in
+    let p = c.args.place in
+    let s = start b.After-index-start in
+    let e = end b.After-index-end in
+    let new = c.shift_in.new.entries in
+    let l = low b.After-index-end in
+    let h = high b.After-index-end in
+    let size = c.shift_in.auto.entries ∙ part b.After-deref_mut in
+    entry_inserted t (after c) c.args.self.now x p c.args.entry new c.self.invariant c.self.view_is c.requires.row c.requires.place c.requires.room
+    (rw (s, e) at size)
+    (rw (part b.After-deref_mut, c.deref_mut.ensures.value, s, e) at c.shift_in.ensures)
+    refl
+    (ap (λ k. set t.ends.items x (k + 1)) e)
+    (part_put t.entries c.deref_mut.result.now new (c.index-start.result.now + p) (c.index-end.result.now + 1 - (c.index-start.result.now + p)) c.deref_mut.ensures.value size (omega (arith, l, h))
+    ∙ ap (λ k. put_mid (k + p) (length new) t.entries.items new) s)
+    (omega (arith, was_none c, counted c))
+
+pub invariant_of-self : goal.invariant_of-self
+invariant_of-self c = (shows (goal.at.invariant_of-self c).After-from).is
+
+pub returns : goal.returns
+returns c = (shows (goal.at.returns c).After-from).shown
