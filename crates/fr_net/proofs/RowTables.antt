@@ -4,7 +4,7 @@ use Rattle.std.proofs.lemmas.Bool.{cases_eq, cases_lt}
 use Rattle.std.proofs.lemmas.List.{append_assoc, drop-append-le, drop-drop, drop-take, drop_more, get_or-append_right, get_or-drop, get_or-set_other, get_or-set_same, length-set, length-take-le, same_lists, set_at, take-append-le, take-take, take_all, take_more, with_items_is}
 use Rattle.std.proofs.lemmas.List.Edits.{length-between, length-insert, length-remove}
 use Rattle.std.proofs.lemmas.List.FromFn.{get_or-map-range_with_len, length-map-range_with_len}
-use Rattle.std.proofs.lemmas.List.Sums.{get_or-le-sum_by, sum_by-set}
+use Rattle.std.proofs.lemmas.List.Sums.{count_by-le-length, get_or-le-sum_by, sum_by-set}
 use Rattle.std.proofs.lemmas.Slice.{between_is, drop-put_mid, take-put_mid_below}
 use Rattle.std.proofs.Math.Seq.{take-append-add}
 use Rattle.std.specs.List.{insert, range_with_len, remove}
@@ -291,3 +291,34 @@ entry_inserted t after table x p entry part is view lt inside room long is_part 
     let more = length-insert row p entry inside in
     let now : weigh (has_none (insert row p entry)) ≡ 0 = ap weigh (none_is (insert row p entry) ∙ ne_eqb (length (insert row p entry)) 0 (λ q. omega (arith, q, more))) in
     row_shows t after table x (s + p) (e + 1) part (insert row p entry) is view lt w here (omega (arith, before, now, count))
+
+-- an entry was taken out of the row of x
+pub entry_removed : (t after : Inside) (table : Table) (x p e : ℕ) (part : List (ℕ × First)) → IsTable t → table_of t ≡ table → x < length table.rows → p < length (row_of table x) → e + 1 ≡ end_of t x
+    → length part ≡ e + 1 - (start_of t x + p) → take (e + 1 - (start_of t x + p) - 1) part ≡ drop 1 (slice_range t.entries.items (start_of t x + p) (e + 1))
+    → after.starts.items ≡ t.starts.items → after.ends.items ≡ set t.ends.items x e → after.entries.items ≡ put_mid (start_of t x + p) (length part) t.entries.items part
+    → after.empty ≡ t.empty + weigh (eqb (start_of t x) e) → ShowsRowWritten after table x (remove (row_of table x) p)
+entry_removed t after table x p e part is view lt inside last long is_part starts ends entries count =
+    let s = start_of t x in
+    let row = row_of table x in
+    let at = row_at t table x is view lt in
+    let low : s + p ≤ e = omega (arith, inside, at.long, at.low, last) in
+    let high : e < start_of t (x + 1) = omega (arith, at.high, last) in
+    let w : IsWritten t after x (s + p) e part = record {
+      starts = starts; ends = ends; entries = entries; behind_start = omega arith; in_room = omega (arith, long, low, high); low = omega (arith, low); high = omega (arith, high);
+    } in
+    let back : e + 1 - 1 ≡ e = omega arith in
+    let new = put_mid (s + p) (length part) t.entries.items part in
+    let here : row_between after x ≡ remove row p =
+    row_put t after x (s + p) e part is at.has w
+    ∙ ap (slice_range new s) (sym back)
+    ∙ range_removed t.entries.items part s p (e + 1) (omega (arith, low)) (omega (arith, high, at.inside)) long is_part
+    ∙ ap (λ k. remove (slice_range t.entries.items s k) p) last
+    ∙ ap (λ es. remove es p) at.is_row in
+    let some : ¬ (s ≡ end_of t x) = λ q. omega (arith, q, last, low) in
+    let before : weigh (has_none (row_between t x)) ≡ 0 = ap weigh (none_where (row_between t x) s (end_of t x) (omega (arith, ap length at.is_row, at.long, at.low)) ∙ ne_eqb s (end_of t x) some) in
+    let now : weigh (has_none (remove row p)) ≡ weigh (eqb s e) = ap weigh (none_where (remove row p) s e (omega (arith, length-remove row p inside, at.long, at.low, last, low))) in
+    row_shows t after table x (s + p) e part (remove row p) is view lt w here (omega (arith, before, now, count))
+
+-- no more rows are empty than there are
+pub none_few : (t : Inside) → IsTable t → t.empty ≤ rows_in t
+none_few t is = omega (arith, is.counted, count_by-le-length has_none (table_of t).rows, length_rows t)
