@@ -1,11 +1,11 @@
 -- Rows that stand in one list, each between its start and its end, and one of which changes where it stands.
 use Rattle.std.proofs.Common.{List, [], ap, arith, count_by, drop, eq-eqb, eqb, get_or, inl, inr, length, length-append, length-drop, map, ne_eqb, refl, set, slice_range, suc, sym, take, ℕ, ◌++◌, ◌+◌, ◌-◌, ◌<◌, ◌∙◌, ◌∷◌, ◌≡◌, ◌≢◌, ◌≤◌, ◌⊎◌}
 use Rattle.std.proofs.lemmas.Bool.{cases_eq, cases_lt}
-use Rattle.std.proofs.lemmas.List.{append_assoc, drop-append-le, drop-drop, drop-take, drop_more, get_or-append_right, get_or-drop, get_or-set_other, get_or-set_same, length-set, length-take-le, same_lists, set_at, take-append-le, take-take, take_all, take_more, with_items_is}
+use Rattle.std.proofs.lemmas.List.{append_assoc, drop-append-le, drop-drop, drop-take, drop_more, get_or-append_right, get_or-drop, get_or-set_other, get_or-set_same, length-set, length-take-le, same_lists, set-get_or, set_at, take-append-le, take-take, take_all, take_more, with_items_is}
 use Rattle.std.proofs.lemmas.List.Edits.{length-between, length-insert, length-remove}
 use Rattle.std.proofs.lemmas.List.FromFn.{get_or-map-range_with_len, length-map-range_with_len}
 use Rattle.std.proofs.lemmas.List.Sums.{count_by-le-length, get_or-le-sum_by, sum_by-set}
-use Rattle.std.proofs.lemmas.Slice.{between_is, drop-put_mid, take-put_mid_below}
+use Rattle.std.proofs.lemmas.Slice.{between-put_mid, between_is, drop-put_mid, take-put_mid_below}
 use Rattle.std.proofs.Math.Seq.{take-append-add}
 use Rattle.std.specs.List.{insert, range_with_len, remove}
 use Rattle.std.specs.Global.{Vec}
@@ -322,3 +322,23 @@ entry_removed t after table x p e part is view lt inside last long is_part start
 -- no more rows are empty than there are
 pub none_few : (t : Inside) → IsTable t → t.empty ≤ rows_in t
 none_few t is = omega (arith, is.counted, count_by-le-length has_none (table_of t).rows, length_rows t)
+
+-- the entries of the row of x were written over
+pub row_rewritten : (t after : Inside) (table : Table) (x : ℕ) (part : List (ℕ × First)) → IsTable t → table_of t ≡ table → x < length table.rows → length part ≡ length (row_of table x)
+    → after.starts.items ≡ t.starts.items → after.ends.items ≡ t.ends.items → after.entries.items ≡ put_mid (start_of t x) (length part) t.entries.items part → after.empty ≡ t.empty → ShowsRowWritten after table x part
+row_rewritten t after table x part is view lt long starts ends entries count =
+    let s = start_of t x in
+    let e = end_of t x in
+    let at = row_at t table x is view lt in
+    let w : IsWritten t after x s e part = record {
+      starts = starts;
+      ends = ends ∙ sym (set-get_or t.ends.items x 0);
+      entries = entries;
+      behind_start = omega arith;
+      in_room = omega (arith, long, at.long, at.low, at.high);
+      low = at.low;
+      high = at.high;
+    } in
+    let here : row_between after x ≡ part = row_put t after x s e part is at.has w ∙ between-put_mid s (length part) t.entries.items part e (omega (arith, at.low, at.high, at.inside)) (omega (arith, long, at.long)) in
+    let same : weigh (has_none (row_between t x)) ≡ weigh (has_none part) = ap weigh (none_by_length (row_between t x) part (ap length at.is_row ∙ sym long)) in
+    row_shows t after table x s e part part is view lt w here (omega (arith, same, count))
