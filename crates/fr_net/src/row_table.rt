@@ -250,11 +250,9 @@ impl RowTable {
     {
         let start = self.starts[x as usize];
         let end = self.ends[x as usize];
-        if start == end {
-            self.empty -= 1;
-        }
         shift_in(&mut self.entries[start + place..end + 1], entry);
         self.ends[x as usize] = end + 1;
+        self.empty -= usize::from(start == end);
     }
 
     /// Takes the entry at this place out of the row of `x`.
@@ -267,9 +265,7 @@ impl RowTable {
         let end = self.ends[x as usize] - 1;
         shift_out(&mut self.entries[start + place..end + 1]);
         self.ends[x as usize] = end;
-        if start == end {
-            self.empty += 1;
-        }
+        self.empty += usize::from(start == end);
     }
 
     /// Turns each link of the row of `x` as the counts say.
