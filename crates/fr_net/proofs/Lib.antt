@@ -23,7 +23,6 @@ pub mod CutRows
 pub mod Places
 pub mod AddedLinks
 pub mod AddedRows
-pub mod KeptRows
 pub mod EditedNets
 pub mod Joining
 pub mod Batches
@@ -40,3 +39,5 @@ pub mod Outward
 pub mod Undoing
 pub mod ShortLineTexts
 pub mod ShortLineValues
+pub mod RowTables
+pub mod LaidOut

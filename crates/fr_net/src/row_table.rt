@@ -84,7 +84,7 @@ impl RowTable {
     fn with_capacity(alloc: Global, rows: usize, entries: usize) -> Result<RowTable, AllocError>
         ensures { IfOk result (λ table. (table.rows ≡ []) × (table.rooms ≡ [])) }
     {
-        let mut starts = Vec::with_capacity(alloc, rows + 1)?;
+        let mut starts = Vec::with_capacity(alloc, rows.saturating_add(1))?;
         starts.push(0)?;
         Ok(RowTable {
             starts,
@@ -94,21 +94,65 @@ impl RowTable {
         })
     }
 
-    /// Puts a row behind the others, with room for so many entries.
-    fn push_row(&mut self, row: &[(u32, First)], room: usize) -> Result<(), AllocError>
+    /// The table with a row behind the others, which has room for so many entries.
+    fn with_row_behind(self, row: &[(u32, First)], room: usize) -> Result<RowTable, AllocError>
         requires { length row.now ≤ room }
-        ensures rows { OnOk result (self.new.rows ≡ self.old.rows ++ row.now ∷ []) }
-        ensures rooms { OnOk result (self.new.rooms ≡ self.old.rooms ++ room ∷ []) }
+        ensures rows { IfOk result (λ table. table.rows ≡ self.rows ++ row.now ∷ []) }
+        ensures rooms { IfOk result (λ table. table.rooms ≡ self.rooms ++ room ∷ []) }
     {
-        let start = self.entries.len();
-        self.entries.extend_from_slice(row)?;
-        self.ends.push(self.entries.len())?;
-        self.entries.resize(start + room, (0, First::Outward))?;
-        self.starts.push(self.entries.len())?;
+        let RowTable {
+            mut starts,
+            mut ends,
+            mut entries,
+            mut empty,
+        } = self;
+        let start = starts[starts.len() - 1];
+        let next = start.checked_add(room).ok_or(AllocError)?;
+        // Entries behind the room of the last row are of no row.
+        entries.truncate(start);
+        entries.extend_from_slice(row)?;
+        ends.push(entries.len())?;
+        entries.resize(next, (0, First::Outward))?;
+        starts.push(next)?;
         if row.is_empty() {
-            self.empty += 1;
+            empty += 1;
         }
-        Ok(())
+        Ok(RowTable {
+            starts,
+            ends,
+            entries,
+            empty,
+        })
+    }
+
+    /// The row at this place.
+    fn row_at(&self, x: usize) -> &[(u32, First)]
+        requires { x < length self.now.rows }
+        ensures { result.now ≡ row_of self.now x }
+    {
+        &self.entries[self.starts[x]..self.ends[x]]
+    }
+
+    /// How many entries the row at this place has room for once it is laid out anew: half as many more as it has, and four; and, if
+    /// room is kept, no fewer than it has room for.
+    fn room_anew(&self, x: usize, keeps_room: bool) -> usize
+        requires { x < length self.now.rows }
+        ensures room { length (row_of self.now x) < result }
+        ensures kept { IsTrue keeps_room → room_of self.now x ≤ result }
+    {
+        let long = self.row_at(x).len();
+        let wide = long + long / 2 + 4;
+        let held = self.starts[x + 1] - self.starts[x];
+        if keeps_room { wide.max(held) } else { wide }
+    }
+
+    /// How many entries all rows together have room for once they are laid out anew.
+    fn whole_room_anew(&self, keeps_room: bool) -> usize {
+        let mut whole: usize = 0;
+        for x in 0..self.ends.len() {
+            whole = whole.saturating_add(self.room_anew(x, keeps_room));
+        }
+        whole
     }
 
     /// The same rows laid out anew, each with room to grow by half and four more; and, if room is kept, with no less than it has.
@@ -118,13 +162,9 @@ impl RowTable {
         ensures kept { IsTrue keeps_room → IfOk result (KeepsRooms self.now) }
     {
         let rows = self.ends.len();
-        let room = self.entries.len() + self.entries.len() / 2 + 4 * rows;
-        let mut table = RowTable::with_capacity(alloc, rows, room)?;
+        let mut table = RowTable::with_capacity(alloc, rows, self.whole_room_anew(keeps_room))?;
         for x in 0..rows {
-            let row = self.row(x as u32);
-            let wide = row.len() + row.len() / 2 + 4;
-            let held = self.starts[x + 1] - self.starts[x];
-            table.push_row(row, if keeps_room { wide.max(held) } else { wide })?;
+            table = table.with_row_behind(self.row_at(x), self.room_anew(x, keeps_room))?;
         }
         Ok(table)
     }
@@ -217,11 +257,9 @@ impl RowTable {
     {
         let start = self.starts[x as usize];
         let end = self.ends[x as usize];
-        if start == end {
-            self.empty -= 1;
-        }
         shift_in(&mut self.entries[start + place..end + 1], entry);
         self.ends[x as usize] = end + 1;
+        self.empty -= usize::from(start == end);
     }
 
     /// Takes the entry at this place out of the row of `x`.
@@ -234,9 +272,7 @@ impl RowTable {
         let end = self.ends[x as usize] - 1;
         shift_out(&mut self.entries[start + place..end + 1]);
         self.ends[x as usize] = end;
-        if start == end {
-            self.empty += 1;
-        }
+        self.empty += usize::from(start == end);
     }
 
     /// Turns each link of the row of `x` as the counts say.
@@ -246,7 +282,11 @@ impl RowTable {
         requires below { All (λ (e : ℕ × First). e.0 < length counts.now) (row_of self.old x) }
         ensures { self.new ≡ with_row self.old x (map (turned_entry counts.now x) (row_of self.old x)) }
     {
-        turn_row(&mut self.entries[self.starts[x as usize]..self.ends[x as usize]], x, counts);
+        turn_row(
+            &mut self.entries[self.starts[x as usize]..self.ends[x as usize]],
+            x,
+            counts,
+        );
     }
 
     /// Reverses the entry of `w` in the row of `x`, which has one.
@@ -256,6 +296,9 @@ impl RowTable {
         requires stands { Contains (map (λ (e : ℕ × First). e.0) (row_of self.old x)) w }
         ensures { self.new ≡ with_row self.old x (map (reversed_at w) (row_of self.old x)) }
     {
-        reverse_entry(&mut self.entries[self.starts[x as usize]..self.ends[x as usize]], w);
+        reverse_entry(
+            &mut self.entries[self.starts[x as usize]..self.ends[x as usize]],
+            w,
+        );
     }
 }
