@@ -1,14 +1,14 @@
 -- The links of a network with one added.
 use Rattle.std.proofs.Common.{List, [], ap, arith, count_by, drop, eq-eqb, false, get_or, inl, inr, length, ne_eqb, refl, subst, suc, sym, take, true, zero, ℕ, ⊎_elim, ◌++◌, ◌+◌, ◌<◌, ◌∙◌, ◌∷◌, ◌≡◌, ◌≢◌, ◌≤◌, ◌⊎◌}
 use Rattle.std.proofs.lemmas.Bool.{and_from, and_left, and_right, cases_Bool, cases_lt, le-leb, le-ltb, lt-leb, lt-ltb, or_from, or_left, or_right}
-use Rattle.std.proofs.lemmas.List.{length_push}
+use Rattle.std.proofs.lemmas.List.{get_or_push, length_push}
 use Rattle.std.proofs.lemmas.List.Elements.{All-push, Contains-push_cases}
 use Rattle.std.proofs.lemmas.List.Sums.{sum_by_push}
 use Rattle.fr_net.proofs.Counting.{one_passes, weigh}
 use Rattle.fr_net.proofs.Cycles.{points_at}
 use Rattle.fr_net.proofs.Linking.{is_between_itself, joined_from, not_twice, some_joined}
 use Rattle.fr_net.proofs.Ordering.{in_order_order, insert_order, is_pair, same_order, times-in_order, times-insert}
-use Rattle.fr_net.specs.Faults.{IsFaultless, IsInRange}
+use Rattle.fr_net.specs.Faults.{IsFaultless, IsInRange, IsOutOfRange}
 use Rattle.fr_net.specs.Halves.{AreUnjoined}
 use Rattle.fr_net.specs.Limits.{IsWithinLimits, most_links}
 use Rattle.fr_net.specs.Links.{AreBelow, AreSingle, HasNoSelfLink, HasPath, IsAcyclic, IsClosedWalk, IsPath, Joins, end_of, is_between}
@@ -135,3 +135,13 @@ faultless_added n links u v clear few free acyclic = record {
     acyclic = acyclic;
   };
 }
+
+-- a node that is out of range as an end of the added link is so among all links
+pub out_of_range_added : (n : ℕ) (links : List (ℕ × ℕ)) (u v x : ℕ) → IsOutOfRange n ((u, v) ∷ []) x → IsOutOfRange n (added links u v) x
+out_of_range_added n links u v x (inl none) = inl none
+out_of_range_added n links u v x (inr out) =
+    let p : ℕ × ℕ = (u, v) in
+    let any = out.2 in
+    let first : any.0 ≡ 0 = omega (arith, any.2) in
+    let is : any.1 ≡ p = sym (ap (λ (k : ℕ). get_or (p ∷ []) k any.1) (sym first) ∙ any.3) in
+    inr (out.0, out.1, (length links, p, omega (arith, length_push links p), get_or_push links p p (length links) refl, rw is at any.4))

@@ -1,5 +1,5 @@
 -- A graph from the rows of its nodes.
-use Rattle.std.proofs.Common.{List, ap, arith, inl, inr, length, refl, suc, sym, zero, ℕ, ◌+◌, ◌<◌, ◌∙◌, ◌≡◌}
+use Rattle.std.proofs.Common.{List, [], ap, arith, get_or, inl, inr, length, refl, subst, suc, sym, zero, ℕ, ◌+◌, ◌<◌, ◌∙◌, ◌≡◌}
 use Rattle.std.proofs.lemmas.Bool.{cases_Bool}
 use Rattle.std.proofs.lemmas.List.Sorted.{IsPermutation-sym, length_permutation}
 use Rattle.fr_net.proofs.Building.{acyclic_listed, faultless_sorted}
@@ -7,15 +7,16 @@ use Rattle.fr_net.proofs.Neighbours.{Points-has_link, has_link_true}
 use Rattle.fr_net.proofs.Ordering.{in_order_order, in_order_permutes, into_order, out_of_order}
 use Rattle.fr_net.proofs.TurnedRows.{links_of_rows, out_rows}
 use Rattle.fr_net.specs.Faults.{IsFaultless, IsNetworkOf}
-use Rattle.fr_net.specs.Graph.{IsGraph}
+use Rattle.fr_net.specs.Graph.{IsGraph, IsSame}
 use Rattle.fr_net.specs.KeptRows.{AreRows, links_in}
 use Rattle.fr_net.specs.Links.{IsNet, Points}
 use Rattle.fr_net.specs.Network.{Network}
 use Rattle.fr_net.specs.Order.{in_order}
 use Rattle.fr_net.specs.RowLists.{out_links, rows_below}
 use Rattle.fr_net.specs.Rows.{has_link, row, row_entry}
-use Rattle.fr_net.specs.Tables.{Table, row_of}
+use Rattle.fr_net.specs.Tables.{KeepsRooms, Table, row_of}
 use Rattle.fr_net.specs.declared.graph.Graph.{Graph}
+use Rattle.fr_net.specs.declared.rows.First.{First}
 
 -- rows depend on which links there are alone
 same_test : (a b : List (ℕ × ℕ)) (u v : ℕ) → (Points a u v → Points b u v) → (Points b u v → Points a u v) → has_link a u v ≡ has_link b u v
@@ -78,3 +79,25 @@ made_of n listed made clear is = record {
 
 pub network_of_rows : (n : ℕ) (listed : List (ℕ × ℕ)) (table : Table) → IsFaultless n listed → AreRows n listed table → IsNetworkOf n listed (with_links n (links_in n table))
 network_of_rows n listed table clear rows = made_of n listed (links_in n table) clear (links_shown n listed table clear.is_net rows)
+
+-- a graph of the same rows, whatever their room
+pub graph_of_rows : (g : Graph) (table : Table) → table.rows ≡ g.rows.rows → IsGraph g → IsGraph (record { nodes = g.nodes; link_count = g.link_count; rows = table })
+graph_of_rows g table same graph =
+    let of_rows : (rows : List (List (ℕ × First))) → Graph = λ rows. record { nodes = g.nodes; link_count = g.link_count; rows = record { rows = rows; rooms = table.rooms } } in
+    let moved : IsGraph (of_rows g.rows.rows) = record {
+      faultless = graph.faultless;
+      sorted = graph.sorted;
+      counted = graph.counted;
+      rows = record { one_each = graph.rows.one_each; shown = graph.rows.shown };
+    } in
+    subst (λ (rows : List (List (ℕ × First))). IsGraph (of_rows rows)) (sym same) moved
+
+pub shown_of_rows : (g : Graph) (table : Table) → table.rows ≡ g.rows.rows → links_in g.nodes table ≡ links_in g.nodes g.rows
+shown_of_rows g table same = ap (λ (rows : List (List (ℕ × First))). rows_below g.nodes (λ x. out_links x (get_or rows x []))) same
+
+pub same_of_rows : (g : Graph) (table : Table) → table.rows ≡ g.rows.rows → KeepsRooms g.rows table → IsGraph g → IsSame g (record { nodes = g.nodes; link_count = g.link_count; rows = table })
+same_of_rows g table same kept graph = record {
+  graph = graph_of_rows g table same graph;
+  same = ap (with_links g.nodes) (shown_of_rows g table same);
+  rooms = kept;
+}

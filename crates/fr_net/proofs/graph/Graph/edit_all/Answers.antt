@@ -1,18 +1,53 @@
-use Rattle.std.proofs.Common.{List, arith, subst, suc, sym, ◌+◌, ◌≡◌}
+use Rattle.std.proofs.Common.{List, ap, arith, subst, suc, sym, ◌+◌, ◌≡◌}
+use Rattle.std.proofs.lemmas.List.{get_or_default}
 use Rattle.fr_net.proofs.Batches.{made_next}
+use Rattle.fr_net.proofs.Remaking.{graph_of_rows, shown_of_rows, with_links}
 use Rattle.fr_net.proofs.Undoing.{more_done, still_done}
+use Rattle.fr_net.specs.Batches.{IsEditFault}
 use Rattle.fr_net.specs.Graph.{AreDone, CanUndo, shown}
 use Rattle.fr_net.specs.Network.{Network}
 use Rattle.fr_net.specs.declared.graph.Done.{Done}
+use Rattle.fr_net.specs.declared.requests.Edit.{Edit}
 use Rattle.fr_net.proofs.graph.Graph.edit_all.Goals as goal
 use Rattle.fr_net.proofs.graph.Graph.edit_all.Goals.{In-Err}
 
 -- the edits before the one that is refused can be undone
-still : (c : In-Err) → CanUndo (shown c.trim.new.self) c.loop-at.all.items c.edit.new.self
+still : (c : In-Err) → CanUndo (shown c.args.self.now) c.loop-at.all.items c.edit.new.self
 still c =
     let same = c.in-Err.ensures.unchanged in
-    still_done c.loop-at.self c.edit.new.self (shown c.trim.new.self) c.loop-at.all.items (shown c.edit.new.self) same.rooms
-    (subst (λ (m : Network). AreDone c.loop-at.self (shown c.trim.new.self) c.loop-at.all.items m) (sym same.same) c.loop-at.invariant.undo)
+    still_done c.loop-at.self c.edit.new.self (shown c.args.self.now) c.loop-at.all.items (shown c.edit.new.self) same.rooms
+    (subst (λ (m : Network). AreDone c.loop-at.self (shown c.args.self.now) c.loop-at.all.items m) (sym same.same) c.loop-at.invariant.undo)
+
+pub returns-in_err-trim-clause-graph : goal.returns-in_err-trim-clause-graph
+returns-in_err-trim-clause-graph c = graph_of_rows c.args.self.now c.trim.new.self c.trim.ensures.rows c.requires.graph
+
+pub returns-in_err-trim-clause-unchanged : goal.returns-in_err-trim-clause-unchanged
+returns-in_err-trim-clause-unchanged c = ap (with_links c.args.self.now.nodes) (shown_of_rows c.args.self.now c.trim.new.self c.trim.ensures.rows)
+
+pub loop-at-init : goal.loop-at-init
+loop-at-init c =
+    let same = ap (with_links c.args.self.now.nodes) (shown_of_rows c.args.self.now c.trim.new.self c.trim.ensures.rows) in
+    record {
+      graph = graph_of_rows c.args.self.now c.trim.new.self c.trim.ensures.rows c.requires.graph;
+      made = same;
+      undo = rw c.in_ok-all.ensures.items same;
+      one_each = c.in_ok-all.ensures.len;
+      all_room = c.in_ok-all.ensures.capacity;
+    }
+
+pub undo_all-requires-clause-done : goal.undo_all-requires-clause-done
+undo_all-requires-clause-done c = (shown c.args.self.now, still (goal.at.undo_all-requires-clause-done c).In-Err)
+
+pub returns-in-Err-clause-refused : goal.returns-in-Err-clause-refused
+returns-in-Err-clause-refused c known = record {
+  inside = c.loop-at-test.true;
+  before = shown c.loop-at.self;
+  made = c.loop-at.invariant.made;
+  refused = λ d. subst (λ (e : Edit). IsEditFault (shown c.loop-at.self) e c.in-Err.fault) (get_or_default c.args.edits.now c.loop-at.at _ d c.loop-at-test.true) (c.in-Err.ensures.refused known);
+}
+
+pub returns-in-Err-clause-unchanged : goal.returns-in-Err-clause-unchanged
+returns-in-Err-clause-unchanged c = c.undo_all.ensures.undone (shown c.args.self.now) (still (goal.at.returns-in-Err-clause-unchanged c).In-Err)
 
 pub loop-at-preserved : goal.loop-at-preserved
 loop-at-preserved c =

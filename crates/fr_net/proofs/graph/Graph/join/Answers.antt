@@ -38,10 +38,10 @@ put-requires-clause-acyclic c =
     ])
 
 pub put-requires-clause-tail_room : goal.put-requires-clause-tail_room
-put-requires-clause-tail_room c = elim c.if-branch.branch [ then-branch w ↦ rw w.tail-is c.make_room.ensures.v_room | else-branch w ↦ rw w.tail-is c.make_room.ensures.u_room ]
+put-requires-clause-tail_room c = elim c.if-branch.branch [ then-branch w ↦ rw w.tail-is c.in_ok-make_room.ensures.v_room | else-branch w ↦ rw w.tail-is c.in_ok-make_room.ensures.u_room ]
 
 pub put-requires-clause-head_room : goal.put-requires-clause-head_room
-put-requires-clause-head_room c = elim c.if-branch.branch [ then-branch w ↦ rw w.tail-is c.make_room.ensures.u_room | else-branch w ↦ rw w.tail-is c.make_room.ensures.v_room ]
+put-requires-clause-head_room c = elim c.if-branch.branch [ then-branch w ↦ rw w.tail-is c.in_ok-make_room.ensures.u_room | else-branch w ↦ rw w.tail-is c.in_ok-make_room.ensures.v_room ]
 
 pub returns-clause-ok : goal.returns-clause-ok
 returns-clause-ok c =
