@@ -1,16 +1,11 @@
-use Rattle.std.proofs.Common.{Bool, List, arith, false, get_or, inl, inr, length, refl, rules, subst, sym, true, ℕ, ◌+◌, ◌<◌, ◌∙◌, ◌≡◌, ◌≢◌, ◌≤◌, ◌⊎◌}
+use Rattle.std.proofs.Common.{List, arith, get_or, length, refl, rules, subst, sym, true, ℕ, ◌<◌, ◌∙◌, ◌≡◌}
 use denote.Enum.Bare.{same_false, same_true}
 use Rattle.std.proofs.lemmas.List.{get_or_default}
 use Rattle.fr_net.proofs.TwoEnds.{entry_below, entry_leads, graph_faultless, met_stays, more_after, other_was, passed_more, side_goes_on, side_reads, way_on}
 use Rattle.fr_net.specs.Graph.{shown}
-use Rattle.fr_net.specs.Links.{IsNet}
-use Rattle.fr_net.specs.MeetingSearch.{HasMet, HasMetMore, HasPassed, HasWay, IsSide, LeadsOn, MeetsNew, start_of}
-use Rattle.fr_net.specs.Network.{Network}
+use Rattle.fr_net.specs.MeetingSearch.{HasMet, HasPassed, HasWay, start_of}
 use Rattle.fr_net.specs.RowLists.{opposite}
-use Rattle.fr_net.specs.Rows.{row}
 use Rattle.fr_net.specs.contracts.rows.First.{the_type}
-use Rattle.fr_net.specs.declared.meeting.Met.{Met}
-use Rattle.fr_net.specs.declared.meeting.Side.{Side}
 use Rattle.fr_net.specs.declared.rows.First.{First}
 use Rattle.fr_net.specs.declared.rows.First.TheVariants.{Outward}
 use Rattle.fr_net.proofs.meeting.Side.read_next.Goals as goal
