@@ -28,7 +28,7 @@ pub graph_faultless : (g : Graph) → IsGraph g → IsFaultless (shown g).nodes 
 graph_faultless g is = is.faultless
 
 -- the links that the row of a node shows in one direction
-pub leads_by_row : (f : First) (n : ℕ) (links : List (ℕ × ℕ)) (x w : ℕ) → Contains (row n links x) (w, f) → LeadsOn f links x w
+leads_by_row : (f : First) (n : ℕ) (links : List (ℕ × ℕ)) (x w : ℕ) → Contains (row n links x) (w, f) → LeadsOn f links x w
 leads_by_row Outward n links x w h = out_of_row n links x w h
 leads_by_row Inward n links x w h = in_of_row n links x w h
 
@@ -68,10 +68,6 @@ sides_apart : (f : First) → met_by f ≢ met_by (opposite f)
 sides_apart Outward e = cc
 sides_apart Inward e = cc
 
-opposite_twice : (f : First) → opposite (opposite f) ≡ f
-opposite_twice Outward = refl
-opposite_twice Inward = refl
-
 met_below : (f : First) (met : List Met) (x : ℕ) → HasMet f met x → x < length met
 met_below f met x h =
     elim (cases_lt x (length met)) [
@@ -94,7 +90,7 @@ fewer_never met x f l fresh =
     omega (arith, sum_by-set weight met x (met_by f) Never l, one, none f)
 
 -- nodes that a side met later, after others
-pub none_more : (side : Side) (met : List Met) → HasMetMore side side met met
+none_more : (side : Side) (met : List Met) → HasMetMore side side met met
 none_more side met = record {
   same_first = refl;
   longer = omega arith;
@@ -104,7 +100,7 @@ none_more side met = record {
   counted = refl;
 }
 
-pub one_more : (before after : Side) (old new : List Met) (x : ℕ) → x < length old → MeetsNew before after old new x → HasMetMore before after old new
+one_more : (before after : Side) (old new : List Met) (x : ℕ) → x < length old → MeetsNew before after old new x → HasMetMore before after old new
 one_more before after old new x l m =
     let long : length after.nodes.items ≡ length before.nodes.items + 1 = rw m.nodes (length_push before.nodes.items x) in
     record {
