@@ -68,13 +68,6 @@ sides_apart : (f : First) → met_by f ≢ met_by (opposite f)
 sides_apart Outward e = cc
 sides_apart Inward e = cc
 
-met_below : (f : First) (met : List Met) (x : ℕ) → HasMet f met x → x < length met
-met_below f met x h =
-    elim (cases_lt x (length met)) [
-      | inl l ↦ l
-      | inr g ↦ absurd (never_apart f (sym h ∙ get_or_past met x Never g))
-    ]
-
 met_set : (met : List Met) (x y : ℕ) (m : Met) → x < length met → ((y ≡ x) × (met_of (set met x m) y ≡ m)) ⊎ (met_of (set met x m) y ≡ met_of met y)
 met_set met x y m l =
     elim (cases_eq y x) [

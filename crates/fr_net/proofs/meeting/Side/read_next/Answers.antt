@@ -42,6 +42,15 @@ returns-then-meet-clause-found c =
     let other : HasMet (opposite f) c.loop-neighbour.met (entry at).0 = rw inv.side.first_is at (c.meet.ensures.other c.if-meet.true) in
     λ _. ((entry at).0, (other_was f c.args.self.now c.loop-neighbour.self c.args.met.now c.loop-neighbour.met (entry at).0 refl inv.more other, way at c.if-eq.true))
 
+pub returns-then-meet-clause-more : goal.returns-then-meet-clause-more
+returns-then-meet-clause-more c =
+    let at = (goal.at.returns-then-meet-clause-more c).After-eq in
+    let inv = c.loop-neighbour.invariant in
+    let before = c.loop-neighbour.self in
+    let old = c.loop-neighbour.met in
+    let on = side_goes_on (shown c.args.graph.now) c.args.self.now.first (start_of c.args.self.now) old c.meet.new.met before c.meet.new.self (entry at).0 (below at) (way at c.if-eq.true) c.meet.ensures.change inv.side in
+    more_after c.args.self.now before c.meet.new.self c.args.met.now old c.meet.new.met inv.more on.1
+
 pub loop-neighbour-preserved : goal.loop-neighbour-preserved
 loop-neighbour-preserved c =
     let at = (goal.at.loop-neighbour-preserved c).After-eq in
