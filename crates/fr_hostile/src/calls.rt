@@ -197,7 +197,7 @@ fn request<R: Alloc<A = Global> + Eprint>(rt: &R) -> Option<String> {
 fn lines_read<R: Alloc<A = Global> + Eprint>(rt: &R) -> Option<String> {
     let alloc = rt.alloc();
     let mut reader = LineReader::new();
-    let Request::Walk { x } = told(rt, reader.read(alloc, br#"["walk",3]"#))? else {
+    let Request::Walk { x } = told(rt, reader.read(alloc, br#"["walk", 3]"#))? else {
         return told(rt, String::from_str(alloc, "another request"));
     };
     let line = br#"["net",4,0,[[0,1],[1,2],[2,3]]]"#;

@@ -13,7 +13,7 @@ use Rattle.fr_net.proofs.CutRows.{filter_kept}
 use Rattle.fr_net.proofs.Cycles.{points_at}
 use Rattle.fr_net.proofs.Linking.{is_between_itself, is_between_turned, joined_from, not_twice, path_carries}
 use Rattle.fr_net.proofs.Members.{Contains-tail}
-use Rattle.fr_net.proofs.Refusing.{fault_place, first_fault_place, no_cycle_stands, no_first_fault, no_self_link, not_too_large, range_stands}
+use Rattle.fr_net.proofs.Refusing.{fault_place, first_fault_place, no_first_fault, no_self_link, not_too_large, range_stands}
 use Rattle.fr_net.specs.Edits.{IsJoined, IsJoinFault, without}
 use Rattle.fr_net.specs.Faults.{IsFaultless, IsFirstFault, IsInRange}
 use Rattle.fr_net.specs.Halves.{AreUnjoined}
@@ -103,9 +103,6 @@ faultless_turned n links u v acyclic limits range bar single closes =
         acyclic = one_way_free links u v acyclic apart closes;
       };
     }
-
-pub closes : (links : List (ℕ × ℕ)) (u v : ℕ) (walk : List ℕ) → IsCycle (added links u v) walk → ¬ IsAcyclic (added links u v)
-closes links u v walk cycle acyclic = no_cycle_stands (added links u v) walk acyclic cycle
 
 -- the link can be refused for the closed walk alone
 pub cycle_fault : (n : ℕ) (links : List (ℕ × ℕ)) (u v : ℕ) (walk : Vec ℕ Global) → IsFaultless n links → length links < most_links → AreUnjoined n links u v → IsCycle (added links u v) walk.items → IsFirstFault n (added links u v) (Cycle walk)

@@ -1,4 +1,4 @@
--- The text of a short line: it is JSON, and reads as the array that it shows.
+-- Bytes as a pattern finds them, and a number that grows digit by digit.
 use Rattle.std.proofs.Common.{List, [], ap, append_assoc, arith, decimal, drop, get_or, length, length-drop, sym, take, take_all, ℕ, ◌*◌, ◌+◌, ◌++◌, ◌-◌, ◌/◌, ◌%◌, ◌<◌, ◌≤◌, ◌^◌, ◌∙◌, ◌∷◌, ◌≡◌}
 use Rattle.std.specs.Prelude.{⊤}
 use Rattle.std.proofs.lemmas.Fmt.{decimal_step}

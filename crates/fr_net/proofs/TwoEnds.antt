@@ -1,14 +1,13 @@
 -- The steps of the search for a way from both ends keep its state.
-use Rattle.std.proofs.Common.{All, Bool, Contains, List, [], ap, arith, false, get_or, inl, inr, length, refl, replicate, set, subst, sym, true, ℕ, ◌++◌, ◌+◌, ◌<◌, ◌∙◌, ◌∷◌, ◌≡◌, ◌≢◌, ◌≤◌, ◌⊎◌}
+use Rattle.std.proofs.Common.{Contains, List, [], ap, arith, get_or, inl, inr, length, refl, replicate, set, subst, sym, ℕ, ◌++◌, ◌+◌, ◌<◌, ◌∙◌, ◌∷◌, ◌≡◌, ◌≢◌, ◌≤◌, ◌⊎◌}
 use Rattle.std.proofs.lemmas.Bool.{cases_eq, cases_lt}
-use Rattle.std.proofs.lemmas.List.{get_or_append_left, get_or_default, get_or_past, get_or_push, get_or-replicate, get_or-set_other, get_or-set_same, length-replicate, length-set, length_push}
+use Rattle.std.proofs.lemmas.List.{get_or_append_left, get_or_default, get_or_past, get_or-replicate, get_or-set_other, get_or-set_same, length-replicate, length-set, length_push}
 use Rattle.std.proofs.lemmas.List.Elements.{All-contains, All-push, Contains-append_left, Contains-get_or, Contains-push}
 use Rattle.std.proofs.lemmas.List.Sums.{count_by-le-length, sum_by-set}
 use Rattle.fr_net.proofs.AddedLinks.{path_joins}
 use Rattle.fr_net.proofs.ClosingWalks.{path_step}
 use Rattle.fr_net.proofs.Counting.{weigh}
 use Rattle.fr_net.proofs.Cycles.{path_keeps}
-use Rattle.fr_net.proofs.Members.{Contains-cases, Contains-none}
 use Rattle.fr_net.proofs.Neighbours.{in_of_row, out_of_row, row_holds, row_of_in, row_of_out}
 use Rattle.fr_net.specs.Faults.{IsFaultless}
 use Rattle.fr_net.specs.Graph.{IsGraph, shown}
@@ -29,7 +28,7 @@ pub graph_faultless : (g : Graph) → IsGraph g → IsFaultless (shown g).nodes 
 graph_faultless g is = is.faultless
 
 -- the links that the row of a node shows in one direction
-pub leads_by_row : (f : First) (n : ℕ) (links : List (ℕ × ℕ)) (x w : ℕ) → Contains (row n links x) (w, f) → LeadsOn f links x w
+leads_by_row : (f : First) (n : ℕ) (links : List (ℕ × ℕ)) (x w : ℕ) → Contains (row n links x) (w, f) → LeadsOn f links x w
 leads_by_row Outward n links x w h = out_of_row n links x w h
 leads_by_row Inward n links x w h = in_of_row n links x w h
 
@@ -69,17 +68,6 @@ sides_apart : (f : First) → met_by f ≢ met_by (opposite f)
 sides_apart Outward e = cc
 sides_apart Inward e = cc
 
-opposite_twice : (f : First) → opposite (opposite f) ≡ f
-opposite_twice Outward = refl
-opposite_twice Inward = refl
-
-met_below : (f : First) (met : List Met) (x : ℕ) → HasMet f met x → x < length met
-met_below f met x h =
-    elim (cases_lt x (length met)) [
-      | inl l ↦ l
-      | inr g ↦ absurd (never_apart f (sym h ∙ get_or_past met x Never g))
-    ]
-
 met_set : (met : List Met) (x y : ℕ) (m : Met) → x < length met → ((y ≡ x) × (met_of (set met x m) y ≡ m)) ⊎ (met_of (set met x m) y ≡ met_of met y)
 met_set met x y m l =
     elim (cases_eq y x) [
@@ -95,7 +83,7 @@ fewer_never met x f l fresh =
     omega (arith, sum_by-set weight met x (met_by f) Never l, one, none f)
 
 -- nodes that a side met later, after others
-pub none_more : (side : Side) (met : List Met) → HasMetMore side side met met
+none_more : (side : Side) (met : List Met) → HasMetMore side side met met
 none_more side met = record {
   same_first = refl;
   longer = omega arith;
@@ -105,7 +93,7 @@ none_more side met = record {
   counted = refl;
 }
 
-pub one_more : (before after : Side) (old new : List Met) (x : ℕ) → x < length old → MeetsNew before after old new x → HasMetMore before after old new
+one_more : (before after : Side) (old new : List Met) (x : ℕ) → x < length old → MeetsNew before after old new x → HasMetMore before after old new
 one_more before after old new x l m =
     let long : length after.nodes.items ≡ length before.nodes.items + 1 = rw m.nodes (length_push before.nodes.items x) in
     record {

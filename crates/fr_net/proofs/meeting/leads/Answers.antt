@@ -1,12 +1,9 @@
-use Rattle.std.proofs.Common.{Bool, List, arith, false, get_or, inl, inr, length, refl, replicate, rules, set, subst, sym, true, ℕ, ◌+◌, ◌<◌, ◌∙◌, ◌≡◌, ◌≢◌, ◌≤◌, ◌⊎◌}
+use Rattle.std.proofs.Common.{List, refl, replicate, set, ◌∙◌, ◌≡◌}
 use Rattle.fr_net.proofs.TwoEnds.{no_way, other_stays, side_itself, sides_begin, way_to_met, ways_meet}
 use Rattle.fr_net.specs.Graph.{shown}
 use Rattle.fr_net.specs.Links.{HasPath}
-use Rattle.fr_net.specs.MeetingSearch.{HasMet, HasMetMore, HasWay, IsSide, start_of}
-use Rattle.fr_net.specs.RowLists.{opposite}
 use Rattle.fr_net.specs.declared.meeting.Met.{Met}
 use Rattle.fr_net.specs.declared.meeting.Met.TheVariants.{Backward, Forward, Never}
-use Rattle.fr_net.specs.declared.meeting.Side.{Side}
 use Rattle.fr_net.specs.declared.rows.First.TheVariants.{Inward, Outward}
 use Rattle.fr_net.proofs.meeting.leads.Goals as goal
 use Rattle.fr_net.proofs.meeting.leads.Goals.{else-loop-behind-test, then-loop-behind-test+else-has_unread, then-read_next-via-else-read_next+then-read_next-2, then-read_next-via-then-read_next}

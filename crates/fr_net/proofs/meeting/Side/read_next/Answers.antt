@@ -1,16 +1,11 @@
-use Rattle.std.proofs.Common.{Bool, List, arith, false, get_or, inl, inr, length, refl, rules, subst, sym, true, ℕ, ◌+◌, ◌<◌, ◌∙◌, ◌≡◌, ◌≢◌, ◌≤◌, ◌⊎◌}
+use Rattle.std.proofs.Common.{List, arith, get_or, length, refl, rules, subst, sym, true, ℕ, ◌<◌, ◌∙◌, ◌≡◌}
 use denote.Enum.Bare.{same_false, same_true}
 use Rattle.std.proofs.lemmas.List.{get_or_default}
 use Rattle.fr_net.proofs.TwoEnds.{entry_below, entry_leads, graph_faultless, met_stays, more_after, other_was, passed_more, side_goes_on, side_reads, way_on}
 use Rattle.fr_net.specs.Graph.{shown}
-use Rattle.fr_net.specs.Links.{IsNet}
-use Rattle.fr_net.specs.MeetingSearch.{HasMet, HasMetMore, HasPassed, HasWay, IsSide, LeadsOn, MeetsNew, start_of}
-use Rattle.fr_net.specs.Network.{Network}
+use Rattle.fr_net.specs.MeetingSearch.{HasMet, HasPassed, HasWay, start_of}
 use Rattle.fr_net.specs.RowLists.{opposite}
-use Rattle.fr_net.specs.Rows.{row}
 use Rattle.fr_net.specs.contracts.rows.First.{the_type}
-use Rattle.fr_net.specs.declared.meeting.Met.{Met}
-use Rattle.fr_net.specs.declared.meeting.Side.{Side}
 use Rattle.fr_net.specs.declared.rows.First.{First}
 use Rattle.fr_net.specs.declared.rows.First.TheVariants.{Outward}
 use Rattle.fr_net.proofs.meeting.Side.read_next.Goals as goal
@@ -46,6 +41,15 @@ returns-then-meet-clause-found c =
     let f = c.args.self.now.first in
     let other : HasMet (opposite f) c.loop-neighbour.met (entry at).0 = rw inv.side.first_is at (c.meet.ensures.other c.if-meet.true) in
     λ _. ((entry at).0, (other_was f c.args.self.now c.loop-neighbour.self c.args.met.now c.loop-neighbour.met (entry at).0 refl inv.more other, way at c.if-eq.true))
+
+pub returns-then-meet-clause-more : goal.returns-then-meet-clause-more
+returns-then-meet-clause-more c =
+    let at = (goal.at.returns-then-meet-clause-more c).After-eq in
+    let inv = c.loop-neighbour.invariant in
+    let before = c.loop-neighbour.self in
+    let old = c.loop-neighbour.met in
+    let on = side_goes_on (shown c.args.graph.now) c.args.self.now.first (start_of c.args.self.now) old c.meet.new.met before c.meet.new.self (entry at).0 (below at) (way at c.if-eq.true) c.meet.ensures.change inv.side in
+    more_after c.args.self.now before c.meet.new.self c.args.met.now old c.meet.new.met inv.more on.1
 
 pub loop-neighbour-preserved : goal.loop-neighbour-preserved
 loop-neighbour-preserved c =
