@@ -1,5 +1,5 @@
 -- Rows that stand in one list, each between its start and its end, and one of which changes where it stands.
-use Rattle.std.proofs.Common.{Bool, List, [], ap, arith, count_by, drop, eq-eqb, eqb, false, get_or, inl, inr, length, length-append, length-drop, map, ne_eqb, refl, set, slice_range, suc, sym, take, true, ℕ, ◌++◌, ◌+◌, ◌-◌, ◌<◌, ◌∙◌, ◌∷◌, ◌≡◌, ◌≢◌, ◌≤◌, ◌⊎◌}
+use Rattle.std.proofs.Common.{Bool, List, [], ap, arith, count_by, drop, eq-eqb, eqb, false, get_or, inl, inr, length, length-append, length-drop, map, ne_eqb, refl, set, slice_range, subst, suc, sym, take, true, zero, ℕ, ◌++◌, ◌+◌, ◌-◌, ◌<◌, ◌∙◌, ◌∷◌, ◌≡◌, ◌≢◌, ◌≤◌, ◌⊎◌}
 use Rattle.std.proofs.lemmas.Bool.{cases_eq, cases_lt}
 use Rattle.std.proofs.lemmas.List.{append_assoc, drop-append-le, drop-drop, drop-take, drop_more, get_or-append_right, get_or-drop, get_or-set_other, get_or-set_same, length-set, length-take-le, map-id, same_lists, set-get_or, set_at, take-append-le, take-take, take_all, take_more, with_items_is}
 use Rattle.std.proofs.lemmas.List.Edits.{length-between, length-insert, length-remove}
@@ -14,7 +14,7 @@ use mir.Val.{bool_byte}
 use borrow.Rule.Slice.PartMut.{put_mid}
 use Rattle.fr_net.proofs.Counting.{weigh}
 use Rattle.fr_net.proofs.RowsInPlace.{starts_up}
-use Rattle.fr_net.specs.Tables.{HasRoomIn, IsTable, Table, has_none, room_between, room_of, row_between, row_of, table_of, with_row}
+use Rattle.fr_net.specs.Tables.{ArePacked, HasRoomIn, IsTable, Table, has_none, room_between, room_of, row_between, row_of, table_of, with_row}
 use Rattle.fr_net.specs.declared.row_table.RowTable.TheInside.{Inside}
 use Rattle.fr_net.specs.declared.rows.First.{First}
 
@@ -362,3 +362,40 @@ count-range_more p n =
 
 pub count-range-le : (p : ℕ → Bool) (n : ℕ) → count_by p (range_with_len 0 n) ≤ n
 count-range-le p n = omega (arith, count_by-le-length p (range_with_len 0 n), length-range_with_len 0 n)
+
+-- as many elements made of numbers pass as numbers do
+count-map-range : {X : Type 0} (p : X → Bool) (q : ℕ → Bool) (f : ℕ → X) (n : ℕ) → ((x : ℕ) → x < n → p (f x) ≡ q x) → count_by p (map f (range_with_len 0 n)) ≡ count_by q (range_with_len 0 n)
+count-map-range p q f zero same = refl
+count-map-range {X} p q f (suc n) same =
+    let weight : X → ℕ = λ x. weigh (p x) in
+    let next : n + 1 ≡ suc n = omega arith in
+    let here : weigh (p (f n)) ≡ weigh (q n) = ap weigh (same n (omega arith)) in
+    let rest = count-map-range p q f n (λ x l. same x (omega arith)) in
+    subst (λ k. count_by p (map f (range_with_len 0 k)) ≡ count_by q (range_with_len 0 k)) next
+    (omega (arith, sum_by-map-range_with_len_more weight f 0 n n (omega arith), count-range_more q n, here, rest))
+
+module _ (t : Inside) (packed : ArePacked t.starts.items t.entries.items) (ends : t.ends.items ≡ drop 1 t.starts.items) where
+  end_next : (x : ℕ) → end_of t x ≡ start_of t (x + 1)
+  end_next x =
+      let next : 1 + x ≡ x + 1 = omega arith in
+      ap (λ (xs : List ℕ). get_or xs x 0) ends ∙ get_or-drop 1 t.starts.items x 0 ∙ ap (start_of t) next
+
+  -- starts of rows that stand one behind the other make a table
+  pub packed_one_each : length t.starts.items ≡ rows_in t + 1
+  packed_one_each = omega (arith, ap length ends, length-drop 1 t.starts.items, packed.some)
+
+  pub packed_row : (x : ℕ) → x + 1 < length t.starts.items → row_of (table_of t) x ≡ slice_range t.entries.items (start_of t x) (start_of t (x + 1))
+  packed_row x l = row_shown t x (omega (arith, l, packed_one_each)) ∙ ap (slice_range t.entries.items (start_of t x)) (end_next x)
+
+  pub packed_table : t.empty ≡ count_by (λ x. eqb (start_of t x) (end_of t x)) (range_with_len 0 (rows_in t)) → IsTable t
+  packed_table count =
+      let up : (x : ℕ) → x < rows_in t → start_of t x ≤ end_of t x = λ x l. omega (arith, end_next x, packed.rise x (omega (arith, l, packed_one_each))) in
+      let none : (x : ℕ) → x < rows_in t → has_none (row_between t x) ≡ eqb (start_of t x) (end_of t x) = λ x l.
+      none_where (row_between t x) (start_of t x) (end_of t x) (omega (arith, up x l, length-between t.entries.items (start_of t x) (end_of t x) (omega (arith, end_next x, packed.inside (x + 1))))) in
+      record {
+        one_each = packed_one_each;
+        low = up;
+        high = λ x l. omega (arith, end_next x);
+        inside = packed.inside;
+        counted = count ∙ sym (count-map-range has_none (λ x. eqb (start_of t x) (end_of t x)) (row_between t) (rows_in t) none);
+      }
