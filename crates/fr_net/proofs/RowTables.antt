@@ -1,5 +1,5 @@
 -- Rows that stand in one list, each between its start and its end, and one of which changes where it stands.
-use Rattle.std.proofs.Common.{Bool, List, [], ap, arith, count_by, drop, eq-eqb, eqb, false, get_or, inl, inr, length, length-append, length-drop, map, ne_eqb, refl, set, slice_range, subst, suc, sym, take, true, zero, ℕ, ◌++◌, ◌+◌, ◌-◌, ◌<◌, ◌∙◌, ◌∷◌, ◌≡◌, ◌≢◌, ◌≤◌, ◌⊎◌}
+use Rattle.std.proofs.Common.{Bool, List, [], ap, arith, count_by, drop, eq-eqb, eqb, false, get_or, inl, inr, length, length-drop, map, ne_eqb, refl, set, slice_range, subst, suc, sym, take, true, zero, ℕ, ◌++◌, ◌+◌, ◌-◌, ◌<◌, ◌∙◌, ◌∷◌, ◌≡◌, ◌≢◌, ◌≤◌}
 use Rattle.std.proofs.lemmas.Bool.{cases_eq, cases_lt}
 use Rattle.std.proofs.lemmas.List.{append_assoc, drop-append-le, drop-drop, drop-take, drop_more, get_or-append_right, get_or-drop, get_or-set_other, get_or-set_same, length-set, length-take-le, map-id, same_lists, set-get_or, set_at, take-append-le, take-take, take_all, take_more, with_items_is}
 use Rattle.std.proofs.lemmas.List.Edits.{length-between, length-insert, length-remove}
@@ -13,7 +13,7 @@ use Rattle.std.specs.Vec.{with_items}
 use mir.Val.{bool_byte}
 use borrow.Rule.Slice.PartMut.{put_mid}
 use Rattle.fr_net.proofs.Counting.{weigh}
-use Rattle.fr_net.proofs.RowsInPlace.{starts_up}
+use Rattle.fr_net.proofs.RowsInPlace.{length_put, starts_up}
 use Rattle.fr_net.specs.Tables.{ArePacked, HasRoomIn, IsTable, Table, has_none, room_between, room_of, row_between, row_of, table_of, with_row}
 use Rattle.fr_net.specs.declared.row_table.RowTable.TheInside.{Inside}
 use Rattle.fr_net.specs.declared.rows.First.{First}
@@ -32,13 +32,6 @@ pub shifted_rest : {X : Type 0} (xs ys : List X) (i k : ℕ) (d : X) → i ≤ l
 shifted_rest xs ys i k d l le =
     let there : i + (k - i) ≡ k = omega arith in
     get_or-append_right (take i ys) (drop i xs) i k d (length-take-le i ys l) le ∙ get_or-drop i xs (k - i) d ∙ ap (λ m. get_or xs m d) there
-
--- a part written anew keeps how long the list is
-length_part_put : {X : Type 0} (at : ℕ) (xs part : List X) → at + length part ≤ length xs → length (put_mid at (length part) xs part) ≡ length xs
-length_part_put at xs part inside =
-    let n = length part in
-    let rest = drop n (drop at xs) in
-    omega (arith, length-append (take at xs) (part ++ rest), length-append part rest, length-take-le at xs (omega (arith, inside)), length-drop n (drop at xs), length-drop at xs)
 
 -- a test as a number
 pub bit_is : (b : Bool) → bool_byte b ≡ weigh b
@@ -126,7 +119,7 @@ module _ (t after : Inside) (x at end : ℕ) (part : List (ℕ × First)) (is : 
   end_stays y ne = ap (λ (xs : List ℕ). get_or xs y 0) w.ends ∙ get_or-set_other t.ends.items x y end 0 ne
 
   size_stays : length after.entries.items ≡ length t.entries.items
-  size_stays = ap length w.entries ∙ length_part_put at t.entries.items part (omega (arith, w.in_room, is.inside (x + 1)))
+  size_stays = ap length w.entries ∙ length_put at (length part) t.entries.items part (omega (arith, w.in_room, is.inside (x + 1))) refl
 
   row_stays : (y : ℕ) → y < rows_in t → y ≢ x → row_between after y ≡ row_between t y
   row_stays y l ne =
@@ -243,7 +236,7 @@ range_removed xs ys s p e low inside long is =
 pub part_put : {X : Type 0} (v : Vec X) (now part : List X) (at k : ℕ) → now ≡ v.items → length part ≡ k → at + k ≤ length v.items → (with_items v (put_mid at k now part)).items ≡ put_mid at (length part) v.items part
 part_put v now part at k is long inside =
     let same : put_mid at k now part ≡ put_mid at (length part) v.items part = ap (λ xs. put_mid at k xs part) is ∙ ap (λ n. put_mid at n v.items part) (sym long) in
-    with_items_is v (put_mid at k now part) (ap length same ∙ length_part_put at v.items part (omega (arith, inside, long)) ∙ sym v.ok.0) ∙ same
+    with_items_is v (put_mid at k now part) (ap length same ∙ length_put at (length part) v.items part (omega (arith, inside, long)) refl ∙ sym v.ok.0) ∙ same
 
 -- a row that has no entries is one whose end is where it starts
 none_is : (es : List (ℕ × First)) → has_none es ≡ eqb (length es) 0
@@ -293,7 +286,13 @@ entry_inserted t after table x p entry part is view lt inside room long is_part 
     let low : s + p ≤ e = omega (arith, inside, at.long, at.low) in
     let high : e < start_of t (x + 1) = omega (arith, room, at.long, at.room, at.low, at.high) in
     let w : IsWritten t after x (s + p) (e + 1) part = record {
-      starts = starts; ends = ends; entries = entries; behind_start = omega arith; in_room = omega (arith, long, low, high); low = omega (arith, at.low); high = omega (arith, high);
+      starts = starts;
+      ends = ends;
+      entries = entries;
+      behind_start = omega arith;
+      in_room = omega (arith, long, low, high);
+      low = omega (arith, at.low);
+      high = omega (arith, high);
     } in
     let here : row_between after x ≡ insert row p entry =
     row_put t after x (s + p) (e + 1) part is at.has w ∙ range_inserted t.entries.items part s p e entry low (omega (arith, high, at.inside)) long is_part ∙ ap (λ es. insert es p entry) at.is_row in
@@ -314,7 +313,13 @@ entry_removed t after table x p e part is view lt inside last long is_part start
     let low : s + p ≤ e = omega (arith, inside, at.long, at.low, last) in
     let high : e < start_of t (x + 1) = omega (arith, at.high, last) in
     let w : IsWritten t after x (s + p) e part = record {
-      starts = starts; ends = ends; entries = entries; behind_start = omega arith; in_room = omega (arith, long, low, high); low = omega (arith, low); high = omega (arith, high);
+      starts = starts;
+      ends = ends;
+      entries = entries;
+      behind_start = omega arith;
+      in_room = omega (arith, long, low, high);
+      low = omega (arith, low);
+      high = omega (arith, high);
     } in
     let back : e + 1 - 1 ≡ e = omega arith in
     let new = put_mid (s + p) (length part) t.entries.items part in

@@ -233,7 +233,11 @@ impl RowTable {
         requires below { All (λ (e : ℕ × First). e.0 < length counts.now) (row_of self.old x) }
         ensures { self.new ≡ with_row self.old x (map (turned_entry counts.now x) (row_of self.old x)) }
     {
-        turn_row(&mut self.entries[self.starts[x as usize]..self.ends[x as usize]], x, counts);
+        turn_row(
+            &mut self.entries[self.starts[x as usize]..self.ends[x as usize]],
+            x,
+            counts,
+        );
     }
 
     /// Reverses the entry of `w` in the row of `x`, which has one.
@@ -243,6 +247,9 @@ impl RowTable {
         requires stands { Contains (map (λ (e : ℕ × First). e.0) (row_of self.old x)) w }
         ensures { self.new ≡ with_row self.old x (map (reversed_at w) (row_of self.old x)) }
     {
-        reverse_entry(&mut self.entries[self.starts[x as usize]..self.ends[x as usize]], w);
+        reverse_entry(
+            &mut self.entries[self.starts[x as usize]..self.ends[x as usize]],
+            w,
+        );
     }
 }

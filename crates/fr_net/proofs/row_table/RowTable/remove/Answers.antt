@@ -1,4 +1,4 @@
-use Rattle.std.proofs.Common.{ap, arith, eqb, length, refl, remove, rules, set, slice_range, ◌+◌, ◌-◌, ◌<◌, ◌∙◌, ◌≡◌, ◌≤◌}
+use Rattle.std.proofs.Common.{ap, arith, eqb, length, refl, remove, rules, slice_range, ◌+◌, ◌-◌, ◌<◌, ◌∙◌, ◌≡◌, ◌≤◌}
 use Rattle.std.proofs.lemmas.List.{get_or_read}
 use Rattle.std.proofs.lemmas.List.Edits.{length-between}
 use Rattle.std.specs.Vec.{with_item, with_items}
