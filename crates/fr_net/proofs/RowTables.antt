@@ -1,19 +1,20 @@
 -- Rows that stand in one list, each between its start and its end, and one of which changes where it stands.
-use Rattle.std.proofs.Common.{List, [], ap, arith, count_by, drop, eq-eqb, eqb, get_or, inl, inr, length, length-append, length-drop, map, ne_eqb, refl, set, slice_range, suc, sym, take, ℕ, ◌++◌, ◌+◌, ◌-◌, ◌<◌, ◌∙◌, ◌∷◌, ◌≡◌, ◌≢◌, ◌≤◌, ◌⊎◌}
+use Rattle.std.proofs.Common.{Bool, List, [], ap, arith, count_by, drop, eq-eqb, eqb, false, get_or, inl, inr, length, length-drop, map, ne_eqb, refl, set, slice_range, subst, suc, sym, take, true, zero, ℕ, ◌++◌, ◌+◌, ◌-◌, ◌<◌, ◌∙◌, ◌∷◌, ◌≡◌, ◌≢◌, ◌≤◌}
 use Rattle.std.proofs.lemmas.Bool.{cases_eq, cases_lt}
-use Rattle.std.proofs.lemmas.List.{append_assoc, drop-append-le, drop-drop, drop-take, drop_more, get_or-append_right, get_or-drop, get_or-set_other, get_or-set_same, length-set, length-take-le, same_lists, set-get_or, set_at, take-append-le, take-take, take_all, take_more, with_items_is}
+use Rattle.std.proofs.lemmas.List.{append_assoc, drop-append-le, drop-drop, drop-take, drop_more, get_or-append_right, get_or-drop, get_or-set_other, get_or-set_same, length-set, length-take-le, map-id, same_lists, set-get_or, set_at, take-append-le, take-take, take_all, take_more, with_items_is}
 use Rattle.std.proofs.lemmas.List.Edits.{length-between, length-insert, length-remove}
-use Rattle.std.proofs.lemmas.List.FromFn.{get_or-map-range_with_len, length-map-range_with_len}
+use Rattle.std.proofs.lemmas.List.FromFn.{get_or-map-range_with_len, length-map-range_with_len, length-range_with_len, sum_by-map-range_with_len_more}
 use Rattle.std.proofs.lemmas.List.Sums.{count_by-le-length, get_or-le-sum_by, sum_by-set}
 use Rattle.std.proofs.lemmas.Slice.{between-put_mid, between_is, drop-put_mid, take-put_mid_below}
 use Rattle.std.proofs.Math.Seq.{take-append-add}
-use Rattle.std.specs.List.{insert, range_with_len, remove}
+use Rattle.std.specs.List.{insert, range_with_len, remove, sum_by}
 use Rattle.std.specs.Global.{Vec}
 use Rattle.std.specs.Vec.{with_items}
+use mir.Val.{bool_byte}
 use borrow.Rule.Slice.PartMut.{put_mid}
 use Rattle.fr_net.proofs.Counting.{weigh}
-use Rattle.fr_net.proofs.RowsInPlace.{starts_up}
-use Rattle.fr_net.specs.Tables.{HasRoomIn, IsTable, Table, has_none, room_between, room_of, row_between, row_of, table_of, with_row}
+use Rattle.fr_net.proofs.RowsInPlace.{length_put, starts_up}
+use Rattle.fr_net.specs.Tables.{ArePacked, HasRoomIn, IsTable, Table, has_none, room_between, room_of, row_between, row_of, table_of, with_row}
 use Rattle.fr_net.specs.declared.row_table.RowTable.TheInside.{Inside}
 use Rattle.fr_net.specs.declared.rows.First.{First}
 
@@ -32,12 +33,14 @@ shifted_rest xs ys i k d l le =
     let there : i + (k - i) ≡ k = omega arith in
     get_or-append_right (take i ys) (drop i xs) i k d (length-take-le i ys l) le ∙ get_or-drop i xs (k - i) d ∙ ap (λ m. get_or xs m d) there
 
--- a part written anew keeps how long the list is
-length_part_put : {X : Type 0} (at : ℕ) (xs part : List X) → at + length part ≤ length xs → length (put_mid at (length part) xs part) ≡ length xs
-length_part_put at xs part inside =
-    let n = length part in
-    let rest = drop n (drop at xs) in
-    omega (arith, length-append (take at xs) (part ++ rest), length-append part rest, length-take-le at xs (omega (arith, inside)), length-drop n (drop at xs), length-drop at xs)
+-- a test as a number
+pub bit_is : (b : Bool) → bool_byte b ≡ weigh b
+bit_is true = refl
+bit_is false = refl
+
+pub weigh-le : (b : Bool) → weigh b ≤ 1
+weigh-le true = omega arith
+weigh-le false = omega arith
 
 -- where the row of x starts, and where it ends
 abbrev pub start_of : Inside → ℕ → ℕ
@@ -116,7 +119,7 @@ module _ (t after : Inside) (x at end : ℕ) (part : List (ℕ × First)) (is : 
   end_stays y ne = ap (λ (xs : List ℕ). get_or xs y 0) w.ends ∙ get_or-set_other t.ends.items x y end 0 ne
 
   size_stays : length after.entries.items ≡ length t.entries.items
-  size_stays = ap length w.entries ∙ length_part_put at t.entries.items part (omega (arith, w.in_room, is.inside (x + 1)))
+  size_stays = ap length w.entries ∙ length_put at (length part) t.entries.items part (omega (arith, w.in_room, is.inside (x + 1))) refl
 
   row_stays : (y : ℕ) → y < rows_in t → y ≢ x → row_between after y ≡ row_between t y
   row_stays y l ne =
@@ -233,7 +236,7 @@ range_removed xs ys s p e low inside long is =
 pub part_put : {X : Type 0} (v : Vec X) (now part : List X) (at k : ℕ) → now ≡ v.items → length part ≡ k → at + k ≤ length v.items → (with_items v (put_mid at k now part)).items ≡ put_mid at (length part) v.items part
 part_put v now part at k is long inside =
     let same : put_mid at k now part ≡ put_mid at (length part) v.items part = ap (λ xs. put_mid at k xs part) is ∙ ap (λ n. put_mid at n v.items part) (sym long) in
-    with_items_is v (put_mid at k now part) (ap length same ∙ length_part_put at v.items part (omega (arith, inside, long)) ∙ sym v.ok.0) ∙ same
+    with_items_is v (put_mid at k now part) (ap length same ∙ length_put at (length part) v.items part (omega (arith, inside, long)) refl ∙ sym v.ok.0) ∙ same
 
 -- a row that has no entries is one whose end is where it starts
 none_is : (es : List (ℕ × First)) → has_none es ≡ eqb (length es) 0
@@ -283,7 +286,13 @@ entry_inserted t after table x p entry part is view lt inside room long is_part 
     let low : s + p ≤ e = omega (arith, inside, at.long, at.low) in
     let high : e < start_of t (x + 1) = omega (arith, room, at.long, at.room, at.low, at.high) in
     let w : IsWritten t after x (s + p) (e + 1) part = record {
-      starts = starts; ends = ends; entries = entries; behind_start = omega arith; in_room = omega (arith, long, low, high); low = omega (arith, at.low); high = omega (arith, high);
+      starts = starts;
+      ends = ends;
+      entries = entries;
+      behind_start = omega arith;
+      in_room = omega (arith, long, low, high);
+      low = omega (arith, at.low);
+      high = omega (arith, high);
     } in
     let here : row_between after x ≡ insert row p entry =
     row_put t after x (s + p) (e + 1) part is at.has w ∙ range_inserted t.entries.items part s p e entry low (omega (arith, high, at.inside)) long is_part ∙ ap (λ es. insert es p entry) at.is_row in
@@ -304,7 +313,13 @@ entry_removed t after table x p e part is view lt inside last long is_part start
     let low : s + p ≤ e = omega (arith, inside, at.long, at.low, last) in
     let high : e < start_of t (x + 1) = omega (arith, at.high, last) in
     let w : IsWritten t after x (s + p) e part = record {
-      starts = starts; ends = ends; entries = entries; behind_start = omega arith; in_room = omega (arith, long, low, high); low = omega (arith, low); high = omega (arith, high);
+      starts = starts;
+      ends = ends;
+      entries = entries;
+      behind_start = omega arith;
+      in_room = omega (arith, long, low, high);
+      low = omega (arith, low);
+      high = omega (arith, high);
     } in
     let back : e + 1 - 1 ≡ e = omega arith in
     let new = put_mid (s + p) (length part) t.entries.items part in
@@ -342,3 +357,50 @@ row_rewritten t after table x part is view lt long starts ends entries count =
     let here : row_between after x ≡ part = row_put t after x s e part is at.has w ∙ between-put_mid s (length part) t.entries.items part e (omega (arith, at.low, at.high, at.inside)) (omega (arith, long, at.long)) in
     let same : weigh (has_none (row_between t x)) ≡ weigh (has_none part) = ap weigh (none_by_length (row_between t x) part (ap length at.is_row ∙ sym long)) in
     row_shows t after table x s e part part is view lt w here (omega (arith, same, count))
+
+-- the numbers below one more that pass a test
+pub count-range_more : (p : ℕ → Bool) (n : ℕ) → count_by p (range_with_len 0 (n + 1)) ≡ count_by p (range_with_len 0 n) + weigh (p n)
+count-range_more p n =
+    let weight : ℕ → ℕ = λ k. weigh (p k) in
+    let itself : ℕ → ℕ = λ k. k in
+    ap (sum_by weight) (sym (map-id (range_with_len 0 (n + 1)))) ∙ sum_by-map-range_with_len_more weight itself 0 n n (omega arith) ∙ ap (λ xs. sum_by weight xs + weigh (p n)) (map-id (range_with_len 0 n))
+
+pub count-range-le : (p : ℕ → Bool) (n : ℕ) → count_by p (range_with_len 0 n) ≤ n
+count-range-le p n = omega (arith, count_by-le-length p (range_with_len 0 n), length-range_with_len 0 n)
+
+-- as many elements made of numbers pass as numbers do
+count-map-range : {X : Type 0} (p : X → Bool) (q : ℕ → Bool) (f : ℕ → X) (n : ℕ) → ((x : ℕ) → x < n → p (f x) ≡ q x) → count_by p (map f (range_with_len 0 n)) ≡ count_by q (range_with_len 0 n)
+count-map-range p q f zero same = refl
+count-map-range {X} p q f (suc n) same =
+    let weight : X → ℕ = λ x. weigh (p x) in
+    let next : n + 1 ≡ suc n = omega arith in
+    let here : weigh (p (f n)) ≡ weigh (q n) = ap weigh (same n (omega arith)) in
+    let rest = count-map-range p q f n (λ x l. same x (omega arith)) in
+    subst (λ k. count_by p (map f (range_with_len 0 k)) ≡ count_by q (range_with_len 0 k)) next
+    (omega (arith, sum_by-map-range_with_len_more weight f 0 n n (omega arith), count-range_more q n, here, rest))
+
+module _ (t : Inside) (packed : ArePacked t.starts.items t.entries.items) (ends : t.ends.items ≡ drop 1 t.starts.items) where
+  end_next : (x : ℕ) → end_of t x ≡ start_of t (x + 1)
+  end_next x =
+      let next : 1 + x ≡ x + 1 = omega arith in
+      ap (λ (xs : List ℕ). get_or xs x 0) ends ∙ get_or-drop 1 t.starts.items x 0 ∙ ap (start_of t) next
+
+  -- starts of rows that stand one behind the other make a table
+  pub packed_one_each : length t.starts.items ≡ rows_in t + 1
+  packed_one_each = omega (arith, ap length ends, length-drop 1 t.starts.items, packed.some)
+
+  pub packed_row : (x : ℕ) → x + 1 < length t.starts.items → row_of (table_of t) x ≡ slice_range t.entries.items (start_of t x) (start_of t (x + 1))
+  packed_row x l = row_shown t x (omega (arith, l, packed_one_each)) ∙ ap (slice_range t.entries.items (start_of t x)) (end_next x)
+
+  pub packed_table : t.empty ≡ count_by (λ x. eqb (start_of t x) (end_of t x)) (range_with_len 0 (rows_in t)) → IsTable t
+  packed_table count =
+      let up : (x : ℕ) → x < rows_in t → start_of t x ≤ end_of t x = λ x l. omega (arith, end_next x, packed.rise x (omega (arith, l, packed_one_each))) in
+      let none : (x : ℕ) → x < rows_in t → has_none (row_between t x) ≡ eqb (start_of t x) (end_of t x) = λ x l.
+      none_where (row_between t x) (start_of t x) (end_of t x) (omega (arith, up x l, length-between t.entries.items (start_of t x) (end_of t x) (omega (arith, end_next x, packed.inside (x + 1))))) in
+      record {
+        one_each = packed_one_each;
+        low = up;
+        high = λ x l. omega (arith, end_next x);
+        inside = packed.inside;
+        counted = count ∙ sym (count-map-range has_none (λ x. eqb (start_of t x) (end_of t x)) (row_between t) (rows_in t) none);
+      }

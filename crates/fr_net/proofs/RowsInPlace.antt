@@ -20,14 +20,14 @@ starts_up start n up x (suc k) le high =
     ]
 
 -- a part written anew keeps how long the list is
-pub length_put : {X : Type 0} (a b : ℕ) (xs ys : List X) → a ≤ b → b ≤ length xs → length ys ≡ b - a → length (put_mid a (b - a) xs ys) ≡ length xs
-length_put a b xs ys low high long =
+pub length_put : {X : Type 0} (a k : ℕ) (xs ys : List X) → a + k ≤ length xs → length ys ≡ k → length (put_mid a k xs ys) ≡ length xs
+length_put a k xs ys inside long =
     omega (
       arith,
-      length-append (take a xs) (ys ++ post_of a (b - a) xs),
-      length-append ys (post_of a (b - a) xs),
-      length-take-le a xs (omega arith),
-      length-drop (b - a) (drop a xs),
+      length-append (take a xs) (ys ++ post_of a k xs),
+      length-append ys (post_of a k xs),
+      length-take-le a xs (omega (arith, inside)),
+      length-drop k (drop a xs),
       length-drop a xs,
       long,
     )
@@ -43,7 +43,7 @@ row_written n k rows later starts old now new lt at is same others put y less =
     let low : a ≤ b = here.low in
     let high : b ≤ length old = here.high in
     let long : length now ≡ b - a = same ∙ sym (ap length here.is_row) ∙ length-between old a b high in
-    let size : length new ≡ length old = ap length put ∙ length_put a b old now low high long in
+    let size : length new ≡ length old = ap length put ∙ length_put a (b - a) old now (omega (arith, low, high)) long in
     let up : (x z : ℕ) → x ≤ z → z ≤ n → get_or starts x 0 ≤ get_or starts z 0 = starts_up (λ (x : ℕ). get_or starts x 0) n (λ x l. (at x l).low) in
     let before : (p q : ℕ) → q ≤ a → slice_range new p q ≡ slice_range old p q = λ p q l.
     ap (λ (es : List (ℕ × First)). slice_range es p q) put ∙ between_is (put_mid a (b - a) old now) p q ∙ ap (drop p) (take-put_mid_below a (b - a) old now q l (omega (arith, low, high))) ∙ sym (between_is old p q) in

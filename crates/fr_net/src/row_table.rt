@@ -48,9 +48,7 @@ fn empty_between(starts: &[usize], ends: &[usize]) -> usize
 {
     let mut empty = 0;
     for x in 0..ends.len() {
-        if starts[x] == ends[x] {
-            empty += 1;
-        }
+        empty += usize::from(starts[x] == ends[x]);
     }
     empty
 }

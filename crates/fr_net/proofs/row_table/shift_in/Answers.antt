@@ -1,4 +1,4 @@
-use Rattle.std.proofs.Common.{arith, get_or, length, suc, ◌+◌, ◌<◌, ◌∙◌, ◌∷◌, ◌≡◌}
+use Rattle.std.proofs.Common.{arith, length, suc, ◌+◌, ◌<◌, ◌∙◌, ◌∷◌, ◌≡◌}
 use Rattle.std.proofs.lemmas.List.{get_or_default}
 use Rattle.fr_net.proofs.RowTables.{shifted_more, shifted_rest}
 use Rattle.fr_net.proofs.row_table.shift_in.Goals as goal

@@ -1,11 +1,10 @@
-use Rattle.std.proofs.Common.{ap, arith, eqb, inl, inr, insert, length, refl, rules, set, slice_range, ◌+◌, ◌-◌, ◌<◌, ◌∙◌, ◌∷◌, ◌≡◌, ◌≤◌}
-use Rattle.std.proofs.lemmas.Bool.{cases_Bool}
+use Rattle.std.proofs.Common.{ap, arith, eqb, insert, length, refl, rules, set, slice_range, ◌+◌, ◌-◌, ◌<◌, ◌∙◌, ◌≡◌, ◌≤◌}
 use Rattle.std.proofs.lemmas.List.{get_or_read}
 use Rattle.std.proofs.lemmas.List.Edits.{length-between}
 use Rattle.std.specs.Vec.{with_item, with_items}
 use borrow.Rule.Slice.PartMut.{put_mid}
 use Rattle.fr_net.proofs.Counting.{weigh}
-use Rattle.fr_net.proofs.RowTables.{IsRowAt, ShowsRowWritten, end_of, entry_inserted, none_counted, none_where, part_put, row_at, start_of}
+use Rattle.fr_net.proofs.RowTables.{IsRowAt, ShowsRowWritten, bit_is, end_of, entry_inserted, none_counted, none_where, part_put, row_at, start_of}
 use Rattle.fr_net.specs.Tables.{row_between, row_of}
 use Rattle.fr_net.specs.declared.row_table.RowTable.TheInside.{Inside}
 use Rattle.fr_net.proofs.row_table.RowTable.insert.Goals as goal
@@ -77,8 +76,7 @@ index_mut-requires c = omega (arith, (at (goal.at.index_mut-requires c).After-se
 was_none : (c : After-from) → c.from.result ≡ weigh (eqb (start_of c.self.inside c.args.x) (end_of c.self.inside c.args.x))
 was_none c =
     let b = goal.at.After-from c in
-    rw (c.from.ensures, start b.After-index-start, end b.After-index-end)
-    (elim (cases_Bool (eqb (start_of c.self.inside c.args.x) (end_of c.self.inside c.args.x))) [ inl none ↦ rw none refl | inr some ↦ rw some refl ])
+    rw (c.from.ensures, start b.After-index-start, end b.After-index-end) (bit_is (eqb (start_of c.self.inside c.args.x) (end_of c.self.inside c.args.x)))
 
 counted : (c : After-from) → c.from.result ≤ c.self.inside.empty
 counted c =

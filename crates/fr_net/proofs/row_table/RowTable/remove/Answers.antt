@@ -1,11 +1,10 @@
-use Rattle.std.proofs.Common.{ap, arith, eqb, inl, inr, length, refl, remove, rules, set, slice_range, ◌+◌, ◌-◌, ◌<◌, ◌∙◌, ◌≡◌, ◌≤◌}
-use Rattle.std.proofs.lemmas.Bool.{cases_Bool}
+use Rattle.std.proofs.Common.{ap, arith, eqb, length, refl, remove, rules, slice_range, ◌+◌, ◌-◌, ◌<◌, ◌∙◌, ◌≡◌, ◌≤◌}
 use Rattle.std.proofs.lemmas.List.{get_or_read}
 use Rattle.std.proofs.lemmas.List.Edits.{length-between}
 use Rattle.std.specs.Vec.{with_item, with_items}
 use borrow.Rule.Slice.PartMut.{put_mid}
 use Rattle.fr_net.proofs.Counting.{weigh}
-use Rattle.fr_net.proofs.RowTables.{IsRowAt, ShowsRowWritten, end_of, entry_removed, none_few, part_put, row_at, start_of}
+use Rattle.fr_net.proofs.RowTables.{IsRowAt, ShowsRowWritten, bit_is, end_of, entry_removed, none_few, part_put, row_at, start_of, weigh-le}
 use Rattle.fr_net.specs.Tables.{row_of}
 use Rattle.fr_net.specs.declared.row_table.RowTable.TheInside.{Inside}
 use Rattle.fr_net.proofs.row_table.RowTable.remove.Goals as goal
@@ -75,16 +74,13 @@ pub index_mut-requires : goal.index_mut-requires
 index_mut-requires c = omega (arith, (at (goal.at.index_mut-requires c).After-self).has, c.self.inside.ends.ok.0)
 
 -- whether the row is empty now
-is_none : (c : After-from) → (c.from.result ≡ weigh (eqb (start_of c.self.inside c.args.x) (c.index.result.now - 1))) × (c.from.result ≤ 1)
-is_none c =
-    let b = goal.at.After-from c in
-    rw (c.from.ensures, start b.After-index-start)
-    (elim (cases_Bool (eqb (start_of c.self.inside c.args.x) (c.index.result.now - 1))) [ inl none ↦ rw none (refl, omega arith) | inr some ↦ rw some (refl, omega arith) ])
+is_none : (c : After-from) → c.from.result ≡ weigh (eqb (start_of c.self.inside c.args.x) (c.index.result.now - 1))
+is_none c = rw (c.from.ensures, start (goal.at.After-from c).After-index-start) (bit_is (eqb (start_of c.self.inside c.args.x) (c.index.result.now - 1)))
 
 pub overflow_add-self : goal.overflow_add-self
 overflow_add-self c =
     let few = none_few c.self.inside c.self.invariant in
-    omega (arith, few, (is_none (goal.at.overflow_add-self c).After-from).1, c.self.inside.ends.ok.0, c.self.inside.ends.ok.1, c.self.inside.ends.small)
+    omega (arith, few, is_none (goal.at.overflow_add-self c).After-from, weigh-le (eqb (start_of c.self.inside c.args.x) (c.index.result.now - 1)), c.self.inside.ends.ok.0, c.self.inside.ends.ok.1, c.self.inside.ends.small)
 
 -- the fields as they are then
 abbrev after : (c : After-from) → Inside
@@ -115,7 +111,7 @@ shows c =
     refl
     (part_put t.entries c.deref_mut.result.now new (c.index-start.result.now + p) (last + 1 - (c.index-start.result.now + p)) c.deref_mut.ensures.value size (omega (arith, l, h))
     ∙ ap (λ k. put_mid (k + p) (length new) t.entries.items new) s)
-    (ap (λ n. t.empty + n) (is_none c).0)
+    (ap (λ n. t.empty + n) (is_none c))
 
 pub invariant_of-self : goal.invariant_of-self
 invariant_of-self c = (shows (goal.at.invariant_of-self c).After-from).is

@@ -1,4 +1,4 @@
-use Rattle.std.proofs.Common.{ap, arith, drop, get_or, length, rules, slice_range, take, ◌-◌, ◌∙◌, ◌≡◌, ◌≤◌}
+use Rattle.std.proofs.Common.{ap, arith, length, rules, ◌≡◌, ◌≤◌}
 use Rattle.std.proofs.lemmas.List.{get_or_read}
 use Rattle.fr_net.proofs.RowTables.{IsRowAt, end_of, row_at, start_of}
 use Rattle.fr_net.proofs.row_table.RowTable.row.Goals as goal
