@@ -1,8 +1,14 @@
 -- The rows of a table, one of which is written anew.
-use Rattle.std.proofs.Common.{List, [], inl, inr, length, ℕ, ◌<◌, ◌∙◌, ◌≡◌, ◌≢◌}
+use Rattle.std.proofs.Common.{List, [], ap, count_by, get_or, inl, inr, length, refl, ℕ, ◌<◌, ◌∙◌, ◌≡◌, ◌≢◌}
 use Rattle.std.proofs.lemmas.Bool.{cases_eq}
 use Rattle.std.proofs.lemmas.List.{get_or-set_other, get_or-set_same, length-set}
-use Rattle.fr_net.specs.Tables.{Table, row_of, with_row}
+use Rattle.std.proofs.lemmas.List.FromFn.{fill_by_all}
+use Rattle.std.specs.List.{range_with_len}
+use Rattle.fr_net.proofs.Counting.{count-range_agree, count_by-map}
+use Rattle.fr_net.proofs.LaidOut.{none_by_length}
+use Rattle.fr_net.specs.KeptRows.{AreRows}
+use Rattle.fr_net.specs.Rows.{alone_count, has_no_neighbour, row}
+use Rattle.fr_net.specs.Tables.{Table, has_none, row_of, with_row}
 use Rattle.fr_net.specs.declared.rows.First.{First}
 
 pub row_of_with_row_at : (table : Table) (x : ℕ) (entries : List (ℕ × First)) → x < length table.rows → row_of (with_row table x entries) x ≡ entries
@@ -21,3 +27,10 @@ rows_with_row n k wanted table inside others y less =
       | inl e ↦ rw e (row_of_with_row_at table k (wanted k) inside)
       | inr ne ↦ row_of_with_row_beside table k y (wanted k) ne ∙ others y less ne
     ]
+
+-- the empty rows are those of the nodes that have no neighbour
+pub alone_counted : (n : ℕ) (links : List (ℕ × ℕ)) (table : Table) → AreRows n links table → count_by has_none table.rows ≡ alone_count n links
+alone_counted n links table rows =
+    ap (count_by has_none) (fill_by_all (row n links) table.rows n [] rows.one_each rows.shown)
+    ∙ count_by-map has_none (row n links) (range_with_len 0 n)
+    ∙ count-range_agree (λ x. has_none (row n links x)) (has_no_neighbour n links) 0 n (λ x low. none_by_length (row n links x))

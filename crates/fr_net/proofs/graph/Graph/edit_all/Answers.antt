@@ -21,9 +21,6 @@ still c =
 pub returns-in_err-trim-clause-graph : goal.returns-in_err-trim-clause-graph
 returns-in_err-trim-clause-graph c = graph_of_rows c.args.self.now c.trim.new.self c.trim.ensures.rows c.requires.graph
 
-pub returns-in_err-trim-clause-unchanged : goal.returns-in_err-trim-clause-unchanged
-returns-in_err-trim-clause-unchanged c = ap (with_links c.args.self.now.nodes) (shown_of_rows c.args.self.now c.trim.new.self c.trim.ensures.rows)
-
 pub loop-at-init : goal.loop-at-init
 loop-at-init c =
     let same = ap (with_links c.args.self.now.nodes) (shown_of_rows c.args.self.now c.trim.new.self c.trim.ensures.rows) in

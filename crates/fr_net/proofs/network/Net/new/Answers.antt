@@ -1,13 +1,16 @@
-use Rattle.std.proofs.Common.{arith, count_by, map, ◌≡◌, ◌≤◌}
+use Rattle.std.proofs.Common.{ap, arith, count_by, length, map, refl, ℕ, ◌+◌, ◌<◌, ◌∙◌, ◌≡◌, ◌≤◌}
+use Rattle.std.proofs.lemmas.List.{length-map}
 use Rattle.fr_net.proofs.Building.{below_sorted, cycle_stands, faultless_listed, rows_shown, single_from_rising, twice_stands}
 use Rattle.fr_net.proofs.Ordering.{in_order_order, in_order_permutes, tails_rise}
-use Rattle.fr_net.proofs.Remaking.{made_of, made_shown}
+use Rattle.fr_net.proofs.Remaking.{graph_of, network_of_rows}
 use Rattle.fr_net.specs.Faults.{IsFaultless, IsInRange}
-use Rattle.fr_net.specs.Halves.{AreHalvesRising, AreStarts, entry_of, is_at}
+use Rattle.fr_net.specs.Halves.{AreHalvesRising, ShowsRow, entry_of, is_at}
+use Rattle.fr_net.specs.KeptRows.{AreRows}
 use Rattle.fr_net.specs.Limits.{IsWithinLimits}
 use Rattle.fr_net.specs.Links.{HasNoSelfLink, IsAcyclic, IsCycle}
 use Rattle.fr_net.specs.Order.{in_order}
 use Rattle.fr_net.proofs.network.Net.new.Goals as goal
+use Rattle.fr_net.proofs.network.Net.new.Goals.{In_ok-entries, In_ok-packed}
 
 pub returns-in-Some-first_twice-clause-refused : goal.returns-in-Some-first_twice-clause-refused
 returns-in-Some-first_twice-clause-refused c _ =
@@ -49,8 +52,9 @@ returns-in-Some-2-clause-refused c _ =
       cycle_stands listed (in_order listed) c.in-Some-2.walk.items (in_order_permutes listed) found,
     )
 
-pub invariant_of-result : goal.invariant_of-result
-invariant_of-result c =
+-- the links are without a fault, and stand in the rows between the starts
+clear : (c : In_ok-entries) → IsFaultless c.args.nodes c.args.links.now
+clear c =
     let n = c.args.nodes in
     let listed = c.args.links.now in
     let halves = c.in_ok-halves.halves.items in
@@ -61,23 +65,41 @@ invariant_of-result c =
     let rising : AreHalvesRising halves = rw c.deref.ensures.value at c.in_default-first_twice.ensures.none in
     let made : c.in_ok-sorted.sorted.items ≡ in_order listed = c.in_ok-sorted.ensures listed (rw c.deref-2.ensures.value both) in
     let acyclic : IsAcyclic (in_order listed) = rw (c.deref-3.ensures.value, made, c.in_default-2.is) at c.in_ok-walk.ensures in
-    let faultless : IsFaultless n listed = faultless_listed n listed (in_order listed) halves limits range clear both rising (in_order_permutes listed) acyclic in
-    let starts : AreStarts n halves c.in_ok-halves.starts.items = c.in_ok-halves.ensures.starts in
+    faultless_listed n listed (in_order listed) halves limits range clear both rising (in_order_permutes listed) acyclic
+
+shows : (c : In_ok-entries) (x : ℕ) → x < c.args.nodes → ShowsRow c.args.nodes c.args.links.now c.in_ok-halves.starts.items c.in_ok-entries.entries.items x
+shows c =
+    let halves = c.in_ok-halves.halves.items in
+    let rising : AreHalvesRising halves = rw c.deref.ensures.value at c.in_default-first_twice.ensures.none in
     let entries : c.in_ok-entries.entries.items ≡ map entry_of halves = rw c.deref-4.ensures.value at c.in_ok-entries.ensures in
-    rw entries
-    (made_shown n listed c.in_ok-sorted.sorted.items c.in_ok-halves.starts.items (map entry_of halves) faultless made starts.one_each
-    (rows_shown n listed halves c.in_ok-halves.starts.items faultless.is_net both rising starts))
+    rw entries (rows_shown c.args.nodes c.args.links.now halves c.in_ok-halves.starts.items (clear c).is_net c.in_ok-halves.ensures.same rising c.in_ok-halves.ensures.starts)
+
+rows : (c : In_ok-packed) → AreRows c.args.nodes c.args.links.now c.in_ok-packed.field-0
+rows c =
+    let at = (goal.at.In_ok-packed c).In_ok-entries in
+    let starts = c.in_ok-halves.ensures.starts.one_each in
+    record {
+      one_each = omega (arith, c.in_ok-packed.ensures.one_each, starts);
+      shown = λ x less. c.in_ok-packed.ensures.rows x (omega (arith, less, starts)) ∙ (shows at x less).is_row;
+    }
+
+pub packed-requires : goal.packed-requires
+packed-requires c =
+    let at = (goal.at.packed-requires c).In_ok-entries in
+    let starts = c.in_ok-halves.ensures.starts in
+    let entries : c.in_ok-entries.entries.items ≡ map entry_of c.in_ok-halves.halves.items = rw c.deref-4.ensures.value at c.in_ok-entries.ensures in
+    record {
+      some = omega (arith, starts.one_each);
+      rise = λ x less. (shows at x (omega (arith, less, starts.one_each))).low;
+      inside = λ x. omega (arith, starts.inside x, ap length entries, length-map c.in_ok-halves.halves.items entry_of);
+    }
+
+pub invariant_of-result : goal.invariant_of-result
+invariant_of-result c =
+    let at = goal.at.invariant_of-result c in
+    graph_of _ c.args.links.now (clear at.In_ok-entries) refl (rows at.In_ok-packed)
 
 pub returns-clause-ok : goal.returns-clause-ok
 returns-clause-ok c =
-    let n = c.args.nodes in
-    let listed = c.args.links.now in
-    let halves = c.in_ok-halves.halves.items in
-    let both = c.in_ok-halves.ensures.same in
-    let limits : IsWithinLimits n listed = record { nodes_few = omega arith; links_few = omega arith } in
-    let range : IsInRange n listed = c.in_default.ensures.none in
-    let clear : HasNoSelfLink listed = c.in_default-first_self_link.ensures.none in
-    let rising : AreHalvesRising halves = rw c.deref.ensures.value at c.in_default-first_twice.ensures.none in
-    let made : c.in_ok-sorted.sorted.items ≡ in_order listed = c.in_ok-sorted.ensures listed (rw c.deref-2.ensures.value both) in
-    let acyclic : IsAcyclic (in_order listed) = rw (c.deref-3.ensures.value, made, c.in_default-2.is) at c.in_ok-walk.ensures in
-    made_of n listed c.in_ok-sorted.sorted.items (faultless_listed n listed (in_order listed) halves limits range clear both rising (in_order_permutes listed) acyclic) made
+    let at = goal.at.returns-clause-ok c in
+    network_of_rows c.args.nodes c.args.links.now c.in_ok-packed.field-0 (clear at.In_ok-entries) (rows at.In_ok-packed)
