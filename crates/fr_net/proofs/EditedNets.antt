@@ -1,5 +1,5 @@
 -- The rows of a network with a link cut or added, in a table.
-use Rattle.std.proofs.Common.{Contains, List, ap, arith, cond, eq-eqb, eqb, false, get_or, inl, inr, length, map, ne_eqb, refl, subst, sym, ℕ, ◌+◌, ◌<◌, ◌∙◌, ◌≡◌, ◌≢◌, ◌≤◌, ◌⊎◌}
+use Rattle.std.proofs.Common.{Contains, List, ap, arith, eq-eqb, false, get_or, inl, inr, length, map, ne_eqb, refl, subst, sym, ℕ, ◌<◌, ◌∙◌, ◌≡◌, ◌≢◌}
 use Rattle.std.specs.Prelude.{not}
 use Rattle.std.specs.List.{insert, remove}
 use Rattle.std.specs.List.Sorted.{IsStrictlyIncreasing}
@@ -88,12 +88,12 @@ rows_cut net u v j k table one two shown at_u once at_v twice =
         | inl e ↦ rw e (
             row_of_with_row_at one v (remove (row_of one v) k) (omega (arith, long_one, below.1))
             ∙ ap (λ (es : List (ℕ × First)). remove es k) kept_v ∙ sym cut_v ∙ ap (λ (ls : List (ℕ × ℕ)). row n ls v) (without_back u v links)
-          )
+            )
         | inr nv ↦ row_of_with_row_beside one v z (remove (row_of one v) k) nv ∙ ap (λ (t : Table). row_of t z) once ∙ elim (cases_eq z u) [
           | inl e ↦ rw e (
               row_of_with_row_at table u (remove (row_of table u) j) (omega (arith, shown.rows.one_each, below.0))
               ∙ ap (λ (es : List (ℕ × First)). remove es j) row_u ∙ sym cut_u
-            )
+              )
           | inr nu ↦ row_of_with_row_beside table u z (remove (row_of table u) j) nu ∙ shown.rows.shown z less ∙ sym (row_cut n links u v z ∙ row_stays u v z (row n links z) nu nv)
         ]
       ];
@@ -128,12 +128,12 @@ rows_added net u v j k table one two shown at_u once at_v twice =
         | inl e ↦ rw e (
             row_of_with_row_at one v (insert (row_of one v) k (u, Inward)) (omega (arith, long_one, nodes.head))
             ∙ ap (λ (es : List (ℕ × First)). insert es k (u, Inward)) kept_v ∙ sym (put_head n links u v k nodes place_v)
-          )
+            )
         | inr nv ↦ row_of_with_row_beside one v z (insert (row_of one v) k (u, Inward)) nv ∙ ap (λ (t : Table). row_of t z) once ∙ elim (cases_eq z u) [
           | inl e ↦ rw e (
               row_of_with_row_at table u (insert (row_of table u) j (v, Outward)) (omega (arith, shown.rows.one_each, nodes.tail))
               ∙ ap (λ (es : List (ℕ × First)). insert es j (v, Outward)) row_u ∙ sym (put_tail n links u v j nodes place_u)
-            )
+              )
           | inr nu ↦ row_of_with_row_beside table u z (insert (row_of table u) j (v, Outward)) nu ∙ shown.rows.shown z less
               ∙ sym (row_added n links u v z nodes.tail nodes.head nodes.apart nodes.free ∙ cond-false _ _ _ (ne_eqb z u nu) ∙ cond-false _ _ _ (ne_eqb z v nv))
         ]

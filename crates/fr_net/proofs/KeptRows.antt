@@ -1,11 +1,11 @@
 -- The rows of a table, one of which is written anew.
-use Rattle.std.proofs.Common.{List, [], ap, count_by, get_or, inl, inr, length, refl, ℕ, ◌<◌, ◌∙◌, ◌≡◌, ◌≢◌}
+use Rattle.std.proofs.Common.{List, [], ap, count_by, inl, inr, length, ℕ, ◌<◌, ◌∙◌, ◌≡◌, ◌≢◌}
 use Rattle.std.proofs.lemmas.Bool.{cases_eq}
 use Rattle.std.proofs.lemmas.List.{get_or-set_other, get_or-set_same, length-set}
 use Rattle.std.proofs.lemmas.List.FromFn.{fill_by_all}
 use Rattle.std.specs.List.{range_with_len}
 use Rattle.fr_net.proofs.Counting.{count-range_agree, count_by-map}
-use Rattle.fr_net.proofs.LaidOut.{none_by_length}
+use Rattle.fr_net.proofs.RowTables.{none_is}
 use Rattle.fr_net.specs.KeptRows.{AreRows}
 use Rattle.fr_net.specs.Rows.{alone_count, has_no_neighbour, row}
 use Rattle.fr_net.specs.Tables.{Table, has_none, row_of, with_row}
@@ -33,4 +33,4 @@ pub alone_counted : (n : ℕ) (links : List (ℕ × ℕ)) (table : Table) → Ar
 alone_counted n links table rows =
     ap (count_by has_none) (fill_by_all (row n links) table.rows n [] rows.one_each rows.shown)
     ∙ count_by-map has_none (row n links) (range_with_len 0 n)
-    ∙ count-range_agree (λ x. has_none (row n links x)) (has_no_neighbour n links) 0 n (λ x low. none_by_length (row n links x))
+    ∙ count-range_agree (λ x. has_none (row n links x)) (has_no_neighbour n links) 0 n (λ x low. none_is (row n links x))

@@ -1,5 +1,5 @@
 -- Rows laid one behind the other, each with room behind it.
-use Rattle.std.proofs.Common.{Bool, IsTrue, List, [], ap, arith, cond, count_by, drop, get_or, inl, inr, length, length-append, map, ne_eqb, refl, slice_range, sym, take, ℕ, ◌++◌, ◌+◌, ◌-◌, ◌<◌, ◌==◌, ◌∙◌, ◌∷◌, ◌≡◌, ◌≤◌}
+use Rattle.std.proofs.Common.{Bool, IsTrue, List, [], ap, arith, cond, count_by, drop, get_or, inl, inr, length, length-append, map, refl, slice_range, sym, take, ℕ, ◌++◌, ◌+◌, ◌-◌, ◌<◌, ◌∙◌, ◌∷◌, ◌≡◌, ◌≤◌}
 use Rattle.std.specs.List.{range_with_len}
 use Rattle.std.proofs.lemmas.Bool.{cases_eq, cases_lt}
 use Rattle.std.proofs.lemmas.List.{drop_at, get_or_append_left, get_or_past, get_or_push, length-take-le, length_push, same_lists, take-append-le, take-take, take_all, take_at, take_more}
@@ -134,11 +134,6 @@ table_behind t u row rest room is to =
           to.empty ∙ ap (λ k. k + count_by has_none (row ∷ [])) is.counted
           ∙ sym (ap (count_by has_none) (rows_behind t u row rest room is to) ∙ sum_by-append (λ r. cond (has_none r) 1 0) (table_of t).rows (row ∷ []));
     }
-
--- a row counts as an empty one where it has no entry
-pub none_by_length : (row : List (ℕ × First)) → has_none row ≡ (length row == 0)
-none_by_length [] = refl
-none_by_length (entry ∷ rest) = sym (ne_eqb (length (entry ∷ rest)) 0 (λ e. omega (arith, e)))
 
 -- the rows below x are laid out in another table, with room for more and, if room is kept, with no less than they had
 pub record AreLaidOut (before : Table) (keeps_room : Bool) (x : ℕ) (after : Table) : Type 0 where

@@ -1,18 +1,18 @@
 -- Rows that stand in one list, each between its start and its end, and one of which changes where it stands.
 use Rattle.std.proofs.Common.{Bool, List, [], ap, arith, count_by, drop, eq-eqb, eqb, false, get_or, inl, inr, length, length-drop, map, ne_eqb, refl, set, slice_range, subst, suc, sym, take, true, zero, ℕ, ◌++◌, ◌+◌, ◌-◌, ◌<◌, ◌∙◌, ◌∷◌, ◌≡◌, ◌≢◌, ◌≤◌}
 use Rattle.std.proofs.lemmas.Bool.{cases_eq, cases_lt}
-use Rattle.std.proofs.lemmas.List.{append_assoc, drop-append-le, drop-drop, drop-take, drop_more, get_or-append_right, get_or-drop, get_or-set_other, get_or-set_same, length-set, length-take-le, map-id, same_lists, set-get_or, set_at, take-append-le, take-take, take_all, take_more, with_items_is}
+use Rattle.std.proofs.lemmas.List.{append_assoc, drop-append-le, drop-drop, drop-take, drop_more, get_or-append_right, get_or-drop, get_or-set_other, get_or-set_same, length-set, length-take-le, same_lists, set-get_or, set_at, take-append-le, take-take, take_all, take_more, with_items_is}
 use Rattle.std.proofs.lemmas.List.Edits.{length-between, length-insert, length-remove}
-use Rattle.std.proofs.lemmas.List.FromFn.{get_or-map-range_with_len, length-map-range_with_len, length-range_with_len, sum_by-map-range_with_len_more}
+use Rattle.std.proofs.lemmas.List.FromFn.{get_or-map-range_with_len, length-map-range_with_len, sum_by-map-range_with_len_more}
 use Rattle.std.proofs.lemmas.List.Sums.{count_by-le-length, get_or-le-sum_by, sum_by-set}
 use Rattle.std.proofs.lemmas.Slice.{between-put_mid, between_is, drop-put_mid, take-put_mid_below}
 use Rattle.std.proofs.Math.Seq.{take-append-add}
-use Rattle.std.specs.List.{insert, range_with_len, remove, sum_by}
+use Rattle.std.specs.List.{insert, range_with_len, remove}
 use Rattle.std.specs.Global.{Vec}
 use Rattle.std.specs.Vec.{with_items}
 use mir.Val.{bool_byte}
 use borrow.Rule.Slice.PartMut.{put_mid}
-use Rattle.fr_net.proofs.Counting.{weigh}
+use Rattle.fr_net.proofs.Counting.{count-range_more, weigh}
 use Rattle.fr_net.proofs.RowsInPlace.{length_put, starts_up}
 use Rattle.fr_net.specs.Tables.{ArePacked, HasRoomIn, IsTable, Table, has_none, room_between, room_of, row_between, row_of, table_of, with_row}
 use Rattle.fr_net.specs.declared.row_table.RowTable.TheInside.{Inside}
@@ -239,7 +239,7 @@ part_put v now part at k is long inside =
     with_items_is v (put_mid at k now part) (ap length same ∙ length_put at (length part) v.items part (omega (arith, inside, long)) refl ∙ sym v.ok.0) ∙ same
 
 -- a row that has no entries is one whose end is where it starts
-none_is : (es : List (ℕ × First)) → has_none es ≡ eqb (length es) 0
+pub none_is : (es : List (ℕ × First)) → has_none es ≡ eqb (length es) 0
 none_is [] = refl
 none_is (e ∷ es) = sym (ne_eqb (length (e ∷ es)) 0 (λ q. omega (arith, q)))
 
@@ -357,16 +357,6 @@ row_rewritten t after table x part is view lt long starts ends entries count =
     let here : row_between after x ≡ part = row_put t after x s e part is at.has w ∙ between-put_mid s (length part) t.entries.items part e (omega (arith, at.low, at.high, at.inside)) (omega (arith, long, at.long)) in
     let same : weigh (has_none (row_between t x)) ≡ weigh (has_none part) = ap weigh (none_by_length (row_between t x) part (ap length at.is_row ∙ sym long)) in
     row_shows t after table x s e part part is view lt w here (omega (arith, same, count))
-
--- the numbers below one more that pass a test
-pub count-range_more : (p : ℕ → Bool) (n : ℕ) → count_by p (range_with_len 0 (n + 1)) ≡ count_by p (range_with_len 0 n) + weigh (p n)
-count-range_more p n =
-    let weight : ℕ → ℕ = λ k. weigh (p k) in
-    let itself : ℕ → ℕ = λ k. k in
-    ap (sum_by weight) (sym (map-id (range_with_len 0 (n + 1)))) ∙ sum_by-map-range_with_len_more weight itself 0 n n (omega arith) ∙ ap (λ xs. sum_by weight xs + weigh (p n)) (map-id (range_with_len 0 n))
-
-pub count-range-le : (p : ℕ → Bool) (n : ℕ) → count_by p (range_with_len 0 n) ≤ n
-count-range-le p n = omega (arith, count_by-le-length p (range_with_len 0 n), length-range_with_len 0 n)
 
 -- as many elements made of numbers pass as numbers do
 count-map-range : {X : Type 0} (p : X → Bool) (q : ℕ → Bool) (f : ℕ → X) (n : ℕ) → ((x : ℕ) → x < n → p (f x) ≡ q x) → count_by p (map f (range_with_len 0 n)) ≡ count_by q (range_with_len 0 n)

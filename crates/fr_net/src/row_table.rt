@@ -193,7 +193,7 @@ impl RowTable {
         requires { x < length self.now.rows }
         ensures { result.now ≡ row_of self.now x }
     {
-        &self.entries[self.starts[x as usize]..self.ends[x as usize]]
+        self.row_at(x as usize)
     }
 
     /// How many rows are empty. It takes the same time for each table.

@@ -1,6 +1,6 @@
 //! Rows and links as counts turn them, each where it stands.
 
-ghost use Rattle.std.specs.Prelude.{◌≡◌, ℕ, ◌<◌, ◌+◌, ◌++◌, ◌↔◌, length, slice_index, map, All, Contains, EachIndex, IfOk, OnOk, IsTrue};
+ghost use Rattle.std.specs.Prelude.{◌≡◌, ℕ, ◌<◌, ◌+◌, ◌++◌, length, slice_index, map, All, Contains, IfOk, OnOk};
 ghost use Rattle.std.specs.List.Sorted.{IsStrictlyIncreasing};
 ghost use Rattle.fr_net.specs.Network.{Network};
 ghost use Rattle.fr_net.specs.KeptRows.{links_in};
@@ -11,13 +11,6 @@ use crate::edits::place_in_row;
 use crate::row_table::RowTable;
 use crate::rows::First;
 use std::alloc::{AllocError, Global};
-
-/// Whether no node has turned.
-pub(crate) fn has_none_turned(counts: &[u64]) -> bool
-    ensures { IsTrue result ↔ EachIndex counts.now (λ x. slice_index counts.now x ≡ 0) }
-{
-    counts.iter().all(|count| *count == 0)
-}
 
 /// An entry of the row of `x`, with its link as the counts turn it.
 fn turned_at(entry: (u32, First), x: u32, counts: &[u64]) -> (u32, First)

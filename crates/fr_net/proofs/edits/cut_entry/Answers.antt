@@ -1,4 +1,3 @@
-use Rattle.std.proofs.Common.{ap, arith, get_or, length, ℕ, ◌<◌, ◌≡◌}
 use Rattle.fr_net.proofs.PartTurned.{neighbour_in, rises_from}
 use Rattle.fr_net.proofs.Places.{neighbour_at, rises_by}
 use Rattle.fr_net.specs.Tables.{row_of}

@@ -1,6 +1,5 @@
-use Rattle.std.proofs.Common.{List, ap, arith, length, map, sym, ℕ, ◌<◌, ◌∙◌, ◌≡◌, ◌≢◌}
-use Rattle.std.specs.List.{Contains, remove}
-use Rattle.std.specs.List.Sorted.{IsStrictlyIncreasing}
+use Rattle.std.proofs.Common.{ap, arith, ℕ, ◌<◌, ◌∙◌, ◌≡◌, ◌≢◌}
+use Rattle.std.specs.List.{remove}
 use Rattle.fr_net.proofs.EditedNets.{end_listed, joined_apart, joins_back, length_beside, row_beside, row_rising, rows_cut}
 use Rattle.fr_net.proofs.Linking.{joined_below}
 use Rattle.fr_net.proofs.Neighbours.{neighbours_rise}
@@ -8,7 +7,6 @@ use Rattle.fr_net.specs.KeptRows.{ShowsLink}
 use Rattle.fr_net.specs.Network.{Network}
 use Rattle.fr_net.specs.Rows.{row}
 use Rattle.fr_net.specs.Tables.{Table, row_of}
-use Rattle.fr_net.specs.declared.rows.First.{First}
 use Rattle.fr_net.proofs.edits.cut_from_rows.Goals as goal
 use Rattle.fr_net.proofs.edits.cut_from_rows.Goals.{After-cut_entry}
 

@@ -1,10 +1,9 @@
-use Rattle.std.proofs.Common.{List, ap, arith, length, ℕ, ◌<◌, ◌∙◌, ◌≡◌}
+use Rattle.std.proofs.Common.{ap, arith, length, ◌∙◌, ◌≡◌}
 use Rattle.std.specs.List.{insert}
 use Rattle.fr_net.proofs.EditedNets.{length_beside, row_beside, row_rising, rows_added}
 use Rattle.fr_net.proofs.Neighbours.{neighbours_rise}
 use Rattle.fr_net.specs.Rows.{row}
 use Rattle.fr_net.specs.Tables.{Table, room_of, row_of}
-use Rattle.fr_net.specs.declared.rows.First.{First}
 use Rattle.fr_net.specs.declared.rows.First.TheVariants.{Outward}
 use Rattle.fr_net.proofs.edits.put_in_rows.Goals as goal
 use Rattle.fr_net.proofs.edits.put_in_rows.Goals.{After-put_entry}

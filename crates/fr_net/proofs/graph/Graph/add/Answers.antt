@@ -2,7 +2,7 @@ use Rattle.std.proofs.Common.{ap, arith, length, subst, sym}
 use Rattle.fr_net.proofs.AddedLinks.{added}
 use Rattle.fr_net.proofs.Joining.{cycle_fault, no_path_free, path_closes}
 use Rattle.fr_net.proofs.Undoing.{IsPut, put_with_room}
-use Rattle.fr_net.specs.Graph.{IsEdited, shown}
+use Rattle.fr_net.specs.Graph.{shown}
 use Rattle.fr_net.specs.Halves.{AreUnjoined}
 use Rattle.fr_net.specs.Links.{IsAcyclic}
 use Rattle.fr_net.specs.Network.{Network}

@@ -1,4 +1,4 @@
-use Rattle.std.proofs.Common.{List, arith, length, sym, ◌+◌, ◌≡◌}
+use Rattle.std.proofs.Common.{arith, length, sym, ◌+◌, ◌≡◌}
 use Rattle.std.proofs.lemmas.List.{length_push}
 use Rattle.fr_net.proofs.AddedLinks.{added, faultless_added}
 use Rattle.fr_net.proofs.Remaking.{graph_of, network_of_rows}

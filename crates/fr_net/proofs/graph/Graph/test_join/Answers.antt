@@ -1,6 +1,5 @@
-use Rattle.std.proofs.Common.{arith, inl}
+use Rattle.std.proofs.Common.{arith}
 use Rattle.std.proofs.lemmas.List.{length_push}
-use Rattle.std.proofs.lemmas.List.Elements.{Contains-push}
 use Rattle.fr_net.proofs.AddedLinks.{added, out_of_range_added}
 use Rattle.fr_net.specs.Graph.{shown}
 use Rattle.fr_net.specs.Limits.{IsWithinLimits}

@@ -1,4 +1,4 @@
-use Rattle.std.proofs.Common.{List, arith, length, subst, sym, ◌≡◌}
+use Rattle.std.proofs.Common.{List, arith, subst, sym, ◌≡◌}
 use Rattle.fr_net.proofs.Undoing.{last_done, no_steps, rooms_kept, still_done}
 use Rattle.fr_net.specs.Graph.{AreDone, CanUndo, HasRoomFor, IsDone, shown}
 use Rattle.fr_net.specs.Network.{Network}

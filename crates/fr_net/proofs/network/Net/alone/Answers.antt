@@ -1,4 +1,4 @@
-use Rattle.std.proofs.Common.{ap, arith, count_by, ◌∙◌, ◌≡◌, ◌≤◌}
+use Rattle.std.proofs.Common.{ap, arith, ◌∙◌}
 use Rattle.std.proofs.lemmas.List.Sums.{count_by-le-length}
 use Rattle.fr_net.proofs.KeptRows.{alone_counted}
 use Rattle.fr_net.specs.Graph.{shown}

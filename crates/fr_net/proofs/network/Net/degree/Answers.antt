@@ -1,4 +1,4 @@
-use Rattle.std.proofs.Common.{ap, arith, length, ◌≡◌}
+use Rattle.std.proofs.Common.{ap, arith, length}
 use Rattle.fr_net.proofs.Neighbours.{length-row-le}
 use Rattle.fr_net.specs.Graph.{shown}
 use Rattle.fr_net.proofs.network.Net.degree.Goals as goal

@@ -1,4 +1,4 @@
-use Rattle.std.proofs.Common.{ap, arith, count_by, length, map, refl, ℕ, ◌+◌, ◌<◌, ◌∙◌, ◌≡◌, ◌≤◌}
+use Rattle.std.proofs.Common.{ap, arith, count_by, length, map, refl, ℕ, ◌<◌, ◌∙◌, ◌≡◌, ◌≤◌}
 use Rattle.std.proofs.lemmas.List.{length-map}
 use Rattle.fr_net.proofs.Building.{below_sorted, cycle_stands, faultless_listed, rows_shown, single_from_rising, twice_stands}
 use Rattle.fr_net.proofs.Ordering.{in_order_order, in_order_permutes, tails_rise}

@@ -1,7 +1,7 @@
-use Rattle.std.proofs.Common.{[], ap, arith, inl, inr, length, ℕ, ◌≡◌}
+use Rattle.std.proofs.Common.{[], ap, arith, inl, inr, length, ◌≡◌}
 use Rattle.std.proofs.lemmas.Bool.{cases_lt}
 use Rattle.std.proofs.lemmas.List.{get_or_past}
-use Rattle.fr_net.proofs.RowTables.{IsRowAt, row_at}
+use Rattle.fr_net.proofs.RowTables.{row_at}
 use Rattle.fr_net.specs.Tables.{row_of}
 use Rattle.fr_net.proofs.row_table.RowTable.room_law.Goals as goal
 

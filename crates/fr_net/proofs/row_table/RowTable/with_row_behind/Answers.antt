@@ -2,7 +2,8 @@ use Rattle.std.proofs.Common.{List, [], add-zero, ap, arith, cond, count_by, fal
 use Rattle.std.proofs.lemmas.List.{append_assoc, get_or_read, length-replicate, length-take-le, take_all}
 use Rattle.std.proofs.lemmas.List.Sums.{count_by-le-length}
 use Rattle.std.proofs.lemmas.List.FromFn.{length-map-range_with_len}
-use Rattle.fr_net.proofs.LaidOut.{IsBehind, rooms_behind, rows_behind, none_by_length, start_behind, table_behind}
+use Rattle.fr_net.proofs.RowTables.{none_is}
+use Rattle.fr_net.proofs.LaidOut.{IsBehind, rooms_behind, rows_behind, start_behind, table_behind}
 use Rattle.fr_net.specs.Tables.{has_none, row_between, table_of}
 use Rattle.fr_net.specs.declared.row_table.RowTable.TheInside.{Inside}
 use Rattle.fr_net.specs.declared.rows.First.{First}
@@ -49,10 +50,10 @@ entries_are c =
 empty_is : (c : Joined-is_empty) → c.if-is_empty.empty ≡ c.self.inside.empty + count_by has_none (c.args.row.now ∷ [])
 empty_is c = elim c.if-is_empty.branch [
   | then-is_empty w ↦
-      let none : has_none c.args.row.now ≡ true = none_by_length c.args.row.now ∙ sym c.is_empty.ensures ∙ w.if-is_empty.true in
+      let none : has_none c.args.row.now ≡ true = none_is c.args.row.now ∙ sym c.is_empty.ensures ∙ w.if-is_empty.true in
       w.empty-is ∙ ap (λ b. c.self.inside.empty + (0 + cond b 1 0)) (sym none)
   | else-is_empty w ↦
-      let some : has_none c.args.row.now ≡ false = none_by_length c.args.row.now ∙ sym c.is_empty.ensures ∙ w.if-is_empty.false in
+      let some : has_none c.args.row.now ≡ false = none_is c.args.row.now ∙ sym c.is_empty.ensures ∙ w.if-is_empty.false in
       w.empty-is ∙ sym (add-zero c.self.inside.empty) ∙ ap (λ b. c.self.inside.empty + (0 + cond b 1 0)) (sym some)
 ]
 
