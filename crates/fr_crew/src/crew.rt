@@ -183,13 +183,15 @@ fn run_threads<J: Naming + Send + Sync, R: Threads + Wait, G: Gate + Sync>(
 }
 
 /// Lets all workers work at once, each in a thread of its own but for the last, which works on this one, and gives them back
-/// in their order, with their round. Their deques have room for all nodes before the first thread is started. Where a thread
-/// cannot be started, those that were started are joined first, and the last worker does nothing.
+/// in their order, with their round. At first they are dealt the nodes of `from`, where it is given, and else all. Their deques
+/// have room for all nodes before the first thread is started. Where a thread cannot be started, those that were started are
+/// joined first, and the last worker does nothing.
 pub(crate) fn run_crew<J: Naming + Send + Sync, R: Threads + Wait, G: Gate + Sync>(
     rt: &R,
     alloc: Global,
     round: Round,
     workers: Vec<Worker>,
+    from: Option<&[u32]>,
     plan: &Plan,
     gate: &G,
 ) -> Result<(Round, Vec<Worker>), CrewFault>
@@ -206,7 +208,7 @@ pub(crate) fn run_crew<J: Naming + Send + Sync, R: Threads + Wait, G: Gate + Syn
         mut members,
         stealers,
     } = equip::<J>(alloc, workers, room, plan.seed())?;
-    deal(&round, &mut members);
+    deal(&round, &mut members, from);
     let job = Job {
         round,
         stealers,

@@ -45,19 +45,50 @@ pub(crate) fn equip<J: Naming>(
     Ok(Members { members, stealers })
 }
 
-/// Deals the first candidates: all nodes with a link but the destination, in rising order, each to the member whose number
-/// is that of the node modulo the number of members.
-pub(crate) fn deal<J: Naming>(round: &Round, members: &mut [Member<J>])
+/// Deals a node to the member whose turn it is, where the node is a candidate: it has a link, and is not the destination.
+fn deal_node<J: Naming>(round: &Round, members: &mut [Member<J>], turn: usize, x: u32)
     requires named { round.now.setup ≡ J.setup }
     requires some { 0 < length members.old }
     ensures own { (own : OpenRound) → Each (IsOwnMember own) members.old → Each (IsOwnMember own) members.new }
 {
     let net = round.net();
-    let dest = round.dest();
-    for x in 0..net.nodes() {
-        if x != dest && net.degree(x) > 0 {
-            let to = x as usize % members.len();
-            members[to].deque.put(x);
-        }
+    if x < net.nodes() && x != round.dest() && net.degree(x) > 0 {
+        let to = turn % members.len();
+        members[to].deque.put(x);
+    }
+}
+
+/// Deals all candidates in rising order, each to the member whose number is that of the node modulo the number of members.
+fn deal_all<J: Naming>(round: &Round, members: &mut [Member<J>])
+    requires named { round.now.setup ≡ J.setup }
+    requires some { 0 < length members.old }
+    ensures own { (own : OpenRound) → Each (IsOwnMember own) members.old → Each (IsOwnMember own) members.new }
+{
+    for x in 0..round.net().nodes() {
+        deal_node(round, members, x as usize, x);
+    }
+}
+
+/// Deals the candidates among these nodes, to the members in turn.
+fn deal_each<J: Naming>(round: &Round, members: &mut [Member<J>], nodes: &[u32])
+    requires named { round.now.setup ≡ J.setup }
+    requires some { 0 < length members.old }
+    ensures own { (own : OpenRound) → Each (IsOwnMember own) members.old → Each (IsOwnMember own) members.new }
+{
+    for (turn, x) in nodes.iter().enumerate() {
+        deal_node(round, members, turn, *x);
+    }
+}
+
+/// Deals the first candidates: those among the nodes of `from`, where it is given, and else all nodes with a link but the
+/// destination.
+pub(crate) fn deal<J: Naming>(round: &Round, members: &mut [Member<J>], from: Option<&[u32]>)
+    requires named { round.now.setup ≡ J.setup }
+    requires some { 0 < length members.old }
+    ensures own { (own : OpenRound) → Each (IsOwnMember own) members.old → Each (IsOwnMember own) members.new }
+{
+    match from {
+        Some(from) => deal_each(round, members, from),
+        None => deal_all(round, members),
     }
 }
