@@ -1,6 +1,6 @@
 //! A worker with its own deque, and the handles by which the others steal from it.
 
-ghost use Rattle.std.specs.Prelude.{◌≡◌, ◌<◌, IfOk, length, vec_len};
+ghost use Rattle.std.specs.Prelude.{◌≡◌, ◌<◌, ◌≤◌, IfOk, length, vec_len};
 ghost use Rattle.std.specs.List.{AllByRecursion as Each};
 ghost use Rattle.fr_round.specs.Knowledge.{IsOwn, OpenRound};
 ghost use Rattle.fr_crew.specs.Crews.{IsOwnMember};
@@ -24,7 +24,7 @@ pub(crate) struct Members<J: Naming> {
     pub stealers: Vec<Stealer<J>>,
 }
 
-/// Gives each worker a deque of its own, with room for all nodes of a round.
+/// Gives each worker a deque of its own, with room for so many candidates at first.
 pub(crate) fn equip<J: Naming>(
     alloc: Global,
     workers: Vec<Worker>,
@@ -43,6 +43,21 @@ pub(crate) fn equip<J: Naming>(
         members.push(Member { worker, deque })?;
     }
     Ok(Members { members, stealers })
+}
+
+/// The least room that a deque has at first: a turn makes candidates of all neighbours of a node.
+const LEAST_ROOM: usize = 64;
+
+/// How many candidates a deque is to have room for at first: as many as may be dealt, or `LEAST_ROOM` where these are fewer, but no
+/// more than there are nodes. It grows where that is too little.
+pub(crate) fn room_for(round: &Round, from: Option<&[u32]>) -> usize
+    ensures { result ≤ round.now.setup.nodes }
+{
+    let nodes = round.net().nodes() as usize;
+    match from {
+        Some(from) => nodes.min(from.len().max(LEAST_ROOM)),
+        None => nodes,
+    }
 }
 
 /// Deals a node to the member whose turn it is, where the node is a candidate: it has a link, and is not the destination.
