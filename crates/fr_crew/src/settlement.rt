@@ -97,7 +97,8 @@ pub fn settle_alone(alloc: Global, net: Net, dest: u32) -> Result<Settled, CrewF
 ///
 /// For a caller that knows where sinks can be, as after an edit of a settled network: all that stand in `from`, where it is
 /// given, are nodes, and each sink but the destination is among them; some may stand there twice. Where none of them can turn
-/// it costs a look at each of them and a few passes over the counts, and no thread is started.
+/// it costs a look at each of them and a few passes over the counts, and no thread is started. Else they are the workers' first
+/// candidates, in place of all nodes, and dealt out in turn.
 ///
 /// `Range` where the destination is no node, which is tested first, or else `Start` and `Memory` as by `settle`.
 pub fn settled_counts<R: Threads + Wait + Sync, G: Gate + Sync>(
