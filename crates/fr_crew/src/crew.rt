@@ -9,7 +9,7 @@ ghost use Rattle.fr_crew.specs.declared.fault.CrewFault.TheVariants.{Range};
 use crate::deques::Stealer;
 use crate::fault::CrewFault;
 use crate::gate::Gate;
-use crate::members::{Member, Members, deal, equip};
+use crate::members::{Member, Members, deal, equip, room_for};
 use crate::naming::Naming;
 use crate::plan::Plan;
 use fr_core::Reply;
@@ -183,13 +183,15 @@ fn run_threads<J: Naming + Send + Sync, R: Threads + Wait, G: Gate + Sync>(
 }
 
 /// Lets all workers work at once, each in a thread of its own but for the last, which works on this one, and gives them back
-/// in their order, with their round. Their deques have room for all nodes before the first thread is started. Where a thread
-/// cannot be started, those that were started are joined first, and the last worker does nothing.
+/// in their order, with their round. At first they are dealt the nodes of `from`, where it is given, and else all. Their deques
+/// have room for all that are dealt before the first thread is started. Where a thread cannot be started, those that were started
+/// are joined first, and the last worker does nothing.
 pub(crate) fn run_crew<J: Naming + Send + Sync, R: Threads + Wait, G: Gate + Sync>(
     rt: &R,
     alloc: Global,
     round: Round,
     workers: Vec<Worker>,
+    from: Option<&[u32]>,
     plan: &Plan,
     gate: &G,
 ) -> Result<(Round, Vec<Worker>), CrewFault>
@@ -201,12 +203,12 @@ pub(crate) fn run_crew<J: Naming + Send + Sync, R: Threads + Wait, G: Gate + Syn
     ensures len { IfOk result (λ back. vec_len back.1 ≡ vec_len workers) }
     ensures fault { IfErr result (λ fault. fault ≢ Range) }
 {
-    let room = round.net().nodes() as usize;
+    let room = room_for(&round, from);
     let Members {
         mut members,
         stealers,
     } = equip::<J>(alloc, workers, room, plan.seed())?;
-    deal(&round, &mut members);
+    deal(&round, &mut members, from);
     let job = Job {
         round,
         stealers,

@@ -1,6 +1,6 @@
 //! A worker with its own deque, and the handles by which the others steal from it.
 
-ghost use Rattle.std.specs.Prelude.{◌≡◌, ◌<◌, IfOk, length, vec_len};
+ghost use Rattle.std.specs.Prelude.{◌≡◌, ◌<◌, ◌≤◌, IfOk, length, vec_len};
 ghost use Rattle.std.specs.List.{AllByRecursion as Each};
 ghost use Rattle.fr_round.specs.Knowledge.{IsOwn, OpenRound};
 ghost use Rattle.fr_crew.specs.Crews.{IsOwnMember};
@@ -24,7 +24,7 @@ pub(crate) struct Members<J: Naming> {
     pub stealers: Vec<Stealer<J>>,
 }
 
-/// Gives each worker a deque of its own, with room for all nodes of a round.
+/// Gives each worker a deque of its own, with room for so many candidates at first.
 pub(crate) fn equip<J: Naming>(
     alloc: Global,
     workers: Vec<Worker>,
@@ -45,19 +45,65 @@ pub(crate) fn equip<J: Naming>(
     Ok(Members { members, stealers })
 }
 
-/// Deals the first candidates: all nodes with a link but the destination, in rising order, each to the member whose number
-/// is that of the node modulo the number of members.
-pub(crate) fn deal<J: Naming>(round: &Round, members: &mut [Member<J>])
+/// The least room that a deque has at first: a turn makes candidates of all neighbours of a node.
+const LEAST_ROOM: usize = 64;
+
+/// How many candidates a deque is to have room for at first: as many as may be dealt, or `LEAST_ROOM` where these are fewer, but no
+/// more than there are nodes. It grows where that is too little.
+pub(crate) fn room_for(round: &Round, from: Option<&[u32]>) -> usize
+    ensures { result ≤ round.now.setup.nodes }
+{
+    let nodes = round.net().nodes() as usize;
+    match from {
+        Some(from) => nodes.min(from.len().max(LEAST_ROOM)),
+        None => nodes,
+    }
+}
+
+/// Deals a node to the member whose turn it is, where the node is a candidate: it has a link, and is not the destination.
+fn deal_node<J: Naming>(round: &Round, members: &mut [Member<J>], turn: usize, x: u32)
     requires named { round.now.setup ≡ J.setup }
     requires some { 0 < length members.old }
     ensures own { (own : OpenRound) → Each (IsOwnMember own) members.old → Each (IsOwnMember own) members.new }
 {
     let net = round.net();
-    let dest = round.dest();
-    for x in 0..net.nodes() {
-        if x != dest && net.degree(x) > 0 {
-            let to = x as usize % members.len();
-            members[to].deque.put(x);
-        }
+    if x < net.nodes() && x != round.dest() && net.degree(x) > 0 {
+        let to = turn % members.len();
+        members[to].deque.put(x);
+    }
+}
+
+/// Deals all candidates in rising order, each to the member whose number is that of the node modulo the number of members.
+fn deal_all<J: Naming>(round: &Round, members: &mut [Member<J>])
+    requires named { round.now.setup ≡ J.setup }
+    requires some { 0 < length members.old }
+    ensures own { (own : OpenRound) → Each (IsOwnMember own) members.old → Each (IsOwnMember own) members.new }
+{
+    for x in 0..round.net().nodes() {
+        deal_node(round, members, x as usize, x);
+    }
+}
+
+/// Deals the candidates among these nodes, to the members in turn.
+fn deal_each<J: Naming>(round: &Round, members: &mut [Member<J>], nodes: &[u32])
+    requires named { round.now.setup ≡ J.setup }
+    requires some { 0 < length members.old }
+    ensures own { (own : OpenRound) → Each (IsOwnMember own) members.old → Each (IsOwnMember own) members.new }
+{
+    for (turn, x) in nodes.iter().enumerate() {
+        deal_node(round, members, turn, *x);
+    }
+}
+
+/// Deals the first candidates: those among the nodes of `from`, where it is given, and else all nodes with a link but the
+/// destination.
+pub(crate) fn deal<J: Naming>(round: &Round, members: &mut [Member<J>], from: Option<&[u32]>)
+    requires named { round.now.setup ≡ J.setup }
+    requires some { 0 < length members.old }
+    ensures own { (own : OpenRound) → Each (IsOwnMember own) members.old → Each (IsOwnMember own) members.new }
+{
+    match from {
+        Some(from) => deal_each(round, members, from),
+        None => deal_all(round, members),
     }
 }

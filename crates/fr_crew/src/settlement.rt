@@ -70,7 +70,7 @@ pub fn settle<R: Threads + Wait + Sync, G: Gate + Sync>(
         net,
         counts,
         turned,
-    } = turned_by_crew(rt, alloc, net, dest, plan, gate)?;
+    } = turned_by_crew(rt, alloc, net, dest, None, plan, gate)?;
     net.network_law();
     let by_workers = turns_of(&turned);
     Ok(finished(net, dest, counts, by_workers))
@@ -97,7 +97,8 @@ pub fn settle_alone(alloc: Global, net: Net, dest: u32) -> Result<Settled, CrewF
 ///
 /// For a caller that knows where sinks can be, as after an edit of a settled network: all that stand in `from`, where it is
 /// given, are nodes, and each sink but the destination is among them; some may stand there twice. Where none of them can turn
-/// it costs a look at each of them and a few passes over the counts, and no thread is started.
+/// it costs a look at each of them and a few passes over the counts, and no thread is started. Else they are the workers' first
+/// candidates, in place of all nodes, and dealt out in turn.
 ///
 /// `Range` where the destination is no node, which is tested first, or else `Start` and `Memory` as by `settle`.
 pub fn settled_counts<R: Threads + Wait + Sync, G: Gate + Sync>(
@@ -123,7 +124,7 @@ pub fn settled_counts<R: Threads + Wait + Sync, G: Gate + Sync>(
         net,
         counts,
         turned: _,
-    } = turned_by_crew(rt, alloc, copy, dest, plan, gate)?;
+    } = turned_by_crew(rt, alloc, copy, dest, from, plan, gate)?;
     Ok(finished_counts(&net, dest, counts, None))
 }
 
@@ -192,12 +193,14 @@ fn can_any_turn(net: &Net, dest: u32, counts: &[u64], from: Option<&[u32]>) -> b
     false
 }
 
-/// Opens a round, lets a crew of threads turn its nodes, and closes it. The network that it gives back has its first links.
+/// Opens a round, lets a crew of threads turn its nodes, and closes it. Its workers try the nodes of `from` first, where it is
+/// given, and else all. The network that it gives back has its first links.
 fn turned_by_crew<R: Threads + Wait, G: Gate + Sync>(
     rt: &R,
     alloc: Global,
     net: Net,
     dest: u32,
+    from: Option<&[u32]>,
     plan: &Plan,
     gate: &G,
 ) -> Result<Closed, CrewFault>
@@ -210,7 +213,7 @@ fn turned_by_crew<R: Threads + Wait, G: Gate + Sync>(
     let Ok((round, workers)) = Round::open(alloc, net, dest, plan.workers()) else {
         return Err(CrewFault::Memory);
     };
-    let (round, workers) = run_crew::<Brand, R, G>(rt, alloc, round, workers, plan, gate)?;
+    let (round, workers) = run_crew::<Brand, R, G>(rt, alloc, round, workers, from, plan, gate)?;
     Ok(round.close(workers))
 }
 

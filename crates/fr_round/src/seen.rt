@@ -49,6 +49,21 @@ fn count_missing(net: &Net, counts: &[u64], x: u32) -> u32
     missing
 }
 
+/// How many links of node `x` point away from it first: so many of its neighbours miss their bounds while no node has turned.
+fn count_outward(net: &Net, x: u32) -> u32
+    requires { x < net.now.nodes }
+    ensures { result ≡ missing_of net.now.nodes net.now.links (replicate net.now.nodes 0) x }
+{
+    net.network_law();
+    let mut outward = 0;
+    for (_, first) in net.row(x) {
+        if let First::Outward = first {
+            outward += 1;
+        }
+    }
+    outward
+}
+
 /// Takes node `y` off the number of each neighbour for which it meets its bound with this count, and missed it with the
 /// count that stands there still.
 fn lower_neighbours(net: &Net, counts: &[u64], missing: &mut [u32], y: u32, count: u64)
@@ -79,7 +94,7 @@ impl Seen {
         let counts = vec![in alloc; 0u64; nodes as usize]?;
         let mut missing = vec![in alloc; 0u32; nodes as usize]?;
         for x in 0..nodes {
-            missing[x as usize] = count_missing(net, &counts, x);
+            missing[x as usize] = count_outward(net, x);
         }
         Ok(Seen { counts, missing })
     }

@@ -1,10 +1,11 @@
 //! The answers of worked examples under many plans, and how the turns are split between the workers and the finisher.
 
-use fr_crew::{CrewFault, OpenGate, Plan, settle, settled_counts, settled_counts_alone};
+use fr_crew::{CrewFault, Gate, OpenGate, Plan, settle, settled_counts, settled_counts_alone};
 use fr_net::Net;
 use std::alloc::{AllocError, Global};
 use std::rt::HostRuntime;
 use std::sync::Wait;
+use std::sync::atomic::{AtomicU64, Ordering};
 use std::test::*;
 use std::thread::Threads;
 
@@ -162,6 +163,38 @@ fn counts_are_settled_beside_the_network(rt: HostRuntime) -> Result<(), Fail> {
     assert!(rt; net.links() == [(0, 1), (1, 2)].as_slice());
     let none = settled_counts_alone(alloc, &net, 3, None);
     assert!(rt; matches!(none, Err(CrewFault::Range)));
+    Ok(())
+}
+
+/// A gate that counts the calls of all workers.
+#[derive(Drop)]
+struct CountingGate(AtomicU64);
+
+impl Gate for CountingGate {
+    fn before(&self, _worker: u32, _call: u64) {
+        self.0.fetch_add(1, Ordering::SeqCst);
+    }
+
+    fn after(&self, _worker: u32, _call: u64) {}
+}
+
+/// A chain of three nodes that points away from node 0. One worker that is given its sink, node 2, turns nodes 2, 1 and 2, and then finds
+/// that node 1 is held: four calls. One that is given no nodes tries node 1 first, which is held, and makes a call more.
+#[test]
+fn given_nodes_are_tried_first(rt: HostRuntime) -> Result<(), Fail> {
+    let alloc = rt.alloc();
+    let net = Net::new(alloc, 3, &[(0, 1), (1, 2)])?;
+    let one = plan(1, 1000)?;
+    let given = CountingGate(AtomicU64::new(0));
+    let of_given = settled_counts(&rt, alloc, &net, 0, Some(&[2]), &one, &given)?;
+    let every = CountingGate(AtomicU64::new(0));
+    let of_every = settled_counts(&rt, alloc, &net, 0, None, &one, &every)?;
+    let calls = (
+        given.0.load(Ordering::SeqCst),
+        every.0.load(Ordering::SeqCst),
+    );
+    assert!(rt; calls == (4, 5), "{calls:?}");
+    assert!(rt; of_given.as_slice() == [0, 1, 2].as_slice() && of_every == of_given);
     Ok(())
 }
 

@@ -1,0 +1,15 @@
+use Rattle.std.proofs.Common.{◌∙◌, arith, subst, sym}
+use Rattle.fr_net.proofs.Neighbours.{row_linked}
+use Rattle.fr_round.specs.declared.view.Setup.{Setup}
+use Rattle.fr_crew.specs.Candidates.{IsCandidate}
+use Rattle.fr_crew.proofs.members.deal_node.Goals as goal
+
+pub put-requires : goal.put-requires
+put-requires g c =
+    let b : Setup = c.args.round.now.setup in
+    let linked = row_linked c.net-net.result.now.nodes c.net-net.result.now.links c.args.x (omega (arith, c.if-degree-gt0.true, c.degree.ensures)) in
+    subst (λ (s : Setup). IsCandidate s c.args.x) c.requires.named (record {
+      inside = omega (arith, c.if-x-nodes.true, c.nodes.ensures.value, c.net-net.ensures.nodes);
+      not_destination = λ same. c.if-x-dest.true (same ∙ sym c.dest.ensures);
+      linked = rw c.net-net.ensures.links at linked;
+    })
