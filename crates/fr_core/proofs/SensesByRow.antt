@@ -1,5 +1,5 @@
 -- Where the links of a node point now, by its row.
-use Rattle.std.proofs.Common.{All, Bool, Contains, List, None, Option, Some, ap, arith, cond, eq-eqb, eqb, false, get_or, inl, inr, length, ne_eqb, refl, slice_index, sym, true, ℕ, ⊎_elim, ◌+◌, ◌<◌, ◌∙◌, ◌≡◌, ◌⊎◌}
+use Rattle.std.proofs.Common.{All, Bool, Contains, List, None, Option, Some, ap, arith, cond, eq-eqb, eqb, false, get_or, inl, inr, length, ne_eqb, refl, slice_index, subst, sym, true, ℕ, ⊎_elim, ◌+◌, ◌<◌, ◌∙◌, ◌≡◌, ◌⊎◌}
 use Rattle.std.proofs.lemmas.Bool.{cond-false, cond-true, false≢true}
 use Rattle.std.proofs.lemmas.List.Elements.{All-contains, Contains-get_or}
 use Rattle.std.specs.Option.{is_some, option_map}
@@ -8,9 +8,9 @@ use Rattle.fr_core.specs.Senses.{first_link, link_by, sense_of}
 use Rattle.fr_core.specs.declared.directions.Sense.{Sense}
 use Rattle.fr_core.specs.declared.directions.Sense.TheVariants as sense
 use Rattle.fr_net.proofs.Giving.{Points-links_at_from, filter_map-Contains, link_at-kept}
-use Rattle.fr_net.proofs.Neighbours.{row_of_in, row_of_out}
+use Rattle.fr_net.proofs.Neighbours.{out_of_row, row_of_in, row_of_out}
 use Rattle.fr_net.specs.Counts.{IsKept, link_at, links_at}
-use Rattle.fr_net.specs.Links.{IsNet}
+use Rattle.fr_net.specs.Links.{IsNet, Points}
 use Rattle.fr_net.specs.Rows.{row}
 use Rattle.fr_net.specs.Turn.{IsSink}
 use Rattle.fr_net.specs.declared.rows.First.{First}
@@ -63,7 +63,23 @@ kept_from_sense c x w some = go (sense_of first.Outward (slice_index c x) (slice
     go None e known = absurd (false≢true known)
     go (Some s) e known = link_at-kept c (x, w) (link_by x w s) e
 
+pub sense_from_kept : (c : List ℕ) (x w : ℕ) → IsKept c (x, w) → is_some (sense_of first.Outward (slice_index c x) (slice_index c w)) ≡ true
+sense_from_kept c x w kept = ⊎_elim (λ e. rw e refl) (λ e. rw e refl) (has_sense c x w first.Outward kept)
+
+-- the counts give the entry's link a direction, if it points away from x at first
+abbrev pub IsKeptOut : List ℕ → ℕ → ℕ × First → Type 0
+IsKeptOut c x e = e.1 ≡ first.Outward → IsKept c (x, e.0)
+
 module _ (n : ℕ) (links : List (ℕ × ℕ)) (c : List ℕ) (x : ℕ) where
+  -- the row has each link whose tail is x
+  pub kept_by_row : IsNet n links → All (IsKeptOut c x) (row n links x) → (w : ℕ) → Points links x w → IsKept c (x, w)
+  kept_by_row net all w p = All-contains (IsKeptOut c x) (row n links x) (w, first.Outward) all (row_of_out n links x w net p) refl
+
+  pub row_kept : ((w : ℕ) → Points links x w → IsKept c (x, w)) → All (IsKeptOut c x) (row n links x)
+  row_kept kept = λ k d l out.
+      let e : ℕ × First = get_or (row n links x) k d in
+      kept e.0 (out_of_row n links x e.0 (subst (λ (f : First). Contains (row n links x) (e.0, f)) out (Contains-get_or (row n links x) k d l)))
+
   -- a link that the counts give is an entry of the row with this sense
   pub points_from_row : (w : ℕ) (f : First) (s : Sense) → Contains (row n links x) (w, f) → PointsBy c x s (w, f) → Contains (links_at links c) (link_by x w s)
   points_from_row w f s h e = filter_map-Contains (link_at c) links (first_link x w f) (link_by x w s) (link_of_row n links x w f h)

@@ -2,6 +2,7 @@
 
 ghost use Rattle.std.specs.Prelude.{◌≡◌, ℕ, ◌<◌, ◌↔◌, IsTrue, length, All};
 ghost use Rattle.fr_net.specs.Counts.{AreLawful, IsKept, links_at};
+ghost use Rattle.fr_net.specs.Links.{Points};
 ghost use Rattle.fr_net.specs.Turn.{IsSink};
 ghost use Rattle.fr_core.specs.History.{moment_of};
 ghost use Rattle.fr_core.specs.Legal.{CanTurn};
@@ -52,21 +53,35 @@ fn fits_nodes(net: &Net, counts: &[u64]) -> bool
     true
 }
 
+/// Whether the counts give a direction to each link whose tail is node `x`.
+fn fits_row(net: &Net, counts: &[u64], x: u32) -> bool
+    requires one_each { length counts.now ≡ net.now.nodes }
+    requires node { x < net.now.nodes }
+    ensures { IsTrue result ↔ ((w : ℕ) → Points net.now.links x w → IsKept counts.now (x, w)) }
+{
+    // By the law the row has each link of `x`.
+    net.network_law();
+    let row = net.row(x);
+    for (w, first) in row {
+        // A link whose head is `x` is looked at in the row of its tail.
+        if *first == First::Outward
+            && sense(First::Outward, counts[x as usize], counts[*w as usize]).is_none()
+        {
+            return false;
+        }
+    }
+    true
+}
+
 /// Whether the counts give each link of the network a direction.
 fn fits_links(net: &Net, counts: &[u64]) -> bool
     requires { length counts.now ≡ net.now.nodes }
     ensures { IsTrue result ↔ All (IsKept counts.now) net.now.links }
 {
-    // By the law the links join nodes, which have counts.
+    // By the law each link has a node as its tail.
     net.network_law();
-    let links = net.links();
-    for (tail, head) in links {
-        let now = sense(
-            First::Outward,
-            counts[*tail as usize],
-            counts[*head as usize],
-        );
-        if now.is_none() {
+    for x in 0..net.nodes() {
+        if !fits_row(net, counts, x) {
             return false;
         }
     }

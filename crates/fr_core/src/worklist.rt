@@ -95,7 +95,9 @@ pub(crate) fn turn_sinks(net: &Net, dest: u32, counts: &mut [u64], work: &mut Qu
     ensures lawful { AreLawful net.now.nodes dest net.now.links counts.new }
     ensures none { result ≡ true → NoneCanTurn net.now.nodes dest (moment_of net.now.links counts.new) }
 {
-    let mut allowance = 2 * net.links().len();
+    // By the law there are few enough links that twice their number fits.
+    net.network_law();
+    let mut allowance = 2 * net.link_count();
     let mut at = 0;
     while at < work.len() {
         let x = work.node(at);

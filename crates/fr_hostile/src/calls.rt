@@ -124,25 +124,45 @@ fn chain<R: Alloc<A = Global> + Eprint>(rt: &R) -> Option<Net> {
     told(rt, Net::new(rt.alloc(), 4, &CHAIN))
 }
 
+/// The links of a network as text.
+fn links_of(alloc: Global, net: &Net) -> Result<String, AllocError> {
+    links_line(alloc, &net.links(alloc)?)
+}
+
+/// The same, where want of memory is told.
+fn links_told<R: Alloc<A = Global> + Eprint>(rt: &R, net: &Net) -> Option<String> {
+    told(rt, links_of(rt.alloc(), net))
+}
+
+/// Whether these are the links of a network. Want of memory is told, and answers no.
+fn has_links<R: Alloc<A = Global> + Eprint>(rt: &R, net: &Net, links: &[(u32, u32)]) -> bool {
+    told(rt, net.links(rt.alloc())).is_some_and(|listed| listed.as_slice() == links)
+}
+
+/// Whether a network still has the links of the chain.
+fn is_chain<R: Alloc<A = Global> + Eprint>(rt: &R, net: &Net) -> bool {
+    has_links(rt, net, &CHAIN)
+}
+
 fn network<R: Alloc<A = Global> + Eprint>(rt: &R) -> Option<String> {
     let net = chain(rt)?;
-    told(rt, links_line(rt.alloc(), net.links()))
+    links_told(rt, &net)
 }
 
 fn cut_network<R: Alloc<A = Global> + Eprint>(rt: &R) -> Option<String> {
     let net = told(rt, chain(rt)?.with_cut(rt.alloc(), 2, 1))?;
-    told(rt, links_line(rt.alloc(), net.links()))
+    links_told(rt, &net)
 }
 
 fn linked_network<R: Alloc<A = Global> + Eprint>(rt: &R) -> Option<String> {
     let net = told(rt, chain(rt)?.with_link(rt.alloc(), 0, 3))?;
-    told(rt, links_line(rt.alloc(), net.links()))
+    links_told(rt, &net)
 }
 
 /// The chain with its ends joined: a link from 3 to 0 would close a walk.
 fn joined_network<R: Alloc<A = Global> + Eprint>(rt: &R) -> Option<String> {
     let net = told(rt, chain(rt)?.with_join(rt.alloc(), 3, 0))?;
-    told(rt, links_line(rt.alloc(), net.links()))
+    links_told(rt, &net)
 }
 
 /// The chain with a link in another place.
@@ -152,7 +172,7 @@ fn edited_network<R: Alloc<A = Global> + Eprint>(rt: &R) -> Option<String> {
         Ok(net) => net,
         Err(refused) => return told(rt, Err(refused.fault)),
     };
-    told(rt, links_line(rt.alloc(), net.links()))
+    links_told(rt, &net)
 }
 
 /// The same where the network stands, with its text made before the edits stay. Where that finds no memory, it has to be as it was.
@@ -160,12 +180,12 @@ fn edited_in_place<R: Alloc<A = Global> + Print + Eprint>(rt: &R) -> Option<Stri
     let alloc = rt.alloc();
     let mut net = chain(rt)?;
     let edits = [Edit::Cut { u: 1, v: 2 }, Edit::Add { u: 0, v: 3 }];
-    let why = match net.edit_if(alloc, &edits, &|edited| links_line(alloc, edited.links())) {
+    let why = match net.edit_if(alloc, &edits, &|edited| links_of(alloc, edited)) {
         Ok(links) => return Some(links),
         Err(NotEdited::Refused(refused)) => told(rt, Err(refused.fault)),
         Err(NotEdited::Fault(fault)) => told(rt, Err(fault)),
     };
-    if net.links() != CHAIN.as_slice() {
+    if !is_chain(rt, &net) {
         let _ = rt.println("the network has changed");
     }
     why
@@ -232,7 +252,7 @@ fn played<R: Alloc<A = Global> + Eprint>(rt: &R) -> Option<String> {
         Err(fault) => return told(rt, Err(fault)),
     };
     let net = told(rt, net.turned_by(alloc, &counts))?;
-    told(rt, links_line(alloc, net.links()))
+    links_told(rt, &net)
 }
 
 fn machine<R: Alloc<A = Global> + Eprint>(rt: &R) -> Option<String> {
@@ -256,10 +276,10 @@ fn opened<R: Alloc<A = Global> + Print + Eprint>(rt: &R) -> Option<String> {
     match Round::open(rt.alloc(), net, 0, 3) {
         Ok((round, workers)) => {
             let closed = round.close(workers);
-            told(rt, links_line(rt.alloc(), closed.net.links()))
+            links_told(rt, &closed.net)
         }
         Err(fault) => {
-            if fault.net.nodes() != 4 || fault.net.links() != CHAIN.as_slice() {
+            if fault.net.nodes() != 4 || !is_chain(rt, &fault.net) {
                 let _ = rt.println("another network was handed back");
             }
             told(rt, Err(fault.why))
@@ -285,7 +305,7 @@ fn settled_with_growth<R: Threads + Wait + Sync + Alloc<A = Global> + Eprint>(
     let settled = told(rt, settle(rt, alloc, net, 0, &plan, &OpenGate))?;
     let turned = settled.by_workers.saturating_add(settled.by_finisher);
     let counts = told(rt, counts_line(alloc, &settled.counts))?;
-    let links = told(rt, links_line(alloc, settled.net.links()))?;
+    let links = links_told(rt, &settled.net)?;
     told(rt, format!(in alloc; "turned {turned} {counts} {links}"))
 }
 
@@ -297,7 +317,7 @@ fn routed<R: Threads + Wait + Sync + Alloc<A = Global> + Print + Eprint>(rt: &R)
     let mut router = told(rt, Router::open(rt, alloc, net, 0, &plan, &OpenGate))?;
     let cut = Change::Cut { u: 2, v: 1 };
     if told(rt, router.change(rt, alloc, cut, &plan, &OpenGate)).is_none() {
-        if !is_chain_home(&router) {
+        if !is_chain_home(rt, &router) {
             let _ = rt.println("the router has changed");
         }
         return None;
@@ -308,7 +328,7 @@ fn routed<R: Threads + Wait + Sync + Alloc<A = Global> + Print + Eprint>(rt: &R)
         return None;
     }
     let walked = told(rt, router.walk(alloc, 2))?;
-    let links = told(rt, links_line(alloc, router.net().links()))?;
+    let links = links_told(rt, router.net())?;
     told(rt, format!(in alloc; "{links} {walked:?}"))
 }
 
@@ -341,12 +361,12 @@ fn routed_alone<R: Alloc<A = Global> + Print + Eprint>(rt: &R) -> Option<String>
     let mut router = told(rt, Router::open_alone(alloc, chain(rt)?, 0))?;
     let cut = Change::Cut { u: 2, v: 1 };
     if told(rt, router.change_alone(alloc, cut)).is_none() {
-        if !is_chain_home(&router) {
+        if !is_chain_home(rt, &router) {
             let _ = rt.println("the router has changed");
         }
         return None;
     }
-    told(rt, links_line(alloc, router.net().links()))
+    links_told(rt, router.net())
 }
 
 /// A line and a request, answered on the calling thread alone.
@@ -376,9 +396,9 @@ fn walked_live<R: Alloc<A = Global> + Eprint>(rt: &R) -> Option<String> {
 }
 
 /// Whether the router is that of the chain once it leads home.
-fn is_chain_home(router: &Router) -> bool {
+fn is_chain_home<R: Alloc<A = Global> + Eprint>(rt: &R, router: &Router) -> bool {
     router.report() == Report { turned: 6, cut: 0 }
         && router.dest() == 0
         && router.counts() == [0, 1, 2, 3].as_slice()
-        && router.net().links() == [(1, 0), (2, 1), (3, 2)].as_slice()
+        && has_links(rt, router.net(), &[(1, 0), (2, 1), (3, 2)])
 }

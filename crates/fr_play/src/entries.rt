@@ -76,7 +76,7 @@ pub(crate) fn end_text(
         return Err(AllocError);
     };
     let mut text = entries_lines(alloc, entries)?;
-    text.push_str(&links_line(alloc, end.links())?)?;
+    text.push_str(&links_line(alloc, &end.links(alloc)?)?)?;
     text.push('\n')?;
     text.push_str(&counts_line(alloc, &counts)?)?;
     text.push('\n')?;

@@ -83,7 +83,7 @@ pub(crate) fn turn_links(net: &mut Net, counts: &[u64], turned: u64)
     requires turned { turned ≡ sum counts.now }
     ensures { net.new ≡ net_of net.old.nodes (links_at net.old.links counts.now) }
 {
-    let _rising = net.links();
+    net.order_law();
     if turned > 0 {
         net.turn(counts);
     }

@@ -64,8 +64,9 @@ fn settled_links(alloc: Global, router: &Router, hops: &[Hop]) -> Result<Vec<Dra
 {
     let net = router.net();
     net.network_law();
+    let settled = net.links(alloc)?;
     let mut links = Vec::new(alloc);
-    for (tail, head) in net.links() {
+    for (tail, head) in &settled {
         links.push(DrawnLink {
             tail: *tail,
             head: *head,

@@ -29,7 +29,8 @@ fn push_turns(text: &mut String, alloc: Global, router: &Router) -> Result<(), A
     let net = router.net();
     net.network_law();
     let nodes = net.nodes();
-    let mut links = first_links(alloc, net.links(), router.counts())?;
+    let settled = net.links(alloc)?;
+    let mut links = first_links(alloc, &settled, router.counts())?;
     let mut counts = vec![in alloc; 0u64; nodes as usize]?;
     for turn in 0..MAX_TURNS {
         let Some(x) = next_to_turn(alloc, nodes, router.dest(), &links, &counts)? else {
@@ -39,6 +40,7 @@ fn push_turns(text: &mut String, alloc: Global, router: &Router) -> Result<(), A
             text,
             alloc,
             router,
+            &settled,
             &links,
             &counts,
             Title {
@@ -52,16 +54,18 @@ fn push_turns(text: &mut String, alloc: Global, router: &Router) -> Result<(), A
     Ok(())
 }
 
-/// Adds the graph of a turn, with the links and the counts before it.
+/// Adds the graph of a turn, with the settled links, and the links and the counts before the turn.
 fn push_turn(
     text: &mut String,
     alloc: Global,
     router: &Router,
+    settled: &[(u32, u32)],
     links: &[(u32, u32)],
     counts: &[u64],
     title: Title,
 ) -> Result<(), AllocError>
-    requires { length counts.now ≡ router.now.nodes }
+    requires settled { settled.now ≡ router.now.links }
+    requires one_each { length counts.now ≡ router.now.nodes }
     ensures { OnOk result (string_bytes text.new ≡ string_bytes text.old ++ turn_text router.now (moment links.now counts.now) title.turn title.node) }
 {
     let drawn_nodes = turn_nodes(
@@ -71,7 +75,7 @@ fn push_turn(
         counts,
         title.node,
     )?;
-    let drawn_links = turn_links(alloc, router.net().links(), links, title.node)?;
+    let drawn_links = turn_links(alloc, settled, links, title.node)?;
     push_graph(text, Some(title), router.dest(), &drawn_nodes, &drawn_links)
 }
 

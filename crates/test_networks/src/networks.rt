@@ -19,7 +19,7 @@ type Links = &'static [(u32, u32)];
 fn told(alloc: Global, made: Result<Net, NetFault>) -> Result<String, AllocError> {
     let mut text = String::new(alloc);
     match made {
-        Ok(net) => write!(text, "{:?}", net.links())?,
+        Ok(net) => write!(text, "{:?}", net.links(alloc)?)?,
         Err(NetFault::Twice(u, v)) => write!(text, "Twice({}, {})", u.min(v), u.max(v))?,
         Err(NetFault::Cycle(walk)) => write!(text, "Cycle of {}", walk.len())?,
         Err(fault) => write!(text, "{fault:?}")?,
@@ -304,7 +304,7 @@ const JUDGED: &[(&[Edit], usize, &str)] = &[
 /// What is answered where edits may leave so many links, and the links that are left.
 fn judged(alloc: Global, net: &mut Net, edits: &[Edit], most: usize) -> Result<String, AllocError> {
     let way = |made: &Net| {
-        let links = made.links().len();
+        let links = made.link_count();
         if links <= most { Ok(links) } else { Err(links) }
     };
     let answer = match net.edit_if(alloc, edits, &way) {
@@ -315,7 +315,7 @@ fn judged(alloc: Global, net: &mut Net, edits: &[Edit], most: usize) -> Result<S
             format!(in alloc; "{} {why}", refused.at)
         }
     }?;
-    format!(in alloc; "{answer} {:?}", net.links())
+    format!(in alloc; "{answer} {:?}", net.links(alloc)?)
 }
 
 #[test]
@@ -324,7 +324,7 @@ fn undoes_edits_that_cannot_stay(rt: HostRuntime) -> Result<(), Fail> {
         let mut net = Net::new(rt.alloc(), 4, &[(0, 3), (1, 0), (2, 3)])?;
         let text = judged(rt.alloc(), &mut net, edits, *most)?;
         assert!(rt; text.as_str() == *wanted, "{edits:?} {most}: {text}");
-        let anew = Net::new(rt.alloc(), 4, net.links())?;
+        let anew = Net::new(rt.alloc(), 4, &net.links(rt.alloc())?)?;
         assert!(rt;
             rows(rt.alloc(), &net)? == rows(rt.alloc(), &anew)?,
             "{edits:?} {most}"
@@ -360,7 +360,7 @@ fn links_down(alloc: Global, count: usize) -> Result<Vec<(u32, u32)>, AllocError
 fn takes_links_up_to_the_limit(rt: HostRuntime) -> Result<(), Fail> {
     let links = links_down(rt.alloc(), MAX_LINKS)?;
     let full = Net::new(rt.alloc(), MAX_NODES, &links)?;
-    assert!(rt; full.links() == links.as_slice());
+    assert!(rt; full.link_count() == MAX_LINKS && full.links(rt.alloc())? == links);
     let added = told(rt.alloc(), full.with_link(rt.alloc(), 1, 0))?;
     let joined = told(rt.alloc(), full.with_join(rt.alloc(), 300, 0))?;
     assert!(rt; added.as_str() == "TooMany" && joined == added);
@@ -461,12 +461,13 @@ const TURNED: &[(Links, &[u64], &str)] = &[
 fn turns_links_by_counts(rt: HostRuntime) -> Result<(), Fail> {
     for (links, counts, wanted) in TURNED {
         let mut net = Net::new(rt.alloc(), counts.len() as u32, links)?;
-        if counts.len() != net.nodes() as usize || !are_kept(net.links(), counts) {
+        let listed = net.links(rt.alloc())?;
+        if counts.len() != net.nodes() as usize || !are_kept(&listed, counts) {
             return Err(Fail::from("no such counts"));
         }
         let beside = told(rt.alloc(), net.turned_by(rt.alloc(), counts))?;
         net.turn(counts);
-        let anew = Net::new(rt.alloc(), net.nodes(), net.links())?;
+        let anew = Net::new(rt.alloc(), net.nodes(), &net.links(rt.alloc())?)?;
         let as_anew = rows(rt.alloc(), &net)? == rows(rt.alloc(), &anew)?;
         let in_place = told(rt.alloc(), Ok(net))?;
         assert!(rt;

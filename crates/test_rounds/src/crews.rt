@@ -122,7 +122,7 @@ fn settled<R: Threads + Wait + Sync>(
 ) -> Result<String, AllocError> {
     match settle(rt, alloc, net, dest, plan, &OpenGate) {
         Ok(it) => {
-            let links = it.net.links();
+            let links = it.net.links(alloc)?;
             format!(in alloc;
                 "{} {} {:?} {links:?}",
                 it.by_workers, it.by_finisher, it.counts
@@ -160,7 +160,7 @@ fn counts_are_settled_beside_the_network(rt: HostRuntime) -> Result<(), Fail> {
     for counts in [&by_crew, &of_all, &by_nobody, &alone] {
         assert!(rt; counts.as_slice() == [0, 1, 2].as_slice(), "{counts:?}");
     }
-    assert!(rt; net.links() == [(0, 1), (1, 2)].as_slice());
+    assert!(rt; net.links(alloc)?.as_slice() == [(0, 1), (1, 2)].as_slice());
     let none = settled_counts_alone(alloc, &net, 3, None);
     assert!(rt; matches!(none, Err(CrewFault::Range)));
     Ok(())

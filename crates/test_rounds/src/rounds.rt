@@ -340,7 +340,8 @@ fn rounds_that_do_not_open(rt: HostRuntime) -> Result<(), Fail> {
         let Err(fault) = Round::open(rt.alloc(), net, dest, workers) else {
             return Err(Fail::from("a round was opened"));
         };
-        let text = format!(in rt.alloc(); "{:?} {:?}", fault.why, fault.net.links())?;
+        let links = fault.net.links(rt.alloc())?;
+        let text = format!(in rt.alloc(); "{:?} {links:?}", fault.why)?;
         assert!(rt; text.as_str() == "Range [(0, 1)]", "{text}");
     }
     Ok(())

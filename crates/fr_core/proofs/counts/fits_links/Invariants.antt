@@ -1,6 +1,8 @@
-use Rattle.std.proofs.Common.{All, take}
+use Rattle.std.proofs.Common.{ℕ, ◌<◌}
 use Rattle.fr_net.specs.Counts.{IsKept}
+use Rattle.fr_net.specs.Links.{Points}
 use Rattle.fr_core.proofs.counts.fits_links.Given as goal
 
-abbrev pub invariant-loop-tail : goal.invariant-loop-tail
-invariant-loop-tail l = All (IsKept l.counts) (take l.tail-index l.links)
+-- each link whose tail has been looked at has a direction
+abbrev pub invariant-loop-x : goal.invariant-loop-x
+invariant-loop-x l = (y : ℕ) → y < l.x → (w : ℕ) → Points l.net.links y w → IsKept l.counts (y, w)

@@ -11,7 +11,7 @@ loop-turn-init c =
     let s = c.args.router.now in
     let nodes : c.nodes-nodes.result ≡ s.nodes = c.nodes-nodes.ensures.value ∙ c.net-net.ensures.nodes in
     let zeros : c.in_ok-counts.counts.items ≡ replicate s.nodes 0 = c.in_ok-counts.ensures.items_if_clones_equal (λ y e. e) ∙ ap (λ (k : ℕ). replicate {A = ℕ} k 0) nodes in
-    let links : c.links.result.now ≡ s.links = c.links.ensures.value ∙ c.net-net.ensures.links in
+    let links : c.deref.result.now ≡ s.links = c.deref.ensures.value ∙ (c.in_ok-settled.ensures ∙ c.net-net.ensures.links) in
     let first : c.in_ok-links.links.items ≡ map (first_link s.counts) s.links = rw (links, c.counts.ensures.value) at c.in_ok-links.ensures in
     let below : AreBelow s.nodes s.links = rw (c.net-net.ensures.nodes, c.net-net.ensures.links) at c.network_law.ensures.is_net.in_range in
     rw (zeros, first) (at_start s (string_bytes c.args.text.now) below)
@@ -24,8 +24,8 @@ loop-turn-preserved c =
     let counts = c.loop-turn.counts.items in
     let nodes : c.nodes-nodes.result ≡ s.nodes = c.nodes-nodes.ensures.value ∙ c.net-net.ensures.nodes in
     let told = rw c.in-Some.is at c.in_ok-x.ensures.next in
-    let next : IsNext s.nodes s.dest (moment links counts) x = rw (nodes, c.dest.ensures.value, c.deref.ensures.value, c.deref-in-loop-turn.ensures.value) at told in
-    let text : string_bytes c.push_turn.new.text ≡ string_bytes c.loop-turn.text ++ turn_text s (moment links counts) (c.loop-turn.turn + 1) x = rw (c.deref-in-loop-turn-2.ensures.value, c.deref-in-loop-turn-3.ensures.value) at c.in_ok-push_turn.ensures in
+    let next : IsNext s.nodes s.dest (moment links counts) x = rw (nodes, c.dest.ensures.value, c.deref-in-loop-turn.ensures.value, c.deref-in-loop-turn-2.ensures.value) at told in
+    let text : string_bytes c.push_turn.new.text ≡ string_bytes c.loop-turn.text ++ turn_text s (moment links counts) (c.loop-turn.turn + 1) x = rw (c.deref-in-loop-turn-4.ensures.value, c.deref-in-loop-turn-5.ensures.value) at c.in_ok-push_turn.ensures in
     let turned : c.turn_node.new.links ≡ turn x links = c.turn_node.ensures ∙ ap (turn x) c.deref_mut.ensures.value in
     let long : c.loop-turn.links.len ≡ length links = sym c.deref_mut.ensures.len ∙ ap length c.deref_mut.ensures.value in
     let back = written_back x c.loop-turn.links.len links c.turn_node.new.links turned long in
