@@ -186,7 +186,7 @@ ends_more es k e nodes x y u v low is so_far =
     ap (λ (ends : List ℕ). (ends ++ u ∷ []) ++ v ∷ []) so_far ∙ ap (λ (ends : List ℕ). x ∷ (y ∷ ends)) (sym longer)
 
 -- where nobody turns, the links stay
-zeros : (counts : List ℕ) → sum counts ≡ 0 → counts ≡ replicate (length counts) 0
+pub zeros : (counts : List ℕ) → sum counts ≡ 0 → counts ≡ replicate (length counts) 0
 zeros [] e = refl
 zeros (x ∷ xs) e =
     let parts = sum_by-cons (λ (y : ℕ). y) x xs in

@@ -285,7 +285,7 @@ impl Session {
             return Ok(refusal_line(alloc, 3)?);
         };
         match question {
-            Question::Links => Ok(links_line(alloc, router.net().links())?),
+            Question::Links => Ok(links_line(alloc, &router.net().links(alloc)?)?),
             Question::Counts => Ok(counts_line(alloc, router.counts())?),
             Question::Hops => Ok(hops_line(alloc, router.hops())?),
         }

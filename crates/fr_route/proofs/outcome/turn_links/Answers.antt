@@ -6,4 +6,4 @@ pub returns-else-turned-gt0 : goal.returns-else-turned-gt0
 returns-else-turned-gt0 c =
     let net = c.args.net.now in
     let none : sum c.args.counts.now ≡ 0 = omega (arith, c.requires.turned, c.if-turned-gt0.false) in
-    ap (λ (links : List (ℕ × ℕ)). record { nodes = net.nodes; links = links }) (sym (still_links net.links c.args.counts.now (rising_order net.links c.links-rising.ensures.rising) none))
+    ap (λ (links : List (ℕ × ℕ)). record { nodes = net.nodes; links = links }) (sym (still_links net.links c.args.counts.now (rising_order net.links c.order_law.ensures) none))
