@@ -192,13 +192,6 @@ zeros (x ∷ xs) e =
     let parts = sum_by-cons (λ (y : ℕ). y) x xs in
     ap₂ (λ (h : ℕ) (t : List ℕ). h ∷ t) (omega (arith, e, parts)) (zeros xs (omega (arith, e, parts)))
 
--- and each count is 0
-pub never_turned : (counts : List ℕ) → sum counts ≡ 0 → (x : ℕ) → slice_index counts x ≡ 0
-never_turned counts none x =
-    let n : ℕ = length counts in
-    ap (λ (c : List ℕ). slice_index c x) (zeros counts none)
-    ∙ ⊎_elim (λ low. get_or-replicate n x 0 0 low) (λ past. get_or_past (replicate n 0) x 0 (omega (arith, length-replicate {A = ℕ} n 0))) (cases_lt x n)
-
 pub rising_order : (links : List (ℕ × ℕ)) → AreRising links → AreInOrder links
 rising_order links rising = λ k d l. ⊎_elim (λ a. inl a) (λ a. inr (a.0, omega (arith, a.1))) (rising k d l)
 

@@ -122,8 +122,9 @@ impl Router {
     ///
     /// The change is made where the network stands, and all that can fail is done before any of it stays. Where the last round
     /// cut off no linked node, only the ends of the links and the two destinations are looked at for what can turn; where none can,
-    /// only their hops are made anew, and all else is a few passes over the counts. Else the hops are made anew in time linear in
-    /// nodes and links, behind the round.
+    /// nothing is settled, and only their hops are made anew. Where nodes turn, the hops of these are made anew as well, and of the
+    /// neighbours that sent on to them, beside a few passes over the counts. Where the last round cut off a linked node, all hops
+    /// are made anew behind the round, in time linear in nodes and links.
     pub fn change<R: Threads + Wait + Sync, G: Gate + Sync>(
         &mut self,
         rt: &R,
