@@ -1,25 +1,32 @@
 -- How many nodes are cut off, by their hops, and by the counts of the round and the rows before it.
-use Rattle.std.proofs.Common.{Bool, List, [], ◌∷◌, add-one, ap, arith, cond, false, get_or, inl, inr, length, map, refl, slice_index, sym, suc, true, zero, zero-add, ℕ, ⊎_elim, ◌+◌, ◌<◌, ◌≤◌, ◌↔◌, ◌∙◌, ◌≡◌, ◌⊎◌, ◌==◌, IsTrue}
+use Rattle.std.proofs.Common.{Bool, Contains, List, [], ◌∷◌, add-one, ap, arith, cond, eq-eqb, eqb-true, false, get_or, inl, inr, length, map, mul-zero, ne_eqb, refl, replicate, slice_index, subst, sym, suc, true, zero, ℕ, ⊎_elim, ◌*◌, ◌+◌, ◌<◌, ◌≤◌, ◌↔◌, ◌∙◌, ◌≡◌, ◌⊎◌, ◌==◌, IsTrue}
 use Rattle.std.specs.List.{count_by, range_with_len}
-use Rattle.std.specs.Prelude.{not, ◌||◌}
+use Rattle.std.specs.Prelude.{not, ◌&&◌, ◌||◌}
 use Rattle.std.proofs.lemmas.Bool.{cases_eq, false≢true}
 use Rattle.std.proofs.lemmas.Bool.Decides.{Decides-and, Decides-eqb, Decides-not, Decides-or}
-use Rattle.std.proofs.lemmas.List.FromFn.{fill_by_all, length-range_with_len}
-use Rattle.std.proofs.lemmas.List.Sums.{count_by-le-length, sum_by-cons}
+use Rattle.std.proofs.lemmas.List.Folds.{sum_by-replicate}
+use Rattle.std.proofs.lemmas.List.FromFn.{fill_by_all}
+use Rattle.std.proofs.lemmas.List.Sums.{sum_by-cons}
 use Rattle.std.proofs.lemmas.Option.{slice_get-get_or}
-use Rattle.fr_net.specs.Links.{IsNet}
+use Rattle.fr_net.specs.Links.{IsAlone, IsNet}
 use Rattle.fr_net.specs.Network.{Network, net_of}
 use Rattle.fr_net.specs.Counts.{links_at}
-use Rattle.fr_net.specs.Rows.{row}
-use Rattle.fr_net.proofs.Counting.{count-range_agree}
+use Rattle.fr_net.specs.Rows.{alone_count, has_no_neighbour, row}
+use Rattle.fr_net.specs.Turn.{IsSink}
+use Rattle.fr_net.proofs.Booleans.{and_cases}
+use Rattle.fr_net.proofs.Counting.{count-range_agree, count-range_more, one_passes}
+use Rattle.fr_net.proofs.Members.{Contains-head, Contains-tail}
 use Rattle.fr_net.proofs.Neighbours.{row_alone, row_linked}
+use Rattle.fr_core.proofs.Finishing.{links_at-zeros, zeros_lawful}
+use Rattle.fr_core.proofs.Settling.{settled_from_none}
 use Rattle.fr_core.specs.Settled.{IsSettledCount}
+use Rattle.fr_crew.proofs.Beginning.{zeros_sum}
 use Rattle.fr_crew.specs.Settlements.{IsCounted}
-use Rattle.fr_route.proofs.RoundEnds.{alone_cut_off, capped_cut_off, round_end, round_joined}
+use Rattle.fr_route.proofs.RoundEnds.{alone_cut_off, capped_cut_off, lawful, round_end, round_joined, round_joins, round_net}
 use Rattle.fr_route.proofs.Routing.{route_joined}
-use Rattle.fr_route.specs.Outcomes.{is_parted, state_after}
+use Rattle.fr_route.specs.Outcomes.{HasNoSink, lone_count, state_after, still_state}
 use Rattle.fr_route.specs.Routes.{IsHop, AreHops, is_cut_off}
-use Rattle.fr_route.specs.States.{State, IsCutOff, IsAfterRound, IsCutCount, IsRound}
+use Rattle.fr_route.specs.States.{State, IsCutOff, IsAfterRound, IsCutCount, IsReport, IsRound}
 use Rattle.fr_route.specs.declared.hops.Hop.{Hop}
 use Rattle.fr_route.specs.declared.hops.Hop.TheVariants.{Here, To, CutOff}
 
@@ -43,10 +50,10 @@ hop_cut_off s x Here h = ((λ e. absurd (false≢true e)), (λ cut. absurd (cut.
 hop_cut_off s x (To y) h = ((λ e. absurd (false≢true e)), (λ cut. absurd (cut.1 (route_joined s.links s.dest x (y ∷ h.0) h.1))))
 hop_cut_off s x CutOff h = ((λ e. h), (λ cut. refl))
 
-count_by-map : (p : Hop → Bool) (f : ℕ → Hop) (xs : List ℕ) → count_by p (map f xs) ≡ count_by (λ x. p (f x)) xs
+count_by-map : {X Y : Type 0} (p : Y → Bool) (f : X → Y) (xs : List X) → count_by p (map f xs) ≡ count_by (λ x. p (f x)) xs
 count_by-map p f [] = refl
-count_by-map p f (x ∷ xs) =
-    omega (arith, sum_by-cons (λ (hop : Hop). cond (p hop) 1 0) (f x) (map f xs), sum_by-cons (λ (y : ℕ). cond (p (f y)) 1 0) x xs, count_by-map p f xs)
+count_by-map {X} {Y} p f (x ∷ xs) =
+    omega (arith, sum_by-cons (λ (y : Y). cond (p y) 1 0) (f x) (map f xs), sum_by-cons (λ (z : X). cond (p (f z)) 1 0) x xs, count_by-map p f xs)
 
 pub hops_cut_count : (s : State) (n : ℕ) (hops : List Hop) → AreHops s n hops → IsCutCount n s.dest s.links (count_by is_cut_off hops)
 hops_cut_count s n hops are =
@@ -58,7 +65,126 @@ hops_cut_count s n hops are =
       number = ap (count_by is_cut_off) listed ∙ count_by-map is_cut_off at (range_with_len 0 n);
     }
 
--- after a round, just those nodes are cut off that have turned as often as there are nodes or have no link
+-- a test that d does not pass
+abbrev pub but : ℕ → (ℕ → Bool) → ℕ → Bool
+but d p x = not (x == d) && p x
+
+but_below : (p : ℕ → Bool) (d n : ℕ) → n ≤ d → count_by (but d p) (range_with_len 0 n) ≡ count_by p (range_with_len 0 n)
+but_below p d n high = count-range_agree (but d p) p 0 n (λ x low. rw (ne_eqb x d (omega arith)) refl)
+
+-- of those below n that pass, d is one or not
+pub count_but : (p : ℕ → Bool) (d n : ℕ) → d < n → count_by p (range_with_len 0 n) ≡ count_by (but d p) (range_with_len 0 n) + cond (p d) 1 0
+count_but p d zero low = absurd (omega arith)
+count_but p d (suc n) low =
+    let weight : Bool → ℕ = λ b. cond b 1 0 in
+    let whole : count_by p (range_with_len 0 (suc n)) ≡ count_by p (range_with_len 0 n) + weight (p n) = rw add-one at (count-range_more p n) in
+    let parted : count_by (but d p) (range_with_len 0 (suc n)) ≡ count_by (but d p) (range_with_len 0 n) + weight (but d p n) = rw add-one at (count-range_more (but d p) n) in
+    ⊎_elim
+    (λ e.
+    let here : weight (but d p n) ≡ 0 = rw (eq-eqb n d e) refl in
+    let last : weight (p n) ≡ weight (p d) = ap (λ (x : ℕ). weight (p x)) e in
+    omega (arith, whole, parted, here, last, but_below p d n (omega arith)))
+    (λ apart.
+    let here : weight (but d p n) ≡ weight (p n) = rw (ne_eqb n d apart) refl in
+    omega (arith, whole, parted, here, count_but p d n (omega arith)))
+    (cases_eq n d)
+
+weigh_either : (a b : Bool) → (a ≡ true → b ≡ true → ⊥) → cond (a || b) 1 0 ≡ cond a 1 0 + cond b 1 0
+weigh_either true true bar = absurd (bar refl refl)
+weigh_either true false bar = refl
+weigh_either false true bar = refl
+weigh_either false false bar = refl
+
+-- of two tests that nothing passes both, either
+count_either : (p q : ℕ → Bool) (n : ℕ) → ((x : ℕ) → x < n → p x ≡ true → q x ≡ true → ⊥) → count_by (λ x. p x || q x) (range_with_len 0 n) ≡ count_by p (range_with_len 0 n) + count_by q (range_with_len 0 n)
+count_either p q zero bar = refl
+count_either p q (suc n) bar =
+    let weight : Bool → ℕ = λ b. cond b 1 0 in
+    let either : ℕ → Bool = λ x. p x || q x in
+    let whole : count_by either (range_with_len 0 (suc n)) ≡ count_by either (range_with_len 0 n) + weight (either n) = rw add-one at (count-range_more either n) in
+    let left : count_by p (range_with_len 0 (suc n)) ≡ count_by p (range_with_len 0 n) + weight (p n) = rw add-one at (count-range_more p n) in
+    let right : count_by q (range_with_len 0 (suc n)) ≡ count_by q (range_with_len 0 n) + weight (q n) = rw add-one at (count-range_more q n) in
+    let here : weight (either n) ≡ weight (p n) + weight (q n) = weigh_either (p n) (q n) (bar n (omega arith)) in
+    omega (arith, whole, left, right, here, count_either p q n (λ x low. bar x (omega arith)))
+
+count_listed : (p : ℕ → Bool) (xs : List ℕ) (n : ℕ) → length xs ≡ n → count_by p xs ≡ count_by (λ x. p (slice_index xs x)) (range_with_len 0 n)
+count_listed p xs n long =
+    let at : ℕ → ℕ = λ x. slice_index xs x in
+    ap (count_by p) (fill_by_all at xs n 0 long (λ k l. refl)) ∙ count_by-map p at (range_with_len 0 n)
+
+some_counted : (k : ℕ) (xs : List ℕ) → 0 < count_by (λ x. x == k) xs → Contains xs k
+some_counted k [] some = absurd (omega (arith, some))
+some_counted k (x ∷ xs) some = ⊎_elim
+    (λ e. subst (λ (y : ℕ). Contains (x ∷ xs) y) e (Contains-head x xs))
+    (λ apart.
+    let weight : ℕ → ℕ = λ y. cond (y == k) 1 0 in
+    let nothing : weight x ≡ 0 = rw (ne_eqb x k apart) refl in
+    Contains-tail k x xs (some_counted k xs (omega (arith, sum_by-cons weight x xs, nothing, some))))
+    (cases_eq x k)
+
+-- how many nodes without a link there are, as d is one of them or not
+pub alone_there : (n : ℕ) (links : List (ℕ × ℕ)) (d : ℕ) → d < n → length (row n links d) ≡ 0 → alone_count n links ≡ lone_count n links d + 1
+alone_there n links d below none =
+    let weight : Bool → ℕ = λ b. cond b 1 0 in
+    let one : weight (has_no_neighbour n links d) ≡ 1 = rw (eq-eqb (length (row n links d)) 0 none) refl in
+    omega (arith, count_but (has_no_neighbour n links) d n below, one)
+
+pub alone_elsewhere : (n : ℕ) (links : List (ℕ × ℕ)) (d : ℕ) → d < n → ¬ (length (row n links d) ≡ 0) → alone_count n links ≡ lone_count n links d
+alone_elsewhere n links d below some =
+    let weight : Bool → ℕ = λ b. cond b 1 0 in
+    let nothing : weight (has_no_neighbour n links d) ≡ 0 = rw (ne_eqb (length (row n links d)) 0 some) refl in
+    omega (arith, count_but (has_no_neighbour n links) d n below, nothing)
+
+-- a row is empty just where no link joins its node
+pub alone_just : (n : ℕ) (links : List (ℕ × ℕ)) → IsNet n links → (x : ℕ) → IsTrue (has_no_neighbour n links x) ↔ IsAlone links x
+alone_just n links net x = (
+  (λ e. row_alone n links x net (eqb-true (length (row n links x)) 0 e)),
+  (λ alone. ⊎_elim
+      (λ e. eq-eqb (length (row n links x)) 0 e)
+      (λ some. let link = row_linked n links x (omega (arith, some)) in absurd (alone link.0 link.1))
+      (cases_eq (length (row n links x)) 0)),
+)
+
+-- after a round, those nodes are cut off that have turned as often as there are nodes, and those without a link but the destination
+module _ (n d : ℕ) (first : List (ℕ × ℕ)) (s : State) (net : IsNet n first) (below : d < n) (round : IsRound n d first s) (alone : ℕ → Bool) (just : (x : ℕ) → x < n → IsTrue (alone x) ↔ IsAlone first x) where
+  abbrev capped : ℕ → Bool
+  capped x = slice_index s.counts x == n
+
+  never_capped : (x : ℕ) → slice_index s.counts x ≡ 0 → ¬ (slice_index s.counts x ≡ n)
+  never_capped x none e = omega (arith, none, e, below)
+
+  cut_off_from : (x : ℕ) → x < n → (¬ (x ≡ d) × IsTrue (alone x)) ⊎ (slice_index s.counts x ≡ n) → IsCutOff d s.links x
+  cut_off_from x low (inl lone) = alone_cut_off n d first s net below round x lone.0 ((just x low).0 lone.1)
+  cut_off_from x low (inr cap) =
+      capped_cut_off n d first s net below round x (λ e. never_capped x (ap (slice_index s.counts) e ∙ (lawful n d first s net below round).destination) cap) cap
+
+  cut_off_to : (x : ℕ) → x < n → IsCutOff d s.links x → (¬ (x ≡ d) × IsTrue (alone x)) ⊎ (slice_index s.counts x ≡ n)
+  cut_off_to x low cut = go (round.counts.settled x low)
+    where
+      go : IsSettledCount n d first x (slice_index s.counts x) → (¬ (x ≡ d) × IsTrue (alone x)) ⊎ (slice_index s.counts x ≡ n)
+      go (inl lone) = inl (cut.0, (just x low).1 lone.0)
+      go (inr (inl least)) = absurd (cut.1 ((round_joined n d first s net below round x).0 (slice_index s.counts x, least.1.reached)))
+      go (inr (inr cap)) = inr cap.2
+
+  cut_just : (x : ℕ) → x < n → IsTrue (but d alone x || capped x) ↔ IsCutOff d s.links x
+  cut_just x low =
+      let decides = Decides-or (but d alone x) (capped x)
+      (Decides-and (not (x == d)) (alone x) (Decides-not (x == d) (Decides-eqb x d)) ((λ e. e), (λ e. e)))
+      (Decides-eqb (slice_index s.counts x) n) in
+      ((λ e. cut_off_from x low (decides.0 e)), (λ cut. decides.1 (cut_off_to x low cut)))
+
+  never_both : (x : ℕ) → x < n → but d alone x ≡ true → capped x ≡ true → ⊥
+  never_both x low lone cap =
+      never_capped x ((lawful n d first s net below round).alone x ((just x low).0 (and_cases (not (x == d)) (alone x) lone).1)) (eqb-true (slice_index s.counts x) n cap)
+
+  pub cut_count : IsCutCount n d s.links (count_by (but d alone) (range_with_len 0 n) + count_by (λ count. count == n) s.counts)
+  cut_count = record {
+    is_cut_off = λ x. but d alone x || capped x;
+    just = cut_just;
+    number = ap (λ (k : ℕ). count_by (but d alone) (range_with_len 0 n) + k) (count_listed (λ count. count == n) s.counts n round.counts.one_each)
+        ∙ sym (count_either (but d alone) capped n never_both);
+  }
+
 module _ (net : Network) (d : ℕ) (counts : List ℕ) (is : IsNet net.nodes net.links) (counted : IsCounted net.nodes d net.links counts) where
   pub ended : IsRound net.nodes d net.links (state_after net d counts)
   ended = round_end net.nodes d net.links counts (net_of net.nodes (links_at net.links counts)) counted.settled refl
@@ -66,28 +192,46 @@ module _ (net : Network) (d : ℕ) (counts : List ℕ) (is : IsNet net.nodes net
   pub after_outcome : IsAfterRound (state_after net d counts)
   after_outcome = record { first = net.links; is_net = is; dest = counted.destination; round = ended }
 
-  parted_from_cut_off : (x : ℕ) → x < net.nodes → IsCutOff d (state_after net d counts).links x → ¬ (x ≡ d) × ((slice_index counts x ≡ net.nodes) ⊎ (length (row net.nodes net.links x) ≡ 0))
-  parted_from_cut_off x below cut = (cut.0, go (counted.settled.settled x below))
-    where
-      go : IsSettledCount net.nodes d net.links x (slice_index counts x) → (slice_index counts x ≡ net.nodes) ⊎ (length (row net.nodes net.links x) ≡ 0)
-      go (inl alone) = ⊎_elim inr
-          (λ some. let link = row_linked net.nodes net.links x (omega (arith, some)) in absurd (alone.0 link.0 link.1))
-          (cases_eq (length (row net.nodes net.links x)) 0)
-      go (inr (inl least)) = absurd (cut.1 ((round_joined net.nodes d net.links (state_after net d counts) is counted.destination ended x).0 (slice_index counts x, least.1.reached)))
-      go (inr (inr capped)) = inl capped.2
+  -- by the rows before the round
+  pub cut_by_rows : IsCutCount net.nodes d (state_after net d counts).links (lone_count net.nodes net.links d + count_by (λ count. count == net.nodes) counts)
+  cut_by_rows = cut_count net.nodes d net.links (state_after net d counts) is counted.destination ended (has_no_neighbour net.nodes net.links) (λ x low. alone_just net.nodes net.links is x)
 
-  cut_off_from_parted : (x : ℕ) → ¬ (x ≡ d) × ((slice_index counts x ≡ net.nodes) ⊎ (length (row net.nodes net.links x) ≡ 0)) → IsCutOff d (state_after net d counts).links x
-  cut_off_from_parted x parted = ⊎_elim
-      (λ capped. capped_cut_off net.nodes d net.links (state_after net d counts) is counted.destination ended x parted.0 capped)
-      (λ none. alone_cut_off net.nodes d net.links (state_after net d counts) is counted.destination ended x parted.0 (row_alone net.nodes net.links x is none))
-      parted.1
+-- where no node is a sink, but for the destination, none turns
+pub still_counted : (net : Network) (d : ℕ) → IsNet net.nodes net.links → d < net.nodes → HasNoSink net.links d → IsCounted net.nodes d net.links (replicate net.nodes 0)
+still_counted net d is below none = record {
+  destination = below;
+  settled = settled_from_none net.nodes d net.links is below (replicate net.nodes 0) (zeros_lawful net.nodes d net.links)
+      (λ x can. none x can.not_destination (subst (λ (links : List (ℕ × ℕ)). IsSink links x) (links_at-zeros net.nodes net.links) can.sink));
+  most = omega (arith, zeros_sum net.nodes);
+}
 
-  pub parted_just : (x : ℕ) → x < net.nodes → IsTrue (is_parted net d counts x) ↔ IsCutOff d (state_after net d counts).links x
-  parted_just x below =
-      let capped : Bool = slice_index counts x == net.nodes in
-      let none : Bool = length (row net.nodes net.links x) == 0 in
-      let decides = Decides-and (not (x == d)) (capped || none) (Decides-not (x == d) (Decides-eqb x d))
-      (Decides-or capped none (Decides-eqb (slice_index counts x) net.nodes) (Decides-eqb (length (row net.nodes net.links x)) 0)) in (
-        (λ e. cut_off_from_parted x (decides.0 e)),
-        (λ cut. decides.1 (parted_from_cut_off x below cut)),
-      )
+none_capped : (n : ℕ) → 0 < n → count_by (λ count. count == n) (replicate n 0) ≡ 0
+none_capped n some =
+    let weight : ℕ → ℕ = λ count. cond (count == n) 1 0 in
+    let nothing : weight 0 ≡ 0 = rw (ne_eqb 0 n (λ e. omega arith)) refl in
+    sum_by-replicate weight n 0 ∙ (ap (λ (k : ℕ). n * k) nothing ∙ mul-zero n)
+
+-- and then just the nodes without a link are cut off
+pub still_cut : (net : Network) (d : ℕ) → IsNet net.nodes net.links → d < net.nodes → HasNoSink net.links d → IsCutCount net.nodes d (still_state net d).links (lone_count net.nodes net.links d)
+still_cut net d is below none =
+    let lone : ℕ = lone_count net.nodes net.links d in
+    let same : lone + count_by (λ count. count == net.nodes) (replicate net.nodes 0) ≡ lone = omega (arith, none_capped net.nodes (omega arith)) in
+    subst (IsCutCount net.nodes d (still_state net d).links) same (cut_by_rows net d (replicate net.nodes 0) is (still_counted net d is below none))
+
+-- a round has cut off a linked node just where it reports more than the nodes without a link
+module _ (s : State) (after : IsAfterRound s) (turned cut : ℕ) (report : IsReport s turned cut) where
+  alone_first : (x : ℕ) → x < s.nodes → IsTrue (has_no_neighbour s.nodes s.links x) ↔ IsAlone after.first x
+  alone_first x low =
+      let is = alone_just s.nodes s.links (round_net s.nodes s.dest after.first s after.is_net after.dest after.round) x in
+      let joins = round_joins s.nodes s.dest after.first s after.is_net after.dest after.round x in
+      ((λ e w h. (is.0 e) w ((joins w).0 h)), (λ alone. is.1 (λ w h. alone w ((joins w).1 h))))
+
+  reported : cut ≡ lone_count s.nodes s.links s.dest + count_by (λ count. count == s.nodes) s.counts
+  reported = cut_unique s.nodes s.dest s.links cut (lone_count s.nodes s.links s.dest + count_by (λ count. count == s.nodes) s.counts) report.cut_off
+      (cut_count s.nodes s.dest after.first s after.is_net after.dest after.round (has_no_neighbour s.nodes s.links) alone_first)
+
+  pub more_cut_off : (lone_count s.nodes s.links s.dest < cut) ↔ Contains s.counts s.nodes
+  more_cut_off = (
+    (λ more. some_counted s.nodes s.counts (omega (arith, more, reported))),
+    (λ (k, low, at). omega (arith, reported, one_passes (λ count. count == s.nodes) s.counts k s.nodes low (eq-eqb (get_or s.counts k s.nodes) s.nodes at))),
+  )

@@ -11,5 +11,6 @@ pub mod ShortTexts
 pub mod Touched
 pub mod Moving
 pub mod Written
+pub mod Renewing
 pub mod Shown
 pub mod Inside

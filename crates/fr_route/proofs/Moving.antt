@@ -1,29 +1,30 @@
 -- After a round that cut off no linked node: which nodes can turn once edits are made or the destination moves, and where the nodes
 -- that those do not touch send on to.
-use Rattle.std.proofs.Common.{List, arith, inl, inr, refl, slice_index, subst, sum, sym, ℕ, ⊎_elim, ◌<◌, ◌∷◌, ◌≡◌, Contains}
+use Rattle.std.proofs.Common.{List, arith, inl, inr, refl, slice_index, subst, sym, ℕ, ⊎_elim, ◌<◌, ◌∙◌, ◌∷◌, ◌≡◌, Contains}
 use Rattle.std.specs.List.{All}
 use Rattle.std.proofs.lemmas.Bool.{cases_eq}
 use Rattle.std.proofs.lemmas.List.Elements.{All-cons, Contains-get_or}
 use Rattle.fr_net.specs.Batches.{AreMade}
-use Rattle.fr_net.specs.Links.{IsNet, Joins}
+use Rattle.fr_net.specs.Links.{IsNet, Joins, Points}
 use Rattle.fr_net.specs.Network.{Network}
 use Rattle.fr_net.specs.Turn.{IsSink}
 use Rattle.fr_net.specs.declared.requests.Edit.{Edit}
+use Rattle.fr_net.proofs.Giving.{Points-links_at_from, Points-links_at_same}
 use Rattle.fr_net.proofs.Linking.{joined_below}
 use Rattle.fr_net.proofs.Members.{Contains-head, Contains-tail, cases_some}
 use Rattle.fr_net.specs.Counts.{links_at}
 use Rattle.fr_net.specs.Order.{AreInOrder}
-use Rattle.fr_net.proofs.Ordering.{in_order_order}
+use Rattle.fr_net.proofs.Ordering.{in_order_order, into_order, out_of_order}
 use Rattle.fr_crew.specs.Settlements.{HoldsSinks, IsCounted}
-use Rattle.fr_route.specs.Outcomes.{HoldsMoved, ends_of, state_after, touched}
-use Rattle.fr_route.specs.Routes.{AreHops, IsHop, IsNextHop}
+use Rattle.fr_route.specs.Outcomes.{HoldsMoved, IsStale, ends_of, state_after, touched}
+use Rattle.fr_route.specs.Routes.{AreHops, IsHop}
 use Rattle.fr_route.specs.States.{IsAfterRound, IsRound, State, net_at}
 use Rattle.fr_route.specs.declared.hops.Hop.{Hop}
 use Rattle.fr_route.specs.declared.hops.Hop.TheVariants.{CutOff, Here, To}
 use Rattle.fr_route.proofs.Changing.{made_nodes}
 use Rattle.fr_route.proofs.CutNodes.{ended}
-use Rattle.fr_route.proofs.RoundEnds.{hop_leads_on, linked_joined, linked_out, round_joined, round_net, still_cut_off}
-use Rattle.fr_route.proofs.Touched.{AreAt, HaveSameAt, edits_at, never_turned, still_links}
+use Rattle.fr_route.proofs.RoundEnds.{hop_leads_on, linked_joined, linked_out, round_joined, round_joins, round_net, still_cut_off}
+use Rattle.fr_route.proofs.Touched.{AreAt, HaveSameAt, edits_at}
 
 round_order : (s : State) → IsAfterRound s → AreInOrder s.links
 round_order s after = subst AreInOrder (sym after.round.links) (in_order_order (links_at after.first s.counts))
@@ -77,35 +78,42 @@ module _ (s : State) (after : IsAfterRound s) (free : ¬ Contains s.counts s.nod
           (cases_some (λ (y : ℕ). y ≡ x) (λ y. cases_eq y x) (touched s d edits));
     }
 
-    module _ (counts : List ℕ) (counted : IsCounted net.nodes d net.links counts) (still : sum counts ≡ 0) where
+    module _ (counts : List ℕ) (counted : IsCounted net.nodes d net.links counts) where
       round : IsRound net.nodes d net.links (state_after net d counts)
       round = ended net d counts left.is_net counted
 
-      links_stay : net.links ≡ (state_after net d counts).links
-      links_stay = sym (still_links net.links counts (left.order (round_order s after)) still)
+      -- a node that has not turned keeps of its links away those to nodes that have not,
+      still_away : (x y : ℕ) → slice_index counts x ≡ 0 → slice_index counts y ≡ 0 → Points net.links x y → Points (state_after net d counts).links x y
+      still_away x y rests stays h = into_order (links_at net.links counts) (x, y) (Points-links_at_same net.links counts x y h (stays ∙ sym rests))
 
-      capless : (x : ℕ) → ¬ (slice_index counts x ≡ net.nodes)
-      capless x e = omega (arith, e, never_turned counts still x, counted.destination)
+      -- and gets no other
+      was_away : (x y : ℕ) → slice_index counts x ≡ 0 → Points (state_after net d counts).links x y → Points net.links x y
+      was_away x y rests h = ⊎_elim (λ p. p.0) (λ p. absurd (omega (arith, rests, p.1)))
+          (Points-links_at_from net.links counts x y (out_of_order (links_at net.links counts) (x, y) h))
 
-      next_stands : (x y : ℕ) → HaveSameAt s.links (state_after net d counts).links x → IsNextHop s.links x y → IsNextHop (state_after net d counts).links x y
-      next_stands x y same h = record { link = (same.out y).0 h.link; least = λ w g. h.least w ((same.out w).1 g) }
-
-      -- where the links of a node stay, it sends on to where it did, unless it was or is the destination
-      hop_stands : (x : ℕ) (hop : Hop) → HaveSameAt s.links (state_after net d counts).links x → ¬ (x ≡ s.dest) → ¬ (x ≡ d) → IsHop s x hop → IsHop (state_after net d counts) x hop
-      hop_stands x Here same was becomes h = absurd (was h)
-      hop_stands x (To y) same was becomes h =
-          hop_leads_on net.nodes d net.links (state_after net d counts) left.is_net counted.destination round x y becomes (capless x) (next_stands x y same h.1.1)
-      hop_stands x CutOff same was becomes h =
+      -- so where its links stayed in the edits, it sends on to where it did, unless that node has turned, or it was or is the destination
+      hop_stands : (x : ℕ) (hop : Hop) → HaveSameAt s.links net.links x → ¬ (x ≡ s.dest) → ¬ (x ≡ d) → ¬ IsStale (state_after net d counts) x hop → slice_index counts x ≡ 0 → IsHop s x hop → IsHop (state_after net d counts) x hop
+      hop_stands x Here same was becomes fresh rests h = absurd (was h)
+      hop_stands x (To y) same was becomes fresh rests h =
+          let link : Points net.links x y = (same.out y).0 h.1.1.link in
+          let stays : slice_index counts y ≡ 0 = ⊎_elim
+          (λ e. e)
+          (λ some. absurd (fresh (y, (omega (arith, some), inr ((round_joins net.nodes d net.links (state_after net d counts) left.is_net counted.destination round x y).0 (inl link), refl)))))
+          (cases_eq (slice_index counts y) 0) in
+          hop_leads_on net.nodes d net.links (state_after net d counts) left.is_net counted.destination round x y becomes (λ e. omega (arith, e, rests, counted.destination))
+          (record { link = still_away x y rests stays link; least = λ w g. h.1.1.least w ((same.out w).1 (was_away x w rests g)) })
+      hop_stands x CutOff same was becomes fresh rests h =
           still_cut_off net.nodes d net.links (state_after net d counts) left.is_net counted.destination round x becomes
           (λ w g.
-          let joins : Joins s.links x w = inl ((same.out w).1 g) in
+          let joins : Joins s.links x w = inl ((same.out w).1 (was_away x w rests g)) in
           h.1 ((round_joined s.nodes s.dest after.first s after.is_net after.dest after.round x).0 (linked_joined s.nodes s.dest after.first s after.is_net after.dest after.round x w joins (linked_below x w joins))))
 
-      -- and so, where no node turns, the hop of each node that is not touched stays right
+      -- and the hop of each node that is not touched stays right, unless it is stale
       pub untouched_hops : (hops : List Hop) → AreHops s s.nodes hops → HoldsMoved (state_after net d counts) hops (touched s d edits)
       untouched_hops hops are = record {
         below = touched_below;
-        others = λ x hop at none.
+        others = λ x hop at none fresh.
             let not = untouched x none in
-            hop_stands x hop (subst (λ (links : List (ℕ × ℕ)). HaveSameAt s.links links x) links_stay not.2) not.0 not.1 (are.each x hop at);
+            let rests : slice_index counts x ≡ 0 = ⊎_elim (λ e. e) (λ some. absurd (fresh (x, (omega (arith, some), inl refl)))) (cases_eq (slice_index counts x) 0) in
+            hop_stands x hop not.2 not.0 not.1 fresh rests (are.each x hop at);
       }

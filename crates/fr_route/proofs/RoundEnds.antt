@@ -13,7 +13,7 @@ use Rattle.fr_net.proofs.Reordering.{in_order-links_at}
 use Rattle.fr_net.proofs.TurnedLinks.{net_turned}
 use Rattle.fr_core.specs.Walks.{IsJoined}
 use Rattle.fr_core.specs.Settled.{AreSettled}
-use Rattle.fr_core.proofs.Joining.{joined_at, joins_at, walk_linked}
+use Rattle.fr_core.proofs.Joining.{joined_at, joins_at, joins_kept, walk_linked}
 use Rattle.fr_core.proofs.SameLinks.{same_acyclic, same_from_permutation, same_settled, same_joined, same_sym}
 use Rattle.fr_core.proofs.Unique.{IsLinkedCount, not_joined_from_cap, of_linked, settled_lawful, settled_unique}
 use Rattle.fr_route.specs.States.{State, IsRound, IsCutOff, state_with}
@@ -53,7 +53,7 @@ same_in_order : (links : List (ℕ × ℕ)) → HaveSameLinks links (in_order li
 same_in_order links u v = (into_order links (u, v), out_of_order links (u, v))
 
 module _ (n d : ℕ) (first : List (ℕ × ℕ)) (s : State) (net : IsNet n first) (below : d < n) (round : IsRound n d first s) where
-  lawful : AreLawful n d first s.counts
+  pub lawful : AreLawful n d first s.counts
   lawful = settled_lawful n d first net below s.counts round.counts
 
   -- the links of the state are those that the counts give
@@ -71,6 +71,13 @@ module _ (n d : ℕ) (first : List (ℕ × ℕ)) (s : State) (net : IsNet n firs
   -- no closed walk stands among them
   pub round_acyclic : IsAcyclic s.links
   round_acyclic = same_acyclic (links_at first s.counts) s.links as_given (links_at_acyclic first s.counts net.acyclic)
+
+  -- the same nodes are linked
+  pub round_joins : (x y : ℕ) → Joins first x y ↔ Joins s.links x y
+  round_joins x y = (
+    (λ h. ⊎_elim (λ a. inl ((as_given x y).0 a)) (λ a. inr ((as_given y x).0 a)) (joins_kept first s.counts lawful.kept x y h)),
+    (λ h. joins_at first s.counts x y (⊎_elim (λ a. inl ((given_back x y).0 a)) (λ a. inr ((given_back y x).0 a)) h)),
+  )
 
   pub round_joined : (x : ℕ) → IsJoined first d x ↔ IsJoined s.links d x
   round_joined x = (
@@ -100,7 +107,7 @@ module _ (n d : ℕ) (first : List (ℕ × ℕ)) (s : State) (net : IsNet n firs
 
   -- a linked node whose count is below the cap is joined with the destination
   pub linked_joined : (x y : ℕ) → Joins s.links x y → ¬ (slice_index s.counts x ≡ n) → IsJoined first d x
-  linked_joined x y h free = go (of_linked n d first net below s.counts round.counts x y (joins_at first s.counts x y (⊎_elim (λ a. inl ((given_back x y).0 a)) (λ a. inr ((given_back y x).0 a)) h)))
+  linked_joined x y h free = go (of_linked n d first net below s.counts round.counts x y ((round_joins x y).1 h))
     where
       go : IsLinkedCount n d first x (slice_index s.counts x) → IsJoined first d x
       go (inl least) = (slice_index s.counts x, least.reached)

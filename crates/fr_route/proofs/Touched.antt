@@ -1,9 +1,9 @@
 -- What edits and a new destination touch: the links of every other node stay as they are, and so does where it sends on to.
-use Rattle.std.proofs.Common.{Bool, Contains, List, [], ap, ap₂, append_assoc, arith, cond, false, get_or, inl, inr, length, refl, replicate, slice_index, subst, sum, sym, take, true, ℕ, ⊎_elim, ◌+◌, ◌++◌, ◌<◌, ◌↔◌, ◌∙◌, ◌∷◌, ◌≡◌, ◌⊎◌}
+use Rattle.std.proofs.Common.{Bool, Contains, List, [], ap, ap₂, append_assoc, arith, cond, false, get_or, inl, inr, length, refl, replicate, subst, sum, sym, take, true, ℕ, ⊎_elim, ◌+◌, ◌++◌, ◌<◌, ◌↔◌, ◌∙◌, ◌∷◌, ◌≡◌, ◌⊎◌}
 use Rattle.std.specs.Prelude.{not}
 use Rattle.std.specs.List.{All, filter}
-use Rattle.std.proofs.lemmas.Bool.{cases_Bool, cases_lt, false≢true}
-use Rattle.std.proofs.lemmas.List.{get_or-replicate, get_or_past, length-replicate, take_more}
+use Rattle.std.proofs.lemmas.Bool.{cases_Bool, false≢true}
+use Rattle.std.proofs.lemmas.List.{take_more}
 use Rattle.std.proofs.lemmas.List.Elements.{All-cons, All-nil, Contains-append_left, Contains-push, Contains-push_cases}
 use Rattle.std.proofs.lemmas.List.Sorted.{IsPermutation-refl}
 use Rattle.std.proofs.lemmas.List.Sums.{sum_by-cons}
@@ -186,18 +186,11 @@ ends_more es k e nodes x y u v low is so_far =
     ap (λ (ends : List ℕ). (ends ++ u ∷ []) ++ v ∷ []) so_far ∙ ap (λ (ends : List ℕ). x ∷ (y ∷ ends)) (sym longer)
 
 -- where nobody turns, the links stay
-zeros : (counts : List ℕ) → sum counts ≡ 0 → counts ≡ replicate (length counts) 0
+pub zeros : (counts : List ℕ) → sum counts ≡ 0 → counts ≡ replicate (length counts) 0
 zeros [] e = refl
 zeros (x ∷ xs) e =
     let parts = sum_by-cons (λ (y : ℕ). y) x xs in
     ap₂ (λ (h : ℕ) (t : List ℕ). h ∷ t) (omega (arith, e, parts)) (zeros xs (omega (arith, e, parts)))
-
--- and each count is 0
-pub never_turned : (counts : List ℕ) → sum counts ≡ 0 → (x : ℕ) → slice_index counts x ≡ 0
-never_turned counts none x =
-    let n : ℕ = length counts in
-    ap (λ (c : List ℕ). slice_index c x) (zeros counts none)
-    ∙ ⊎_elim (λ low. get_or-replicate n x 0 0 low) (λ past. get_or_past (replicate n 0) x 0 (omega (arith, length-replicate {A = ℕ} n 0))) (cases_lt x n)
 
 pub rising_order : (links : List (ℕ × ℕ)) → AreRising links → AreInOrder links
 rising_order links rising = λ k d l. ⊎_elim (λ a. inl a) (λ a. inr (a.0, omega (arith, a.1))) (rising k d l)

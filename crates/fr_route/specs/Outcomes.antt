@@ -1,11 +1,14 @@
 -- What a round on a network comes to, and the nodes at which edits change links.
-use Rattle.std.specs.Prelude.{◌≡◌, ℕ, ◌<◌, ◌≤◌, Bool, not, ◌==◌, ◌&&◌, ◌||◌, List, [], ◌∷◌, length, slice_get, slice_index, Some}
-use Rattle.std.specs.List.{All, Contains}
+use Rattle.std.specs.Prelude.{◌≡◌, ℕ, ◌<◌, ◌≤◌, ◌⊎◌, not, ◌==◌, ◌&&◌, List, [], ◌∷◌, count_by, length, replicate, slice_get, slice_index, Option, Some, None, Vec}
+use Rattle.std.specs.List.{All, Contains, range_with_len}
+use Rattle.std.specs.declared.alloc.Global.{Global}
 use Rattle.fr_net.specs.Batches.{AreMade, IsBatchFault}
 use Rattle.fr_net.specs.Counts.{links_at}
 use Rattle.fr_net.specs.Limits.{most_edits}
 use Rattle.fr_net.specs.Network.{Network, net_of}
-use Rattle.fr_net.specs.Rows.{row}
+use Rattle.fr_net.specs.Links.{Joins}
+use Rattle.fr_net.specs.Rows.{has_no_neighbour}
+use Rattle.fr_net.specs.Turn.{IsSink}
 use Rattle.fr_net.specs.declared.fault.EditFault.{EditFault}
 use Rattle.fr_net.specs.declared.requests.Edit.{Edit}
 use Rattle.fr_net.specs.declared.requests.Edit.TheVariants.{Cut, Add, Join}
@@ -15,21 +18,38 @@ use Rattle.fr_route.specs.States.{State, IsReport, IsRound, net_at, state_with}
 use Rattle.fr_route.specs.declared.fault.RouteFault.{RouteFault}
 use Rattle.fr_route.specs.declared.fault.RouteFault.TheVariants.{Net, Range, Start, Memory}
 use Rattle.fr_route.specs.declared.hops.Hop.{Hop}
+use Rattle.fr_route.specs.declared.hops.Hop.TheVariants.{To}
 use Rattle.fr_route.specs.declared.outcome.Outcome.{Outcome}
 
 -- the state after a round with these counts on a network
 abbrev pub state_after : Network → ℕ → List ℕ → State
 state_after net d counts = state_with (net_of net.nodes (links_at net.links counts)) d counts
 
+-- the counts of a round: those that are given, or 0 for each of n nodes
+abbrev pub counts_of : ℕ → Option (Vec ℕ Global) → List ℕ
+counts_of n (Some counts) = counts.items
+counts_of n None = replicate n 0
+
+-- the state after a round in which no node turns
+abbrev pub still_state : Network → ℕ → State
+still_state net d = state_after net d (replicate net.nodes 0)
+
 -- the settled counts of a network, and the report of the round on it
 pub record IsOutcome (net : Network) (d : ℕ) (outcome : Outcome) : Type 0 where
-  pub counts : IsCounted net.nodes d net.links outcome.counts.items
-  pub report : IsReport (state_after net d outcome.counts.items) outcome.report.turned outcome.report.cut
+  pub counts : IsCounted net.nodes d net.links (counts_of net.nodes outcome.counts)
+  pub report : IsReport (state_after net d (counts_of net.nodes outcome.counts)) outcome.report.turned outcome.report.cut
 
--- whether a node is cut off after a round with these counts: it is not the destination, and has turned as often as there are
--- nodes or has no link
-abbrev pub is_parted : Network → ℕ → List ℕ → ℕ → Bool
-is_parted net d counts x = not (x == d) && ((slice_index counts x == net.nodes) || (length (row net.nodes net.links x) == 0))
+-- some node of the list is a sink, and not the destination
+abbrev pub HasSink : List (ℕ × ℕ) → ℕ → List ℕ → Type 0
+HasSink links d among = (x : ℕ) × (Contains among x × (¬ (x ≡ d) × IsSink links x))
+
+-- no node is a sink, but for the destination
+abbrev pub HasNoSink : List (ℕ × ℕ) → ℕ → Type 0
+HasNoSink links d = (x : ℕ) → ¬ (x ≡ d) → ¬ IsSink links x
+
+-- how many of n nodes other than d have no neighbour
+abbrev pub lone_count : ℕ → List (ℕ × ℕ) → ℕ → ℕ
+lone_count n links d = count_by (λ x. not (x == d) && has_no_neighbour n links x) (range_with_len 0 n)
 
 -- the ends of the links that the edits take out or add
 abbrev pub ends_of : List Edit → List ℕ
@@ -42,10 +62,22 @@ ends_of (Join u v ∷ rest) = u ∷ (v ∷ ends_of rest)
 abbrev pub touched : State → ℕ → List Edit → List ℕ
 touched s d edits = s.dest ∷ (d ∷ ends_of edits)
 
--- each of these is a node, and the hop of every other node is right
+-- the hop of x itself, or that of a neighbour which sends on to x
+abbrev pub SendsTo : List (ℕ × ℕ) → ℕ → ℕ → Hop → Type 0
+SendsTo links x y hop = (y ≡ x) ⊎ (Joins links y x × (hop ≡ To x))
+
+-- the hop may be wrong after a round, since its node has turned or the one to which it sends on has
+abbrev pub IsStale : State → ℕ → Hop → Type 0
+IsStale s y hop = (x : ℕ) × ((0 < slice_index s.counts x) × SendsTo s.links x y hop)
+
+-- each of these is a node, and the hop of every other node is right, unless it is stale
 pub record HoldsMoved (s : State) (hops : List Hop) (moved : List ℕ) : Type 0 where
   pub below : All (λ x. x < s.nodes) moved
-  pub others : (x : ℕ) (hop : Hop) → slice_get hops x ≡ Some hop → ¬ Contains moved x → IsHop s x hop
+  pub others : (x : ℕ) (hop : Hop) → slice_get hops x ≡ Some hop → ¬ Contains moved x → ¬ IsStale s x hop → IsHop s x hop
+
+-- each hop is right now, or it is what it was, and one of those that are left
+pub record AreRenewed (s : State) (old new : List Hop) (left : ℕ → Hop → Type 0) : Type 0 where
+  pub each : (x : ℕ) (hop : Hop) → slice_get new x ≡ Some hop → IsHop s x hop ⊎ ((slice_get old x ≡ Some hop) × left x hop)
 
 -- the edits are made, and this is the state after the round on the network that they make, toward d
 abbrev pub IsEdited : State → List Edit → ℕ → State → Type 0

@@ -1,9 +1,9 @@
 //! Where each node sends on to.
 
-ghost use Rattle.std.specs.Prelude.{◌≡◌, ℕ, ◌<◌, length, IfOk, IfSome, MatchOption};
+ghost use Rattle.std.specs.Prelude.{◌≡◌, ℕ, ◌<◌, All, Contains, length, sum, IfOk, IfSome, MatchOption};
 ghost use Rattle.fr_net.specs.Links.{Points};
 ghost use Rattle.fr_route.specs.Routes.{IsNextHop, IsHop, AreHops};
-ghost use Rattle.fr_route.specs.Outcomes.{HoldsMoved};
+ghost use Rattle.fr_route.specs.Outcomes.{AreRenewed, HoldsMoved, IsStale, SendsTo};
 ghost use Rattle.fr_route.specs.States.{IsAfterRound, state_with};
 
 use fr_net::{First, Net};
@@ -30,7 +30,7 @@ pub enum Walked {
 }
 
 /// The least node to which a link from node `x` points.
-fn least_out(net: &Net, x: u32) -> Option<u32>
+pub(crate) fn least_out(net: &Net, x: u32) -> Option<u32>
     requires { x < net.now.nodes }
     ensures { MatchOption result ((w : ℕ) → ¬ Points net.now.links x w) (IsNextHop net.now.links x) }
 {
@@ -78,36 +78,94 @@ pub(crate) fn hop_table(
     Ok(hops)
 }
 
-/// Makes anew where nodes send on to: the moved ones, where they are given, each other node then being right as it stands; or else
-/// all nodes.
+/// Makes anew where nodes send on to, after so many turns. Where the touched nodes are given, only their hops are made anew, and
+/// those that turns have made stale; each other one is right as it stands.
 pub(crate) fn renew_hops(
     hops: &mut [Hop],
     net: &Net,
     dest: u32,
     counts: &[u64],
-    moved: Option<&[u32]>,
+    turned: u64,
+    touched: Option<&[u32]>,
 )
     requires round { IsAfterRound (state_with net.now dest counts.now) }
     requires one_each { length hops.old ≡ net.now.nodes }
-    requires moved { IfSome moved (λ moved. HoldsMoved (state_with net.now dest counts.now) hops.old moved.now) }
+    requires turned { turned ≡ sum counts.now }
+    requires touched { IfSome touched (λ touched. HoldsMoved (state_with net.now dest counts.now) hops.old touched.now) }
     ensures { AreHops (state_with net.now dest counts.now) net.now.nodes hops.new }
 {
-    match moved {
-        Some(moved) => renew_some(hops, net, dest, counts, moved),
-        None => renew_all(hops, net, dest, counts),
+    let Some(touched) = touched else {
+        renew_all(hops, net, dest, counts);
+        return;
+    };
+    if turned > 0 {
+        renew_turned(hops, net, dest, counts);
+    }
+    renew_some(hops, net, dest, counts, touched);
+}
+
+/// Makes anew where each node sends on to that has turned, and each neighbour that sends on to such a node. The links of every
+/// other node point as they did.
+fn renew_turned(hops: &mut [Hop], net: &Net, dest: u32, counts: &[u64])
+    requires round { IsAfterRound (state_with net.now dest counts.now) }
+    requires one_each { length hops.old ≡ net.now.nodes }
+    ensures { AreRenewed (state_with net.now dest counts.now) hops.old hops.new (λ x hop. ¬ IsStale (state_with net.now dest counts.now) x hop) }
+{
+    for x in 0..net.nodes() {
+        if counts[x as usize] > 0 {
+            renew_near(hops, net, dest, counts, x);
+        }
     }
 }
 
-/// Makes anew where each of these nodes sends on to, the others being right as they stand.
+/// Makes anew where node `x` sends on to, and each neighbour that sends on to it.
+fn renew_near(hops: &mut [Hop], net: &Net, dest: u32, counts: &[u64], x: u32)
+    requires round { IsAfterRound (state_with net.now dest counts.now) }
+    requires one_each { length hops.old ≡ net.now.nodes }
+    requires node { x < net.now.nodes }
+    ensures { AreRenewed (state_with net.now dest counts.now) hops.old hops.new (λ y hop. ¬ SendsTo net.now.links x y hop) }
+{
+    // By the law the row has each link of `x`.
+    net.network_law();
+    renew_one(hops, net, dest, counts, x);
+    let row = net.row(x);
+    for (w, _) in row {
+        renew_sender(hops, net, dest, counts, *w, x);
+    }
+}
+
+/// Makes anew where node `w` sends on to, if that is node `x`.
+fn renew_sender(hops: &mut [Hop], net: &Net, dest: u32, counts: &[u64], w: u32, x: u32)
+    requires round { IsAfterRound (state_with net.now dest counts.now) }
+    requires one_each { length hops.old ≡ net.now.nodes }
+    requires node { w < net.now.nodes }
+    ensures { AreRenewed (state_with net.now dest counts.now) hops.old hops.new (λ y hop. y ≡ w → ¬ (hop ≡ Hop.To x)) }
+{
+    if hops[w as usize] == Hop::To(x) {
+        renew_one(hops, net, dest, counts, w);
+    }
+}
+
+/// Makes anew where each of these nodes sends on to.
 fn renew_some(hops: &mut [Hop], net: &Net, dest: u32, counts: &[u64], moved: &[u32])
     requires round { IsAfterRound (state_with net.now dest counts.now) }
     requires one_each { length hops.old ≡ net.now.nodes }
-    requires moved { HoldsMoved (state_with net.now dest counts.now) hops.old moved.now }
-    ensures { AreHops (state_with net.now dest counts.now) net.now.nodes hops.new }
+    requires nodes { All (λ (x : ℕ). x < net.now.nodes) moved.now }
+    ensures { AreRenewed (state_with net.now dest counts.now) hops.old hops.new (λ x _. ¬ Contains moved.now x) }
 {
     for x in moved {
-        hops[*x as usize] = hop_of(net, dest, counts, *x);
+        renew_one(hops, net, dest, counts, *x);
     }
+}
+
+/// Makes anew where node `x` sends on to.
+fn renew_one(hops: &mut [Hop], net: &Net, dest: u32, counts: &[u64], x: u32)
+    requires round { IsAfterRound (state_with net.now dest counts.now) }
+    requires one_each { length hops.old ≡ net.now.nodes }
+    requires node { x < net.now.nodes }
+    ensures { AreRenewed (state_with net.now dest counts.now) hops.old hops.new (λ y _. ¬ (y ≡ x)) }
+{
+    hops[x as usize] = hop_of(net, dest, counts, x);
 }
 
 /// Makes anew where each node sends on to.

@@ -1,21 +1,21 @@
 //! What a round on a network comes to, before any of it is put in place.
 
-ghost use Rattle.std.specs.Prelude.{◌≡◌, ◌≢◌, ◌<◌, ◌≤◌, [], ◌∷◌, All, length, sum, IfOk, IfErr, IfSome};
+ghost use Rattle.std.specs.Prelude.{◌≡◌, ◌≢◌, ℕ, ◌<◌, ◌≤◌, ◌==◌, ◌↔◌, [], ◌∷◌, All, IsTrue, count_by, length, sum, IfOk, IfErr, IfSome};
 ghost use Rattle.fr_crew.specs.Settlements.{HoldsSinks, IsCounted};
 ghost use Rattle.fr_crew.specs.Ways.{Settles, NeverStarts};
 ghost use Rattle.fr_net.specs.Counts.{IsKept, links_at};
 ghost use Rattle.fr_net.specs.Limits.{most_edits};
 ghost use Rattle.fr_net.specs.Network.{net_of};
-ghost use Rattle.fr_net.specs.Order.{in_order};
+ghost use Rattle.fr_net.specs.Turn.{IsSink};
 ghost use Rattle.fr_route.specs.Routes.{AreHops};
-ghost use Rattle.fr_route.specs.States.{IsCutCount};
+ghost use Rattle.fr_route.specs.States.{IsReport};
 ghost use Rattle.fr_route.specs.Changes.{IsOpenFault};
-ghost use Rattle.fr_route.specs.Outcomes.{HoldsMoved, IsOutcome, ends_of, is_parted, state_after};
+ghost use Rattle.fr_route.specs.Outcomes.{HoldsMoved, IsOutcome, HasSink, HasNoSink, counts_of, ends_of, lone_count, still_state, state_after};
 ghost use Rattle.fr_route.specs.declared.fault.RouteFault.TheVariants.{Start};
 
 use crate::change::Report;
 use crate::fault::RouteFault;
-use crate::hops::{Hop, renew_hops};
+use crate::hops::{Hop, least_out, renew_hops};
 use fr_crew::{CrewFault, settled_counts_by};
 use fr_net::{Edit, Net};
 use std::alloc::{AllocError, Global};
@@ -23,14 +23,14 @@ use std::alloc::{AllocError, Global};
 /// What a round on a network comes to.
 #[derive(Drop)]
 pub(crate) struct Outcome {
-    /// How often each node turns.
-    pub(crate) counts: Vec<u64>,
+    /// How often each node turns; None where no node does.
+    pub(crate) counts: Option<Vec<u64>>,
     /// What the round reports.
     pub(crate) report: Report,
 }
 
 /// What a round on a network comes to, settled in a way that is passed in. Each node that can turn at first is among `from`, where
-/// it is given.
+/// it is given, and the destination is then a node; where none of these can turn, nothing is settled.
 pub(crate) fn outcome_of<F: Fn(&Net, u32, Option<&[u32]>) -> Result<Vec<u64>, CrewFault>>(
     net: &Net,
     dest: u32,
@@ -38,42 +38,99 @@ pub(crate) fn outcome_of<F: Fn(&Net, u32, Option<&[u32]>) -> Result<Vec<u64>, Cr
     way: &F,
 ) -> Result<Outcome, RouteFault>
     requires settles { Settles F.pre F.post way.now }
-    requires from { IfSome from (λ from. HoldsSinks net.now dest from.now) }
+    requires from { IfSome from (λ from. (dest < net.now.nodes) × HoldsSinks net.now dest from.now) }
     ensures outcome { IfOk result (IsOutcome net.now dest) }
     ensures fault { IfErr result (IsOpenFault net.now.nodes dest) }
     ensures no_start { NeverStarts F.post way.now → IfErr result (λ fault. fault ≢ Start) }
 {
     net.network_law();
-    let counts = settled_counts_by(way, net, dest, from)?;
-    let report = Report {
-        turned: counts.iter().sum(),
-        cut: cut_nodes(net, dest, &counts),
-    };
-    Ok(Outcome { counts, report })
-}
-
-/// How many nodes are cut off after the round with these settled counts.
-fn cut_nodes(net: &Net, dest: u32, counts: &[u64]) -> u64
-    requires { IsCounted net.now.nodes dest net.now.links counts.now }
-    ensures { IsCutCount net.now.nodes dest (in_order (links_at net.now.links counts.now)) result }
-{
-    net.network_law();
-    let mut cut = 0;
-    for x in 0..net.nodes() {
-        if is_cut_off(net, dest, counts, x) {
-            cut += 1;
+    if let Some(from) = from {
+        if !has_sink(net, dest, from) {
+            let report = still_report(net, dest);
+            return Ok(Outcome {
+                counts: None,
+                report,
+            });
         }
     }
-    cut
+    let counts = settled_counts_by(way, net, dest, from)?;
+    let report = report_of(net, dest, &counts);
+    Ok(Outcome {
+        counts: Some(counts),
+        report,
+    })
 }
 
-/// Whether a node is cut off after the round with these settled counts: it has no link, or has turned as often as there are nodes.
-fn is_cut_off(net: &Net, dest: u32, counts: &[u64], x: u32) -> bool
-    requires node { x < net.now.nodes }
-    requires one_each { length counts.now ≡ net.now.nodes }
-    ensures { result ≡ is_parted net.now dest counts.now x }
+/// Whether a node other than the destination is a sink, among these nodes.
+fn has_sink(net: &Net, dest: u32, among: &[u32]) -> bool
+    requires { All (λ (x : ℕ). x < net.now.nodes) among.now }
+    ensures { IsTrue result ↔ HasSink net.now.links dest among.now }
 {
-    x != dest && (counts[x as usize] == u64::from(net.nodes()) || net.degree(x) == 0)
+    for x in among {
+        if *x != dest && is_sink(net, *x) {
+            return true;
+        }
+    }
+    false
+}
+
+/// Whether a node is a sink of the network: it has a link, and none of its links points away.
+fn is_sink(net: &Net, x: u32) -> bool
+    requires { x < net.now.nodes }
+    ensures { IsTrue result ↔ IsSink net.now.links x }
+{
+    // By the law the row has each link of `x`.
+    net.network_law();
+    net.degree(x) > 0 && least_out(net, x).is_none()
+}
+
+/// What a round reports in which no node turns: without a link a node is cut off, and there is no other.
+fn still_report(net: &Net, dest: u32) -> Report
+    requires dest { dest < net.now.nodes }
+    requires still { HasNoSink net.now.links dest }
+    ensures { IsReport (still_state net.now dest) result.turned result.cut }
+{
+    // The counts 0 are the settled ones, by the law.
+    net.network_law();
+    Report {
+        turned: 0,
+        cut: alone_nodes(net, dest),
+    }
+}
+
+/// What the round with these settled counts reports: cut off are the nodes without a link, and those that have turned as often as
+/// there are nodes.
+pub(crate) fn report_of(net: &Net, dest: u32, counts: &[u64]) -> Report
+    requires { IsCounted net.now.nodes dest net.now.links counts.now }
+    ensures { IsReport (state_after net.now dest counts.now) result.turned result.cut }
+{
+    net.network_law();
+    Report {
+        turned: counts.iter().sum(),
+        cut: alone_nodes(net, dest) + capped_nodes(net.nodes(), counts),
+    }
+}
+
+/// How many nodes other than the destination have no link.
+pub(crate) fn alone_nodes(net: &Net, dest: u32) -> u64
+    requires { dest < net.now.nodes }
+    ensures { result ≡ lone_count net.now.nodes net.now.links dest }
+{
+    let alone = u64::from(net.alone());
+    if net.degree(dest) == 0 {
+        alone - 1
+    } else {
+        alone
+    }
+}
+
+/// How many nodes have turned as often as there are nodes.
+fn capped_nodes(nodes: u32, counts: &[u64]) -> u64
+    requires { length counts.now ≡ nodes }
+    ensures { result ≡ count_by (λ count. count == nodes) counts.now }
+{
+    let cap = u64::from(nodes);
+    counts.iter().filter(|count| **count == cap).count() as u64
 }
 
 /// Turns the links of a network as the settled counts say, where there is any turn.
@@ -89,30 +146,42 @@ pub(crate) fn turn_links(net: &mut Net, counts: &[u64], turned: u64)
     }
 }
 
-/// Puts a round in place: turns the links, and makes anew where nodes send on to. Where no node turns, only the hops of the touched
-/// nodes are looked at, if these are given.
+/// Puts the counts of a round in place of those of the last one, which took so many turns. Where none are given each is 0, as they
+/// stand if there was no turn.
+pub(crate) fn put_counts(counts: &mut Vec<u64>, turned: u64, next: Option<Vec<u64>>)
+    requires { turned ≡ sum counts.old.items }
+    ensures { counts.new.items ≡ counts_of (length counts.old.items) next }
+{
+    match next {
+        Some(next) => *counts = next,
+        None => {
+            if turned > 0 {
+                counts.fill(0);
+            }
+        }
+    }
+}
+
+/// Puts a round in place: turns the links as these settled counts say, and makes anew where nodes send on to. Where the touched
+/// nodes are given, only these are looked at, and those that turned.
 pub(crate) fn put_in_place(
     net: &mut Net,
     hops: &mut [Hop],
     dest: u32,
-    outcome: &Outcome,
+    counts: &[u64],
+    turned: u64,
     touched: Option<&[u32]>,
 )
-    requires outcome { IsOutcome net.old dest outcome.now }
+    requires counted { IsCounted net.old.nodes dest net.old.links counts.now }
+    requires turned { turned ≡ sum counts.now }
     requires one_each { length hops.old ≡ net.old.nodes }
-    requires touched { IfSome touched (λ touched. sum outcome.now.counts.items ≡ 0
-        → HoldsMoved (state_after net.old dest outcome.now.counts.items) hops.old touched.now) }
-    ensures net { net.new ≡ net_of net.old.nodes (links_at net.old.links outcome.now.counts.items) }
-    ensures hops { AreHops (state_after net.old dest outcome.now.counts.items) net.old.nodes hops.new }
+    requires touched { IfSome touched (λ touched. HoldsMoved (state_after net.old dest counts.now) hops.old touched.now) }
+    ensures net { net.new ≡ net_of net.old.nodes (links_at net.old.links counts.now) }
+    ensures hops { AreHops (state_after net.old dest counts.now) net.old.nodes hops.new }
 {
     net.network_law();
-    turn_links(net, &outcome.counts, outcome.report.turned);
-    let moved = if outcome.report.turned == 0 {
-        touched
-    } else {
-        None
-    };
-    renew_hops(hops, net, dest, &outcome.counts, moved);
+    turn_links(net, counts, turned);
+    renew_hops(hops, net, dest, counts, turned, touched);
 }
 
 /// The nodes that edits and a new destination touch: both destinations, and the ends of the links that are taken out or added.

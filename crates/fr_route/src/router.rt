@@ -1,6 +1,6 @@
 //! A router: a settled network with its next hops and routes, and the changes after which it is settled anew.
 
-ghost use Rattle.std.specs.Prelude.{◌≡◌, ◌≢◌, ◌<◌, ◌∷◌, length, sum, Ok, IfOk, IfErr, IfSome, OnErr, Contains};
+ghost use Rattle.std.specs.Prelude.{◌≡◌, ◌≢◌, ◌<◌, ◌↔◌, ◌∷◌, length, sum, Ok, IfOk, IfErr, IfSome, IsTrue, OnErr, Contains};
 ghost use Rattle.fr_crew.specs.Settlements.{HoldsSinks};
 ghost use Rattle.fr_crew.specs.Ways.{Settles, NeverStarts};
 ghost use Rattle.fr_net.specs.Counts.{IsKept, links_at};
@@ -15,8 +15,11 @@ ghost use Rattle.fr_route.specs.Outcomes.{IsEdited, IsEditingFault, IsOutcome, t
 use crate::change::{Change, Report};
 use crate::fault::RouteFault;
 use crate::hops::{Hop, Walked, hop_table};
-use crate::outcome::{Outcome, outcome_of, put_in_place, touched_nodes, turn_links};
-use fr_crew::{CrewFault, Gate, Plan, settled_counts, settled_counts_alone};
+use crate::outcome::{
+    Outcome, alone_nodes, outcome_of, put_counts, put_in_place, report_of, touched_nodes,
+    turn_links,
+};
+use fr_crew::{CrewFault, Gate, Plan, settled_counts, settled_counts_alone, settled_counts_by};
 use fr_net::{Edit, MAX_EDITS, Net};
 use std::alloc::{AllocError, Global};
 use std::marker::Model;
@@ -98,7 +101,8 @@ impl Router {
         ensures no_start { NeverStarts F.post way.now → IfErr result (λ fault. fault ≢ Start) }
     {
         net.network_law();
-        let Outcome { counts, report } = outcome_of(&net, dest, None, way)?;
+        let counts = settled_counts_by(way, &net, dest, None)?;
+        let report = report_of(&net, dest, &counts);
         turn_links(&mut net, &counts, report.turned);
         let hops = hop_table(alloc, &net, dest, &counts)?;
         Ok(Router {
@@ -118,8 +122,9 @@ impl Router {
     ///
     /// The change is made where the network stands, and all that can fail is done before any of it stays. Where the last round
     /// cut off no linked node, only the ends of the links and the two destinations are looked at for what can turn; where none can,
-    /// only their hops are made anew, and all else is a few passes over the counts. Else the hops are made anew in time linear in
-    /// nodes and links, behind the round.
+    /// nothing is settled, and only their hops are made anew. Where nodes turn, the hops of these are made anew as well, and of the
+    /// neighbours that sent on to them, beside a few passes over the counts. Where the last round cut off a linked node, all hops
+    /// are made anew behind the round, in time linear in nodes and links.
     pub fn change<R: Threads + Wait + Sync, G: Gate + Sync>(
         &mut self,
         rt: &R,
@@ -224,7 +229,7 @@ impl Router {
             &|net|
                 requires settles { Settles F.pre F.post way.now }
                 requires tells { K.IsAlwaysCallable tell.now }
-                requires from { IfSome from (λ from. HoldsSinks net.now dest from.now) }
+                requires from { IfSome from (λ from. (dest < net.now.nodes) × HoldsSinks net.now dest from.now) }
                 ensures outcome { IfOk result (λ made. IsOutcome net.entry.now dest made.0) }
                 ensures told { IfOk result (λ made. K.post tell.entry.now made.0.report (Ok made.1)) }
                 ensures fault { IfErr result (IsOpenFault net.entry.now.nodes dest) }
@@ -235,10 +240,18 @@ impl Router {
                 Ok((outcome, told))
             },
         )?;
-        put_in_place(&mut self.net, &mut self.hops, dest, &outcome, from);
+        let Outcome { counts, report } = outcome;
+        put_counts(&mut self.counts, self.report.turned, counts);
+        put_in_place(
+            &mut self.net,
+            &mut self.hops,
+            dest,
+            &self.counts,
+            report.turned,
+            from,
+        );
         self.dest = dest;
-        self.counts = outcome.counts;
-        self.report = outcome.report;
+        self.report = report;
         Ok(told)
     }
 
@@ -253,10 +266,18 @@ impl Router {
         ensures { IfOk result (λ found. IfSome found (λ nodes.
             (nodes.items ≡ touched self.now dest edits.now) × ¬ Contains self.now.counts self.now.nodes)) }
     {
-        if edits.len() > MAX_EDITS || self.counts.contains(&u64::from(self.net.nodes())) {
+        if edits.len() > MAX_EDITS || self.has_cut_off() {
             return Ok(None);
         }
         Ok(Some(touched_nodes(alloc, self.dest, dest, edits)?))
+    }
+
+    /// Whether the last round cut off a node that has a link. Such a node has turned as often as there are nodes.
+    fn has_cut_off(&self) -> bool
+        ensures { IsTrue result ↔ Contains self.now.counts self.now.nodes }
+    {
+        self.net.network_law();
+        self.report.cut > alone_nodes(&self.net, self.dest)
     }
 
     /// What the last round reported: how many turns it took, and how many nodes are cut off.

@@ -1,11 +1,12 @@
 //! The texts of answers.
 
-ghost use Rattle.std.specs.Prelude.{◌≡◌, ◌≤◌, ◌++◌, length, IfOk, OnOk, codes, string_bytes};
+ghost use Rattle.std.specs.Prelude.{◌≡◌, ◌≤◌, ◌++◌, length, IfOk, OnOk, codes, decimal, string_bytes};
 ghost use Rattle.fr_route.specs.Texts.{counts_text, links_text, hops_text, hop_word, walk_text, no_walk_text, report_text, longest_report, refusal_text};
 
 use crate::change::Report;
 use crate::hops::Hop;
 use fr_net::MAX_NODES;
+use itoa::Buffer;
 use std::alloc::{AllocError, Global};
 use std::fmt::Write;
 
@@ -24,13 +25,28 @@ fn begun(alloc: Global, word: &str, numbers: usize) -> Result<String, AllocError
     Ok(line)
 }
 
+/// A number of a list, behind this text. The buffer takes its digits, one number after the other.
+fn push_number(
+    line: &mut String,
+    before: &str,
+    number: u64,
+    buffer: &mut Buffer,
+) -> Result<(), AllocError>
+    ensures { OnOk result (string_bytes line.new ≡ string_bytes line.old ++ (before.now ++ decimal number)) }
+{
+    line.push_str(before)?;
+    line.push_str(buffer.format(number))
+}
+
 /// `links`, and each link after a space, as `tail>head`.
 pub fn links_line(alloc: Global, links: &[(u32, u32)]) -> Result<String, AllocError>
     ensures { IfOk result (λ line. string_bytes line ≡ links_text links.now) }
 {
     let mut line = begun(alloc, "links", links.len().saturating_mul(2))?;
+    let mut buffer = Buffer::new();
     for (tail, head) in links {
-        write!(line, " {tail}>{head}")?;
+        push_number(&mut line, " ", u64::from(*tail), &mut buffer)?;
+        push_number(&mut line, ">", u64::from(*head), &mut buffer)?;
     }
     Ok(line)
 }
@@ -40,19 +56,20 @@ pub fn counts_line(alloc: Global, counts: &[u64]) -> Result<String, AllocError>
     ensures { IfOk result (λ line. string_bytes line ≡ counts_text counts.now) }
 {
     let mut line = begun(alloc, "counts", counts.len())?;
+    let mut buffer = Buffer::new();
     for count in counts {
-        write!(line, " {count}")?;
+        push_number(&mut line, " ", *count, &mut buffer)?;
     }
     Ok(line)
 }
 
 /// A space, and the word for a hop: `here`, the node that is sent to, or `cut`.
-fn push_hop(line: &mut String, hop: Hop) -> Result<(), AllocError>
+fn push_hop(line: &mut String, hop: Hop, buffer: &mut Buffer) -> Result<(), AllocError>
     ensures { OnOk result (string_bytes line.new ≡ string_bytes line.old ++ (codes " " ++ hop_word hop)) }
 {
     match hop {
         Hop::Here => line.push_str(" here"),
-        Hop::To(node) => write!(line, " {node}"),
+        Hop::To(node) => push_number(line, " ", u64::from(node), buffer),
         Hop::CutOff => line.push_str(" cut"),
     }
 }
@@ -62,8 +79,9 @@ pub(crate) fn hops_line(alloc: Global, hops: &[Hop]) -> Result<String, AllocErro
     ensures { IfOk result (λ line. string_bytes line ≡ hops_text hops.now) }
 {
     let mut line = begun(alloc, "hops", hops.len())?;
+    let mut buffer = Buffer::new();
     for hop in hops {
-        push_hop(&mut line, *hop)?;
+        push_hop(&mut line, *hop, &mut buffer)?;
     }
     Ok(line)
 }
@@ -73,8 +91,9 @@ pub(crate) fn walk_line(alloc: Global, nodes: &[u32]) -> Result<String, AllocErr
     ensures { IfOk result (λ line. string_bytes line ≡ walk_text nodes.now) }
 {
     let mut line = begun(alloc, "walk", nodes.len())?;
+    let mut buffer = Buffer::new();
     for node in nodes {
-        write!(line, " {node}")?;
+        push_number(&mut line, " ", u64::from(*node), &mut buffer)?;
     }
     Ok(line)
 }

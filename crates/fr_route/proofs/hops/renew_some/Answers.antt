@@ -1,27 +1,28 @@
-use Rattle.std.proofs.Common.{Contains, List, add-one, arith, drop, drop-cons, get_or, subst, sym, ℕ, ⊎_elim, ◌+◌}
-use Rattle.std.proofs.lemmas.List.{drop_all}
-use Rattle.fr_net.proofs.Members.{Contains-cases, Contains-none}
-use Rattle.fr_route.specs.Routes.{IsHop}
+use Rattle.std.proofs.Common.{List, arith, get_or, subst, sym, ℕ, ⊎_elim, ◌+◌, ◌<◌, ◌∙◌, ◌≡◌}
+use Rattle.std.proofs.lemmas.Bool.{cases_eq}
+use Rattle.std.proofs.lemmas.List.{get_or_default}
 use Rattle.fr_route.specs.States.{State, state_with}
-use Rattle.fr_route.specs.declared.hops.Hop.{Hop}
-use Rattle.fr_route.proofs.Written.{written}
+use Rattle.fr_route.proofs.Renewing.{renewed_as, renewed_none, renewed_then}
 use Rattle.fr_route.proofs.hops.renew_some.Goals as goal
 
+pub loop-x-init : goal.loop-x-init
+loop-x-init c = renewed_none (state_with c.args.net.now c.args.dest c.args.counts.now) c.args.hops.now _ (λ y hop j low. absurd (omega arith))
+
 pub loop-x-preserved : goal.loop-x-preserved
-loop-x-preserved c = λ y hop at none.
+loop-x-preserved c =
     let s : State = state_with c.args.net.now c.args.dest c.args.counts.now in
+    let moved : List ℕ = c.args.moved.now in
     let k = c.loop-x.x-index in
-    let moved = c.args.moved.now in
-    let is_right : ℕ → Hop → Type 0 = λ j g. ¬ Contains (drop (k + 1) moved) j → IsHop s j g in
-    let from_here = drop-cons moved k 0 c.loop-x-test.true in
-    written is_right c.loop-x.hops (get_or moved k 0) c.hop_of.result (λ _. c.hop_of.ensures)
-    (λ j g apart was left. c.loop-x.invariant j g was
-    (λ h. ⊎_elim (λ e. apart (sym e)) (λ later. left (rw add-one later)) (Contains-cases j (get_or moved k 0) _ (rw from_here at h)))) y hop at none
+    renewed_then s c.args.hops.now c.loop-x.hops c.renew_one.new.hops (λ y hop. (j : ℕ) → j < k → ¬ (get_or moved j y ≡ y)) (λ y hop. ¬ (y ≡ get_or moved k 0)) (λ y hop. (j : ℕ) → j < k + 1 → ¬ (get_or moved j y ≡ y))
+    c.loop-x.invariant c.renew_one.ensures
+    (λ y hop before apart j low at. ⊎_elim
+    (λ e. apart (sym (get_or_default moved k 0 y c.loop-x-test.true ∙ subst (λ (i : ℕ). get_or moved i y ≡ y) e at)))
+    (λ other. before j (omega arith) at)
+    (cases_eq j k))
 
 pub returns : goal.returns
 returns c =
-    record {
-      one_each = omega (arith, c.loop-x.auto.hops, c.requires.one_each);
-      each = λ x hop at. c.loop-x.invariant x hop at
-          (λ h. Contains-none x (subst (λ (left : List ℕ). Contains left x) (drop_all c.loop-x.x-index c.args.moved.now c.loop-x-test.false) h));
-    }
+    let s : State = state_with c.args.net.now c.args.dest c.args.counts.now in
+    let moved : List ℕ = c.args.moved.now in
+    renewed_as s c.args.hops.now c.loop-x.hops (λ y hop. (j : ℕ) → j < c.loop-x.x-index → ¬ (get_or moved j y ≡ y)) _ c.loop-x.invariant
+    (λ y hop none (j, low, at). none j (omega (arith, low, c.loop-x-test.false)) at)

@@ -1,8 +1,7 @@
-use Rattle.std.proofs.Common.{Contains, Some, drop, slice_get, ℕ, ◌≡◌}
-use Rattle.fr_route.specs.Routes.{IsHop}
+use Rattle.std.proofs.Common.{get_or, ℕ, ◌<◌, ◌≡◌}
+use Rattle.fr_route.specs.Outcomes.{AreRenewed}
 use Rattle.fr_route.specs.States.{state_with}
-use Rattle.fr_route.specs.declared.hops.Hop.{Hop}
 use Rattle.fr_route.proofs.hops.renew_some.Given as goal
 
 abbrev pub invariant-loop-x : goal.invariant-loop-x
-invariant-loop-x l = (y : ℕ) (hop : Hop) → slice_get l.hops y ≡ Some hop → ¬ Contains (drop l.x-index l.moved) y → IsHop (state_with l.net l.dest l.counts) y hop
+invariant-loop-x l = AreRenewed (state_with l.net l.dest l.counts) l.fn.hops l.hops (λ y hop. (j : ℕ) → j < l.x-index → ¬ (get_or l.moved j y ≡ y))

@@ -1,18 +1,19 @@
-use Rattle.std.proofs.Common.{◌≡◌, ◌∙◌, ◌<◌, IfSome, List, Contains, arith, length, refl, subst, sym, vec_len, ℕ}
+use Rattle.std.proofs.Common.{◌≡◌, ◌∙◌, ◌<◌, IfSome, List, Contains, ap, arith, length, refl, subst, sym, vec_len, ℕ}
 use Rattle.std.proofs.lemmas.List.{with_items_is}
 use Rattle.std.proofs.lemmas.Result.{err_from_is_err_and}
 use Rattle.std.specs.Vec.{with_items}
 use Rattle.fr_net.specs.Batches.{AreMade}
-use Rattle.fr_net.specs.Network.{Network}
-use Rattle.fr_crew.specs.Settlements.{HoldsSinks}
+use Rattle.fr_net.specs.Counts.{links_at}
+use Rattle.fr_net.specs.Network.{Network, net_of}
+use Rattle.fr_crew.specs.Settlements.{HoldsSinks, IsCounted}
 use Rattle.fr_net.specs.declared.fault.NotEdited.{NotEdited}
 use Rattle.fr_net.specs.declared.fault.NotEdited.TheVariants.{Fault, Refused}
 use Rattle.fr_route.specs.Changes.{IsOpenFault}
 use Rattle.fr_route.specs.Faults.{of_not_edited}
-use Rattle.fr_route.specs.Outcomes.{HoldsMoved, IsEditingFault, IsOutcome, state_after, touched}
+use Rattle.fr_route.specs.Outcomes.{HoldsMoved, IsEditingFault, IsOutcome, counts_of, state_after, touched}
 use Rattle.fr_route.specs.Routes.{AreHops}
 use Rattle.fr_route.specs.RouterInside.{state_of}
-use Rattle.fr_route.specs.States.{State}
+use Rattle.fr_route.specs.States.{IsReport, State}
 use Rattle.fr_route.specs.declared.fault.RouteFault.{RouteFault}
 use Rattle.fr_route.proofs.Changing.{made_nodes, refused_fault, round_fault}
 use Rattle.fr_route.proofs.Inside.{sound_after}
@@ -20,7 +21,7 @@ use Rattle.fr_route.proofs.Moving.{made_net, touched_sinks, untouched_hops}
 use Rattle.fr_route.proofs.Shown.{shown, some_weaker}
 use Rattle.fr_route.proofs.router.Router.edit_by.Given.{Over}
 use Rattle.fr_route.proofs.router.Router.edit_by.Goals as goal
-use Rattle.fr_route.proofs.router.Router.edit_by.Goals.{After-as_deref-from, After-touched, In_ok-outcome}
+use Rattle.fr_route.proofs.router.Router.edit_by.Goals.{After-as_deref-from, After-put_counts, After-touched, In_ok-outcome}
 
 -- the nodes from which the round begins, where they are given, are those that are touched, and no linked node was cut off
 from_touched : (g : Over) (c : After-as_deref-from g) → IfSome c.as_deref-from.result (λ from. (from.now ≡ touched (state_of c.self.inside) c.args.dest c.args.edits.now) × ¬ Contains (state_of c.self.inside).counts (state_of c.self.inside).nodes)
@@ -41,6 +42,18 @@ outcome_is g c =
 in_range : (g : Over) (c : After-touched g) → c.args.dest < (state_of c.self.inside).nodes
 in_range g c = subst (λ (now : State). c.args.dest < now.nodes) (sym c.self.view_is) c.requires.node
 
+-- the counts that are put in place are those of the round, and so is what it reports
+counts_are : (g : Over) (c : After-put_counts g) → c.put_counts.new.counts.items ≡ counts_of c.edit_if.new.self.nodes c.in_ok-outcome.outcome.counts
+counts_are g c =
+    let nodes : length c.self.inside.counts.items ≡ c.edit_if.new.self.nodes = c.self.invariant.one_each ∙ sym (made_nodes c.self.inside.net c.args.edits.now c.edit_if.new.self c.in_ok-outcome.ensures.ok.0) in
+    c.put_counts.ensures ∙ ap (λ (n : ℕ). counts_of n c.in_ok-outcome.outcome.counts) nodes
+
+counted_is : (g : Over) (c : After-put_counts g) → IsOutcome c.edit_if.new.self c.args.dest c.in_ok-outcome.outcome → IsCounted c.edit_if.new.self.nodes c.args.dest c.edit_if.new.self.links c.put_counts.new.counts.items
+counted_is g c is = subst (IsCounted c.edit_if.new.self.nodes c.args.dest c.edit_if.new.self.links) (sym (counts_are g c)) is.counts
+
+reported_is : (g : Over) (c : After-put_counts g) → IsOutcome c.edit_if.new.self c.args.dest c.in_ok-outcome.outcome → IsReport (state_after c.edit_if.new.self c.args.dest c.put_counts.new.counts.items) c.in_ok-outcome.outcome.report.turned c.in_ok-outcome.outcome.report.cut
+reported_is g c is = subst (λ (counts : List ℕ). IsReport (state_after c.edit_if.new.self c.args.dest counts) c.in_ok-outcome.outcome.report.turned c.in_ok-outcome.outcome.report.cut) (sym (counts_are g c)) is.report
+
 pub edit_if-requires : goal.edit_if-requires
 edit_if-requires g c = record {
   callable = λ made is. (
@@ -50,8 +63,10 @@ edit_if-requires g c = record {
       some_weaker c.as_deref-from.result _ _
           (λ from are.
           let s : State = state_of c.self.inside in
-          let below : c.args.dest < s.nodes = subst (λ (now : State). c.args.dest < now.nodes) (sym c.self.view_is) c.requires.node in
-          subst (HoldsSinks made.now c.args.dest) (sym are.0) (touched_sinks s c.self.invariant.round are.1 c.args.edits.now made.now c.args.dest below is))
+          let below : c.args.dest < s.nodes = subst (λ (now : State). c.args.dest < now.nodes) (sym c.self.view_is) c.requires.node in (
+            omega (arith, below, made_nodes c.self.inside.net c.args.edits.now made.now is),
+            subst (HoldsSinks made.now c.args.dest) (sym are.0) (touched_sinks s c.self.invariant.round are.1 c.args.edits.now made.now c.args.dest below is),
+          ))
           (from_touched g (goal.at.edit_if-requires g c).After-as_deref-from),
     ),
   );
@@ -79,29 +94,44 @@ put_in_place-requires-clause-one_each g c =
     let made = edits_made g (goal.at.put_in_place-requires-clause-one_each g c).In_ok-outcome in
     rw c.deref_mut.ensures.value (c.self.invariant.hops.one_each ∙ sym (made_nodes c.self.inside.net c.args.edits.now c.edit_if.new.self made))
 
+pub put_in_place-requires-clause-counted : goal.put_in_place-requires-clause-counted
+put_in_place-requires-clause-counted g c =
+    let at = goal.at.put_in_place-requires-clause-counted g c in
+    rw c.deref.ensures.value (counted_is g at.After-put_counts (outcome_is g at.In_ok-outcome))
+
+pub put_in_place-requires-clause-turned : goal.put_in_place-requires-clause-turned
+put_in_place-requires-clause-turned g c =
+    let at = goal.at.put_in_place-requires-clause-turned g c in
+    rw c.deref.ensures.value (reported_is g at.After-put_counts (outcome_is g at.In_ok-outcome)).turns
+
 pub put_in_place-requires-clause-touched : goal.put_in_place-requires-clause-touched
 put_in_place-requires-clause-touched g c =
     let at = goal.at.put_in_place-requires-clause-touched g c in
     let s : State = state_of c.self.inside in
+    let net : Network = c.edit_if.new.self in
+    let counts : List ℕ = c.put_counts.new.counts.items in
     let made = edits_made g at.In_ok-outcome in
-    let counted = (outcome_is g at.In_ok-outcome).counts in
     let hops : AreHops s s.nodes c.deref_mut.result.now = rw c.deref_mut.ensures.value c.self.invariant.hops in
+    let moved : IfSome c.as_deref-from.result (λ from. HoldsMoved (state_after net c.args.dest counts) c.deref_mut.result.now from.now) =
     some_weaker c.as_deref-from.result _ _
-    (λ from are still. subst (HoldsMoved (state_after c.edit_if.new.self c.args.dest c.in_ok-outcome.outcome.counts.items) c.deref_mut.result.now) (sym are.0)
-    (untouched_hops s c.self.invariant.round are.1 c.args.edits.now c.edit_if.new.self c.args.dest (in_range g at.After-touched) made c.in_ok-outcome.outcome.counts.items counted still c.deref_mut.result.now hops))
-    (from_touched g at.After-as_deref-from)
+    (λ from are. subst (HoldsMoved (state_after net c.args.dest counts) c.deref_mut.result.now) (sym are.0)
+    (untouched_hops s c.self.invariant.round are.1 c.args.edits.now net c.args.dest (in_range g at.After-touched) made counts (counted_is g at.After-put_counts (outcome_is g at.In_ok-outcome)) c.deref_mut.result.now hops))
+    (from_touched g at.After-as_deref-from) in
+    subst (λ (cs : List ℕ). IfSome c.as_deref-from.result (λ from. HoldsMoved (state_after net c.args.dest cs) c.deref_mut.result.now from.now)) (sym c.deref.ensures.value) moved
 
 pub invariant_of-self-2 : goal.invariant_of-self-2
 invariant_of-self-2 g c =
     let at = goal.at.invariant_of-self-2 g c in
     let s : State = state_of c.self.inside in
-    let made = edits_made g at.In_ok-outcome in
     let net : Network = c.edit_if.new.self in
-    let outcome = c.in_ok-outcome.outcome in
+    let counts : List ℕ = c.put_counts.new.counts.items in
+    let made = edits_made g at.In_ok-outcome in
     let same : length c.put_in_place.new.hops ≡ vec_len c.self.inside.hops =
     omega (arith, c.put_in_place.ensures.hops.one_each, made_nodes c.self.inside.net c.args.edits.now net made, c.self.invariant.hops.one_each, c.self.inside.hops.ok.0) in
     let items : (with_items c.self.inside.hops c.put_in_place.new.hops).items ≡ c.put_in_place.new.hops = with_items_is c.self.inside.hops c.put_in_place.new.hops same in
-    sound_after c.args.dest outcome (with_items c.self.inside.hops c.put_in_place.new.hops) net c.put_in_place.new.net
+    let turned : c.put_in_place.new.net ≡ net_of net.nodes (links_at net.links counts) = subst (λ (cs : List ℕ). c.put_in_place.new.net ≡ net_of net.nodes (links_at net.links cs)) c.deref.ensures.value c.put_in_place.ensures.net in
+    let renewed : AreHops (state_after net c.args.dest counts) net.nodes c.put_in_place.new.hops = subst (λ (cs : List ℕ). AreHops (state_after net c.args.dest cs) net.nodes c.put_in_place.new.hops) c.deref.ensures.value c.put_in_place.ensures.hops in
+    sound_after c.args.dest c.put_counts.new.counts (with_items c.self.inside.hops c.put_in_place.new.hops) c.in_ok-outcome.outcome.report net c.put_in_place.new.net
     (made_net s c.args.edits.now net c.self.invariant.round made)
-    (outcome_is g at.In_ok-outcome) c.put_in_place.ensures.net
-    (subst (AreHops (state_after net c.args.dest outcome.counts.items) net.nodes) (sym items) c.put_in_place.ensures.hops)
+    (counted_is g at.After-put_counts (outcome_is g at.In_ok-outcome)) (reported_is g at.After-put_counts (outcome_is g at.In_ok-outcome)) turned
+    (subst (AreHops (state_after net c.args.dest counts) net.nodes) (sym items) renewed)
