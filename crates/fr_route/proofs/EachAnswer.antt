@@ -4,7 +4,8 @@ use Rattle.std.specs.Prelude.{slice_get, slice_index, ok_or, sum}
 use Rattle.std.proofs.lemmas.Bool.{cases_eq, cases_lt}
 use Rattle.fr_net.proofs.Building.{faultless_sorted, permuted_net}
 use Rattle.fr_net.proofs.Editing.{faultless_cut}
-use Rattle.fr_net.proofs.Joining.{closes, faultless_turned}
+use Rattle.fr_net.proofs.Joining.{faultless_turned}
+use Rattle.fr_net.proofs.Refusing.{no_cycle_stands}
 use Rattle.fr_net.proofs.Linking.{link_below}
 use Rattle.fr_net.proofs.Members.{cases_some}
 use Rattle.fr_net.proofs.Ordering.{in_order_permutes}
@@ -14,7 +15,7 @@ use Rattle.fr_net.specs.Edits.{IsJoined, IsJoinFault, without}
 use Rattle.fr_net.specs.Batches.{AreMade, IsEditFault, IsMade, IsRefusedAt}
 use Rattle.fr_net.specs.Faults.{IsFaultless, IsFirstFault, IsNetworkOf}
 use Rattle.fr_net.specs.Limits.{most_edits}
-use Rattle.fr_net.specs.Links.{IsNet, Joins, Points}
+use Rattle.fr_net.specs.Links.{IsAcyclic, IsNet, Joins, Points}
 use Rattle.fr_net.specs.Network.{Network, net_of}
 use Rattle.fr_net.specs.Order.{in_order}
 use Rattle.fr_net.specs.Requests.{PlainRequest, new_network, cut_link, add_link, join_nodes, make_edits, move_dest, walk_from, ask, reading, reading_of_value, request_of, value_of_line}
@@ -186,7 +187,7 @@ joined_back n links u v clear (Range x) h = inr (Range x, h)
 joined_back n links u v clear (SelfLink x) h = inr (SelfLink x, h)
 joined_back n links u v clear (Twice x y) h = inr (Twice x y, h)
 joined_back n links u v clear (Cycle walk) h =
-    let cyclic = closes links u v walk.items h.4 in
+    let cyclic : ¬ IsAcyclic (links ++ (u, v) ∷ []) = λ acyclic. no_cycle_stands (links ++ (u, v) ∷ []) walk.items acyclic h.4 in
     let made = made_network n (links ++ (v, u) ∷ []) (faultless_turned n links u v clear.is_net.acyclic h.0 h.1 h.2 h.3 cyclic) in
     inl (net_of n (links ++ (v, u) ∷ []), inr (cyclic, made.0), made.1)
 joined_back n links u v clear NoLink h = inr (NoLink, h)
