@@ -153,17 +153,17 @@ fn open<T: Threads + Wait + Sync>(rt: &T, alloc: Global, plan: &Plan) -> Result<
 }
 
 /// The state of a router.
-fn state_text(alloc: Global, router: &Router) -> Vec<u8> {
+fn state_text(alloc: Global, router: &Router) -> Result<Vec<u8>, AllocError> {
     let (net, dest) = (router.net(), router.dest());
     let last = net.nodes() - 1;
     let (hop, walk) = (router.next_hop(last), router.walk(alloc, last));
-    let (report, links, counts) = (router.report(), net.links(), router.counts());
+    let (report, links, counts) = (router.report(), net.links(alloc)?, router.counts());
     let mut text = Vec::new(alloc);
     let _ = write!(
         text,
         "{report:?} {dest} {links:?} {counts:?} {hop:?} {walk:?}"
     );
-    text
+    Ok(text)
 }
 
 /// What a change of a router comes to.
@@ -184,12 +184,12 @@ fn change_text<T: Threads + Wait + Sync>(
 fn routers_open_and_change(rt: HostRuntime) -> Result<(), Fail> {
     let plan = Plan::new(2, 0, 1_000).ok_or("no plan")?;
     let mut router = open(&rt, rt.alloc(), &plan)?;
-    check_text(&rt, "opened", &state_text(rt.alloc(), &router), OPENED);
+    check_text(&rt, "opened", &state_text(rt.alloc(), &router)?, OPENED);
     for (line, end, state) in CHANGES {
         let change = change_of(rt.alloc(), line).ok_or("no change")?;
         let text = change_text(&rt, rt.alloc(), &mut router, change, &plan);
         check_text(&rt, line, &text, end);
-        check_text(&rt, line, &state_text(rt.alloc(), &router), state);
+        check_text(&rt, line, &state_text(rt.alloc(), &router)?, state);
     }
     Ok(())
 }
@@ -229,20 +229,20 @@ fn opened_anew(alloc: Global, router: &Router, change: &Change) -> Option<Router
 }
 
 /// Whether two routers tell the same of links, counts, the round and each node's hop.
-fn agree(some: &Router, other: &Router) -> bool {
+fn agree(alloc: Global, some: &Router, other: &Router) -> Result<bool, AllocError> {
     let (a, b) = (some.net(), other.net());
-    if a.nodes() != b.nodes() || a.links() != b.links() || some.dest() != other.dest() {
-        return false;
+    if a.nodes() != b.nodes() || a.links(alloc)? != b.links(alloc)? || some.dest() != other.dest() {
+        return Ok(false);
     }
     if some.counts() != other.counts() || some.report() != other.report() {
-        return false;
+        return Ok(false);
     }
     for x in 0..a.nodes() {
         if some.next_hop(x) != other.next_hop(x) {
-            return false;
+            return Ok(false);
         }
     }
-    true
+    Ok(true)
 }
 
 #[test]
@@ -262,16 +262,16 @@ fn routers_change_as_they_open(rt: HostRuntime) -> Result<(), Fail> {
     let mut router = Router::open_alone(alloc, Net::new(alloc, 9, &links)?, 0)?;
     for step in 0..3_000u32 {
         let change = drawn_change(alloc, &mut generator)?;
-        let before = state_text(alloc, &router);
+        let before = state_text(alloc, &router)?;
         match opened_anew(alloc, &router, &change) {
             Some(anew) => {
                 let end = router.change_alone(alloc, change);
-                assert!(rt; end.is_ok() && agree(&router, &anew), "step {step}");
+                assert!(rt; end.is_ok() && agree(alloc, &router, &anew)?, "step {step}");
             }
             None => {
                 let end = router.change_alone(alloc, change);
                 assert!(rt;
-                    end.is_err() && state_text(alloc, &router) == before,
+                    end.is_err() && state_text(alloc, &router)? == before,
                     "step {step}"
                 );
             }
