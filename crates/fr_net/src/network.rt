@@ -236,8 +236,8 @@ impl Net {
 
     /// Makes these edits where the network stands, each on the links that those before it left, if `way` then answers Ok of the
     /// network that they make, and answers what it answers. Where an edit is refused, as by `with_edits`, where no room could be
-    /// had, or where `way` answers a fault, the edits are undone: the network is as it was. Each edit costs the moving of the
-    /// links, starts and entries behind its own, and where it adds a link, one search; the memory is for the edits and these searches.
+    /// had, or where `way` answers a fault, the edits are undone: the network is as it was. Each edit costs the moving of entries in
+    /// two rows, and where it adds a link, one search; only where a row is full all rows are laid out anew, with room to grow.
     pub fn edit_if<T, E, F: Fn(&Net) -> Result<T, E>>(
         &mut self,
         alloc: Global,
