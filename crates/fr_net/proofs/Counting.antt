@@ -1,5 +1,5 @@
 -- How many elements of a list pass a test.
-use Rattle.std.proofs.Common.{add-one, Bool, List, None, Option, Some, [], ap, arith, cond, count_by, false, get_or, inl, inr, length, map, refl, suc, sym, true, zero, zero-add, ℕ, ◌∙◌, ◌+◌, ◌<◌, ◌∷◌, ◌≡◌, ◌≤◌, ◌⊎◌}
+use Rattle.std.proofs.Common.{add-one, Bool, List, None, Option, Some, [], ap, arith, cond, count_by, false, get_or, inl, inr, length, map, refl, suc, true, zero, zero-add, ℕ, ◌+◌, ◌<◌, ◌∷◌, ◌≡◌, ◌≤◌, ◌⊎◌}
 use Rattle.std.specs.List.{cons_option, filter_map, range_with_len}
 use Rattle.std.proofs.lemmas.Bool.{cases_Bool, cases_lt}
 use Rattle.std.proofs.lemmas.List.FromFn.{length-range_with_len}
@@ -98,17 +98,6 @@ count-range_next p a (suc n) k is =
 -- how many of the numbers from 0 on pass a test, once one more is tried
 pub count-range_more : (p : ℕ → Bool) (n : ℕ) → count_by p (range_with_len 0 (n + 1)) ≡ count_by p (range_with_len 0 n) + cond (p n) 1 0
 count-range_more p n = rw add-one (count-range_next p 0 n n (zero-add n))
-
--- the count so far, with the test of one number more
-pub count_next : (p : ℕ → Bool) (n k next : ℕ) (b : Bool) → b ≡ p n → k ≡ count_by p (range_with_len 0 n) → ((b ≡ true) × (next ≡ k + 1)) ⊎ ((b ≡ false) × (next ≡ k)) → next ≡ count_by p (range_with_len 0 (n + 1))
-count_next p n k next b is so_far (inl (passes, more)) =
-    let weight : Bool → ℕ = λ t. cond t 1 0 in
-    let one : weight (p n) ≡ weight true = ap weight (sym is ∙ passes) in
-    omega (arith, count-range_more p n, one, so_far, more)
-count_next p n k next b is so_far (inr (fails, same)) =
-    let weight : Bool → ℕ = λ t. cond t 1 0 in
-    let none : weight (p n) ≡ weight false = ap weight (sym is ∙ fails) in
-    omega (arith, count-range_more p n, none, so_far, same)
 
 pub count-range-le : (p : ℕ → Bool) (a n : ℕ) → count_by p (range_with_len a n) ≤ n
 count-range-le p a n = omega (arith, count_by-le-length p (range_with_len a n), length-range_with_len a n)

@@ -1,79 +1,20 @@
--- The place of a link among links in order, and of a neighbour in a row.
-use Rattle.std.proofs.Common.{Bool, Contains, List, None, Option, Some, [], ap, arith, eq-eqb, eqb, eqb-true, false, get_or, inl, inr, length, ltb, ltb-true, refl, subst, suc, sym, true, zero, ℕ, ◌&&◌, ◌<◌, ◌||◌, ◌∙◌, ◌∷◌, ◌≡◌, ◌≢◌, ◌≤◌, ◌⊎◌}
-use Rattle.std.specs.Prelude.{IfNone, is_some, not}
+-- A link taken out of a list, and the place of a neighbour in a row.
+use Rattle.std.proofs.Common.{Bool, Contains, List, [], ap, arith, eqb, false, get_or, inl, inr, length, refl, suc, sym, true, zero, ℕ, ◌&&◌, ◌<◌, ◌∙◌, ◌∷◌, ◌≡◌, ◌≢◌, ◌≤◌, ◌⊎◌}
+use Rattle.std.specs.Prelude.{not}
 use Rattle.std.specs.List.{filter, remove}
-use Rattle.std.specs.List.Sorted.{IsNonDecreasingBy, IsPartitionedBy}
-use Rattle.std.proofs.lemmas.Bool.{and_from, cases_Bool, cases_eq, cases_lt, lt-ltb, ltb-false, or_left, or_right}
+use Rattle.std.specs.List.Sorted.{IsNonDecreasingBy}
+use Rattle.std.proofs.lemmas.Bool.{cases_Bool, cases_eq, cases_lt}
 use Rattle.std.proofs.lemmas.List.{get_or_default}
-use Rattle.fr_net.proofs.Booleans.{and_cases, and_false, or_cases, or_comm, or_false}
+use Rattle.fr_net.proofs.Booleans.{or_comm}
 use Rattle.fr_net.proofs.Counting.{two_pass}
-use Rattle.fr_net.proofs.CutRows.{filter_kept, sorted_from_order}
+use Rattle.fr_net.proofs.CutRows.{filter_kept}
 use Rattle.fr_net.proofs.Linking.{is_between_itself, not_twice}
 use Rattle.fr_net.proofs.Neighbours.{Rises, in_of_row, out_of_row, row_of_in, row_of_out, row_rises}
-use Rattle.fr_net.proofs.Ordering.{up_both}
-use Rattle.fr_net.proofs.Sorting.{sorted_at}
 use Rattle.fr_net.specs.Edits.{without}
 use Rattle.fr_net.specs.Links.{AreSingle, IsNet, Joins, Points, is_between}
-use Rattle.fr_net.specs.Order.{AreInOrder, IsBefore, IsNotAfter}
 use Rattle.fr_net.specs.Rows.{row}
 use Rattle.fr_net.specs.declared.rows.First.{First}
 use Rattle.fr_net.specs.declared.rows.First.TheVariants.{Inward, Outward}
-
--- whether p is before q in rising order of the first part, then the second
-abbrev pub is_before : ℕ × ℕ → ℕ × ℕ → Bool
-is_before p q = ltb p.0 q.0 || ((eqb p.0 q.0) && ltb p.1 q.1)
-
-pub before_true : (p q : ℕ × ℕ) → is_before p q ≡ true → IsBefore p q
-before_true p q e =
-    elim (or_cases (ltb p.0 q.0) ((eqb p.0 q.0) && ltb p.1 q.1) e) [
-      | inl a ↦ inl (ltb-true _ _ a)
-      | inr b ↦ let t = and_cases _ _ b in inr (eqb-true _ _ t.0, ltb-true _ _ t.1)
-    ]
-
-pub before_false : (p q : ℕ × ℕ) → is_before p q ≡ false → IsNotAfter q p
-before_false p q e =
-    let t = or_false (ltb p.0 q.0) ((eqb p.0 q.0) && ltb p.1 q.1) e in
-    let le = ltb-false _ _ t.0 in
-    elim (cases_eq p.0 q.0) [
-      | inl same ↦ inr (sym same, ltb-false _ _ (and_false (eqb p.0 q.0) (ltb p.1 q.1) t.1 (eq-eqb _ _ same)))
-      | inr ne ↦ inl (omega (arith, le, ne))
-    ]
-
-true_before : (p q : ℕ × ℕ) → IsBefore p q → is_before p q ≡ true
-true_before p q (inl a) = or_left _ _ (lt-ltb p.0 q.0 a)
-true_before p q (inr a) = or_right _ _ (and_from _ _ (eq-eqb p.0 q.0 a.0) (lt-ltb p.1 q.1 a.1))
-
-before_trans : {p q r : ℕ × ℕ} → IsNotAfter p q → IsBefore q r → IsBefore p r
-before_trans (inl a) (inl b) = inl (omega arith)
-before_trans (inl a) (inr b) = inl (omega arith)
-before_trans (inr a) (inl b) = inl (omega arith)
-before_trans (inr a) (inr b) = inr (omega arith, omega arith)
-
-not_itself : {p : ℕ × ℕ} → ¬ IsBefore p p
-not_itself (inl a) = omega arith
-not_itself (inr a) = omega arith
-
--- links in order are parted at each link's place
-pub parted : (links : List (ℕ × ℕ)) (p : ℕ × ℕ) → AreInOrder links → IsPartitionedBy (λ (l : ℕ × ℕ). is_before l p) links
-parted links p order i j d le l h =
-    elim (cases_lt i j) [
-      | inl lt ↦ true_before _ _ (before_trans (sorted_at IsNotAfter links (sorted_from_order links order) i j d lt l) (before_true _ _ h))
-      | inr ge ↦ let e : i ≡ j = omega arith in rw e h
-    ]
-
--- a link that is among links in order stands at its place
-pub stands_at : (links : List (ℕ × ℕ)) (p : ℕ × ℕ) (k : ℕ) → AreInOrder links → Contains links p → ((i : ℕ) (d : ℕ × ℕ) → i < k → IsBefore (get_or links i d) p)
-    → ((i : ℕ) (d : ℕ × ℕ) → k ≤ i → i < length links → IsNotAfter p (get_or links i d)) → (k < length links) × (get_or links k p ≡ p)
-stands_at links p k order (i, l, e) before stops =
-    elim (cases_lt i k) [
-      | inl lt ↦ let b : IsBefore p p = subst (λ (q : ℕ × ℕ). IsBefore q p) e (before i p lt) in absurd (not_itself b)
-      | inr ge ↦ elim (cases_eq k i) [
-        | inl same ↦ (omega (arith, same, l), rw same e)
-        | inr ne ↦
-            let up : IsNotAfter (get_or links k p) p = subst (λ (q : ℕ × ℕ). IsNotAfter (get_or links k p) q) e (sorted_at IsNotAfter links (sorted_from_order links order) k i p (omega (arith, ge, ne)) l) in
-            (omega (arith, ge, l), up_both _ _ up (stops k p (omega arith) (omega (arith, ge, l))))
-      ]
-    ]
 
 -- a test that all elements pass but one
 pub filter_one : {X : Type 0} (t : X → Bool) (xs : List X) (k : ℕ) (d : X) → k < length xs → t (get_or xs k d) ≡ false → ((i : ℕ) (e : X) → i < length xs → i ≢ k → t (get_or xs i e) ≡ true) → filter t xs ≡ remove xs k
@@ -157,7 +98,3 @@ without_ends u v link links (inr e) = rw e (without_back u v links)
 pub joins_ends : (u v : ℕ) (link : ℕ × ℕ) (links : List (ℕ × ℕ)) → (link ≡ (u, v)) ⊎ (link ≡ (v, u)) → Points links link.0 link.1 → Joins links u v
 joins_ends u v link links (inl e) h = inl (rw e at h)
 joins_ends u v link links (inr e) h = inr (rw e at h)
-
-pub from_none : {X : Type 0} (P : Type 0) (r : Option X) → false ≡ is_some r → IfNone r P → P
-from_none P None e h = h
-from_none P (Some x) e h = cc

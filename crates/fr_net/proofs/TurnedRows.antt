@@ -1,16 +1,15 @@
 -- The rows of links as counts turn them, and the links that rows show.
-use Rattle.std.proofs.Common.{Bool, Contains, List, None, Option, Some, [], All, ap, arith, count_by, drop, eq-eqb, eqb, false, get_or, inl, inr, length, length-append, map, ne_eqb, option_map, option_to_list, refl, subst, suc, sym, take, true, zero, ℕ, ⊎_elim, ◌&&◌, ◌++◌, ◌+◌, ◌<◌, ◌||◌, ◌∙◌, ◌∷◌, ◌≡◌, ◌≤◌, ◌⊎◌}
+use Rattle.std.proofs.Common.{Bool, Contains, List, None, Option, Some, [], All, ap, arith, count_by, eq-eqb, eqb, false, get_or, inl, inr, length, map, ne_eqb, option_map, option_to_list, refl, subst, suc, sym, take, true, zero, ℕ, ⊎_elim, ◌&&◌, ◌++◌, ◌+◌, ◌<◌, ◌||◌, ◌∙◌, ◌∷◌, ◌≡◌, ◌≤◌, ◌⊎◌}
 use Rattle.std.proofs.lemmas.Bool.{cases_Bool, cases_lt, cond-false, cond-true}
-use Rattle.std.proofs.lemmas.List.{append-nil, map-append, take-append-drop, take_more}
+use Rattle.std.proofs.lemmas.List.{append-nil, map-append, take_more}
 use Rattle.std.proofs.lemmas.List.Elements.{All-contains, filter_map-append}
 use Rattle.std.proofs.lemmas.List.Sums.{sum_by-cons}
-use Rattle.std.proofs.lemmas.List.Sorted.{length_permutation}
 use Rattle.fr_net.proofs.Counting.{weigh}
 use Rattle.fr_net.proofs.Giving.{Points-links_at_from, Points-links_at_same, Points-links_at_turned, filter_map-Contains, filter_map-from}
 use Rattle.fr_net.proofs.Linking.{link_below, not_twice, one_way}
 use Rattle.fr_net.proofs.Neighbours.{Points-has_link, Rises, has_link_true, out_of_row, rises_head, rises_tail, row_entry_in, row_entry_out, row_of_out, row_rises}
-use Rattle.fr_net.proofs.Ordering.{contains_counted, in_order_order, in_order_permutes, is_pair, one_counted, pair_from, same_order, times, times-cons, times-in_order}
-use Rattle.fr_net.proofs.RowLists.{from_rows, into_rows, length_more, length_up, sorted_rows}
+use Rattle.fr_net.proofs.Ordering.{contains_counted, in_order_order, is_pair, one_counted, pair_from, same_order, times, times-cons, times-in_order}
+use Rattle.fr_net.proofs.RowLists.{from_rows, into_rows, sorted_rows}
 use Rattle.fr_net.proofs.Sorting.{IsSorted, sorted-filter_map, sorted_at}
 use Rattle.fr_net.proofs.TurnedLinks.{net_turned}
 use Rattle.fr_net.specs.Counts.{IsKept, links_at}
@@ -166,13 +165,6 @@ pub in_link_more : (x : ℕ) (entries : List (ℕ × First)) (i : ℕ) (d : ℕ 
 in_link_more x entries i d l e =
     rw (take_more entries i d l, filter_map-append, e) (append-nil (out_links x (take i entries)))
 
--- the entries so far show no more links than all
-pub out_links_up : (x : ℕ) (entries : List (ℕ × First)) (i : ℕ) → length (out_links x (take i entries)) ≤ length (out_links x entries)
-out_links_up x entries i =
-    let parts : out_links x entries ≡ out_links x (take i entries) ++ out_links x (drop i entries) =
-    ap (out_links x) (sym (take-append-drop i entries)) ∙ filter_map-append (λ (e : ℕ × First). link_to x e.0 e.1) (take i entries) (drop i entries) in
-    omega (arith, ap length parts, length-append (out_links x (take i entries)) (out_links x (drop i entries)))
-
 abbrev pub out_rows : ℕ → List (ℕ × ℕ) → ℕ → List (ℕ × ℕ)
 out_rows n links x = out_links x (row n links x)
 
@@ -207,9 +199,3 @@ links_of_rows n links net =
     (λ l h.
     into_rows n l.0 (out_rows n links) l (link_below n links l.0 l.1 net h).0
     (filter_map-Contains (λ (e : ℕ × First). link_to l.0 e.0 e.1) (row n links l.0) (entry l.1 Outward) l (row_of_out n links l.0 l.1 net h) refl))
-
--- where the links of the rows below x stand in a list with room for all, there is room for those of x
-pub out_rows_room : (n : ℕ) (links : List (ℕ × ℕ)) (x : ℕ) → IsNet n links → x < n → length (rows_below x (out_rows n links)) + length (out_rows n links x) ≤ length links
-out_rows_room n links x net lt =
-    let rows : ℕ → List (ℕ × ℕ) = out_rows n links in
-    omega (arith, length_more x rows, length_up (suc x) n rows (omega arith), ap length (links_of_rows n links net), length_permutation links (in_order links) (in_order_permutes links))

@@ -84,10 +84,6 @@ pub put_stands : (net : Network) (tail head : ℕ) (after : Network) → IsDone 
 put_stands net tail head after done =
     subst (λ (m : Network). Points m.links tail head) (sym done.step.1.is) (into_order (added net.links tail head) (tail, head) (Contains-push net.links (tail, head)))
 
-pub put_one : (net : Network) (tail head : ℕ) (after : Network) → IsDone net (Put tail head) after → length after.links ≡ length net.links + 1
-put_one net tail head after done =
-    length_permutation (added net.links tail head) after.links done.step.1.same_links ∙ length_push net.links (tail, head)
-
 pub put_back : (net : Network) (tail head : ℕ) (after back : Network) → IsDone net (Put tail head) after → IsNetworkOf after.nodes (without tail head after.links) back → back ≡ net
 put_back net tail head after back done made =
     let is : after ≡ with_links net.nodes (in_order (added net.links tail head)) = done.step.1.is in
