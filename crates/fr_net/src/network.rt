@@ -197,7 +197,7 @@ impl Net {
 
     /// The network with the link from `u` to `v` as well; or the first fault that then stands, in the order of
     /// [`NetFault`], where a closed walk follows the links with the new one among them. `Memory` where no room could be had. Time and
-    /// memory are linear in nodes and links; a closed walk is sought from the head of the new link alone.
+    /// memory are linear in nodes and links; a way back is sought from both ends of the new link.
     pub fn with_link(&self, alloc: Global, u: u32, v: u32) -> Result<Net, NetFault>
         ensures ok { IfOk result (IsNetworkOf self.now.nodes (self.now.links ++ (u, v) ∷ [])) }
         ensures refused { IfErr result (λ fault. fault ≢ Memory

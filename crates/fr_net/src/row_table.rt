@@ -78,7 +78,7 @@ fn shift_out(entries: &mut [(u32, First)])
 }
 
 impl RowTable {
-    /// No rows yet, and room for so many, with so many entries and places for more.
+    /// No rows yet, but room for so many, and for so many entries in all of them together.
     fn with_capacity(alloc: Global, rows: usize, entries: usize) -> Result<RowTable, AllocError>
         ensures { IfOk result (λ table. (table.rows ≡ []) × (table.rooms ≡ [])) }
     {
@@ -222,7 +222,8 @@ impl RowTable {
         })
     }
 
-    /// Takes room for one entry more in the row of `x`. Where it has none, all rows are laid out anew, each with room to grow by half and four more.
+    /// Takes room for one entry more in the row of `x`. Where it has none, all rows are laid out anew, each with room to grow by half
+    /// and four more. No row has less room afterwards, so that edits made before can still be undone.
     pub(crate) fn make_room(&mut self, alloc: Global, x: u32) -> Result<(), AllocError>
         requires { x < length self.old.rows }
         ensures rows { self.new.rows ≡ self.old.rows }
