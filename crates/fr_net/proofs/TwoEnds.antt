@@ -12,14 +12,14 @@ use Rattle.fr_net.proofs.Neighbours.{in_of_row, out_of_row, row_holds, row_of_in
 use Rattle.fr_net.specs.Faults.{IsFaultless}
 use Rattle.fr_net.specs.Graph.{IsGraph, shown}
 use Rattle.fr_net.specs.Links.{HasPath, IsNet, IsPath, Points, end_of}
-use Rattle.fr_net.specs.MeetingSearch.{HasBegun, HasMet, HasMetMore, HasPassed, HasWay, IsSide, LeadsOn, MeetsNew, is_never, met_by, met_of, never_count, start_of}
+use Rattle.fr_net.specs.PathSearch.{HasBegun, HasMet, HasMetMore, HasPassed, HasWay, IsSide, LeadsOn, MeetsNew, is_never, met_by, met_of, never_count, start_of}
 use Rattle.fr_net.specs.Network.{Network}
 use Rattle.fr_net.specs.RowLists.{opposite}
 use Rattle.fr_net.specs.Rows.{row}
 use Rattle.fr_net.specs.declared.graph.Graph.{Graph}
-use Rattle.fr_net.specs.declared.meeting.Met.{Met}
-use Rattle.fr_net.specs.declared.meeting.Met.TheVariants.{Backward, Forward, Never}
-use Rattle.fr_net.specs.declared.meeting.Side.{Side}
+use Rattle.fr_net.specs.declared.path_search.Met.{Met}
+use Rattle.fr_net.specs.declared.path_search.Met.TheVariants.{Backward, Forward, Never}
+use Rattle.fr_net.specs.declared.path_search.Side.{Side}
 use Rattle.fr_net.specs.declared.rows.First.{First}
 use Rattle.fr_net.specs.declared.rows.First.TheVariants.{Inward, Outward}
 

@@ -15,7 +15,7 @@ pub mod Tables
 pub mod KeptRows
 pub mod CycleSearch
 pub mod ClosingSearch
-pub mod MeetingSearch
+pub mod PathSearch
 pub mod Graph
 pub mod Inside
 pub mod Requests

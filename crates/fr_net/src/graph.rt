@@ -19,7 +19,7 @@ use crate::closing::closing_walk;
 use crate::edits::{cut_from_rows, place_in_row, put_in_rows};
 use crate::fault::{EditFault, NetFault};
 use crate::limits::MAX_LINKS;
-use crate::meeting::leads;
+use crate::path_search::leads;
 use crate::requests::Edit;
 use crate::row_table::RowTable;
 use crate::rows::First;

@@ -6,7 +6,7 @@ ghost use Rattle.std.specs.Prelude.{◌≡◌, ◌≢◌, ℕ, ◌<◌, ◌≤�
 ghost use Rattle.fr_net.specs.Graph.{IsGraph, shown};
 ghost use Rattle.fr_net.specs.Links.{HasPath};
 ghost use Rattle.fr_net.specs.RowLists.{opposite};
-ghost use Rattle.fr_net.specs.MeetingSearch.{HasBegun, HasMet, HasMetMore, HasRoom, HasWay, IsSide, MeetsNew, met_by, start_of};
+ghost use Rattle.fr_net.specs.PathSearch.{HasBegun, HasMet, HasMetMore, HasRoom, HasWay, IsSide, MeetsNew, met_by, start_of};
 
 use crate::graph::Graph;
 use crate::rows::First;

@@ -1,7 +1,7 @@
 use Rattle.std.proofs.Common.{◌≡◌}
 use Rattle.fr_net.specs.Graph.{shown}
-use Rattle.fr_net.specs.MeetingSearch.{HasMetMore, HasPassed, IsSide, start_of}
-use Rattle.fr_net.proofs.meeting.Side.read_next.Given as goal
+use Rattle.fr_net.specs.PathSearch.{HasMetMore, HasPassed, IsSide, start_of}
+use Rattle.fr_net.proofs.path_search.Side.read_next.Given as goal
 
 abbrev pub invariant-loop-neighbour : goal.invariant-loop-neighbour
 invariant-loop-neighbour l = record {

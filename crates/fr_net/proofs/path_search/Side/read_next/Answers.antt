@@ -3,13 +3,13 @@ use denote.Enum.Bare.{same_false, same_true}
 use Rattle.std.proofs.lemmas.List.{get_or_default}
 use Rattle.fr_net.proofs.TwoEnds.{entry_below, entry_leads, graph_faultless, met_stays, more_after, other_was, passed_more, side_goes_on, side_reads, way_on}
 use Rattle.fr_net.specs.Graph.{shown}
-use Rattle.fr_net.specs.MeetingSearch.{HasMet, HasPassed, HasWay, start_of}
+use Rattle.fr_net.specs.PathSearch.{HasMet, HasPassed, HasWay, start_of}
 use Rattle.fr_net.specs.RowLists.{opposite}
 use Rattle.fr_net.specs.contracts.rows.First.{the_type}
 use Rattle.fr_net.specs.declared.rows.First.{First}
 use Rattle.fr_net.specs.declared.rows.First.TheVariants.{Outward}
-use Rattle.fr_net.proofs.meeting.Side.read_next.Goals as goal
-use Rattle.fr_net.proofs.meeting.Side.read_next.Goals.{After-eq, else-eq-via-then-eq+else-meet, else-eq-via-else-eq}
+use Rattle.fr_net.proofs.path_search.Side.read_next.Goals as goal
+use Rattle.fr_net.proofs.path_search.Side.read_next.Goals.{After-eq, else-eq-via-then-eq+else-meet, else-eq-via-else-eq}
 
 -- the entry that is read, which leads on where its link leaves in the direction of the side
 abbrev entry : (c : After-eq) → ℕ × First

@@ -3,9 +3,9 @@ use Rattle.std.specs.Prelude.{◌≡◌, ℕ, ◌<◌, ◌≤◌, ◌+◌, ◌-�
 use Rattle.std.specs.List.{All, Contains}
 use Rattle.fr_net.specs.Links.{HasPath, Points}
 use Rattle.fr_net.specs.Network.{Network}
-use Rattle.fr_net.specs.declared.meeting.Met.{Met}
-use Rattle.fr_net.specs.declared.meeting.Met.TheVariants.{Never, Forward, Backward}
-use Rattle.fr_net.specs.declared.meeting.Side.{Side}
+use Rattle.fr_net.specs.declared.path_search.Met.{Met}
+use Rattle.fr_net.specs.declared.path_search.Met.TheVariants.{Never, Forward, Backward}
+use Rattle.fr_net.specs.declared.path_search.Side.{Side}
 use Rattle.fr_net.specs.declared.rows.First.{First}
 use Rattle.fr_net.specs.declared.rows.First.TheVariants.{Outward, Inward}
 
