@@ -1,7 +1,7 @@
 -- Rows that stand in one list, each between its start and its end, and one of which changes where it stands.
 use Rattle.std.proofs.Common.{Bool, List, [], ap, arith, count_by, drop, eq-eqb, eqb, false, get_or, inl, inr, length, length-drop, map, ne_eqb, refl, set, slice_range, subst, suc, sym, take, true, zero, ℕ, ◌++◌, ◌+◌, ◌-◌, ◌<◌, ◌∙◌, ◌∷◌, ◌≡◌, ◌≢◌, ◌≤◌}
 use Rattle.std.proofs.lemmas.Bool.{cases_eq, cases_lt}
-use Rattle.std.proofs.lemmas.List.{append_assoc, drop-append-le, drop-drop, drop-take, drop_more, get_or-append_right, get_or-drop, get_or-set_other, get_or-set_same, length-set, length-take-le, same_lists, set-get_or, set_at, take-append-le, take-take, take_all, take_more, with_items_is}
+use Rattle.std.proofs.lemmas.List.{append_assoc, drop-append-le, drop-drop, drop-take, drop_more, get_or-append_right, get_or-drop, get_or-set_other, get_or-set_same, get_or_read, length-set, length-take-le, same_lists, set-get_or, set_at, take-append-le, take-take, take_all, take_more, with_items_is}
 use Rattle.std.proofs.lemmas.List.Edits.{length-between, length-insert, length-remove}
 use Rattle.std.proofs.lemmas.List.FromFn.{get_or-map-range_with_len, length-map-range_with_len, sum_by-map-range_with_len_more}
 use Rattle.std.proofs.lemmas.List.Sums.{count_by-le-length, get_or-le-sum_by, sum_by-set}
@@ -357,6 +357,34 @@ row_rewritten t after table x part is view lt long starts ends entries count =
     let here : row_between after x ≡ part = row_put t after x s e part is at.has w ∙ between-put_mid s (length part) t.entries.items part e (omega (arith, at.low, at.high, at.inside)) (omega (arith, long, at.long)) in
     let same : weigh (has_none (row_between t x)) ≡ weigh (has_none part) = ap weigh (none_by_length (row_between t x) part (ap length at.is_row ∙ sym long)) in
     row_shows t after table x s e part part is view lt w here (omega (arith, same, count))
+
+-- the part of the entries between two places that were read from the starts and the ends is the row of x
+pub record IsPart (t : Inside) (table : Table) (x i j : ℕ) (entries : List (ℕ × First)) : Type 0 where
+  pub start : i ≡ start_of t x
+  pub low : i ≤ j
+  pub high : j ≤ length entries
+  pub is_row : slice_range entries i j ≡ row_of table x
+  pub long : length (row_of table x) ≡ j - i
+
+pub part_read : (t : Inside) (table : Table) (x i j : ℕ) (entries : List (ℕ × First)) → IsRowAt t table x → i ≡ get_or t.starts.items x i → j ≡ get_or t.ends.items x j → entries ≡ t.entries.items → IsPart t table x i j entries
+part_read t table x i j entries at first last same =
+    let start : i ≡ start_of t x = get_or_read t.starts.items x i (omega (arith, at.starts)) first 0 in
+    let end : j ≡ end_of t x = get_or_read t.ends.items x j at.has last 0 in
+    record {
+      start = start;
+      low = omega (arith, start, end, at.low);
+      high = omega (arith, end, at.high, at.inside, ap length same);
+      is_row = rw (same, start, end) at.is_row;
+      long = omega (arith, at.long, start, end);
+    }
+
+-- and once it is written over by as many entries, the row of x is these
+pub part_rewritten : (t : Inside) (table : Table) (x i j : ℕ) (entries new : List (ℕ × First)) → IsTable t → table_of t ≡ table → x < length table.rows → IsPart t table x i j entries → entries ≡ t.entries.items → length new ≡ length (row_of table x)
+    → ShowsRowWritten (record { starts = t.starts; ends = t.ends; entries = with_items t.entries (put_mid i (j - i) entries new); empty = t.empty }) table x new
+part_rewritten t table x i j entries new is view lt part same long =
+    row_rewritten t (record { starts = t.starts; ends = t.ends; entries = with_items t.entries (put_mid i (j - i) entries new); empty = t.empty }) table x new is view lt long refl refl
+    (part_put t.entries entries new i (j - i) same (omega (arith, long, part.long)) (omega (arith, part.low, part.high, ap length same)) ∙ ap (λ k. put_mid k (length new) t.entries.items new) part.start)
+    refl
 
 -- as many elements made of numbers pass as numbers do
 count-map-range : {X : Type 0} (p : X → Bool) (q : ℕ → Bool) (f : ℕ → X) (n : ℕ) → ((x : ℕ) → x < n → p (f x) ≡ q x) → count_by p (map f (range_with_len 0 n)) ≡ count_by q (range_with_len 0 n)

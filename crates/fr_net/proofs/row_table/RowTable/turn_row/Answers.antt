@@ -1,31 +1,20 @@
-use Rattle.std.proofs.Common.{ap, arith, length, map, refl, rules, slice_range, ◌-◌, ◌∙◌, ◌≡◌, ◌≤◌}
-use Rattle.std.proofs.lemmas.List.{get_or_read, length-map}
-use Rattle.std.specs.Vec.{with_items}
-use borrow.Rule.Slice.PartMut.{put_mid}
-use Rattle.fr_net.proofs.RowTables.{IsRowAt, ShowsRowWritten, end_of, part_put, row_at, row_rewritten, start_of}
+use Rattle.std.proofs.Common.{ap, arith, length, map, rules, ◌-◌, ◌∙◌, ◌≡◌}
+use Rattle.std.proofs.lemmas.List.{length-map}
+use Rattle.fr_net.proofs.RowTables.{IsPart, IsRowAt, ShowsRowWritten, part_read, part_rewritten, row_at}
 use Rattle.fr_net.specs.RowLists.{turned_entry}
 use Rattle.fr_net.specs.Tables.{row_of, with_row}
 use Rattle.fr_net.specs.declared.row_table.RowTable.TheInside.{Inside}
+use Rattle.std.specs.Vec.{with_items}
+use borrow.Rule.Slice.PartMut.{put_mid}
 use Rattle.fr_net.proofs.row_table.RowTable.turn_row.Goals as goal
 use Rattle.fr_net.proofs.row_table.RowTable.turn_row.Goals.{After-index-2, After-self, After-turn_row}
 
 at : (c : After-self) → IsRowAt c.self.inside c.args.self.now c.args.x
 at c = row_at c.self.inside c.args.self.now c.args.x c.self.invariant c.self.view_is c.requires.row
 
-start : (c : After-index-2) → c.index.result.now ≡ start_of c.self.inside c.args.x
-start c = get_or_read c.self.inside.starts.items c.args.x _ (omega (arith, (at (goal.at.After-index-2 c).After-self).starts)) c.index.ensures 0
-
-end : (c : After-index-2) → c.index-2.result.now ≡ end_of c.self.inside c.args.x
-end c = get_or_read c.self.inside.ends.items c.args.x _ (at (goal.at.After-index-2 c).After-self).has c.index-2.ensures 0
-
-low : (c : After-index-2) → c.index.result.now ≤ c.index-2.result.now
-low c = omega (arith, start c, end c, (at (goal.at.After-index-2 c).After-self).low)
-
-high : (c : After-index-2) → c.index-2.result.now ≤ length c.deref_mut.result.now
-high c = let b = at (goal.at.After-index-2 c).After-self in omega (arith, end c, b.high, b.inside, ap length c.deref_mut.ensures.value)
-
-row : (c : After-index-2) → slice_range c.deref_mut.result.now c.index.result.now c.index-2.result.now ≡ row_of c.args.self.now c.args.x
-row c = rw (c.deref_mut.ensures.value, start c, end c) (at (goal.at.After-index-2 c).After-self).is_row
+part : (c : After-index-2) → IsPart c.self.inside c.args.self.now c.args.x c.index.result.now c.index-2.result.now c.deref_mut.result.now
+part c =
+    part_read c.self.inside c.args.self.now c.args.x c.index.result.now c.index-2.result.now c.deref_mut.result.now (at (goal.at.After-index-2 c).After-self) c.index.ensures c.index-2.ensures c.deref_mut.ensures.value
 
 pub index-requires : goal.index-requires
 index-requires c = omega (arith, (at (goal.at.index-requires c).After-self).starts, c.self.inside.starts.ok.0)
@@ -35,20 +24,23 @@ index-requires-2 c = omega (arith, (at (goal.at.index-requires-2 c).After-self).
 
 pub offset_bounds-deref_mut-index : goal.offset_bounds-deref_mut-index
 offset_bounds-deref_mut-index c =
-    let b = (goal.at.offset_bounds-deref_mut-index c).After-index-2 in
-    omega (arith, low b, high b, c.deref_mut.ensures.len, c.self.inside.entries.ok.1, c.self.inside.entries.small)
+    let p = part (goal.at.offset_bounds-deref_mut-index c).After-index-2 in
+    omega (arith, p.low, p.high, c.deref_mut.ensures.len, c.self.inside.entries.ok.1, c.self.inside.entries.small)
 
 pub slice_bounds-turn_row-count : goal.slice_bounds-turn_row-count
-slice_bounds-turn_row-count c = low (goal.at.slice_bounds-turn_row-count c).After-index-2
+slice_bounds-turn_row-count c = (part (goal.at.slice_bounds-turn_row-count c).After-index-2).low
 
 pub slice_bounds-turn_row-start : goal.slice_bounds-turn_row-start
-slice_bounds-turn_row-start c = search (rules, low (goal.at.slice_bounds-turn_row-start c).After-index-2)
+slice_bounds-turn_row-start c = search (rules, (part (goal.at.slice_bounds-turn_row-start c).After-index-2).low)
 
 pub slice_bounds-turn_row-end : goal.slice_bounds-turn_row-end
-slice_bounds-turn_row-end c = search (rules, high (goal.at.slice_bounds-turn_row-end c).After-index-2)
+slice_bounds-turn_row-end c = search (rules, (part (goal.at.slice_bounds-turn_row-end c).After-index-2).high)
 
 pub turn_row-requires-clause-below : goal.turn_row-requires-clause-below
-turn_row-requires-clause-below c = rw (row (goal.at.turn_row-requires-clause-below c).After-index-2) c.requires.below
+turn_row-requires-clause-below c = rw (part (goal.at.turn_row-requires-clause-below c).After-index-2).is_row c.requires.below
+
+written : (c : After-turn_row) → c.turn_row.new.row ≡ map (turned_entry c.args.counts.now c.args.x) (row_of c.args.self.now c.args.x)
+written c = c.turn_row.ensures ∙ ap (map (turned_entry c.args.counts.now c.args.x)) (part (goal.at.After-turn_row c).After-index-2).is_row
 
 -- the fields as they are then
 abbrev after : (c : After-turn_row) → Inside
@@ -59,25 +51,14 @@ after c = record {
   empty = c.self.inside.empty;
 }
 
-turned : (c : After-turn_row) → c.turn_row.new.row ≡ map (turned_entry c.args.counts.now c.args.x) (row_of c.args.self.now c.args.x)
-turned c = c.turn_row.ensures ∙ ap (map (turned_entry c.args.counts.now c.args.x)) (row (goal.at.After-turn_row c).After-index-2)
-
 shows : (c : After-turn_row) → ShowsRowWritten (after c) c.args.self.now c.args.x c.turn_row.new.row
 shows c =
-    let b = (goal.at.After-turn_row c).After-index-2 in
-    let place = at (goal.at.After-turn_row c).After-self in
-    let t = c.self.inside in
-    let new = c.turn_row.new.row in
-    let long : length new ≡ length (row_of c.args.self.now c.args.x) = ap length (turned c) ∙ length-map (row_of c.args.self.now c.args.x) (turned_entry c.args.counts.now c.args.x) in
-    let l = low b in
-    let h = high b in
-    row_rewritten t (after c) c.args.self.now c.args.x new c.self.invariant c.self.view_is c.requires.row long refl refl
-    (part_put t.entries c.deref_mut.result.now new c.index.result.now (c.index-2.result.now - c.index.result.now) c.deref_mut.ensures.value (omega (arith, long, place.long, start b, end b)) (omega (arith, l, h, ap length c.deref_mut.ensures.value))
-    ∙ ap (λ k. put_mid k (length new) t.entries.items new) (start b))
-    refl
+    let long : length c.turn_row.new.row ≡ length (row_of c.args.self.now c.args.x) = ap length (written c) ∙ length-map (row_of c.args.self.now c.args.x) (turned_entry c.args.counts.now c.args.x) in
+    part_rewritten c.self.inside c.args.self.now c.args.x c.index.result.now c.index-2.result.now c.deref_mut.result.now c.turn_row.new.row c.self.invariant c.self.view_is c.requires.row
+    (part (goal.at.After-turn_row c).After-index-2) c.deref_mut.ensures.value long
 
 pub invariant_of-self : goal.invariant_of-self
 invariant_of-self c = (shows (goal.at.invariant_of-self c).After-turn_row).is
 
 pub returns : goal.returns
-returns c = let b = (goal.at.returns c).After-turn_row in (shows b).shown ∙ ap (with_row c.args.self.now c.args.x) (turned b)
+returns c = let b = (goal.at.returns c).After-turn_row in (shows b).shown ∙ ap (with_row c.args.self.now c.args.x) (written b)
