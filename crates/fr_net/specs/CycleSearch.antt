@@ -1,7 +1,10 @@
 -- The state of the depth-first search for a closed walk. For `find_cycle` alone.
 use Rattle.std.specs.Prelude.{◌≡◌, ◌≢◌, ℕ, ◌<◌, ◌≤◌, ◌+◌, List, length, slice_index, slice_index_or, Bool, true, false, count_by}
-use Rattle.std.specs.List.{Contains}
-use Rattle.fr_net.specs.Links.{Points, IsClosedWalk}
+use Rattle.std.specs.List.{All, Contains}
+use Rattle.fr_net.specs.Heights.{HasHeadsFirst}
+use Rattle.fr_net.specs.Links.{IsAcyclic, IsClosedWalk, IsCycle, Points}
+use Rattle.fr_net.specs.declared.cycle.Found.{Found}
+use Rattle.fr_net.specs.declared.cycle.Found.TheVariants.{Walk, Order}
 use Rattle.fr_net.specs.declared.cycle.Mark.{Mark}
 use Rattle.fr_net.specs.declared.cycle.Mark.TheVariants.{Fresh, Open, Done}
 
@@ -28,6 +31,23 @@ pub record IsCycleSearch (n : ℕ) (links : List (ℕ × ℕ)) (marks : List Mar
   pub ahead : (x i : ℕ) (d : ℕ × ℕ) → mark_of marks x ≢ Fresh → slice_index places x ≤ i → i < length links → x ≤ (slice_index_or links i d).0
   pub done_closed : (u v : ℕ) → mark_of marks u ≡ Done → Points links u v → mark_of marks v ≡ Done
   pub done_safe : (u : ℕ) (vs : List ℕ) → mark_of marks u ≡ Done → ¬ IsClosedWalk links u vs
+
+abbrev pub is_done : Mark → Bool
+is_done Fresh = false
+is_done Open = false
+is_done Done = true
+
+-- the done nodes, each once, in an order in which the head of each link stands before its tail
+pub record IsOrder (links : List (ℕ × ℕ)) (marks : List Mark) (order : List ℕ) : Type 0 where
+  pub counted : length order ≡ count_by is_done marks
+  pub listed : All (λ (x : ℕ). mark_of marks x ≡ Done) order
+  pub all : (x : ℕ) → mark_of marks x ≡ Done → Contains order x
+  pub heads : (i j : ℕ) → i < length order → j < length order → Points links (slice_index order i) (slice_index order j) → j < i
+
+-- what the search of n nodes has found: a closed walk, or else an order
+abbrev pub IsFound : ℕ → List (ℕ × ℕ) → Found → Type 0
+IsFound n links (Walk walk) = IsCycle links walk.items
+IsFound n links (Order order) = IsAcyclic links × HasHeadsFirst n links order.items
 
 -- seen nodes stay seen
 abbrev pub KeepsSeen : List Mark → List Mark → Type 0

@@ -4,6 +4,7 @@ use Rattle.fr_net.specs.Batches.{IsMade}
 use Rattle.fr_net.specs.Edits.{without}
 use Rattle.fr_net.specs.Faults.{IsFaultless, IsNetworkOf}
 use Rattle.fr_net.specs.Halves.{AreUnjoined}
+use Rattle.fr_net.specs.Heights.{Fit}
 use Rattle.fr_net.specs.KeptRows.{AreRows, links_in}
 use Rattle.fr_net.specs.Links.{Points}
 use Rattle.fr_net.specs.Network.{Network}
@@ -19,12 +20,14 @@ use Rattle.fr_net.specs.declared.requests.Edit.{Edit}
 abbrev pub shown : Graph → Network
 shown g = record { nodes = g.nodes; links = links_in g.nodes g.rows }
 
--- the links are in order, without a fault, and counted, and the rows are those of the nodes
+-- the links are in order, without a fault, and counted, the rows are those of the nodes, and the links fall along the heights, where these are known
 pub record IsGraph (g : Graph) : Type 0 where
   pub faultless : IsFaultless g.nodes (shown g).links
   pub sorted : AreInOrder (shown g).links
   pub counted : g.link_count ≡ length (shown g).links
   pub rows : AreRows g.nodes (shown g).links g.rows
+  pub height_each : length g.heights.heights ≡ g.nodes
+  pub fit : Fit (shown g).links g.heights
 
 -- each row of the network has room in the graph
 abbrev pub HasRoomFor : Graph → Network → Type 0

@@ -13,6 +13,7 @@ pub mod Halves
 pub mod TurnedRows
 pub mod Tables
 pub mod KeptRows
+pub mod Heights
 pub mod CycleSearch
 pub mod ClosingSearch
 pub mod PathSearch

@@ -1,11 +1,14 @@
--- The state of the search for a way between two nodes from both ends. For `leads` alone.
+-- The state of the search for a way between two nodes from both ends. For `way_between` alone.
 use Rattle.std.specs.Prelude.{◌≡◌, ℕ, ◌<◌, ◌≤◌, ◌+◌, ◌-◌, ◌++◌, ◌⊎◌, Bool, true, false, List, [], ◌∷◌, length, slice_index, slice_index_or, slice_set, vec_capacity, count_by}
 use Rattle.std.specs.List.{All, Contains}
+use Rattle.fr_net.specs.Heights.{FitBetween}
 use Rattle.fr_net.specs.Links.{HasPath, Points}
 use Rattle.fr_net.specs.Network.{Network}
 use Rattle.fr_net.specs.declared.path_search.Met.{Met}
 use Rattle.fr_net.specs.declared.path_search.Met.TheVariants.{Never, Forward, Backward}
 use Rattle.fr_net.specs.declared.path_search.Side.{Side}
+use Rattle.fr_net.specs.declared.path_search.Way.{Way}
+use Rattle.fr_net.specs.declared.path_search.Way.TheVariants.{Leads, Ends}
 use Rattle.fr_net.specs.declared.rows.First.{First}
 use Rattle.fr_net.specs.declared.rows.First.TheVariants.{Outward, Inward}
 
@@ -49,37 +52,66 @@ start_of side = slice_index side.nodes.items 0
 abbrev pub HasRoom : Side → List Met → Type 0
 HasRoom side met = length side.nodes.items + never_count met ≤ vec_capacity side.nodes
 
--- the side goes this way from the start, which alone it has met, and has room for so many nodes
-pub record HasBegun (first : First) (start nodes : ℕ) (side : Side) : Type 0 where
+-- the height lies beyond the limit: below it for the side that goes along the links, which fall, and above it for the other
+abbrev pub IsBeyond : First → ℕ → ℕ → Type 0
+IsBeyond Outward limit height = height < limit
+IsBeyond Inward limit height = limit < height
+
+-- the height lies at the edge, or farther away
+abbrev pub IsPast : First → ℕ → ℕ → Type 0
+IsPast Outward edge height = height ≤ edge
+IsPast Inward edge height = edge ≤ height
+
+-- the side leaves nodes of this height aside
+pub record IsLeftAside (side : Side) (height : ℕ) : Type 0 where
+  pub beyond : IsBeyond side.first side.limit height
+  pub past : IsPast side.first side.edge height
+
+-- the side as it was, but that its edge may have come nearer
+pub record HasMovedEdge (before after : Side) : Type 0 where
+  pub same_first : after.first ≡ before.first
+  pub same_limit : after.limit ≡ before.limit
+  pub nearer : (height : ℕ) → IsPast before.first before.edge height → IsPast before.first after.edge height
+  pub same_nodes : after.nodes ≡ before.nodes
+  pub same_read : after.read ≡ before.read
+
+-- the side goes this way from the start, which alone it has met, up to the limit, and has room for so many nodes
+pub record HasBegun (first : First) (start limit nodes : ℕ) (side : Side) : Type 0 where
   pub first_is : side.first ≡ first
+  pub limit_is : side.limit ≡ limit
   pub met_alone : side.nodes.items ≡ start ∷ []
   pub none_read : side.read ≡ 0
   pub room : nodes ≤ vec_capacity side.nodes
 
--- the side goes this way from the start. Its nodes are those that it has met; a way leads from the start to each; and the rows of the
--- first of them, so many as were read, lead on to nodes that it has met
-pub record IsSide (net : Network) (first : First) (start : ℕ) (met : List Met) (side : Side) : Type 0 where
+-- the side goes this way from the start up to the limit. Its nodes are those that it has met, none beyond the limit; a way leads from the
+-- start to each; and the rows of the first of them, so many as were read, lead on to nodes that it has met or left aside
+pub record IsSide (net : Network) (heights : List ℕ) (first : First) (start limit : ℕ) (met : List Met) (side : Side) : Type 0 where
   pub one_each : length met ≡ net.nodes
   pub first_is : side.first ≡ first
+  pub limit_is : side.limit ≡ limit
   pub start_is : start_of side ≡ start
   pub begun : 0 < length side.nodes.items
   pub all_met : All (HasMet first met) side.nodes.items
   pub listed : (x : ℕ) → HasMet first met x → Contains side.nodes.items x
   pub ways : All (HasWay first net.links start) side.nodes.items
   pub inside : side.read ≤ length side.nodes.items
-  pub leads_on : (k w : ℕ) → k < side.read → LeadsOn first net.links (slice_index side.nodes.items k) w → HasMet first met w
+  pub within : All (λ (x : ℕ). ¬ IsBeyond first limit (slice_index heights x)) side.nodes.items
+  pub leads_on : (k w : ℕ) → k < side.read → LeadsOn first net.links (slice_index side.nodes.items k) w → HasMet first met w ⊎ IsLeftAside side (slice_index heights w)
   pub room : HasRoom side met
 
--- the side has met the neighbour of each entry of the row before this place whose link leaves in its direction
-abbrev pub HasPassed : First → List Met → List (ℕ × First) → ℕ → Type 0
-HasPassed first met entries place =
-    (k : ℕ) (d : ℕ × First) → k < place → (slice_index_or entries k d).1 ≡ first → HasMet first met (slice_index_or entries k d).0
+-- the side has met or left aside the neighbour of each entry of the row before this place whose link leaves in its direction
+abbrev pub HasPassed : List ℕ → First → Side → List Met → List (ℕ × First) → ℕ → Type 0
+HasPassed heights first side met entries place =
+    (k : ℕ) (d : ℕ × First) → k < place → (slice_index_or entries k d).1 ≡ first
+    → HasMet first met (slice_index_or entries k d).0 ⊎ IsLeftAside side (slice_index heights (slice_index_or entries k d).0)
 
 -- the side met x, which no side had met
 pub record MeetsNew (before after : Side) (met_before met_after : List Met) (x : ℕ) : Type 0 where
   pub fresh : met_of met_before x ≡ Never
   pub met : met_after ≡ slice_set met_before x (met_by before.first)
   pub same_first : after.first ≡ before.first
+  pub same_limit : after.limit ≡ before.limit
+  pub same_edge : after.edge ≡ before.edge
   pub nodes : after.nodes.items ≡ before.nodes.items ++ x ∷ []
   pub same_read : after.read ≡ before.read
   pub same_room : vec_capacity after.nodes ≡ vec_capacity before.nodes
@@ -87,6 +119,8 @@ pub record MeetsNew (before after : Side) (met_before met_after : List Met) (x :
 -- the side met nodes that no side had met, or none
 pub record HasMetMore (before after : Side) (met_before met_after : List Met) : Type 0 where
   pub same_first : after.first ≡ before.first
+  pub same_limit : after.limit ≡ before.limit
+  pub nearer : (height : ℕ) → IsPast before.first before.edge height → IsPast before.first after.edge height
   pub longer : length before.nodes.items ≤ length after.nodes.items
   pub stands : (k : ℕ) → k < length before.nodes.items → slice_index after.nodes.items k ≡ slice_index before.nodes.items k
   pub met : (x : ℕ) → (met_of met_after x ≡ met_of met_before x) ⊎ ((met_of met_before x ≡ Never) × HasMet before.first met_after x)
@@ -96,3 +130,22 @@ pub record HasMetMore (before after : Side) (met_before met_after : List Met) : 
 -- how many nodes the side has met and not read
 abbrev pub unread_count : Side → ℕ
 unread_count side = length side.nodes.items - side.read
+
+-- between which heights the nodes of a side can stand that has nothing left to read, by its limit and its edge
+abbrev pub low_of : First → ℕ → ℕ → ℕ
+low_of Outward limit edge = edge
+low_of Inward limit edge = limit
+
+abbrev pub high_of : First → ℕ → ℕ → ℕ
+high_of Outward limit edge = limit
+high_of Inward limit edge = edge
+
+abbrev pub way_of_ended : Side → Way
+way_of_ended side = Ends side.nodes (low_of side.first side.limit side.edge) (high_of side.first side.limit side.edge)
+
+-- whether the links lead from the one node to the other; where they do not, nodes that make all links fall, and a link back too, once they
+-- stand between two heights
+abbrev pub IsWay : Network → List ℕ → ℕ → ℕ → Way → Type 0
+IsWay net heights from to Leads = HasPath net.links from to
+IsWay net heights from to (Ends nodes low high) =
+    ¬ HasPath net.links from to × (All (λ (x : ℕ). x < net.nodes) nodes.items × FitBetween (net.links ++ (to, from) ∷ []) heights nodes.items low high)

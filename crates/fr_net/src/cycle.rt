@@ -1,9 +1,9 @@
 //! The search for a closed walk along links: depth first, with the path as a stack, so that each link is passed once and
-//! the evidence is at hand.
+//! the evidence is at hand. Where there is none, each link leads to a node that the search left before the tail.
 
-ghost use Rattle.std.specs.Prelude.{◌≡◌, ◌≢◌, ℕ, List, ◌<◌, ◌≤◌, ◌+◌, ◌++◌, [], ◌∷◌, length, drop, vec_len, slice_index, slice_index_or, IfOk, IfSome, IfNone, OnOk, MatchOption, Contains, ◌-◌, ◌*◌, take, slice_set};
-ghost use Rattle.fr_net.specs.Links.{AreBelow, IsAcyclic, IsCycle, Points};
-ghost use Rattle.fr_net.specs.CycleSearch.{AreTailStarts, HasRisingTails, IsStart, mark_of, IsPassed, IsCycleSearch, KeepsSeen, LeadsTo, LeadsToDone, fresh_count};
+ghost use Rattle.std.specs.Prelude.{◌≡◌, ◌≢◌, ℕ, List, ◌<◌, ◌≤◌, ◌+◌, ◌++◌, [], ◌∷◌, length, drop, vec_len, slice_index, slice_index_or, IfOk, IfSome, IfNone, OnOk, Contains, replicate, ◌-◌, ◌*◌, take, slice_set};
+ghost use Rattle.fr_net.specs.Links.{AreBelow, IsCycle, Points};
+ghost use Rattle.fr_net.specs.CycleSearch.{AreTailStarts, HasRisingTails, IsStart, mark_of, IsPassed, IsCycleSearch, KeepsSeen, LeadsTo, LeadsToDone, fresh_count, IsOrder, IsFound};
 
 use std::alloc::{AllocError, Global};
 
@@ -13,6 +13,15 @@ enum Mark {
     Fresh,
     Open,
     Done,
+}
+
+/// What the search has found.
+#[derive(Drop)]
+pub(crate) enum Found {
+    /// A closed walk: its nodes, the first again at the end.
+    Walk(Vec<u32>),
+    /// No closed walk, and all nodes in an order in which the head of each link stands before its tail.
+    Order(Vec<u32>),
 }
 
 /// The first place, from `from` on, whose link does not lead from `tail` to a done node.
@@ -97,6 +106,7 @@ fn open(
     requires leads { LeadsTo links.now path.old.items node }
     ensures search { OnOk result (IsCycleSearch (length marks.old) links.now marks.new places.new path.new.items) }
     ensures path { OnOk result (path.new.items ≡ path.old.items ++ node ∷ []) }
+    ensures marks { OnOk result (marks.new ≡ slice_set marks.old node Mark.Open) }
     ensures seen { OnOk result (mark_of marks.new node ≢ Mark.Fresh) }
     ensures kept { OnOk result (KeepsSeen marks.old marks.new) }
     ensures fewer { OnOk result (fresh_count marks.new + 1 ≡ fresh_count marks.old) }
@@ -136,6 +146,7 @@ fn leave(links: &[(u32, u32)], marks: &mut [Mark], places: &[usize], path: &mut 
     requires done { LeadsToDone links.now marks.old top }
     ensures search { IsCycleSearch (length marks.old) links.now marks.new places.now path.new.items }
     ensures shorter { vec_len path.new + 1 ≡ vec_len path.old }
+    ensures marks { marks.new ≡ slice_set marks.old top Mark.Done }
     ensures kept { KeepsSeen marks.old marks.new }
     ensures fewer { fresh_count marks.new ≤ fresh_count marks.old }
 {
@@ -143,13 +154,14 @@ fn leave(links: &[(u32, u32)], marks: &mut [Mark], places: &[usize], path: &mut 
     marks[top as usize] = Mark::Done;
 }
 
-/// Searches from `root` for a closed walk, unless the search has met it.
+/// Searches from `root` for a closed walk, unless the search has met it, and puts the nodes that it leaves behind the others.
 fn visit(
     alloc: Global,
     links: &[(u32, u32)],
     starts: &[usize],
     marks: &mut [Mark],
     places: &mut [usize],
+    order: &mut Vec<u32>,
     root: u32,
 ) -> Result<Option<Vec<u32>>, AllocError>
     requires search { IsCycleSearch (length marks.old) links.now marks.old places.old [] }
@@ -157,10 +169,12 @@ fn visit(
     requires starts { AreTailStarts (length marks.old) links.now starts.now }
     requires below { AreBelow (length marks.old) links.now }
     requires root { root < length marks.old }
+    requires order { IsOrder links.now marks.old order.old.items }
     ensures found { IfOk result (λ found. IfSome found (λ walk. IsCycle links.now walk.items)) }
     ensures search { IfOk result (λ found. IfNone found (IsCycleSearch (length marks.old) links.now marks.new places.new [])) }
     ensures seen { IfOk result (λ found. IfNone found (mark_of marks.new root ≢ Mark.Fresh)) }
     ensures kept { IfOk result (λ found. IfNone found (KeepsSeen marks.old marks.new)) }
+    ensures order { IfOk result (λ found. IfNone found (IsOrder links.now marks.new order.new.items)) }
 {
     if !matches!(&marks[root as usize], Mark::Fresh) {
         return Ok(None);
@@ -178,6 +192,7 @@ fn visit(
             }
         } else {
             leave(links, marks, places, &mut path, top);
+            order.push(top)?;
         }
     }
     Ok(None)
@@ -185,7 +200,7 @@ fn visit(
 
 /// The marks and the places of a search that has met no node.
 fn fresh_search(alloc: Global, nodes: u32) -> Result<(Vec<Mark>, Vec<usize>), AllocError>
-    ensures marks { IfOk result (λ search. vec_len search.0 ≡ nodes) }
+    ensures marks { IfOk result (λ search. search.0.items ≡ replicate nodes Mark.Fresh) }
     ensures search { IfOk result (λ search. (links : List (ℕ × ℕ)) → IsCycleSearch nodes links search.0.items search.1.items []) }
 {
     let marks = vec![in alloc; Mark::Fresh; nodes as usize]?;
@@ -199,30 +214,41 @@ fn visit_all(
     nodes: u32,
     links: &[(u32, u32)],
     starts: &[usize],
-) -> Result<Option<Vec<u32>>, AllocError>
+) -> Result<Found, AllocError>
     requires tails { HasRisingTails links.now }
     requires starts { AreTailStarts nodes links.now starts.now }
     requires below { AreBelow nodes links.now }
-    ensures { IfOk result (λ found. MatchOption found (IsAcyclic links.now) (λ walk. IsCycle links.now walk.items)) }
+    ensures { IfOk result (IsFound nodes links.now) }
 {
     let (mut marks, mut places) = fresh_search(alloc, nodes)?;
+    let mut order = Vec::with_capacity(alloc, nodes as usize)?;
     for root in 0..nodes {
-        if let Some(walk) = visit(alloc, links, starts, &mut marks, &mut places, root)? {
-            return Ok(Some(walk));
+        let found = visit(
+            alloc,
+            links,
+            starts,
+            &mut marks,
+            &mut places,
+            &mut order,
+            root,
+        )?;
+        if let Some(walk) = found {
+            return Ok(Found::Walk(walk));
         }
     }
-    Ok(None)
+    Ok(Found::Order(order))
 }
 
-/// A closed walk along the links, which are in rising order of their tails, if there is one.
+/// A closed walk along the links, which are in rising order of their tails; or, where there is none, an order of the nodes along which
+/// all links lead back.
 pub(crate) fn find_cycle(
     alloc: Global,
     nodes: u32,
     links: &[(u32, u32)],
-) -> Result<Option<Vec<u32>>, AllocError>
+) -> Result<Found, AllocError>
     requires tails { HasRisingTails links.now }
     requires below { AreBelow nodes links.now }
-    ensures { IfOk result (λ found. MatchOption found (IsAcyclic links.now) (λ walk. IsCycle links.now walk.items)) }
+    ensures { IfOk result (IsFound nodes links.now) }
 {
     let starts = tail_starts(alloc, nodes, links)?;
     visit_all(alloc, nodes, links, &starts)

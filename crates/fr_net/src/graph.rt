@@ -1,7 +1,7 @@
 //! What a network keeps, changed where it stands: a link is taken out or put in, and that is undone.
 
-ghost use Rattle.std.specs.Prelude.{◌≡◌, ◌≢◌, ◌<◌, ◌≤◌, ◌++◌, [], ◌∷◌, ◌⊎◌, length, IfOk, IfErr, IfSome, IfNone, OnOk, OnErr};
-ghost use Rattle.fr_net.specs.Links.{IsAcyclic, Joins, Points};
+ghost use Rattle.std.specs.Prelude.{◌≡◌, ◌≢◌, ◌<◌, ◌≤◌, ◌++◌, [], ◌∷◌, ◌⊎◌, length, true, ◌↔◌, IfOk, IfErr, IfSome, IfNone, IsTrue, OnOk, OnErr};
+ghost use Rattle.fr_net.specs.Links.{HasPath, IsAcyclic, Joins, Points};
 ghost use Rattle.fr_net.specs.Network.{Network};
 ghost use Rattle.fr_net.specs.Rows.{row};
 ghost use Rattle.fr_net.specs.Halves.{AreUnjoined};
@@ -16,21 +16,25 @@ ghost use Rattle.fr_net.specs.declared.requests.Edit.TheVariants.{Cut, Add, Join
 
 use crate::checks::first_outside;
 use crate::closing::closing_walk;
+use crate::cycle::{Found, find_cycle};
 use crate::edits::{cut_from_rows, place_in_row, put_in_rows};
 use crate::fault::{EditFault, NetFault};
+use crate::heights::Heights;
 use crate::limits::MAX_LINKS;
-use crate::path_search::leads;
+use crate::path_search::{Way, way_between};
 use crate::requests::Edit;
 use crate::row_table::RowTable;
 use crate::rows::First;
+use crate::turned::links_of_rows;
 use std::alloc::{AllocError, Global};
 
-/// The rows of a network's nodes, which show its links.
+/// The rows of a network's nodes, which show its links, and heights along which these fall.
 #[derive(Debug, Drop)]
 pub(crate) struct Graph {
     pub(crate) nodes: u32,
     pub(crate) link_count: usize,
     pub(crate) rows: RowTable,
+    pub(crate) heights: Heights,
 }
 
 /// What an edit did to the links.
@@ -114,6 +118,7 @@ impl Graph {
             nodes: self.nodes,
             link_count: self.link_count,
             rows: self.rows.copied(alloc)?,
+            heights: self.heights.copied(alloc)?,
         })
     }
 
@@ -156,6 +161,44 @@ impl Graph {
     {
         put_in_rows(&mut self.rows, tail, head);
         self.link_count += 1;
+        self.heights.admit(tail, head);
+    }
+
+    /// Makes the heights anew.
+    fn renew_heights(&mut self, alloc: Global) -> Result<(), AllocError>
+        requires graph { IsGraph self.old }
+        ensures same { IsSame self.old self.new }
+        ensures known { OnOk result (self.new.heights.known ≡ true) }
+    {
+        let links = links_of_rows(alloc, &self.rows, self.nodes, self.link_count)?;
+        let Found::Order(order) = find_cycle(alloc, self.nodes, &links)? else {
+            unreachable!();
+        };
+        self.heights.put_in_order(&order);
+        Ok(())
+    }
+
+    /// Whether the links lead from `v` to `u`. The heights tell mostly that they do not; where it takes a search to tell so, a link from `u` to
+    /// `v` falls behind it, if there is room between the heights.
+    fn leads_back(&mut self, alloc: Global, u: u32, v: u32) -> Result<bool, AllocError>
+        requires graph { IsGraph self.old }
+        requires nodes { AreUnjoined self.old.nodes (shown self.old).links u v }
+        ensures same { IsSame self.old self.new }
+        ensures leads { IfOk result (λ found. IsTrue found ↔ HasPath (shown self.old).links v u) }
+    {
+        if !self.heights.are_known() {
+            self.renew_heights(alloc)?;
+        }
+        if self.heights.falls(u, v) {
+            return Ok(false);
+        }
+        match way_between(alloc, self, v, u)? {
+            Way::Leads => Ok(true),
+            Way::Ends { nodes, low, high } => {
+                self.heights.put_between(nodes, low, high);
+                Ok(false)
+            }
+        }
     }
 
     /// Takes out the link between `u` and `v`, whichever way it points.
@@ -181,9 +224,8 @@ impl Graph {
         ensures unchanged { OnErr result (IsSame self.old self.new) }
     {
         self.test_join(u, v)?;
-        // Few added links close a walk, and the search from both ends reads little to tell so. The one that names the walk starts
-        // from one end alone.
-        if leads(alloc, self, v, u)? {
+        // Few added links close a walk, and to tell so costs little. The search that names the walk starts from one end alone.
+        if self.leads_back(alloc, u, v)? {
             let Some(walk) = closing_walk(alloc, self, u, v)? else {
                 unreachable!();
             };
@@ -203,7 +245,7 @@ impl Graph {
         ensures unchanged { OnErr result (IsSame self.old self.new) }
     {
         self.test_join(u, v)?;
-        let (tail, head) = if leads(alloc, self, v, u)? {
+        let (tail, head) = if self.leads_back(alloc, u, v)? {
             (v, u)
         } else {
             (u, v)

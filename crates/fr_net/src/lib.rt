@@ -14,6 +14,7 @@ mod cycle;
 mod edits;
 mod fault;
 mod graph;
+mod heights;
 pub mod laws;
 mod limits;
 mod line_reader;

@@ -16,9 +16,10 @@ ghost use Rattle.fr_net.specs.Batches.{AreMade, IsBatchFault, IsNotEdited};
 ghost use Rattle.fr_net.specs.Limits.{most_edits};
 
 use crate::checks::{first_outside, first_self_link};
-use crate::cycle::find_cycle;
+use crate::cycle::{Found, find_cycle};
 use crate::fault::{EditFault, NetFault, NotEdited};
 use crate::graph::Graph;
+use crate::heights::Heights;
 use crate::limits::{MAX_EDITS, MAX_LINKS, MAX_NODES};
 use crate::requests::Edit;
 use crate::row_table::RowTable;
@@ -82,14 +83,18 @@ impl Net {
             return Err(NetFault::Twice(u, v));
         }
         let sorted = outward_links(alloc, &halves)?;
-        if let Some(walk) = find_cycle(alloc, nodes, &sorted)? {
-            return Err(NetFault::Cycle(walk));
-        }
+        let order = match find_cycle(alloc, nodes, &sorted)? {
+            Found::Walk(walk) => return Err(NetFault::Cycle(walk)),
+            Found::Order(order) => order,
+        };
         let entries = entries_of(alloc, &halves)?;
+        let mut heights = Heights::unknown(alloc, nodes)?;
+        heights.put_in_order(&order);
         let graph = Graph {
             nodes,
             link_count: links.len(),
             rows: RowTable::packed(alloc, starts, entries)?,
+            heights,
         };
         Ok(Net { graph })
     }
@@ -127,6 +132,7 @@ impl Net {
             nodes,
             link_count,
             rows,
+            heights: _,
         } = &self.graph;
         links_of_rows(alloc, rows, *nodes, *link_count)
     }
@@ -288,5 +294,6 @@ impl Net {
         ensures { IsNetworkOf self.old.nodes (links_at self.old.links counts.now) self.new }
     {
         turn_rows(&mut self.graph.rows, self.graph.nodes, counts);
+        self.graph.heights.raise(counts);
     }
 }

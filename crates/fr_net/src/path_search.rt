@@ -1,12 +1,13 @@
 //! Whether links lead from one node to another, sought from both ends: forward along the links from the one and backward against
-//! them from the other, a row of either side in turn. The search ends where the sides meet, or where one has nothing left to read,
-//! so that it reads few rows where few nodes lie beyond either end.
+//! them from the other, a row of either side in turn. All links fall, so either side leaves aside what lies beyond the height of
+//! the other end. The search ends where the sides meet, or where one has nothing left to read, so that it reads few rows where few
+//! nodes lie between the ends on either side.
 
-ghost use Rattle.std.specs.Prelude.{◌≡◌, ◌≢◌, ℕ, ◌<◌, ◌≤◌, ◌+◌, ◌++◌, [], ◌∷◌, ◌⊎◌, ◌↔◌, length, vec_capacity, IfOk, IsTrue};
+ghost use Rattle.std.specs.Prelude.{◌≡◌, ◌≢◌, ℕ, ◌<◌, ◌≤◌, ◌+◌, ◌++◌, [], ◌∷◌, ◌⊎◌, ◌↔◌, length, slice_index, true, vec_capacity, IfOk, IsTrue};
 ghost use Rattle.fr_net.specs.Graph.{IsGraph, shown};
 ghost use Rattle.fr_net.specs.Links.{HasPath};
 ghost use Rattle.fr_net.specs.RowLists.{opposite};
-ghost use Rattle.fr_net.specs.PathSearch.{HasBegun, HasMet, HasMetMore, HasRoom, HasWay, IsSide, MeetsNew, met_by, start_of};
+ghost use Rattle.fr_net.specs.PathSearch.{HasBegun, HasMet, HasMetMore, HasMovedEdge, HasRoom, HasWay, IsBeyond, IsLeftAside, IsSide, IsWay, MeetsNew, met_by, start_of, way_of_ended};
 
 use crate::graph::Graph;
 use crate::rows::First;
@@ -32,10 +33,30 @@ impl Met {
     }
 }
 
+/// Whether links lead from one node to another.
+#[derive(Drop)]
+pub(crate) enum Way {
+    /// They do.
+    Leads,
+    /// They do not, and a link back falls once these nodes stand between the two heights.
+    Ends {
+        /// All nodes of the side of the search that had nothing left to read.
+        nodes: Vec<u32>,
+        /// The lower one of the heights.
+        low: u64,
+        /// The higher one.
+        high: u64,
+    },
+}
+
 /// One side of the search: it goes along the links that leave a node in one direction.
 #[derive(Drop)]
 struct Side {
     first: First,
+    // The height of the node that it seeks, beyond which it leaves nodes aside.
+    limit: u64,
+    // The height of the nearest node that it has left aside, or one beyond all nodes.
+    edge: u64,
     // The nodes that it has met, in the order in which it met them.
     nodes: Vec<u32>,
     // The rows of so many of them were read.
@@ -43,18 +64,53 @@ struct Side {
 }
 
 impl Side {
-    /// The side that goes this way from `start`, with room for so many nodes.
-    fn begun(alloc: Global, first: First, start: u32, nodes: u32) -> Result<Side, AllocError>
+    /// The side that goes this way from `start`, up to this height, with room for so many nodes.
+    fn begun(
+        alloc: Global,
+        first: First,
+        start: u32,
+        limit: u64,
+        nodes: u32,
+    ) -> Result<Side, AllocError>
         requires { start < nodes }
-        ensures { IfOk result (HasBegun first start nodes) }
+        ensures { IfOk result (HasBegun first start limit nodes) }
     {
         let mut met = Vec::with_capacity(alloc, nodes as usize)?;
         met.push_reserved(start);
+        let edge = match first {
+            First::Outward => 0,
+            First::Inward => u64::MAX,
+        };
         Ok(Side {
             first,
+            limit,
+            edge,
             nodes: met,
             read: 0,
         })
+    }
+
+    /// Leaves a node of this height aside, if it lies beyond the limit, and answers whether it does.
+    fn leaves_aside(&mut self, height: u64) -> bool
+        ensures aside { IsTrue result → IsLeftAside self.new height }
+        ensures within { ¬ IsTrue result → ¬ IsBeyond self.old.first self.old.limit height }
+        ensures change { HasMovedEdge self.old self.new }
+    {
+        match self.first {
+            First::Outward => {
+                if height < self.limit {
+                    self.edge = self.edge.max(height);
+                    return true;
+                }
+            }
+            First::Inward => {
+                if height > self.limit {
+                    self.edge = self.edge.min(height);
+                    return true;
+                }
+            }
+        }
+        false
     }
 
     /// Whether it has met a node whose row it has not read.
@@ -64,38 +120,57 @@ impl Side {
         self.read < self.nodes.len()
     }
 
-    /// Meets a node, unless it was met before, and answers whether the other side has met it.
-    fn meet(&mut self, node: u32, met: &mut [Met]) -> bool
+    /// Meets a node of this height, unless it was met before or lies beyond the limit, and answers whether the other side has met it.
+    fn meet(&mut self, node: u32, height: u64, met: &mut [Met]) -> bool
         requires node { node < length met.old }
         requires room { HasRoom self.old met.old }
         ensures other { IsTrue result → HasMet (opposite self.old.first) met.old node }
-        ensures met { ¬ IsTrue result → HasMet self.old.first met.new node }
-        ensures change { ((self.new ≡ self.old) × (met.new ≡ met.old)) ⊎ MeetsNew self.old self.new met.old met.new node }
+        ensures met { ¬ IsTrue result → HasMet self.old.first met.new node ⊎ IsLeftAside self.new height }
+        ensures change { (HasMovedEdge self.old self.new × (met.new ≡ met.old)) ⊎ (MeetsNew self.old self.new met.old met.new node × ¬ IsBeyond self.old.first self.old.limit height) }
     {
         let own = Met::by(self.first);
         match met[node as usize] {
             Met::Never => {
-                met[node as usize] = own;
-                self.nodes.push_reserved(node);
+                if !self.leaves_aside(height) {
+                    met[node as usize] = own;
+                    self.nodes.push_reserved(node);
+                }
                 false
             }
             side => side != own,
         }
     }
 
+    /// Where the side has nothing left to read: its nodes, and the heights between which they can stand.
+    fn ended(self) -> Way
+        ensures { result ≡ way_of_ended self }
+    {
+        let (low, high) = match self.first {
+            First::Outward => (self.edge, self.limit),
+            First::Inward => (self.limit, self.edge),
+        };
+        Way::Ends {
+            nodes: self.nodes,
+            low,
+            high,
+        }
+    }
+
     /// Reads the row of the next node, and answers whether it leads on to a node that the other side has met.
     fn read_next(&mut self, graph: &Graph, met: &mut [Met]) -> bool
         requires graph { IsGraph graph.now }
-        requires side { IsSide (shown graph.now) self.old.first (start_of self.old) met.old self.old }
+        requires side { IsSide (shown graph.now) graph.now.heights.heights self.old.first (start_of self.old) self.old.limit met.old self.old }
         requires unread { self.old.read < length self.old.nodes.items }
         ensures found { IsTrue result → (w : ℕ) × (HasMet (opposite self.old.first) met.old w × HasWay self.old.first (shown graph.now).links (start_of self.old) w) }
-        ensures side { ¬ IsTrue result → IsSide (shown graph.now) self.old.first (start_of self.old) met.new self.new }
+        ensures side { ¬ IsTrue result → IsSide (shown graph.now) graph.now.heights.heights self.old.first (start_of self.old) self.old.limit met.new self.new }
         ensures read { ¬ IsTrue result → self.new.read ≡ self.old.read + 1 }
         ensures more { HasMetMore self.old self.new met.old met.new }
     {
         let row = graph.row(self.nodes[self.read]);
         for (neighbour, first) in row {
-            if *first == self.first && self.meet(*neighbour, met) {
+            if *first == self.first
+                && self.meet(*neighbour, graph.heights.height(*neighbour), met)
+            {
                 return true;
             }
         }
@@ -104,24 +179,36 @@ impl Side {
     }
 }
 
-/// Whether the links lead from `from` to `to`.
-pub(crate) fn leads(alloc: Global, graph: &Graph, from: u32, to: u32) -> Result<bool, AllocError>
+/// Whether the links, which all fall, lead from `from` to `to`, which lies no higher.
+pub(crate) fn way_between(
+    alloc: Global,
+    graph: &Graph,
+    from: u32,
+    to: u32,
+) -> Result<Way, AllocError>
     requires graph { IsGraph graph.now }
+    requires known { graph.now.heights.known ≡ true }
     requires from { from < graph.now.nodes }
     requires to { to < graph.now.nodes }
     requires apart { from ≢ to }
-    ensures { IfOk result (λ found. IsTrue found ↔ HasPath (shown graph.now).links from to) }
+    requires no_higher { slice_index graph.now.heights.heights to ≤ slice_index graph.now.heights.heights from }
+    ensures { IfOk result (IsWay (shown graph.now) graph.now.heights.heights from to) }
 {
     let mut table = vec![in alloc; Met::Never; graph.nodes as usize]?;
     let met = table.as_mut_slice();
     met[from as usize] = Met::Forward;
     met[to as usize] = Met::Backward;
-    let mut ahead = Side::begun(alloc, First::Outward, from, graph.nodes)?;
-    let mut behind = Side::begun(alloc, First::Inward, to, graph.nodes)?;
+    let (high, low) = (graph.heights.height(from), graph.heights.height(to));
+    let mut ahead = Side::begun(alloc, First::Outward, from, low, graph.nodes)?;
+    let mut behind = Side::begun(alloc, First::Inward, to, high, graph.nodes)?;
     while ahead.has_unread() && behind.has_unread() {
         if ahead.read_next(graph, met) || behind.read_next(graph, met) {
-            return Ok(true);
+            return Ok(Way::Leads);
         }
     }
-    Ok(false)
+    Ok(if ahead.has_unread() {
+        behind.ended()
+    } else {
+        ahead.ended()
+    })
 }

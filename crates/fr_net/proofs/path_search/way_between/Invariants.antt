@@ -2,7 +2,7 @@ use Rattle.std.proofs.Common.{◌*◌, ◌+◌}
 use Rattle.fr_net.specs.Graph.{shown}
 use Rattle.fr_net.specs.PathSearch.{IsSide, never_count, unread_count}
 use Rattle.fr_net.specs.declared.rows.First.TheVariants.{Inward, Outward}
-use Rattle.fr_net.proofs.path_search.leads.Given as goal
+use Rattle.fr_net.proofs.path_search.way_between.Given as goal
 
 abbrev pub invariant-loop-behind : goal.invariant-loop-behind
 invariant-loop-behind l = record {

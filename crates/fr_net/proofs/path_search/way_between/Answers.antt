@@ -5,8 +5,8 @@ use Rattle.fr_net.specs.Links.{HasPath}
 use Rattle.fr_net.specs.declared.path_search.Met.{Met}
 use Rattle.fr_net.specs.declared.path_search.Met.TheVariants.{Backward, Forward, Never}
 use Rattle.fr_net.specs.declared.rows.First.TheVariants.{Inward, Outward}
-use Rattle.fr_net.proofs.path_search.leads.Goals as goal
-use Rattle.fr_net.proofs.path_search.leads.Goals.{else-loop-behind-test, then-loop-behind-test+else-has_unread, then-read_next-via-else-read_next+then-read_next-2, then-read_next-via-then-read_next}
+use Rattle.fr_net.proofs.path_search.way_between.Goals as goal
+use Rattle.fr_net.proofs.path_search.way_between.Goals.{else-loop-behind-test, then-loop-behind-test+else-has_unread, then-read_next-via-else-read_next+then-read_next-2, then-read_next-via-then-read_next}
 
 pub loop-behind-init : goal.loop-behind-init
 loop-behind-init c =
