@@ -1,22 +1,18 @@
 -- The steps of the search for a closed walk keep its state.
-use Rattle.std.proofs.Common.{List, [], add-one, add-zero, add_assoc, ap, arith, cond, drop, false, get_or, inl, inr, length, length-drop, refl, set, subst, sym, take, ℕ, ◌++◌, ◌+◌, ◌<◌, ◌∙◌, ◌∷◌, ◌≡◌, ◌≢◌, ◌≤◌, ◌⊎◌}
+use Rattle.std.proofs.Common.{Bool, List, [], add-one, add-zero, add_assoc, ap, arith, cond, drop, get_or, inl, inr, length, length-drop, refl, set, subst, sym, take, ℕ, ◌++◌, ◌+◌, ◌<◌, ◌∙◌, ◌∷◌, ◌≡◌, ◌≢◌, ◌≤◌, ◌⊎◌}
 use Rattle.std.proofs.lemmas.Bool.{cases_eq, cases_lt}
 use Rattle.std.proofs.lemmas.List.{get_or-drop, get_or-set_other, get_or-set_same, get_or-take, get_or_append_left, get_or_default, get_or_push, length-set, length-take-le, length_push}
 use Rattle.std.proofs.lemmas.List.Elements.{Contains-append_left, Contains-push}
 use Rattle.std.proofs.lemmas.List.Sums.{sum_by-set}
+use Rattle.std.specs.List.{count_by}
 use Rattle.fr_net.specs.CycleSearch.{AreTailStarts, HasRisingTails, IsCycleSearch, IsPassed, IsStart, LeadsTo, LeadsToDone, fresh_count, is_fresh, mark_of}
 use Rattle.fr_net.specs.Links.{IsClosedWalk, IsCycle, IsPath, Points, end_of}
 use Rattle.fr_net.specs.Rows.{has_link}
 use Rattle.fr_net.specs.declared.cycle.Mark.{Mark}
 use Rattle.fr_net.specs.declared.cycle.Mark.TheVariants.{Done, Fresh, Open}
 
-mark_cases : (m : Mark) → (m ≡ Fresh) ⊎ ((m ≡ Open) ⊎ (m ≡ Done))
-mark_cases Fresh = inl refl
-mark_cases Open = inr (inl refl)
-mark_cases Done = inr (inr refl)
-
 -- a mark after one mark was set
-mark_set : (marks : List Mark) (x y : ℕ) (m : Mark) → x < length marks → ((y ≡ x) × (mark_of (set marks x m) y ≡ m)) ⊎ ((y ≢ x) × (mark_of (set marks x m) y ≡ mark_of marks y))
+pub mark_set : (marks : List Mark) (x y : ℕ) (m : Mark) → x < length marks → ((y ≡ x) × (mark_of (set marks x m) y ≡ m)) ⊎ ((y ≢ x) × (mark_of (set marks x m) y ≡ mark_of marks y))
 mark_set marks x y m l =
     elim (cases_eq y x) as (λ _. ((y ≡ x) × (mark_of (set marks x m) y ≡ m)) ⊎ ((y ≢ x) × (mark_of (set marks x m) y ≡ mark_of marks y)))
     [ inl e ↦ inl (e, rw e (get_or-set_same marks x m Fresh l)) | inr ne ↦ inr (ne, get_or-set_other marks x y m Fresh ne) ]
@@ -49,10 +45,19 @@ opened n links marks places path x p s below fresh leads inside_p start =
           let l : k < length path = omega (arith, len) in
           rw (get_or_append_left path (x ∷ []) 0 k l)
           (elim (node_cases path x (k + 1) h) [ inl w ↦ rw w.1 (s.path_follows k w.0) | inr w ↦ rw w.1 (leads k w.0) ]);
-      path_seen = λ k h f. elim (mark_set marks x (get_or (path ++ x ∷ []) k 0) Open lm) [
-        | inl w ↦ cc (w.1, f)
-        | inr w ↦ elim (node_cases path x k h) [ inl v ↦ s.path_seen k v.0 (cc (w.1, v.1, f)) | inr v ↦ w.0 v.1 ]
+      path_open = λ k h. elim (mark_set marks x (get_or (path ++ x ∷ []) k 0) Open lm) [
+        | inl w ↦ w.1
+        | inr w ↦ elim (node_cases path x k h) [ inl v ↦ w.1 ∙ rw v.1 (s.path_open k v.0) | inr v ↦ absurd (w.0 v.1) ]
       ];
+      path_once = λ i j lt h same.
+          let l : i < length path = omega (arith, len) in
+          let stays = get_or_append_left path (x ∷ []) 0 i l in
+          elim (node_cases path x j h) [
+            | inl w ↦ s.path_once i j lt w.0 (cc (stays, same, w.1))
+            | inr w ↦ let was = s.path_open i l in
+                let e : get_or path i 0 ≡ x = cc (stays, same, w.1) in
+                cc (e, was, fresh)
+          ];
       open_on_path = λ y o. elim (mark_set marks x y Open lm) [
         | inl w ↦ rw w.0 (Contains-push path x)
         | inr w ↦ Contains-append_left path (x ∷ []) y (s.open_on_path y (sym w.1 ∙ o))
@@ -95,7 +100,8 @@ advanced n links marks places path x p s below up inside_p passes =
       places_inside = λ y. elim (place_set places x y p lp) [ inl w ↦ rw w.1 inside_p | inr w ↦ rw w.1 (s.places_inside y) ];
       path_below = s.path_below;
       path_follows = s.path_follows;
-      path_seen = s.path_seen;
+      path_open = s.path_open;
+      path_once = s.path_once;
       open_on_path = s.open_on_path;
       passed = λ y i d seen before inside tail.
           elim (place_set places x y p lp) [
@@ -119,7 +125,7 @@ pub path_keeps : (links : List (ℕ × ℕ)) (P : ℕ → Type 0) → ((u v : �
 path_keeps links P closed u [] here path = here
 path_keeps links P closed u (v ∷ vs) here path = path_keeps links P closed v vs (closed u v here path.0) path.1
 
-points_to_done : (links : List (ℕ × ℕ)) (marks : List Mark) (x v : ℕ) → LeadsToDone links marks x → Points links x v → mark_of marks v ≡ Done
+pub points_to_done : (links : List (ℕ × ℕ)) (marks : List Mark) (x v : ℕ) → LeadsToDone links marks x → Points links x v → mark_of marks v ≡ Done
 points_to_done links marks x v leads at =
     let e = at.2 in
     let t : (get_or links at.0 (x, v)).0 ≡ x = ap (λ (l : ℕ × ℕ). l.0) e in
@@ -138,7 +144,8 @@ left n links marks places path x last s full top leads =
     let below : x < n = rw top (s.path_below last (omega arith)) in
     let lm : x < length marks = omega (arith, s.marks_length) in
     let len = length-take-le last path (omega arith) in
-    let seen_top : mark_of marks x ≢ Fresh = rw top (s.path_seen last (omega arith)) in
+    let on_top : mark_of marks x ≡ Open = rw top (s.path_open last (omega arith)) in
+    let seen_top : mark_of marks x ≢ Fresh = λ f. cc (on_top, f) in
     let stays_seen : (y : ℕ) → mark_of (set marks x Done) y ≢ Fresh → mark_of marks y ≢ Fresh =
     λ y h. elim (mark_set marks x y Done lm) [ inl w ↦ rw w.0 seen_top | inr w ↦ λ f. h (w.1 ∙ f) ] in
     let done_stays : (y : ℕ) → mark_of marks y ≡ Done → mark_of (set marks x Done) y ≡ Done =
@@ -149,8 +156,12 @@ left n links marks places path x last s full top leads =
       places_inside = s.places_inside;
       path_below = λ k h. rw (get_or-take last path k 0 (omega (arith, len))) (s.path_below k (omega (arith, len)));
       path_follows = λ k h. rw (get_or-take last path k 0 (omega (arith, len)), get_or-take last path (k + 1) 0 (omega (arith, len))) (s.path_follows k (omega (arith, len)));
-      path_seen = λ k h. rw (get_or-take last path k 0 (omega (arith, len)))
-          (λ f. elim (mark_set marks x (get_or path k 0) Done lm) [ inl w ↦ cc (w.1, f) | inr w ↦ s.path_seen k (omega (arith, len)) (sym w.1 ∙ f) ]);
+      path_open = λ k h. rw (get_or-take last path k 0 (omega (arith, len)))
+          (elim (mark_set marks x (get_or path k 0) Done lm) [
+            | inl w ↦ absurd (s.path_once k last (omega (arith, len)) (omega arith) (w.0 ∙ top))
+            | inr w ↦ w.1 ∙ s.path_open k (omega (arith, len))
+          ]);
+      path_once = λ i j lt h. rw (get_or-take last path i 0 (omega (arith, len)), get_or-take last path j 0 (omega (arith, len))) (s.path_once i j lt (omega (arith, len)));
       open_on_path = λ y o. elim (mark_set marks x y Done lm) [
         | inl w ↦ cc (w.1, o)
         | inr w ↦ let was = s.open_on_path y (sym w.1 ∙ o) in
@@ -166,37 +177,25 @@ left n links marks places path x last s full top leads =
         | inl w ↦ done_stays v (points_to_done links marks u v (rw w.0 leads) has_link)
         | inr w ↦ done_stays v (s.done_closed u v (sym w.1 ∙ done) has_link)
       ];
-      done_safe = λ u vs done. elim (mark_cases (mark_of marks u)) [
-        | inl f ↦ elim (mark_set marks x u Done lm) [
-          | inl w ↦ rw w.0 (no_closed_walk links marks s.done_closed x vs (λ e. cc (e, f, w.0)) leads)
-          | inr w ↦ cc (w.1, f, done)
-        ]
-        | inr more ↦ elim more [
-          | inl o ↦ elim (mark_set marks x u Done lm) [
-            | inl w ↦ rw w.0 (no_closed_walk links marks s.done_closed x vs (λ e. cc (e, o, w.0)) leads)
-            | inr w ↦ cc (w.1, o, done)
-          ]
-          | inr e ↦ s.done_safe u vs e
-        ]
+      done_safe = λ u vs done. elim (mark_set marks x u Done lm) [
+        | inl w ↦ rw w.0 (no_closed_walk links marks s.done_closed x vs (λ e. cc (e, on_top)) leads)
+        | inr w ↦ s.done_safe u vs (sym w.1 ∙ done)
       ];
     }
 
--- how many nodes are fresh once x has another mark
-pub fresh_count-set : (marks : List Mark) (x : ℕ) (m : Mark) → x < length marks → is_fresh m ≡ false → fresh_count (set marks x m) + fresh_count (mark_of marks x ∷ []) ≡ fresh_count marks
-fresh_count-set marks x m l e =
-    let weight : Mark → ℕ = λ k. cond (is_fresh k) 1 0 in
-    let h = sum_by-set weight marks x m Fresh l in
-    let z : weight m ≡ 0 = rw e refl in
-    omega (arith, h, z)
+-- how many marks pass a test once x has another mark
+pub count_by-set : (p : Mark → Bool) (marks : List Mark) (x : ℕ) (m : Mark) → x < length marks → count_by p (set marks x m) + count_by p (mark_of marks x ∷ []) ≡ count_by p marks + count_by p (m ∷ [])
+count_by-set p marks x m l =
+    let h = sum_by-set (λ (k : Mark). cond (p k) 1 0) marks x m Fresh l in
+    omega (arith, h)
 
 pub fewer_fresh : (marks : List Mark) (x : ℕ) → x < length marks → mark_of marks x ≡ Fresh → fresh_count (set marks x Open) + 1 ≡ fresh_count marks
 fewer_fresh marks x l f =
-    let h = fresh_count-set marks x Open l refl in
     let one : fresh_count (mark_of marks x ∷ []) ≡ 1 = rw f refl in
-    omega (arith, h, one)
+    omega (arith, count_by-set is_fresh marks x Open l, one)
 
 pub no_more_fresh : (marks : List Mark) (x : ℕ) → x < length marks → fresh_count (set marks x Done) ≤ fresh_count marks
-no_more_fresh marks x l = omega (arith, fresh_count-set marks x Done l refl)
+no_more_fresh marks x l = omega (arith, count_by-set is_fresh marks x Done l)
 
 -- a place between links of tails below x and a link whose tail is not is where the links of x start
 pub start_found : (links : List (ℕ × ℕ)) (x p : ℕ) (e : ℕ × ℕ) → HasRisingTails links → ((k : ℕ) (d : ℕ × ℕ) → k < p → (get_or links k d).0 < x) → (p < length links → x ≤ (get_or links p e).0) → IsStart links x p

@@ -28,6 +28,7 @@ pub mod Joining
 pub mod Batches
 pub mod ByNode
 pub mod Cycles
+pub mod LeavingOrder
 pub mod ClosingWalks
 pub mod TwoEnds
 pub mod Items

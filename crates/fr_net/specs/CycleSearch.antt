@@ -16,7 +16,7 @@ abbrev pub IsPassed : List (ℕ × ℕ) → List Mark → ℕ → ℕ → Type 0
 IsPassed links marks x i =
     (d : ℕ × ℕ) → ((slice_index_or links i d).0 ≡ x) × (mark_of marks (slice_index_or links i d).1 ≡ Done)
 
--- the state of the search at any moment: the path follows links, the open nodes are on it, the links of
+-- the state of the search at any moment: the path follows links and has the open nodes, each once, the links of
 -- a node before its place lead to done nodes and none of its links stands after where its place began,
 -- done nodes lead to done nodes only, and no closed walk leaves a done node
 pub record IsCycleSearch (n : ℕ) (links : List (ℕ × ℕ)) (marks : List Mark) (places : List ℕ) (path : List ℕ) : Type 0 where
@@ -25,7 +25,8 @@ pub record IsCycleSearch (n : ℕ) (links : List (ℕ × ℕ)) (marks : List Mar
   pub places_inside : (x : ℕ) → slice_index places x ≤ length links
   pub path_below : (k : ℕ) → k < length path → slice_index path k < n
   pub path_follows : (k : ℕ) → k + 1 < length path → Points links (slice_index path k) (slice_index path (k + 1))
-  pub path_seen : (k : ℕ) → k < length path → mark_of marks (slice_index path k) ≢ Fresh
+  pub path_open : (k : ℕ) → k < length path → mark_of marks (slice_index path k) ≡ Open
+  pub path_once : (i j : ℕ) → i < j → j < length path → slice_index path i ≢ slice_index path j
   pub open_on_path : (x : ℕ) → mark_of marks x ≡ Open → Contains path x
   pub passed : (x i : ℕ) (d : ℕ × ℕ) → mark_of marks x ≢ Fresh → i < slice_index places x → i < length links → (slice_index_or links i d).0 ≡ x → mark_of marks (slice_index_or links i d).1 ≡ Done
   pub ahead : (x i : ℕ) (d : ℕ × ℕ) → mark_of marks x ≢ Fresh → slice_index places x ≤ i → i < length links → x ≤ (slice_index_or links i d).0

@@ -1,7 +1,7 @@
 //! The search for a closed walk along links: depth first, with the path as a stack, so that each link is passed once and
 //! the evidence is at hand. Where there is none, each link leads to a node that the search left before the tail.
 
-ghost use Rattle.std.specs.Prelude.{◌≡◌, ◌≢◌, ℕ, List, ◌<◌, ◌≤◌, ◌+◌, ◌++◌, [], ◌∷◌, length, drop, vec_len, slice_index, slice_index_or, IfOk, IfSome, IfNone, OnOk, Contains, replicate, ◌-◌, ◌*◌, take, slice_set};
+ghost use Rattle.std.specs.Prelude.{◌≡◌, ◌≢◌, ℕ, List, ◌<◌, ◌≤◌, ◌+◌, ◌++◌, [], ◌∷◌, length, drop, vec_len, slice_index, slice_index_or, IfOk, IfSome, IfNone, OnOk, Contains, ◌-◌, ◌*◌, take};
 ghost use Rattle.fr_net.specs.Links.{AreBelow, IsCycle, Points};
 ghost use Rattle.fr_net.specs.CycleSearch.{AreTailStarts, HasRisingTails, IsStart, mark_of, IsPassed, IsCycleSearch, KeepsSeen, LeadsTo, LeadsToDone, fresh_count, IsOrder, IsFound};
 
@@ -106,7 +106,7 @@ fn open(
     requires leads { LeadsTo links.now path.old.items node }
     ensures search { OnOk result (IsCycleSearch (length marks.old) links.now marks.new places.new path.new.items) }
     ensures path { OnOk result (path.new.items ≡ path.old.items ++ node ∷ []) }
-    ensures marks { OnOk result (marks.new ≡ slice_set marks.old node Mark.Open) }
+    ensures order { OnOk result ((order : List ℕ) → IsOrder links.now marks.old order → IsOrder links.now marks.new order) }
     ensures seen { OnOk result (mark_of marks.new node ≢ Mark.Fresh) }
     ensures kept { OnOk result (KeepsSeen marks.old marks.new) }
     ensures fewer { OnOk result (fresh_count marks.new + 1 ≡ fresh_count marks.old) }
@@ -146,7 +146,7 @@ fn leave(links: &[(u32, u32)], marks: &mut [Mark], places: &[usize], path: &mut 
     requires done { LeadsToDone links.now marks.old top }
     ensures search { IsCycleSearch (length marks.old) links.now marks.new places.now path.new.items }
     ensures shorter { vec_len path.new + 1 ≡ vec_len path.old }
-    ensures marks { marks.new ≡ slice_set marks.old top Mark.Done }
+    ensures order { (order : List ℕ) → IsOrder links.now marks.old order → IsOrder links.now marks.new (order ++ top ∷ []) }
     ensures kept { KeepsSeen marks.old marks.new }
     ensures fewer { fresh_count marks.new ≤ fresh_count marks.old }
 {
@@ -200,8 +200,8 @@ fn visit(
 
 /// The marks and the places of a search that has met no node.
 fn fresh_search(alloc: Global, nodes: u32) -> Result<(Vec<Mark>, Vec<usize>), AllocError>
-    ensures marks { IfOk result (λ search. search.0.items ≡ replicate nodes Mark.Fresh) }
     ensures search { IfOk result (λ search. (links : List (ℕ × ℕ)) → IsCycleSearch nodes links search.0.items search.1.items []) }
+    ensures order { IfOk result (λ search. (links : List (ℕ × ℕ)) → IsOrder links search.0.items []) }
 {
     let marks = vec![in alloc; Mark::Fresh; nodes as usize]?;
     let places = vec![in alloc; 0usize; nodes as usize]?;

@@ -1,5 +1,5 @@
 use Rattle.std.proofs.Common.{length, vec_len, ◌*◌, ◌+◌, ◌≡◌, ◌≢◌}
-use Rattle.fr_net.specs.CycleSearch.{IsCycleSearch, KeepsSeen, fresh_count, mark_of}
+use Rattle.fr_net.specs.CycleSearch.{IsCycleSearch, IsOrder, KeepsSeen, fresh_count, mark_of}
 use Rattle.fr_net.specs.declared.cycle.Mark.TheVariants.{Fresh}
 use Rattle.fr_net.proofs.cycle.visit.Given as goal
 
@@ -9,6 +9,7 @@ invariant-walk l = record {
   search : IsCycleSearch (length l.fn.marks) l.links l.marks l.places l.path.items;
   seen : mark_of l.marks l.root ≢ Fresh;
   kept : KeepsSeen l.fn.marks l.marks;
+  order : IsOrder l.links l.marks l.order.items;
 }
 
 abbrev pub decreases-walk : goal.decreases-walk
