@@ -42,3 +42,4 @@ pub mod ShortLineTexts
 pub mod ShortLineValues
 pub mod RowTables
 pub mod LaidOut
+pub mod LiftedNodes
