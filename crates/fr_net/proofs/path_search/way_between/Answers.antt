@@ -2,7 +2,6 @@ use Rattle.std.proofs.Common.{Bool, IsTrue, List, arith, false, inl, inr, length
 use Rattle.std.proofs.lemmas.Bool.{cases_lt}
 use Rattle.fr_net.proofs.TwoEnds.{ended_ahead, ended_behind, other_stays, side_itself, sides_begin, way_to_met, ways_meet}
 use Rattle.fr_net.specs.Graph.{shown}
-use Rattle.fr_net.specs.Links.{HasPath}
 use Rattle.fr_net.specs.declared.path_search.Met.{Met}
 use Rattle.fr_net.specs.declared.path_search.Met.TheVariants.{Backward, Forward, Never}
 use Rattle.fr_net.specs.declared.rows.First.TheVariants.{Inward, Outward}
@@ -29,7 +28,7 @@ pub returns-then-read_next : goal.returns-then-read_next
 returns-then-read_next c =
     let inv = c.loop-behind.invariant in
     let net = shown c.args.graph.now in
-    let found : HasPath net.links c.args.from c.args.to = elim c.then-read_next.branch [
+    elim c.then-read_next.branch [
       | then-read_next-via-then-read_next w ↦
           let seen = rw (inv.ahead.first_is, inv.ahead.start_is) at (c.read_next.ensures.found w.if-read_next.true) in
           ways_meet net.links c.args.from c.args.to seen.0 seen.1.1 (way_to_met seen.0 inv.behind seen.1.0)
@@ -37,8 +36,7 @@ returns-then-read_next c =
           let seen = rw (inv.behind.first_is, inv.behind.start_is) at (w.read_next-else-read_next.ensures.found w.if-read_next-2.true) in
           let ahead = rw (inv.ahead.first_is, inv.ahead.start_is, inv.ahead.limit_is) at (c.read_next.ensures.side (λ is. cc (is, w.if-read_next.false))) in
           ways_meet net.links c.args.from c.args.to seen.0 (way_to_met seen.0 ahead seen.1.0) seen.1.1
-    ] in
-    found
+    ]
 
 pub loop-behind-preserved : goal.loop-behind-preserved
 loop-behind-preserved c =
