@@ -1,18 +1,20 @@
--- The steps of the search for a way from both ends keep its state.
-use Rattle.std.proofs.Common.{Contains, List, [], ap, arith, get_or, inl, inr, length, refl, replicate, set, subst, sym, ℕ, ◌++◌, ◌+◌, ◌<◌, ◌∙◌, ◌∷◌, ◌≡◌, ◌≢◌, ◌≤◌, ◌⊎◌}
+-- The steps of the search for a way from both ends keep its state, and where a side has nothing left to read, they show that none leads.
+use Rattle.std.proofs.Common.{Contains, List, [], ap, arith, get_or, inl, inr, length, refl, replicate, set, slice_index, subst, sym, ℕ, ◌++◌, ◌+◌, ◌<◌, ◌∙◌, ◌∷◌, ◌≡◌, ◌≢◌, ◌≤◌, ◌⊎◌}
 use Rattle.std.proofs.lemmas.Bool.{cases_eq, cases_lt}
 use Rattle.std.proofs.lemmas.List.{get_or_append_left, get_or_default, get_or_past, get_or-replicate, get_or-set_other, get_or-set_same, length-replicate, length-set, length_push}
-use Rattle.std.proofs.lemmas.List.Elements.{All-contains, All-push, Contains-append_left, Contains-get_or, Contains-push}
+use Rattle.std.proofs.lemmas.List.Elements.{All-contains, All-push, Contains-append_left, Contains-get_or, Contains-push, Contains-push_cases}
 use Rattle.std.proofs.lemmas.List.Sums.{count_by-le-length, sum_by-set}
-use Rattle.fr_net.proofs.AddedLinks.{path_joins}
+use Rattle.std.specs.List.{All}
+use Rattle.fr_net.proofs.Acyclic.{path_falls}
+use Rattle.fr_net.proofs.AddedLinks.{added, path_joins}
 use Rattle.fr_net.proofs.ClosingWalks.{path_step}
 use Rattle.fr_net.proofs.Counting.{weigh}
-use Rattle.fr_net.proofs.Cycles.{path_keeps}
 use Rattle.fr_net.proofs.Neighbours.{in_of_row, out_of_row, row_holds, row_of_in, row_of_out}
 use Rattle.fr_net.specs.Faults.{IsFaultless}
 use Rattle.fr_net.specs.Graph.{IsGraph, shown}
+use Rattle.fr_net.specs.Heights.{AreFalling, FitBetween}
 use Rattle.fr_net.specs.Links.{HasPath, IsNet, IsPath, Points, end_of}
-use Rattle.fr_net.specs.PathSearch.{HasBegun, HasMet, HasMetMore, HasPassed, HasWay, IsSide, LeadsOn, MeetsNew, is_never, met_by, met_of, never_count, start_of}
+use Rattle.fr_net.specs.PathSearch.{HasBegun, HasMet, HasMetMore, HasMovedEdge, HasPassed, HasWay, IsBeyond, IsPast, IsSettled, IsSide, IsWay, LeadsOn, MeetsNew, is_never, met_by, met_of, never_count, start_of, way_of_ended}
 use Rattle.fr_net.specs.Network.{Network}
 use Rattle.fr_net.specs.RowLists.{opposite}
 use Rattle.fr_net.specs.Rows.{row}
@@ -50,14 +52,20 @@ way_on Inward links a x w way step = (x ∷ way.0, ((step, way.1.0), way.1.1))
 pub ways_meet : (links : List (ℕ × ℕ)) (a b w : ℕ) → HasWay Outward links a w → HasWay Inward links b w → HasPath links a b
 ways_meet links a b w there back = path_joins links a there.0 w b there.1.0 there.1.1 back
 
--- where links lead from nodes with P to nodes with P only, so do ways
-path_keeps_back : (links : List (ℕ × ℕ)) (P : ℕ → Type 0) → ((u v : ℕ) → P v → Points links u v → P u) → (u : ℕ) (vs : List ℕ) → IsPath links u vs → P (end_of u vs) → P u
-path_keeps_back links P closed u [] path at_end = at_end
-path_keeps_back links P closed u (v ∷ vs) path at_end = closed u v (path_keeps_back links P closed v vs path.1 at_end) path.0
+-- where links lead from nodes with P to nodes with P only, but for heads below the limit, so do paths that end no lower
+path_ahead : (heights : List ℕ) (links : List (ℕ × ℕ)) (limit : ℕ) (P : ℕ → Type 0) → AreFalling heights links → ((u v : ℕ) → P u → Points links u v → P v ⊎ (slice_index heights v < limit)) → (u : ℕ) (vs : List ℕ) → IsPath links u vs → limit ≤ slice_index heights (end_of u vs) → P u → P (end_of u vs)
+path_ahead heights links limit P falling on u [] path high here = here
+path_ahead heights links limit P falling on u (v ∷ vs) path high here =
+    elim (on u v here path.0) [
+      | inl there ↦ path_ahead heights links limit P falling on v vs path.1 high there
+      | inr low ↦ absurd (omega (arith, path_falls links heights (λ x y p. omega (arith, falling x y p)) v vs path.1))
+    ]
 
-way_keeps : (f : First) (links : List (ℕ × ℕ)) (P : ℕ → Type 0) → ((x w : ℕ) → P x → LeadsOn f links x w → P w) → (a y : ℕ) → HasWay f links a y → P a → P y
-way_keeps Outward links P closed a y way here = subst P way.1.1 (path_keeps links P closed a way.0 here way.1.0)
-way_keeps Inward links P closed a y way here = path_keeps_back links P (λ u v at step. closed v u at step) y way.0 way.1.0 (subst P (sym way.1.1) here)
+-- and so backward, but for tails above the limit, along paths that begin no higher
+path_behind : (heights : List ℕ) (links : List (ℕ × ℕ)) (limit : ℕ) (P : ℕ → Type 0) → AreFalling heights links → ((u v : ℕ) → P v → Points links u v → P u ⊎ (limit < slice_index heights u)) → (u : ℕ) (vs : List ℕ) → IsPath links u vs → slice_index heights u ≤ limit → P (end_of u vs) → P u
+path_behind heights links limit P falling on u [] path low there = there
+path_behind heights links limit P falling on u (v ∷ vs) path low there =
+    elim (on u v (path_behind heights links limit P falling on v vs path.1 (omega (arith, falling u v path.0)) there) path.0) [ inl here ↦ here | inr high ↦ absurd (omega arith) ]
 
 -- what one side has met, no other has
 never_apart : (f : First) → met_by f ≢ Never
@@ -83,21 +91,13 @@ fewer_never met x f l fresh =
     omega (arith, sum_by-set weight met x (met_by f) Never l, one, none f)
 
 -- nodes that a side met later, after others
-none_more : (side : Side) (met : List Met) → HasMetMore side side met met
-none_more side met = record {
-  same_first = refl;
-  longer = omega arith;
-  stands = λ k l. refl;
-  met = λ x. inl refl;
-  one_each = refl;
-  counted = refl;
-}
-
-one_more : (before after : Side) (old new : List Met) (x : ℕ) → x < length old → MeetsNew before after old new x → HasMetMore before after old new
-one_more before after old new x l m =
+one_more : {before after : Side} {old new : List Met} {x : ℕ} → x < length old → MeetsNew before after old new x → HasMetMore before after old new
+one_more {before} {after} {old} {new} {x} l m =
     let long : length after.nodes.items ≡ length before.nodes.items + 1 = rw m.nodes (length_push before.nodes.items x) in
     record {
       same_first = m.same_first;
+      same_limit = m.same_limit;
+      nearer = λ height past. rw m.same_edge past;
       longer = omega (arith, long);
       stands = λ k h. rw m.nodes (get_or_append_left before.nodes.items (x ∷ []) 0 k h);
       met = λ y. rw m.met (elim (met_set old x y (met_by before.first) l) [ inl w ↦ inr (rw w.0 m.fresh, w.1) | inr w ↦ inl w ]);
@@ -105,11 +105,25 @@ one_more before after old new x l m =
       counted = rw m.met (omega (arith, long, fewer_never old x before.first l m.fresh));
     }
 
-pub more_after : (first mid last : Side) (a b c : List Met) → HasMetMore first mid a b → HasMetMore mid last b c → HasMetMore first last a c
-more_after first mid last a b c h g =
+none_more : {before after : Side} {met : List Met} → HasMovedEdge before after → HasMetMore before after met met
+none_more m = record {
+  same_first = m.same_first;
+  same_limit = m.same_limit;
+  nearer = m.nearer;
+  longer = rw m.same_nodes (omega arith);
+  stands = λ k l. rw m.same_nodes refl;
+  met = λ x. inl refl;
+  one_each = refl;
+  counted = rw m.same_nodes refl;
+}
+
+pub more_after : {first mid last : Side} {a b c : List Met} → HasMetMore first mid a b → HasMetMore mid last b c → HasMetMore first last a c
+more_after {first} {mid} {last} {a} {b} {c} h g =
     let then : (x : ℕ) → (met_of c x ≡ met_of b x) ⊎ ((met_of b x ≡ Never) × HasMet first.first c x) = rw h.same_first at g.met in
     record {
       same_first = g.same_first ∙ h.same_first;
+      same_limit = g.same_limit ∙ h.same_limit;
+      nearer = λ height past. rw h.same_first at g.nearer height (h.nearer height past);
       longer = omega (arith, h.longer, g.longer);
       stands = λ k l. g.stands k (omega (arith, h.longer)) ∙ h.stands k l;
       met = λ x. elim (h.met x) [
@@ -120,76 +134,105 @@ more_after first mid last a b c h g =
       counted = g.counted ∙ h.counted;
     }
 
-pub met_stays : (f : First) (before after : Side) (old new : List Met) (x : ℕ) → before.first ≡ f → HasMetMore before after old new → HasMet f old x → HasMet f new x
-met_stays f before after old new x first_is more h = elim (more.met x) [ inl e ↦ e ∙ h | inr w ↦ rw first_is at w.1 ]
+met_stays : (f : First) {before after : Side} {old new : List Met} (x : ℕ) → before.first ≡ f → HasMetMore before after old new → HasMet f old x → HasMet f new x
+met_stays f x first_is more h = elim (more.met x) [ inl e ↦ e ∙ h | inr w ↦ rw first_is at w.1 ]
 
-pub other_was : (f : First) (before after : Side) (old new : List Met) (x : ℕ) → before.first ≡ f → HasMetMore before after old new → HasMet (opposite f) new x → HasMet (opposite f) old x
-other_was f before after old new x first_is more h =
-    elim (more.met x) [ inl e ↦ sym e ∙ h | inr w ↦ absurd (sides_apart f (sym (rw first_is at w.1) ∙ h)) ]
+settled_stays : (f : First) {before after : Side} {old new : List Met} (x height : ℕ) → before.first ≡ f → HasMetMore before after old new → IsSettled f before old x height → IsSettled f after new x height
+settled_stays f x height first_is more (inl met) = inl (met_stays f x first_is more met)
+settled_stays f {before} {after} x height first_is more (inr aside) = inr record {
+  beyond = rw (more.same_first, more.same_limit) aside.beyond;
+  past = rw more.same_first (more.nearer height aside.past);
+}
+
+pub other_was : (f : First) {before after : Side} {old new : List Met} (x : ℕ) → before.first ≡ f → HasMetMore before after old new → HasMet (opposite f) new x → HasMet (opposite f) old x
+other_was f x first_is more h = elim (more.met x) [ inl e ↦ sym e ∙ h | inr w ↦ absurd (sides_apart f (sym (rw first_is at w.1) ∙ h)) ]
 
 -- a side that has met its start alone
-side_begins : (net : Network) (f : First) (start : ℕ) (met : List Met) (side : Side) → length met ≡ net.nodes → HasMet f met start → ((x : ℕ) → HasMet f met x → x ≡ start) → never_count met + 1 ≤ net.nodes → HasBegun f start net.nodes side → IsSide net f start met side
-side_begins net f start met side long here alone few b =
+side_begins : (net : Network) (heights : List ℕ) (f : First) (start limit : ℕ) (met : List Met) (side : Side) → length met ≡ net.nodes → HasMet f met start → ((x : ℕ) → HasMet f met x → x ≡ start) → never_count met + 1 ≤ net.nodes → ¬ IsBeyond f limit (slice_index heights start) → HasBegun f start limit net.nodes side → IsSide net heights f start limit met side
+side_begins net heights f start limit met side long here alone few near b =
+    let first : (P : ℕ → Type 0) → P start → All P side.nodes.items = λ P p. rw b.met_alone (All-push P [] start (λ k d h. absurd (omega arith)) p) in
     record {
       one_each = long;
       first_is = b.first_is;
+      limit_is = b.limit_is;
       start_is = rw b.met_alone refl;
       begun = rw b.met_alone (omega arith);
-      all_met = rw b.met_alone (All-push (HasMet f met) [] start (λ k d h. absurd (omega arith)) here);
+      all_met = first (HasMet f met) here;
       listed = λ x h. rw (b.met_alone, alone x h) (Contains-push [] start);
-      ways = rw b.met_alone (All-push (HasWay f net.links start) [] start (λ k d h. absurd (omega arith)) (way_here f net.links start));
+      ways = first (HasWay f net.links start) (way_here f net.links start);
       inside = rw b.none_read (omega arith);
+      within = first (λ (x : ℕ). ¬ IsBeyond f limit (slice_index heights x)) near;
       leads_on = λ k w l step. absurd (omega (arith, b.none_read, l));
       room = omega (arith, few, b.room, ap length b.met_alone);
     }
 
 -- a side that has met one node more
-side_meets : (net : Network) (f : First) (start : ℕ) (old new : List Met) (before after : Side) (x : ℕ) → x < net.nodes → HasWay f net.links start x → MeetsNew before after old new x → IsSide net f start old before → IsSide net f start new after
-side_meets net f start old new before after x below way m s =
+side_meets : {net : Network} {heights : List ℕ} {f : First} {start limit : ℕ} {old new : List Met} {before after : Side} {x : ℕ} → x < net.nodes → HasWay f net.links start x → ¬ IsBeyond f limit (slice_index heights x) → MeetsNew before after old new x → IsSide net heights f start limit old before → IsSide net heights f start limit new after
+side_meets {net} {heights} {f} {start} {limit} {old} {new} {before} {after} {x} below way near m s =
     let l : x < length old = omega (arith, s.one_each) in
-    let more = one_more before after old new x l m in
+    let more = one_more l m in
     let new_is : new ≡ set old x (met_by f) = rw s.first_is at m.met in
     let now : HasMet f new x = rw new_is (get_or-set_same old x (met_by f) Never l) in
-    let stays : (y : ℕ) → HasMet f old y → HasMet f new y = λ y h. met_stays f before after old new y s.first_is more h in
     record {
       one_each = more.one_each ∙ s.one_each;
       first_is = m.same_first ∙ s.first_is;
+      limit_is = m.same_limit ∙ s.limit_is;
       start_is = more.stands 0 s.begun ∙ s.start_is;
       begun = omega (arith, s.begun, more.longer);
-      all_met = rw m.nodes (All-push (HasMet f new) before.nodes.items x (λ k d h. stays _ (s.all_met k d h)) now);
+      all_met = rw m.nodes (All-push (HasMet f new) before.nodes.items x (λ k d h. met_stays f _ s.first_is more (s.all_met k d h)) now);
       listed = λ y h. rw m.nodes (elim (met_set old x y (met_by f) l) [
         | inl w ↦ rw w.0 (Contains-push before.nodes.items x)
         | inr w ↦ Contains-append_left before.nodes.items (x ∷ []) y (s.listed y (sym w ∙ rw new_is at h))
       ]);
       ways = rw m.nodes (All-push (HasWay f net.links start) before.nodes.items x s.ways way);
       inside = rw m.same_read (omega (arith, s.inside, more.longer));
+      within = rw m.nodes (All-push (λ (y : ℕ). ¬ IsBeyond f limit (slice_index heights y)) before.nodes.items x s.within near);
       leads_on = λ k w l step.
           let early : k < before.read = omega (arith, l, m.same_read) in
-          stays w (s.leads_on k w early (rw (more.stands k (omega (arith, early, s.inside))) at step));
+          settled_stays f w (slice_index heights w) s.first_is more (s.leads_on k w early (rw (more.stands k (omega (arith, early, s.inside))) at step));
       room = rw m.same_room (omega (arith, more.counted, s.room));
     }
 
--- so it keeps its state, whether it had met the node before or not
-pub side_goes_on : (net : Network) (f : First) (start : ℕ) (old new : List Met) (before after : Side) (x : ℕ) → x < net.nodes → HasWay f net.links start x → ((after ≡ before) × (new ≡ old)) ⊎ MeetsNew before after old new x → IsSide net f start old before → IsSide net f start new after × HasMetMore before after old new × (after.read ≡ before.read)
-side_goes_on net f start old new before after x below way (inl same) s = rw (same.0, same.1) (s, none_more before old, refl)
-side_goes_on net f start old new before after x below way (inr m) s = (side_meets net f start old new before after x below way m s, one_more before after old new x (omega (arith, s.one_each)) m, m.same_read)
+-- a side that may have left one node more aside
+side_moves : {net : Network} {heights : List ℕ} {f : First} {start limit : ℕ} {met : List Met} {before after : Side} → HasMovedEdge before after → IsSide net heights f start limit met before → IsSide net heights f start limit met after
+side_moves {net} {heights} {f} {start} {limit} {met} {before} {after} m s = record {
+  one_each = s.one_each;
+  first_is = m.same_first ∙ s.first_is;
+  limit_is = m.same_limit ∙ s.limit_is;
+  start_is = rw m.same_nodes s.start_is;
+  begun = rw m.same_nodes s.begun;
+  all_met = rw m.same_nodes s.all_met;
+  listed = rw m.same_nodes s.listed;
+  ways = rw m.same_nodes s.ways;
+  inside = rw (m.same_nodes, m.same_read) s.inside;
+  within = rw m.same_nodes s.within;
+  leads_on = λ k w l step. settled_stays f w (slice_index heights w) s.first_is (none_more m) (s.leads_on k w (omega (arith, l, m.same_read)) (rw m.same_nodes at step));
+  room = rw m.same_nodes s.room;
+}
+
+-- so it keeps its state, whether it has met the node, left it aside, or done so before
+pub side_goes_on : {net : Network} {heights : List ℕ} {f : First} {start limit : ℕ} {old new : List Met} {before after : Side} (x : ℕ) → x < net.nodes → HasWay f net.links start x → (HasMovedEdge before after × (new ≡ old)) ⊎ (MeetsNew before after old new x × ¬ IsBeyond before.first before.limit (slice_index heights x)) → IsSide net heights f start limit old before → IsSide net heights f start limit new after × HasMetMore before after old new × (after.read ≡ before.read)
+side_goes_on x below way (inl m) s = rw m.1 (side_moves m.0 s, none_more m.0, m.0.same_read)
+side_goes_on x below way (inr m) s = (side_meets below way (rw (s.first_is, s.limit_is) at m.1) m.0 s, one_more (omega (arith, s.one_each)) m.0, m.0.same_read)
 
 -- the other side as a side meets more
-pub other_stays : (net : Network) (f : First) (start : ℕ) (old new : List Met) (before after other : Side) → before.first ≡ f → HasMetMore before after old new → IsSide net (opposite f) start old other → IsSide net (opposite f) start new other
-other_stays net f start old new before after other first_is more s =
+pub other_stays : {net : Network} {heights : List ℕ} {start limit : ℕ} {old new : List Met} {before after other : Side} (f : First) → before.first ≡ f → HasMetMore before after old new → IsSide net heights (opposite f) start limit old other → IsSide net heights (opposite f) start limit new other
+other_stays {net} {heights} {start} {limit} {old} {new} {before} {after} {other} f first_is more s =
     let g = opposite f in
     let met = rw first_is at more.met in
     let stays : (y : ℕ) → HasMet g old y → HasMet g new y = λ y h. elim (met y) [ inl e ↦ e ∙ h | inr w ↦ absurd (never_apart g (sym h ∙ w.0)) ] in
     record {
       one_each = more.one_each ∙ s.one_each;
       first_is = s.first_is;
+      limit_is = s.limit_is;
       start_is = s.start_is;
       begun = s.begun;
       all_met = λ k d h. stays _ (s.all_met k d h);
-      listed = λ y h. s.listed y (other_was f before after old new y first_is more h);
+      listed = λ y h. s.listed y (other_was f y first_is more h);
       ways = s.ways;
       inside = s.inside;
-      leads_on = λ k w l step. stays w (s.leads_on k w l step);
+      within = s.within;
+      leads_on = λ k w l step. elim (s.leads_on k w l step) [ inl h ↦ inl (stays w h) | inr aside ↦ inr aside ];
       room = omega (arith, more.counted, more.longer, s.room);
     }
 
@@ -206,66 +249,142 @@ entry_leads f n links x entries k d is l same =
 pub entry_below : (n : ℕ) (links : List (ℕ × ℕ)) (x : ℕ) (entries : List (ℕ × First)) (k : ℕ) (d : ℕ × First) → entries ≡ row n links x → k < length entries → (get_or entries k d).0 < n
 entry_below n links x entries k d is l = (row_holds n links x (get_or entries k d) (subst (λ (es : List (ℕ × First)). Contains es (get_or entries k d)) is (Contains-get_or entries k d l))).0
 
-pub passed_more : (f : First) (old new : List Met) (entries : List (ℕ × First)) (place : ℕ) (e : ℕ × First) → ((x : ℕ) → HasMet f old x → HasMet f new x) → HasPassed f old entries place → place < length entries → ((get_or entries place e).1 ≡ f → HasMet f new (get_or entries place e).0) → HasPassed f new entries (place + 1)
-passed_more f old new entries place e stays passed l here k d lt same =
+-- the entries of a row that a side has passed
+pub passed_stays : {f : First} {before after : Side} {old new : List Met} (heights : List ℕ) (entries : List (ℕ × First)) (place : ℕ) → before.first ≡ f → HasMetMore before after old new → HasPassed heights f before old entries place → HasPassed heights f after new entries place
+passed_stays {f} heights entries place first_is more passed k d lt same = settled_stays f _ _ first_is more (passed k d lt same)
+
+pub passed_more : (heights : List ℕ) (f : First) (side : Side) (met : List Met) (entries : List (ℕ × First)) (place : ℕ) (e : ℕ × First) → HasPassed heights f side met entries place → place < length entries → ((get_or entries place e).1 ≡ f → IsSettled f side met (get_or entries place e).0 (slice_index heights (get_or entries place e).0)) → HasPassed heights f side met entries (place + 1)
+passed_more heights f side met entries place e passed l here k d lt same =
     elim (cases_lt k place) [
-      | inl less ↦ stays _ (passed k d less same)
-      | inr more ↦
+      | inl less ↦ passed k d less same
+      | inr past ↦
           let at : get_or entries k d ≡ get_or entries place e = let k_is : k ≡ place = omega arith in rw k_is (get_or_default entries place d e l) in
           rw at (here (rw at at same))
     ]
 
 -- a side whose next row was read to its end
-pub side_reads : (net : Network) (f : First) (start x : ℕ) (met : List Met) (side : Side) → IsNet net.nodes net.links → side.read < length side.nodes.items → get_or side.nodes.items side.read 0 ≡ x → HasPassed f met (row net.nodes net.links x) (length (row net.nodes net.links x)) → IsSide net f start met side → IsSide net f start met (record side { read = side.read + 1 })
-side_reads net f start x met side is_net unread at_read passed s =
-    let here : (w : ℕ) → LeadsOn f net.links x w → HasMet f met w = λ w step.
+pub side_reads : {net : Network} {heights : List ℕ} {f : First} {start limit : ℕ} {met : List Met} {side : Side} (x : ℕ) → IsNet net.nodes net.links → side.read < length side.nodes.items → get_or side.nodes.items side.read 0 ≡ x → HasPassed heights f side met (row net.nodes net.links x) (length (row net.nodes net.links x)) → IsSide net heights f start limit met side → IsSide net heights f start limit met (record side { read = side.read + 1 })
+side_reads {net} {heights} {f} {start} {limit} {met} {side} x is_net unread at_read passed s =
+    let here : (w : ℕ) → LeadsOn f net.links x w → IsSettled f side met w (slice_index heights w) = λ w step.
     let at = row_of_leads f net.nodes net.links x w is_net step in
     let is : get_or (row net.nodes net.links x) at.0 (w, f) ≡ (w, f) = at.2 in
-    let entry_met : ℕ × First → Type 0 = λ e. e.1 ≡ f → HasMet f met e.0 in
-    let done : entry_met (w, f) = subst entry_met is (passed at.0 (w, f) at.1) in
+    let entry_settled : ℕ × First → Type 0 = λ e. e.1 ≡ f → IsSettled f side met e.0 (slice_index heights e.0) in
+    let done : entry_settled (w, f) = subst entry_settled is (passed at.0 (w, f) at.1) in
     done refl in
     record {
       one_each = s.one_each;
       first_is = s.first_is;
+      limit_is = s.limit_is;
       start_is = s.start_is;
       begun = s.begun;
       all_met = s.all_met;
       listed = s.listed;
       ways = s.ways;
       inside = omega arith;
-      leads_on = λ k w l step. elim (cases_lt k side.read) [
+      within = s.within;
+      leads_on = λ k w l step. again w (elim (cases_lt k side.read) [
         | inl less ↦ s.leads_on k w less step
         | inr more ↦ let e : k ≡ side.read = omega arith in here w (rw (e, at_read) at step)
-      ];
+      ]);
       room = s.room;
     }
+  where
+    again : (w : ℕ) → IsSettled f side met w (slice_index heights w) → IsSettled f (record side { read = side.read + 1 }) met w (slice_index heights w)
+    again w (inl h) = inl h
+    again w (inr aside) = inr record { beyond = aside.beyond; past = aside.past }
 
--- a side with its direction and its start as it keeps them itself
-pub side_itself : (net : Network) (f : First) (start : ℕ) (met : List Met) (side : Side) → IsSide net f start met side → IsSide net side.first (start_of side) met side
-side_itself net f start met side s =
-    subst (λ (g : First). IsSide net g (start_of side) met side) (sym s.first_is) (subst (λ (x : ℕ). IsSide net f x met side) (sym s.start_is) s)
+-- a side with its direction, its start and its limit as it keeps them itself
+pub side_itself : {net : Network} {heights : List ℕ} {f : First} {start limit : ℕ} {met : List Met} {side : Side} → IsSide net heights f start limit met side → IsSide net heights side.first (start_of side) side.limit met side
+side_itself s = rw (← s.first_is, ← s.start_is, ← s.limit_is) at s
 
 -- a way leads to each node that a side has met
-pub way_to_met : (net : Network) (f : First) (start : ℕ) (met : List Met) (side : Side) (x : ℕ) → IsSide net f start met side → HasMet f met x → HasWay f net.links start x
-way_to_met net f start met side x s h = All-contains (HasWay f net.links start) side.nodes.items x s.ways (s.listed x h)
+pub way_to_met : {net : Network} {heights : List ℕ} {f : First} {start limit : ℕ} {met : List Met} {side : Side} (x : ℕ) → IsSide net heights f start limit met side → HasMet f met x → HasWay f net.links start x
+way_to_met {net} {heights} {f} {start} {limit} {met} {side} x s h = All-contains (HasWay f net.links start) side.nodes.items x s.ways (s.listed x h)
 
-start_met : (net : Network) (f : First) (start : ℕ) (met : List Met) (side : Side) → IsSide net f start met side → HasMet f met start
-start_met net f start met side s = rw s.start_is at (s.all_met 0 0 s.begun)
+start_met : {net : Network} {heights : List ℕ} {f : First} {start limit : ℕ} {met : List Met} {side : Side} → IsSide net heights f start limit met side → HasMet f met start
+start_met s = rw s.start_is at (s.all_met 0 0 s.begun)
 
--- a side that has read all rows of its nodes has met each node to which a way leads, and so none to the start of the other
-met_by_way : (net : Network) (f : First) (start : ℕ) (met : List Met) (side : Side) (y : ℕ) → IsSide net f start met side → length side.nodes.items ≤ side.read → HasWay f net.links start y → HasMet f met y
-met_by_way net f start met side y s all way =
-    let closed : (x w : ℕ) → HasMet f met x → LeadsOn f net.links x w → HasMet f met w = λ x w h step.
+listed_met : {net : Network} {heights : List ℕ} {f : First} {start limit : ℕ} {met : List Met} {side : Side} (x : ℕ) → IsSide net heights f start limit met side → Contains side.nodes.items x → HasMet f met x
+listed_met {net} {heights} {f} {start} {limit} {met} {side} x s h = All-contains (HasMet f met) side.nodes.items x s.all_met h
+
+-- a side has not met the start of the other
+start_unmet : {net : Network} {heights : List ℕ} {f : First} {a b low high : ℕ} {met : List Met} {side other : Side} → IsSide net heights f a low met side → IsSide net heights (opposite f) b high met other → ¬ HasMet f met b
+start_unmet {net} {heights} {f} s o h = sides_apart f (sym h ∙ start_met o)
+
+-- the nodes of a side lie within the limit, and below the number of nodes
+near_met : {net : Network} {heights : List ℕ} {f : First} {start limit : ℕ} {met : List Met} {side : Side} (x : ℕ) → IsSide net heights f start limit met side → HasMet f met x → ¬ IsBeyond f limit (slice_index heights x)
+near_met {net} {heights} {f} {start} {limit} {met} {side} x s h = All-contains (λ (y : ℕ). ¬ IsBeyond f limit (slice_index heights y)) side.nodes.items x s.within (s.listed x h)
+
+met_below : {net : Network} {heights : List ℕ} {f : First} {start limit : ℕ} {met : List Met} {side : Side} (x : ℕ) → IsSide net heights f start limit met side → HasMet f met x → x < net.nodes
+met_below {net} {heights} {f} {start} {limit} {met} {side} x s h =
+    elim (cases_lt x net.nodes) [
+      | inl l ↦ l
+      | inr g ↦ absurd (never_apart f (sym h ∙ get_or_past met x Never (omega (arith, s.one_each))))
+    ]
+
+-- where a side has read all rows of its nodes, links lead on to nodes that it has met or that lie past its edge
+side_closed : {net : Network} {heights : List ℕ} {f : First} {start limit : ℕ} {met : List Met} {side : Side} (x w : ℕ) → IsSide net heights f start limit met side → length side.nodes.items ≤ side.read → HasMet f met x → LeadsOn f net.links x w → HasMet f met w ⊎ (IsBeyond f limit (slice_index heights w) × IsPast f side.edge (slice_index heights w))
+side_closed {net} {heights} {f} {start} {limit} {met} {side} x w s all h step =
     let at = s.listed x h in
     let is : get_or side.nodes.items at.0 0 ≡ x = get_or_default side.nodes.items at.0 0 x at.1 ∙ at.2 in
-    s.leads_on at.0 w (omega (arith, at.1, all)) (rw is step) in
-    way_keeps f net.links (HasMet f met) closed start y way (start_met net f start met side s)
+    elim (s.leads_on at.0 w (omega (arith, at.1, all)) (rw is step)) [
+      | inl there ↦ inl there
+      | inr aside ↦ inr (rw (s.first_is, s.limit_is) at aside.beyond, rw s.first_is at aside.past)
+    ]
 
-pub no_way : (net : Network) (f : First) (a b : ℕ) (met : List Met) (side other : Side) → IsSide net f a met side → IsSide net (opposite f) b met other → ¬ (side.read < length side.nodes.items) → ¬ HasWay f net.links a b
-no_way net f a b met side other s o all way =
-    let none_left : length side.nodes.items ≤ side.read = omega arith in
-    let reached : HasMet f met b = met_by_way net f a met side b s none_left way in
-    sides_apart f (sym reached ∙ start_met net (opposite f) b met other o)
+-- the links with one back fall outside and within a side that has met one of its ends alone
+points_added : (links : List (ℕ × ℕ)) (a b u v : ℕ) → Points (added links a b) u v → Points links u v ⊎ ((u ≡ a) × (v ≡ b))
+points_added links a b u v p = elim (Contains-push_cases links (a, b) (u, v) p) [ inl old ↦ inl old | inr e ↦ inr (ap (λ (l : ℕ × ℕ). l.0) (sym e), ap (λ (l : ℕ × ℕ). l.1) (sym e)) ]
+
+old_falls : (heights : List ℕ) (links : List (ℕ × ℕ)) (a b u v : ℕ) → AreFalling heights links → Points (added links a b) u v → ¬ ((u ≡ a) × (v ≡ b)) → slice_index heights v < slice_index heights u
+old_falls heights links a b u v falling p old = elim (points_added links a b u v p) [ inl step ↦ falling u v step | inr new ↦ absurd (old new) ]
+
+-- so it is decided whether links lead from the one node to the other, once a side has read all rows of its nodes
+pub ended_ahead : {net : Network} {heights : List ℕ} {from to : ℕ} {met : List Met} {ahead behind : Side} → AreFalling heights net.links → IsSide net heights Outward from (slice_index heights to) met ahead → IsSide net heights Inward to (slice_index heights from) met behind → length ahead.nodes.items ≤ ahead.read → IsWay net heights from to (way_of_ended ahead)
+ended_ahead {net} {heights} {from} {to} {met} {ahead} {behind} falling s o all =
+    let links = net.links in
+    let here : Contains ahead.nodes.items from = s.listed from (start_met s) in
+    let there : ¬ Contains ahead.nodes.items to = λ h. start_unmet s o (listed_met to s h) in
+    let none : ¬ HasPath links from to = λ way.
+    let on : (u v : ℕ) → HasMet Outward met u → Points links u v → HasMet Outward met v ⊎ (slice_index heights v < slice_index heights to) = λ u v h step. elim (side_closed u v s all h step) [ inl h ↦ inl h | inr past ↦ inr past.0 ] in
+    let reached = path_ahead heights links (slice_index heights to) (HasMet Outward met) falling on from way.0 way.1.0 (rw way.1.1 (omega arith)) (start_met s) in
+    start_unmet s o (rw way.1.1 at reached) in
+    let fit : FitBetween (added links to from) heights ahead.nodes.items ahead.edge (slice_index heights to) = record {
+      into = λ u v p out inside. elim (points_added links to from u v p) [
+        | inl step ↦ omega (arith, falling u v step, near_met v s (listed_met v s inside))
+        | inr new ↦ rw new.0 (omega arith)
+      ];
+      out = λ u v p inside out. elim (points_added links to from u v p) [
+        | inl step ↦ elim (side_closed u v s all (listed_met u s inside) step) [ inl h ↦ absurd (out (s.listed v h)) | inr past ↦ past.1 ]
+        | inr new ↦ absurd (there (rw new.0 at inside))
+      ];
+      within = λ u v p inside also. old_falls heights links to from u v falling p (λ new. there (rw new.0 at inside));
+      outside = λ u v p out also. old_falls heights links to from u v falling p (λ new. also (rw new.1 here));
+    } in
+    let first_is = s.first_is in
+    rw (first_is, s.limit_is) (none, (λ k d l. met_below _ s (s.all_met k d l), fit))
+
+pub ended_behind : {net : Network} {heights : List ℕ} {from to : ℕ} {met : List Met} {ahead behind : Side} → AreFalling heights net.links → IsSide net heights Outward from (slice_index heights to) met ahead → IsSide net heights Inward to (slice_index heights from) met behind → length behind.nodes.items ≤ behind.read → IsWay net heights from to (way_of_ended behind)
+ended_behind {net} {heights} {from} {to} {met} {ahead} {behind} falling o s all =
+    let links = net.links in
+    let here : Contains behind.nodes.items to = s.listed to (start_met s) in
+    let there : ¬ Contains behind.nodes.items from = λ h. start_unmet s o (listed_met from s h) in
+    let none : ¬ HasPath links from to = λ way.
+    let on : (u v : ℕ) → HasMet Inward met v → Points links u v → HasMet Inward met u ⊎ (slice_index heights from < slice_index heights u) = λ u v h step. elim (side_closed v u s all h step) [ inl h ↦ inl h | inr past ↦ inr past.0 ] in
+    start_unmet s o (path_behind heights links (slice_index heights from) (HasMet Inward met) falling on from way.0 way.1.0 (omega arith) (rw way.1.1 (start_met s))) in
+    let fit : FitBetween (added links to from) heights behind.nodes.items (slice_index heights from) behind.edge = record {
+      into = λ u v p out inside. elim (points_added links to from u v p) [
+        | inl step ↦ elim (side_closed v u s all (listed_met v s inside) step) [ inl h ↦ absurd (out (s.listed u h)) | inr past ↦ past.1 ]
+        | inr new ↦ absurd (out (rw new.0 here))
+      ];
+      out = λ u v p inside out. elim (points_added links to from u v p) [
+        | inl step ↦ omega (arith, falling u v step, near_met u s (listed_met u s inside))
+        | inr new ↦ rw new.1 (omega arith)
+      ];
+      within = λ u v p inside also. old_falls heights links to from u v falling p (λ new. there (rw new.1 at also));
+      outside = λ u v p out also. old_falls heights links to from u v falling p (λ new. out (rw new.0 here));
+    } in
+    rw (s.first_is, s.limit_is) (none, (λ k d l. met_below _ s (s.all_met k d l), fit))
 
 -- both sides as they begin
 none_met : (n x : ℕ) → met_of (replicate n Never) x ≡ Never
@@ -275,8 +394,8 @@ none_met n x =
       | inr g ↦ get_or_past (replicate n Never) x Never (omega (arith, length-replicate n Never))
     ]
 
-pub sides_begin : (net : Network) (from to : ℕ) (met : List Met) (ahead behind : Side) → from < net.nodes → to < net.nodes → from ≢ to → met ≡ set (set (replicate net.nodes Never) from Forward) to Backward → HasBegun Outward from net.nodes ahead → HasBegun Inward to net.nodes behind → IsSide net Outward from met ahead × IsSide net Inward to met behind
-sides_begin net from to met ahead behind from_below to_below apart met_is a b =
+pub sides_begin : (net : Network) (heights : List ℕ) (from to : ℕ) (met : List Met) (ahead behind : Side) → from < net.nodes → to < net.nodes → from ≢ to → slice_index heights to ≤ slice_index heights from → met ≡ set (set (replicate net.nodes Never) from Forward) to Backward → HasBegun Outward from (slice_index heights to) net.nodes ahead → HasBegun Inward to (slice_index heights from) net.nodes behind → IsSide net heights Outward from (slice_index heights to) met ahead × IsSide net heights Inward to (slice_index heights from) met behind
+sides_begin net heights from to met ahead behind from_below to_below apart no_higher met_is a b =
     let none : List Met = replicate net.nodes Never in
     let one : List Met = set none from Forward in
     let long : length none ≡ net.nodes = length-replicate net.nodes Never in
@@ -295,6 +414,6 @@ sides_begin net from to met ahead behind from_below to_below apart met_is a b =
     ]) in
     let from_alone : (x : ℕ) → met_of met x ≡ Forward → x ≡ from = λ x h. elim (cases x) [ inl w ↦ cc (w.1, h) | inr r ↦ elim r [ inl v ↦ v.0 | inr q ↦ cc (q, h) ] ] in
     let to_alone : (x : ℕ) → met_of met x ≡ Backward → x ≡ to = λ x h. elim (cases x) [ inl w ↦ w.0 | inr r ↦ elim r [ inl v ↦ cc (v.1, h) | inr q ↦ cc (q, h) ] ] in (
-      side_begins net Outward from met ahead met_long from_met from_alone few a,
-      side_begins net Inward to met behind met_long to_met to_alone few b,
+      side_begins net heights Outward from (slice_index heights to) met ahead met_long from_met from_alone few (λ l. omega arith) a,
+      side_begins net heights Inward to (slice_index heights from) met behind met_long to_met to_alone few (λ l. omega arith) b,
     )

@@ -1,4 +1,4 @@
-use Rattle.std.proofs.Common.{◌*◌, ◌+◌}
+use Rattle.std.proofs.Common.{slice_index, ◌*◌, ◌+◌}
 use Rattle.fr_net.specs.Graph.{shown}
 use Rattle.fr_net.specs.PathSearch.{IsSide, never_count, unread_count}
 use Rattle.fr_net.specs.declared.rows.First.TheVariants.{Inward, Outward}
@@ -6,8 +6,8 @@ use Rattle.fr_net.proofs.path_search.way_between.Given as goal
 
 abbrev pub invariant-loop-behind : goal.invariant-loop-behind
 invariant-loop-behind l = record {
-  ahead : IsSide (shown l.graph) Outward l.from l.met l.ahead;
-  behind : IsSide (shown l.graph) Inward l.to l.met l.behind;
+  ahead : IsSide (shown l.graph) l.graph.heights.heights Outward l.from (slice_index l.graph.heights.heights l.to) l.met l.ahead;
+  behind : IsSide (shown l.graph) l.graph.heights.heights Inward l.to (slice_index l.graph.heights.heights l.from) l.met l.behind;
 }
 
 abbrev pub decreases-loop-behind : goal.decreases-loop-behind

@@ -5,8 +5,8 @@ use Rattle.fr_net.proofs.path_search.Side.read_next.Given as goal
 
 abbrev pub invariant-loop-neighbour : goal.invariant-loop-neighbour
 invariant-loop-neighbour l = record {
-  side : IsSide (shown l.graph) l.fn.self.first (start_of l.fn.self) l.met l.self;
+  side : IsSide (shown l.graph) l.graph.heights.heights l.fn.self.first (start_of l.fn.self) l.fn.self.limit l.met l.self;
   more : HasMetMore l.fn.self l.self l.fn.met l.met;
   same_read : l.self.read ≡ l.fn.self.read;
-  passed : HasPassed l.fn.self.first l.met l.row l.neighbour-index;
+  passed : HasPassed l.graph.heights.heights l.fn.self.first l.self l.met l.row l.neighbour-index;
 }
