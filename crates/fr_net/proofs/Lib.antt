@@ -41,3 +41,4 @@ pub mod ShortLineTexts
 pub mod ShortLineValues
 pub mod RowTables
 pub mod LaidOut
+pub mod StackedNodes
