@@ -43,3 +43,4 @@ pub mod ShortLineValues
 pub mod RowTables
 pub mod LaidOut
 pub mod LiftedNodes
+pub mod StackedNodes
