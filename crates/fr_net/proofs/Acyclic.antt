@@ -8,9 +8,10 @@ step_falls : (first : List (ℕ × ℕ)) (c : List ℕ) (u v : ℕ) → ComesFro
 step_falls first c u v (inl h) = omega (arith, h.1)
 step_falls first c u v (inr h) = omega (arith, h.1)
 
-path_falls : (first : List (ℕ × ℕ)) (c : List ℕ) (u : ℕ) (vs : List ℕ) → IsPath (links_at first c) u vs → slice_index c (end_of u vs) ≤ slice_index c u
-path_falls first c u [] h = omega arith
-path_falls first c u (v ∷ vs) h = omega (arith, path_falls first c v vs h.1, step_falls first c u v (Points-links_at_from first c u v h.0))
+-- where no link rises, no path does
+pub path_falls : (links : List (ℕ × ℕ)) (heights : List ℕ) → ((u v : ℕ) → Points links u v → slice_index heights v ≤ slice_index heights u) → (u : ℕ) (vs : List ℕ) → IsPath links u vs → slice_index heights (end_of u vs) ≤ slice_index heights u
+path_falls links heights falls u [] path = omega arith
+path_falls links heights falls u (v ∷ vs) path = omega (arith, path_falls links heights falls v vs path.1, falls u v path.0)
 
 step_level : (first : List (ℕ × ℕ)) (c : List ℕ) (u v : ℕ) → ComesFrom first c u v → slice_index c u ≤ slice_index c v → Points first u v
 step_level first c u v (inl h) l = h.0
@@ -21,19 +22,10 @@ path_level : (first : List (ℕ × ℕ)) (c : List ℕ) (u : ℕ) (vs : List ℕ
 path_level first c u [] h l = tt
 path_level first c u (v ∷ vs) h l =
     let from = Points-links_at_from first c u v h.0 in
-    let falls = path_falls first c v vs h.1 in
+    let falls = path_falls (links_at first c) c (λ x y p. step_falls first c x y (Points-links_at_from first c x y p)) v vs h.1 in
     let first_falls = step_falls first c u v from in
     (step_level first c u v from (omega (arith, falls)), path_level first c v vs h.1 (omega (arith, first_falls)))
 
 pub links_at_acyclic : (first : List (ℕ × ℕ)) (c : List ℕ) → IsAcyclic first → IsAcyclic (links_at first c)
 links_at_acyclic first c acyclic u [] h = h
 links_at_acyclic first c acyclic u (v ∷ vs) h = acyclic u (v ∷ vs) (path_level first c u (v ∷ vs) h.0 (omega (arith, ap (slice_index c) h.1)), h.1)
-
--- links that all lead to a greater rank have no closed walk
-path_rises : (links : List (ℕ × ℕ)) (rank : ℕ → ℕ) → ((u v : ℕ) → Points links u v → rank u < rank v) → (u : ℕ) (vs : List ℕ) → IsPath links u vs → rank u ≤ rank (end_of u vs)
-path_rises links rank rises u [] path = omega arith
-path_rises links rank rises u (v ∷ vs) path = omega (arith, rises u v path.0, path_rises links rank rises v vs path.1)
-
-pub acyclic_from_rank : (links : List (ℕ × ℕ)) (rank : ℕ → ℕ) → ((u v : ℕ) → Points links u v → rank u < rank v) → IsAcyclic links
-acyclic_from_rank links rank rises u [] h = h
-acyclic_from_rank links rank rises u (v ∷ vs) h = omega (arith, rises u v h.0.0, path_rises links rank rises v vs h.0.1, ap rank h.1)
