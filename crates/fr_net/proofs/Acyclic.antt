@@ -1,5 +1,5 @@
 -- No closed walk stands among the links that counts give: along a link of them the counts never rise.
-use Rattle.std.proofs.Common.{List, [], ap, arith, inl, inr, slice_index, ℕ, ◌<◌, ◌∷◌, ◌≤◌}
+use Rattle.std.proofs.Common.{List, [], ap, arith, inl, inr, slice_index, ℕ, ◌∷◌, ◌≤◌}
 use Rattle.fr_net.proofs.Giving.{ComesFrom, Points-links_at_from}
 use Rattle.fr_net.specs.Counts.{links_at}
 use Rattle.fr_net.specs.Links.{IsAcyclic, IsPath, Points, end_of}

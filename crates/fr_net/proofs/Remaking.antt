@@ -1,5 +1,5 @@
 -- A graph from the rows of its nodes.
-use Rattle.std.proofs.Common.{List, [], ap, arith, get_or, inl, inr, length, refl, subst, suc, sym, zero, ℕ, ◌<◌, ◌≤◌, ◌∙◌, ◌≡◌}
+use Rattle.std.proofs.Common.{List, [], ap, arith, get_or, inl, inr, length, refl, subst, suc, sym, zero, ℕ, ◌<◌, ◌∙◌, ◌≡◌}
 use Rattle.std.proofs.lemmas.Bool.{cases_Bool}
 use Rattle.std.proofs.lemmas.List.Sorted.{IsPermutation-sym, length_permutation}
 use Rattle.fr_net.proofs.Building.{acyclic_listed, faultless_sorted}
@@ -126,6 +126,7 @@ same_of_heights g heights height_each fit graph = record {
   rooms = λ x. omega arith;
 }
 
+-- the network stays the same over two changes where it does over each
 pub same_through : (before mid after : Graph) → IsSame before mid → IsSame mid after → IsSame before after
 same_through before mid after first next = record {
   graph = next.graph;

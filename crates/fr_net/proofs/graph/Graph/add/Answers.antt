@@ -1,4 +1,4 @@
-use Rattle.std.proofs.Common.{ap, arith, length, subst, sym, List, ℕ, ◌≡◌}
+use Rattle.std.proofs.Common.{ap, arith, length, subst, sym, ◌≡◌}
 use Rattle.fr_net.proofs.AddedLinks.{added}
 use Rattle.fr_net.proofs.Joining.{cycle_fault, no_path_free, path_closes}
 use Rattle.fr_net.proofs.Remaking.{same_through}
@@ -14,6 +14,7 @@ use Rattle.fr_net.proofs.graph.Graph.add.Goals.{After-make_room, Then-branch}
 links_are : (c : Then-branch) → (shown c.leads_back.new.self).links ≡ (shown c.args.self.now).links
 links_are c = ap (λ (m : Network). m.links) c.in_ok-leads_back.ensures.same.same
 
+-- the graph shows the network that was tested
 same : (c : After-make_room) → IsSame c.args.self.now c.make_room.new.self
 same c = same_through c.args.self.now c.leads_back.new.self c.make_room.new.self c.in_ok-leads_back.ensures.same c.make_room.ensures.same
 

@@ -1,4 +1,4 @@
-use Rattle.std.proofs.Common.{arith, length, ◌≡◌}
+use Rattle.std.proofs.Common.{arith, length}
 use Rattle.fr_net.proofs.Ordering.{tails_rise}
 use Rattle.fr_net.proofs.Remaking.{same_of_heights}
 use Rattle.fr_net.specs.Graph.{shown}

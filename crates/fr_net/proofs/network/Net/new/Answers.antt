@@ -53,7 +53,7 @@ returns-in-Walk-clause-refused c _ =
       cycle_stands listed (in_order listed) c.in-Walk.walk.items (in_order_permutes listed) found,
     )
 
--- no closed walk follows the links in order, which the order of the nodes leads back
+-- no closed walk follows the links, and the nodes stand in an order along which all of them lead back
 found : (c : In_ok-entries) → IsAcyclic (in_order c.args.links.now) × HasHeadsFirst c.args.nodes (in_order c.args.links.now) c.in-Order.order.items
 found c =
     let listed = c.args.links.now in
