@@ -1,5 +1,5 @@
 -- No closed walk stands among the links that counts give: along a link of them the counts never rise.
-use Rattle.std.proofs.Common.{List, [], ap, arith, inl, inr, slice_index, ℕ, ◌<◌, ◌∷◌, ◌≤◌}
+use Rattle.std.proofs.Common.{List, [], ap, arith, inl, inr, slice_index, ℕ, ◌∷◌, ◌≤◌}
 use Rattle.fr_net.proofs.Giving.{ComesFrom, Points-links_at_from}
 use Rattle.fr_net.specs.Counts.{links_at}
 use Rattle.fr_net.specs.Links.{IsAcyclic, IsPath, Points, end_of}
@@ -29,12 +29,3 @@ path_level first c u (v ∷ vs) h l =
 pub links_at_acyclic : (first : List (ℕ × ℕ)) (c : List ℕ) → IsAcyclic first → IsAcyclic (links_at first c)
 links_at_acyclic first c acyclic u [] h = h
 links_at_acyclic first c acyclic u (v ∷ vs) h = acyclic u (v ∷ vs) (path_level first c u (v ∷ vs) h.0 (omega (arith, ap (slice_index c) h.1)), h.1)
-
--- links that all lead to a greater rank have no closed walk
-path_rises : (links : List (ℕ × ℕ)) (rank : ℕ → ℕ) → ((u v : ℕ) → Points links u v → rank u < rank v) → (u : ℕ) (vs : List ℕ) → IsPath links u vs → rank u ≤ rank (end_of u vs)
-path_rises links rank rises u [] path = omega arith
-path_rises links rank rises u (v ∷ vs) path = omega (arith, rises u v path.0, path_rises links rank rises v vs path.1)
-
-pub acyclic_from_rank : (links : List (ℕ × ℕ)) (rank : ℕ → ℕ) → ((u v : ℕ) → Points links u v → rank u < rank v) → IsAcyclic links
-acyclic_from_rank links rank rises u [] h = h
-acyclic_from_rank links rank rises u (v ∷ vs) h = omega (arith, rises u v h.0.0, path_rises links rank rises v vs h.0.1, ap rank h.1)

@@ -7,7 +7,8 @@ use Rattle.fr_net.proofs.Neighbours.{Points-has_link, has_link_true}
 use Rattle.fr_net.proofs.Ordering.{in_order_order, in_order_permutes, into_order, out_of_order}
 use Rattle.fr_net.proofs.TurnedRows.{links_of_rows, out_rows}
 use Rattle.fr_net.specs.Faults.{IsFaultless, IsNetworkOf}
-use Rattle.fr_net.specs.Graph.{IsGraph, IsSame}
+use Rattle.fr_net.specs.Graph.{IsGraph, IsSame, shown}
+use Rattle.fr_net.specs.Heights.{Fit, Levels}
 use Rattle.fr_net.specs.KeptRows.{AreRows, links_in}
 use Rattle.fr_net.specs.Links.{IsNet, Points}
 use Rattle.fr_net.specs.Network.{Network}
@@ -55,9 +56,13 @@ pub links_shown : (n : ℕ) (listed : List (ℕ × ℕ)) (table : Table) → IsN
 links_shown n listed table net rows =
     rows_alike n (λ x. out_links x (row_of table x)) (out_rows n listed) (λ x less. ap (out_links x) (rows.shown x less)) ∙ links_of_rows n listed net
 
--- so a graph of the rows of links without a fault, counted, shows their network
-pub graph_of : (g : Graph) (listed : List (ℕ × ℕ)) → IsFaultless g.nodes listed → g.link_count ≡ length listed → AreRows g.nodes listed g.rows → IsGraph g
-graph_of g listed clear count rows =
+-- heights along which links fall do for fewer links
+pub fewer_fall : (links fewer : List (ℕ × ℕ)) (heights : Levels) → ((u v : ℕ) → Points fewer u v → Points links u v) → Fit links heights → Fit fewer heights
+fewer_fall links fewer heights among fit known u v stands = fit known u v (among u v stands)
+
+-- so a graph of the rows of links without a fault, counted, and of heights along which they fall, shows their network
+pub graph_of : (g : Graph) (listed : List (ℕ × ℕ)) → IsFaultless g.nodes listed → g.link_count ≡ length listed → AreRows g.nodes listed g.rows → length g.heights.heights ≡ g.nodes → Fit listed g.heights → IsGraph g
+graph_of g listed clear count rows height_each fit =
     let n = g.nodes in
     let is = links_shown n listed g.rows clear.is_net rows in
     record {
@@ -65,6 +70,8 @@ graph_of g listed clear count rows =
       sorted = rw is (in_order_order listed);
       counted = count ∙ sym (length_permutation listed (in_order listed) (in_order_permutes listed)) ∙ sym (ap length is);
       rows = record { one_each = rows.one_each; shown = λ x less. rows.shown x less ∙ in_order_row n listed x ∙ ap (λ (ls : List (ℕ × ℕ)). row n ls x) (sym is) };
+      height_each = height_each;
+      fit = rw is (fewer_fall listed (in_order listed) g.heights (λ u v. out_of_order listed (u, v)) fit);
     }
 
 abbrev pub with_links : ℕ → List (ℕ × ℕ) → Network
@@ -81,23 +88,48 @@ pub network_of_rows : (n : ℕ) (listed : List (ℕ × ℕ)) (table : Table) →
 network_of_rows n listed table clear rows = made_of n listed (links_in n table) clear (links_shown n listed table clear.is_net rows)
 
 -- a graph of the same rows, whatever their room
-pub graph_of_rows : (g : Graph) (table : Table) → table.rows ≡ g.rows.rows → IsGraph g → IsGraph (record { nodes = g.nodes; link_count = g.link_count; rows = table })
+pub graph_of_rows : (g : Graph) (table : Table) → table.rows ≡ g.rows.rows → IsGraph g → IsGraph (record g { rows = table })
 graph_of_rows g table same graph =
-    let of_rows : (rows : List (List (ℕ × First))) → Graph = λ rows. record { nodes = g.nodes; link_count = g.link_count; rows = record { rows = rows; rooms = table.rooms } } in
+    let of_rows : (rows : List (List (ℕ × First))) → Graph = λ rows. record g { rows = record { rows = rows; rooms = table.rooms } } in
     let moved : IsGraph (of_rows g.rows.rows) = record {
       faultless = graph.faultless;
       sorted = graph.sorted;
       counted = graph.counted;
       rows = record { one_each = graph.rows.one_each; shown = graph.rows.shown };
+      height_each = graph.height_each;
+      fit = graph.fit;
     } in
     subst (λ (rows : List (List (ℕ × First))). IsGraph (of_rows rows)) (sym same) moved
 
 pub shown_of_rows : (g : Graph) (table : Table) → table.rows ≡ g.rows.rows → links_in g.nodes table ≡ links_in g.nodes g.rows
 shown_of_rows g table same = ap (λ (rows : List (List (ℕ × First))). rows_below g.nodes (λ x. out_links x (get_or rows x []))) same
 
-pub same_of_rows : (g : Graph) (table : Table) → table.rows ≡ g.rows.rows → KeepsRooms g.rows table → IsGraph g → IsSame g (record { nodes = g.nodes; link_count = g.link_count; rows = table })
+pub same_of_rows : (g : Graph) (table : Table) → table.rows ≡ g.rows.rows → KeepsRooms g.rows table → IsGraph g → IsSame g (record g { rows = table })
 same_of_rows g table same kept graph = record {
   graph = graph_of_rows g table same graph;
   same = ap (with_links g.nodes) (shown_of_rows g table same);
   rooms = kept;
+}
+
+-- the same graph of other heights along which its links fall
+pub same_of_heights : (g : Graph) (heights : Levels) → length heights.heights ≡ g.nodes → Fit (shown g).links heights → IsGraph g → IsSame g (record g { heights = heights })
+same_of_heights g heights height_each fit graph = record {
+  graph = record {
+    faultless = graph.faultless;
+    sorted = graph.sorted;
+    counted = graph.counted;
+    rows = graph.rows;
+    height_each = height_each;
+    fit = fit;
+  };
+  same = refl;
+  rooms = λ x. omega arith;
+}
+
+-- the network stays the same over two changes where it does over each
+pub same_through : (before mid after : Graph) → IsSame before mid → IsSame mid after → IsSame before after
+same_through before mid after first next = record {
+  graph = next.graph;
+  same = next.same ∙ first.same;
+  rooms = λ x. omega (arith, first.rooms x, next.rooms x);
 }

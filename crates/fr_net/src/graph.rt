@@ -164,12 +164,15 @@ impl Graph {
         self.heights.admit(tail, head);
     }
 
-    /// Makes the heights anew.
+    /// Makes the heights anew, unless they are known.
     fn renew_heights(&mut self, alloc: Global) -> Result<(), AllocError>
         requires graph { IsGraph self.old }
         ensures same { IsSame self.old self.new }
         ensures known { OnOk result (self.new.heights.known ≡ true) }
     {
+        if self.heights.are_known() {
+            return Ok(());
+        }
         let links = links_of_rows(alloc, &self.rows, self.nodes, self.link_count)?;
         let Found::Order(order) = find_cycle(alloc, self.nodes, &links)? else {
             unreachable!();
@@ -186,9 +189,7 @@ impl Graph {
         ensures same { IsSame self.old self.new }
         ensures leads { IfOk result (λ found. IsTrue found ↔ HasPath (shown self.old).links v u) }
     {
-        if !self.heights.are_known() {
-            self.renew_heights(alloc)?;
-        }
+        self.renew_heights(alloc)?;
         if self.heights.falls(u, v) {
             return Ok(false);
         }

@@ -1,13 +1,18 @@
 use Rattle.std.proofs.Common.{ap, arith, inl, inr, length, subst, sym}
 use Rattle.fr_net.proofs.AddedLinks.{added}
 use Rattle.fr_net.proofs.Joining.{no_path_free, one_way_free, path_closes, unjoined_turned}
+use Rattle.fr_net.proofs.Remaking.{same_through}
 use Rattle.fr_net.proofs.Undoing.{IsPut, put_with_room}
-use Rattle.fr_net.specs.Graph.{shown}
+use Rattle.fr_net.specs.Graph.{IsSame, shown}
 use Rattle.fr_net.specs.Halves.{AreUnjoined}
 use Rattle.fr_net.specs.Links.{IsAcyclic}
 use Rattle.fr_net.specs.Network.{Network}
 use Rattle.fr_net.proofs.graph.Graph.join.Goals as goal
 use Rattle.fr_net.proofs.graph.Graph.join.Goals.{After-make_room, else-branch, then-branch}
+
+-- the graph shows the network that was tested
+same : (c : After-make_room) → IsSame c.args.self.now c.make_room.new.self
+same c = same_through c.args.self.now c.leads_back.new.self c.make_room.new.self c.in_ok-leads_back.ensures.same c.make_room.ensures.same
 
 -- the ends of the link, whichever way it points
 ends : (c : After-make_room) → AreUnjoined c.args.self.now.nodes (shown c.args.self.now).links c.if-branch.tail.0 c.if-branch.tail.1
@@ -19,11 +24,11 @@ ends c =
     ]
 
 pub put-requires-clause-few : goal.put-requires-clause-few
-put-requires-clause-few c = omega (arith, ap (λ (m : Network). length m.links) c.make_room.ensures.same.same, c.in_ok-test_join.ensures.few)
+put-requires-clause-few c = omega (arith, ap (λ (m : Network). length m.links) (same (goal.at.put-requires-clause-few c).After-make_room).same, c.in_ok-test_join.ensures.few)
 
 pub put-requires-clause-nodes : goal.put-requires-clause-nodes
 put-requires-clause-nodes c =
-    subst (λ (m : Network). AreUnjoined m.nodes m.links c.if-branch.tail.0 c.if-branch.tail.1) (sym c.make_room.ensures.same.same) (ends (goal.at.put-requires-clause-nodes c).After-make_room)
+    subst (λ (m : Network). AreUnjoined m.nodes m.links c.if-branch.tail.0 c.if-branch.tail.1) (sym (same (goal.at.put-requires-clause-nodes c).After-make_room).same) (ends (goal.at.put-requires-clause-nodes c).After-make_room)
 
 pub put-requires-clause-acyclic : goal.put-requires-clause-acyclic
 put-requires-clause-acyclic c =
@@ -31,10 +36,10 @@ put-requires-clause-acyclic c =
     let u = c.args.u in
     let v = c.args.v in
     let acyclic : IsAcyclic links = c.requires.faultless.is_net.acyclic in
-    subst (λ (m : Network). IsAcyclic (added m.links c.if-branch.tail.0 c.if-branch.tail.1)) (sym c.make_room.ensures.same.same)
+    subst (λ (m : Network). IsAcyclic (added m.links c.if-branch.tail.0 c.if-branch.tail.1)) (sym (same (goal.at.put-requires-clause-acyclic c).After-make_room).same)
     (elim c.if-branch.branch [
-      | then-branch w ↦ rw w.tail-is (one_way_free links u v acyclic c.in_ok-test_join.ensures.nodes.apart (path_closes links u v (c.in_ok-leads.ensures.0 w.if-branch.true)))
-      | else-branch w ↦ rw w.tail-is (no_path_free links u v acyclic (λ path. cc (c.in_ok-leads.ensures.1 path, w.if-branch.false)))
+      | then-branch w ↦ rw w.tail-is (one_way_free links u v acyclic c.in_ok-test_join.ensures.nodes.apart (path_closes links u v (c.in_ok-leads_back.ensures.leads.0 w.if-branch.true)))
+      | else-branch w ↦ rw w.tail-is (no_path_free links u v acyclic (λ path. cc (c.in_ok-leads_back.ensures.leads.1 path, w.if-branch.false)))
     ])
 
 pub put-requires-clause-tail_room : goal.put-requires-clause-tail_room
@@ -47,11 +52,11 @@ pub returns-clause-ok : goal.returns-clause-ok
 returns-clause-ok c =
     let links = (shown c.args.self.now).links in
     let put : IsPut c.args.self.now c.put.new.self c.if-branch.tail.0 c.if-branch.tail.1 =
-    put_with_room c.args.self.now c.make_room.new.self c.put.new.self c.if-branch.tail.0 c.if-branch.tail.1 c.requires c.make_room.ensures.same c.room_law.ensures (ends (goal.at.returns-clause-ok c).After-make_room) c.put.ensures.rooms c.put.ensures.put in
+    put_with_room c.args.self.now c.make_room.new.self c.put.new.self c.if-branch.tail.0 c.if-branch.tail.1 c.requires (same (goal.at.returns-clause-ok c).After-make_room) c.room_law.ensures (ends (goal.at.returns-clause-ok c).After-make_room) c.put.ensures.rooms c.put.ensures.put in
     record {
       graph = c.put.ensures.graph;
       made = elim c.if-branch.branch [
-        | then-branch w ↦ inr (path_closes links c.args.u c.args.v (c.in_ok-leads.ensures.0 w.if-branch.true), rw w.tail-is at put.made)
+        | then-branch w ↦ inr (path_closes links c.args.u c.args.v (c.in_ok-leads_back.ensures.leads.0 w.if-branch.true), rw w.tail-is at put.made)
         | else-branch w ↦ inl (rw w.tail-is at put.made)
       ];
       by = put.by;

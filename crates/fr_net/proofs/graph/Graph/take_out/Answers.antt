@@ -1,11 +1,13 @@
-use Rattle.std.proofs.Common.{arith, inl, length, ◌+◌, ◌≡◌}
-use Rattle.fr_net.proofs.Editing.{faultless_cut}
-use Rattle.fr_net.proofs.Remaking.{graph_of, network_of_rows}
+use Rattle.std.proofs.Common.{arith, inl, length, ℕ, ◌+◌, ◌≡◌}
+use Rattle.std.specs.Prelude.{not}
+use Rattle.fr_net.proofs.Editing.{faultless_cut, from_filter}
+use Rattle.fr_net.proofs.Remaking.{fewer_fall, graph_of, network_of_rows}
 use Rattle.fr_net.proofs.Undoing.{cut_one}
 use Rattle.fr_net.specs.Edits.{without}
 use Rattle.fr_net.specs.Faults.{IsFaultless}
 use Rattle.fr_net.specs.Graph.{shown}
 use Rattle.fr_net.specs.KeptRows.{AreRows, ShowsLink}
+use Rattle.fr_net.specs.Links.{is_between}
 use Rattle.fr_net.proofs.graph.Graph.take_out.Goals as goal
 use Rattle.fr_net.proofs.graph.Graph.take_out.Goals.{After-cut_from_rows, Start}
 
@@ -28,7 +30,11 @@ cut_from_rows-requires c = (shown c.args.self.now, before (goal.at.cut_from_rows
 pub returns-clause-graph : goal.returns-clause-graph
 returns-clause-graph c =
     let at = goal.at.returns-clause-graph c in
-    graph_of _ (without c.args.tail c.args.head (shown c.args.self.now).links) (clear at.Start) (omega (arith, fewer at.Start)) (rows at.After-cut_from_rows)
+    let g = c.args.self.now in
+    let links = (shown g).links in
+    let rest = without c.args.tail c.args.head links in
+    let fit = fewer_fall links rest g.heights (λ u v. from_filter (λ (l : ℕ × ℕ). not (is_between c.args.tail c.args.head l)) links (u, v)) c.requires.graph.fit in
+    graph_of _ rest (clear at.Start) (omega (arith, fewer at.Start)) (rows at.After-cut_from_rows) c.requires.graph.height_each fit
 
 pub returns-clause-taken : goal.returns-clause-taken
 returns-clause-taken c =

@@ -1,16 +1,17 @@
 use Rattle.std.proofs.Common.{ap, arith, count_by, length, map, refl, ℕ, ◌<◌, ◌∙◌, ◌≡◌, ◌≤◌}
 use Rattle.std.proofs.lemmas.List.{length-map}
 use Rattle.fr_net.proofs.Building.{below_sorted, cycle_stands, faultless_listed, rows_shown, single_from_rising, twice_stands}
-use Rattle.fr_net.proofs.Ordering.{in_order_order, in_order_permutes, tails_rise}
-use Rattle.fr_net.proofs.Remaking.{graph_of, network_of_rows}
+use Rattle.fr_net.proofs.Ordering.{in_order_order, in_order_permutes, into_order, tails_rise}
+use Rattle.fr_net.proofs.Remaking.{fewer_fall, graph_of, network_of_rows}
 use Rattle.fr_net.specs.Faults.{IsFaultless, IsInRange}
 use Rattle.fr_net.specs.Halves.{AreHalvesRising, ShowsRow, entry_of, is_at}
+use Rattle.fr_net.specs.Heights.{HasHeadsFirst}
 use Rattle.fr_net.specs.KeptRows.{AreRows}
 use Rattle.fr_net.specs.Limits.{IsWithinLimits}
 use Rattle.fr_net.specs.Links.{HasNoSelfLink, IsAcyclic, IsCycle}
 use Rattle.fr_net.specs.Order.{in_order}
 use Rattle.fr_net.proofs.network.Net.new.Goals as goal
-use Rattle.fr_net.proofs.network.Net.new.Goals.{In_ok-entries, In_ok-packed}
+use Rattle.fr_net.proofs.network.Net.new.Goals.{After-deref-5, In_ok-entries, In_ok-packed}
 
 pub returns-in-Some-first_twice-clause-refused : goal.returns-in-Some-first_twice-clause-refused
 returns-in-Some-first_twice-clause-refused c _ =
@@ -35,8 +36,8 @@ find_cycle-requires-clause-below c =
     let made : c.in_ok-sorted.sorted.items ≡ in_order listed = c.in_ok-sorted.ensures listed (rw c.deref-2.ensures.value c.in_ok-halves.ensures.same) in
     rw (c.deref-3.ensures.value, made) (below_sorted c.args.nodes listed (in_order listed) (in_order_permutes listed) range.below)
 
-pub returns-in-Some-2-clause-refused : goal.returns-in-Some-2-clause-refused
-returns-in-Some-2-clause-refused c _ =
+pub returns-in-Walk-clause-refused : goal.returns-in-Walk-clause-refused
+returns-in-Walk-clause-refused c _ =
     let listed = c.args.links.now in
     let halves = c.in_ok-halves.halves.items in
     let limits : IsWithinLimits c.args.nodes listed = record { nodes_few = omega arith; links_few = omega arith } in
@@ -44,13 +45,20 @@ returns-in-Some-2-clause-refused c _ =
     let clear : HasNoSelfLink listed = c.in_default-first_self_link.ensures.none in
     let rising : AreHalvesRising halves = rw c.deref.ensures.value at c.in_default-first_twice.ensures.none in
     let made : c.in_ok-sorted.sorted.items ≡ in_order listed = c.in_ok-sorted.ensures listed (rw c.deref-2.ensures.value c.in_ok-halves.ensures.same) in
-    let found : IsCycle (in_order listed) c.in-Some-2.walk.items = rw (c.deref-3.ensures.value, made, c.in-Some-2.is) at c.in_ok-walk.ensures in (
+    let found : IsCycle (in_order listed) c.in-Walk.walk.items = rw (c.deref-3.ensures.value, made, c.in-Walk.is) at c.in_ok-walk.ensures in (
       limits,
       range,
       clear,
       single_from_rising listed halves c.in_ok-halves.ensures.same clear rising,
-      cycle_stands listed (in_order listed) c.in-Some-2.walk.items (in_order_permutes listed) found,
+      cycle_stands listed (in_order listed) c.in-Walk.walk.items (in_order_permutes listed) found,
     )
+
+-- no closed walk follows the links, and the nodes stand in an order along which all of them lead back
+found : (c : In_ok-entries) → IsAcyclic (in_order c.args.links.now) × HasHeadsFirst c.args.nodes (in_order c.args.links.now) c.in-Order.order.items
+found c =
+    let listed = c.args.links.now in
+    let made : c.in_ok-sorted.sorted.items ≡ in_order listed = c.in_ok-sorted.ensures listed (rw c.deref-2.ensures.value c.in_ok-halves.ensures.same) in
+    rw (c.deref-3.ensures.value, made, c.in-Order.is) at c.in_ok-walk.ensures
 
 -- the links are without a fault, and stand in the rows between the starts
 clear : (c : In_ok-entries) → IsFaultless c.args.nodes c.args.links.now
@@ -63,9 +71,7 @@ clear c =
     let range : IsInRange n listed = c.in_default.ensures.none in
     let clear : HasNoSelfLink listed = c.in_default-first_self_link.ensures.none in
     let rising : AreHalvesRising halves = rw c.deref.ensures.value at c.in_default-first_twice.ensures.none in
-    let made : c.in_ok-sorted.sorted.items ≡ in_order listed = c.in_ok-sorted.ensures listed (rw c.deref-2.ensures.value both) in
-    let acyclic : IsAcyclic (in_order listed) = rw (c.deref-3.ensures.value, made, c.in_default-2.is) at c.in_ok-walk.ensures in
-    faultless_listed n listed (in_order listed) halves limits range clear both rising (in_order_permutes listed) acyclic
+    faultless_listed n listed (in_order listed) halves limits range clear both rising (in_order_permutes listed) (found c).0
 
 shows : (c : In_ok-entries) (x : ℕ) → x < c.args.nodes → ShowsRow c.args.nodes c.args.links.now c.in_ok-halves.starts.items c.in_ok-entries.entries.items x
 shows c =
@@ -83,6 +89,12 @@ rows c =
       shown = λ x less. c.in_ok-packed.ensures.rows x (omega (arith, less, starts)) ∙ (shows at x less).is_row;
     }
 
+heads : (c : After-deref-5) → HasHeadsFirst (length c.in_ok-heights.heights.heights) (in_order c.args.links.now) c.deref-5.result.now
+heads c = rw (c.in_ok-heights.ensures.one_each, c.deref-5.ensures.value) (found (goal.at.After-deref-5 c).In_ok-entries).1
+
+pub put_in_order-requires : goal.put_in_order-requires
+put_in_order-requires c = (in_order c.args.links.now, heads (goal.at.put_in_order-requires c).After-deref-5)
+
 pub packed-requires : goal.packed-requires
 packed-requires c =
     let at = (goal.at.packed-requires c).In_ok-entries in
@@ -97,7 +109,9 @@ packed-requires c =
 pub invariant_of-result : goal.invariant_of-result
 invariant_of-result c =
     let at = goal.at.invariant_of-result c in
-    graph_of _ c.args.links.now (clear at.In_ok-entries) refl (rows at.In_ok-packed)
+    let listed = c.args.links.now in
+    let fit = fewer_fall (in_order listed) listed c.put_in_order.new.self (λ u v. into_order listed (u, v)) (c.put_in_order.ensures.fit (in_order listed) (heads at.After-deref-5)) in
+    graph_of _ listed (clear at.In_ok-entries) refl (rows at.In_ok-packed) (c.put_in_order.ensures.one_each ∙ c.in_ok-heights.ensures.one_each) fit
 
 pub returns-clause-ok : goal.returns-clause-ok
 returns-clause-ok c =

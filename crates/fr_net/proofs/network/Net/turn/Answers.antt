@@ -4,6 +4,7 @@ use Rattle.fr_net.proofs.Remaking.{graph_of, network_of_rows}
 use Rattle.fr_net.proofs.TurnedLinks.{length-links_at, turned_faultless}
 use Rattle.fr_net.specs.Counts.{links_at}
 use Rattle.fr_net.specs.Faults.{IsFaultless}
+use Rattle.fr_net.specs.Heights.{Fit}
 use Rattle.fr_net.specs.KeptRows.{AreRows}
 use Rattle.fr_net.specs.Network.{Network}
 use Rattle.fr_net.specs.TurnedRows.{ArePartTurned, is_done}
@@ -42,7 +43,9 @@ invariant_of-self c =
     let links = c.args.self.now.links in
     let count : c.self.inside.graph.link_count ≡ length (links_at links c.args.counts.now) =
     c.self.invariant.counted ∙ ap (λ (m : Network). length m.links) c.self.view_is ∙ sym (length-links_at links c.args.counts.now c.requires.kept) in
+    let fit : Fit links c.self.inside.graph.heights = subst (λ (m : Network). Fit m.links c.self.inside.graph.heights) c.self.view_is c.self.invariant.fit in
     graph_of _ (links_at links c.args.counts.now) (rw (nodes_are at.After-turn_rows-arg-1) (turned at.After-turn_rows-arg-1)) count (rw (nodes_are at.After-turn_rows-arg-1) (after at.After-turn_rows))
+    (c.raise.ensures.one_each ∙ c.self.invariant.height_each) (c.raise.ensures.fit links c.requires.kept fit)
 
 pub returns : goal.returns
 returns c =
