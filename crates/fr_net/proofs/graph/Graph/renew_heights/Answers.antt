@@ -3,6 +3,7 @@ use Rattle.fr_net.proofs.Ordering.{tails_rise}
 use Rattle.fr_net.proofs.Remaking.{same_of_heights}
 use Rattle.fr_net.specs.Graph.{shown}
 use Rattle.fr_net.specs.Heights.{HasHeadsFirst}
+use Rattle.fr_net.specs.Links.{AreBelow}
 use Rattle.fr_net.proofs.graph.Graph.renew_heights.Goals as goal
 
 pub find_cycle-requires-clause-tails : goal.find_cycle-requires-clause-tails
@@ -14,4 +15,5 @@ returns-clause-same c =
     let links = (shown g).links in
     let found = rw (c.deref.ensures.value, c.in_ok-links.ensures, c.in-Order.is) at c.in_ok-order.ensures in
     let first : HasHeadsFirst (length g.heights.heights) links c.deref-2.result.now = rw (c.requires.graph.height_each, c.deref-2.ensures.value) found.1 in
-    same_of_heights g c.put_in_order.new.self (omega (arith, c.put_in_order.ensures.one_each, c.requires.graph.height_each)) (c.put_in_order.ensures.fit links first) c.requires.graph
+    let below : AreBelow (length g.heights.heights) links = rw c.requires.graph.height_each c.requires.graph.faultless.is_net.in_range in
+    same_of_heights g c.put_in_order.new.self (omega (arith, c.put_in_order.ensures.one_each, c.requires.graph.height_each)) (c.put_in_order.ensures.fit links below first) c.requires.graph

@@ -8,7 +8,7 @@ use Rattle.fr_net.specs.Halves.{AreHalvesRising, ShowsRow, entry_of, is_at}
 use Rattle.fr_net.specs.Heights.{HasHeadsFirst}
 use Rattle.fr_net.specs.KeptRows.{AreRows}
 use Rattle.fr_net.specs.Limits.{IsWithinLimits}
-use Rattle.fr_net.specs.Links.{HasNoSelfLink, IsAcyclic, IsCycle}
+use Rattle.fr_net.specs.Links.{AreBelow, HasNoSelfLink, IsAcyclic, IsCycle}
 use Rattle.fr_net.specs.Order.{in_order}
 use Rattle.fr_net.proofs.network.Net.new.Goals as goal
 use Rattle.fr_net.proofs.network.Net.new.Goals.{After-deref-5, In_ok-entries, In_ok-packed}
@@ -110,8 +110,10 @@ pub invariant_of-result : goal.invariant_of-result
 invariant_of-result c =
     let at = goal.at.invariant_of-result c in
     let listed = c.args.links.now in
-    let fit = fewer_fall (in_order listed) listed c.put_in_order.new.self (λ u v. into_order listed (u, v)) (c.put_in_order.ensures.fit (in_order listed) (heads at.After-deref-5)) in
-    graph_of _ listed (clear at.In_ok-entries) refl (rows at.In_ok-packed) (c.put_in_order.ensures.one_each ∙ c.in_ok-heights.ensures.one_each) fit
+    let one_each = c.in_ok-heights.ensures.one_each in
+    let below : AreBelow (length c.in_ok-heights.heights.heights) (in_order listed) = rw one_each (below_sorted c.args.nodes listed (in_order listed) (in_order_permutes listed) (clear at.In_ok-entries).is_net.in_range) in
+    let fit = fewer_fall (in_order listed) listed c.put_in_order.new.self (λ u v. into_order listed (u, v)) (c.put_in_order.ensures.fit (in_order listed) below (heads at.After-deref-5)) in
+    graph_of _ listed (clear at.In_ok-entries) refl (rows at.In_ok-packed) (c.put_in_order.ensures.one_each ∙ one_each) fit
 
 pub returns-clause-ok : goal.returns-clause-ok
 returns-clause-ok c =
