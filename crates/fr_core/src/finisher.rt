@@ -1,6 +1,6 @@
 //! Where every schedule ends, found on one thread.
 
-ghost use Rattle.std.specs.Prelude.{◌≡◌, ℕ, ◌<◌};
+ghost use Rattle.std.specs.Prelude.{◌≡◌, ℕ, ◌<◌, IsTrue, IfSome};
 ghost use Rattle.fr_net.specs.Counts.{AreLawful};
 ghost use Rattle.fr_net.specs.Links.{IsNet};
 ghost use Rattle.fr_core.specs.Finish.{HoldsAllThatCanTurn, IsFinish};
@@ -22,7 +22,9 @@ fn settle(net: &Net, dest: u32, counts: &mut [u64], work: &mut Queue)
     requires all { HoldsAll net.now.nodes dest net.now.links counts.old work.old 0 }
     ensures { AreSettled net.now.nodes dest net.now.links counts.new }
 {
-    if !turn_sinks(net, dest, counts, work) {
+    // By the law there are few enough links that twice their number fits: so many entries all rows have together.
+    net.network_law();
+    if !turn_sinks(net, dest, counts, work, 2 * net.link_count()) {
         levels::settle(net, dest, counts, work);
     }
 }
@@ -42,6 +44,21 @@ fn finish_worklist(net: &Net, dest: u32, counts: &mut [u64], work: &mut Queue) -
     settle(net, dest, counts, work);
     let after: u64 = counts.iter().sum();
     after - before
+}
+
+/// A worklist of the nodes of `from` that can turn, unless the list may be too long for it.
+fn worklist_from(net: &Net, dest: u32, counts: &[u64], from: &[u32]) -> Option<Queue>
+    requires lawful { AreLawful net.now.nodes dest net.now.links counts.now }
+    requires from { HoldsAllThatCanTurn net.now.nodes dest net.now.links counts.now from.now }
+    ensures nodes { IfSome result (AreNodes net.now.nodes) }
+    ensures all { IfSome result (λ work. HoldsAll net.now.nodes dest net.now.links counts.now work 0) }
+{
+    if from.len() > MAX_NODES as usize {
+        return None;
+    }
+    let mut work = Queue::new();
+    add_sinks_among(net, dest, counts, from, &mut work);
+    Some(work)
 }
 
 /// Goes from lawful counts to those at which turning node by node ends, and answers how many turns lie between. Few turns are
@@ -73,11 +90,26 @@ pub fn finish_from(net: &Net, dest: u32, counts: &mut [u64], from: &[u32]) -> u6
     ensures settled { AreSettled net.now.nodes dest net.now.links counts.new }
     ensures run { IsFinish net.now.nodes dest net.now.links counts.old counts.new result }
 {
-    // A longer list may not find room in the worklist.
-    if from.len() > MAX_NODES as usize {
-        return finish(net, dest, counts);
+    match worklist_from(net, dest, counts, from) {
+        Some(mut work) => finish_worklist(net, dest, counts, &mut work),
+        None => finish(net, dest, counts),
     }
-    let mut work = Queue::new();
-    add_sinks_among(net, dest, counts, from, &mut work);
-    finish_worklist(net, dest, counts, &mut work)
+}
+
+/// Goes to where [`finish_from`] goes, if a few turns lead there, and answers yes: no node can turn any more. Else it gives up and answers
+/// no, once it has looked at rows that are together half as long as there are links; the counts are then those of some turns, and
+/// lawful. For a caller that has dearer means where there is more to turn, as threads. The same nodes have to be in `from`.
+pub fn finish_soon(net: &Net, dest: u32, counts: &mut [u64], from: &[u32]) -> bool
+    requires node { dest < net.now.nodes }
+    requires lawful { AreLawful net.now.nodes dest net.now.links counts.old }
+    requires from { HoldsAllThatCanTurn net.now.nodes dest net.now.links counts.old from.now }
+    ensures lawful { AreLawful net.now.nodes dest net.now.links counts.new }
+    ensures settled { IsTrue result → AreSettled net.now.nodes dest net.now.links counts.new }
+{
+    // By the law a settled network is one in which no node can turn.
+    net.network_law();
+    match worklist_from(net, dest, counts, from) {
+        Some(mut work) => turn_sinks(net, dest, counts, &mut work, net.link_count() / 2),
+        None => false,
+    }
 }

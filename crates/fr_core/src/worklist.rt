@@ -85,9 +85,15 @@ fn visit(net: &Net, dest: u32, counts: &mut [u64], x: u32, work: &mut Queue) -> 
 }
 
 /// Turns nodes from a worklist, which begins with all that can turn, until none can turn, and answers yes; or gives up and
-/// answers no, where the worklist has no more room, or the rows of the nodes that it looked at are together longer than all
-/// rows of the network.
-pub(crate) fn turn_sinks(net: &Net, dest: u32, counts: &mut [u64], work: &mut Queue) -> bool
+/// answers no, where the worklist has no more room, or the rows of the nodes that it looked at are together longer than
+/// the allowance.
+pub(crate) fn turn_sinks(
+    net: &Net,
+    dest: u32,
+    counts: &mut [u64],
+    work: &mut Queue,
+    mut allowance: usize,
+) -> bool
     requires net { IsNet net.now.nodes net.now.links }
     requires lawful { AreLawful net.now.nodes dest net.now.links counts.old }
     requires nodes { AreNodes net.now.nodes work.old }
@@ -95,9 +101,6 @@ pub(crate) fn turn_sinks(net: &Net, dest: u32, counts: &mut [u64], work: &mut Qu
     ensures lawful { AreLawful net.now.nodes dest net.now.links counts.new }
     ensures none { result ≡ true → NoneCanTurn net.now.nodes dest (moment_of net.now.links counts.new) }
 {
-    // By the law there are few enough links that twice their number fits.
-    net.network_law();
-    let mut allowance = 2 * net.link_count();
     let mut at = 0;
     while at < work.len() {
         let x = work.node(at);

@@ -1,9 +1,15 @@
--- How counts begin: nobody has turned, and each sink but the destination can.
-use Rattle.std.proofs.Common.{List, mul-zero, replicate, subst, sum, ℕ, ◌∙◌, ◌≡◌}
+-- Counts as they begin: nobody has turned, and each sink but the destination can. And as they end.
+use Rattle.std.proofs.Common.{List, Vec, arith, length, mul-zero, replicate, subst, sum, ℕ, ◌<◌, ◌∙◌, ◌≡◌}
+use Rattle.std.proofs.lemmas.List.{with_items_is}
 use Rattle.std.proofs.lemmas.List.Folds.{sum_by-replicate}
+use Rattle.std.specs.Vec.{with_items}
 use Rattle.fr_core.proofs.Finishing.{links_at-zeros}
+use Rattle.fr_core.proofs.Runs.{lawful_sum}
+use Rattle.fr_core.proofs.Unique.{settled_lawful}
 use Rattle.fr_core.specs.Finish.{HoldsAllThatCanTurn}
-use Rattle.fr_crew.specs.Settlements.{HoldsSinks}
+use Rattle.fr_core.specs.Settled.{AreSettled}
+use Rattle.fr_crew.specs.Settlements.{HoldsSinks, IsCounted}
+use Rattle.fr_net.specs.Links.{IsNet}
 use Rattle.fr_net.specs.Network.{Network}
 use Rattle.fr_net.specs.Turn.{IsSink}
 
@@ -15,3 +21,11 @@ zeros_hold net d from holds = record {
   nodes = holds.nodes;
   all = λ x can. holds.sinks x (subst (λ (links : List (ℕ × ℕ)). IsSink links x) (links_at-zeros net.nodes net.links) can.sink) can.not_destination;
 }
+
+-- settled counts that were written in the place of those of a vector
+pub counted : {Z : Type 0} (n d : ℕ) (first : List (ℕ × ℕ)) → IsNet n first → d < n → (before : Vec ℕ Z) (after : List ℕ) → length before.items ≡ n → AreSettled n d first after → IsCounted n d first (with_items before after).items
+counted n d first net below before after long settled = rw (with_items_is before after (omega (arith, settled.one_each, long))) (record {
+  destination = below;
+  settled = settled;
+  most = lawful_sum n d first after (settled_lawful n d first net below after settled);
+})

@@ -13,7 +13,7 @@ use crate::crew::run_crew;
 use crate::fault::CrewFault;
 use crate::gate::Gate;
 use crate::plan::Plan;
-use fr_core::{can_turn, finish, finish_from};
+use fr_core::{can_turn, finish, finish_from, finish_soon};
 use fr_net::Net;
 use fr_round::{Closed, Round};
 use std::alloc::Global;
@@ -97,8 +97,9 @@ pub fn settle_alone(alloc: Global, net: Net, dest: u32) -> Result<Settled, CrewF
 ///
 /// For a caller that knows where sinks can be, as after an edit of a settled network: all that stand in `from`, where it is
 /// given, are nodes, and each sink but the destination is among them; some may stand there twice. Where none of them can turn
-/// it costs a look at each of them and a few passes over the counts, and no thread is started. Else they are the workers' first
-/// candidates, in place of all nodes, and dealt out in turn.
+/// it costs a look at each of them and a few passes over the counts, and no thread is started; nor is one where a few turns
+/// settle the network, as [`finish_soon`](fr_core::finish_soon) makes them. Else they are the workers' first candidates, in place of all
+/// nodes, and dealt out in turn.
 ///
 /// `Range` where the destination is no node, which is tested first, or else `Start` and `Memory` as by `settle`.
 pub fn settled_counts<R: Threads + Wait + Sync, G: Gate + Sync>(
@@ -115,9 +116,16 @@ pub fn settled_counts<R: Threads + Wait + Sync, G: Gate + Sync>(
     ensures range { IfErr result (λ fault. (fault ≡ Range) ↔ (net.now.nodes ≤ dest)) }
     ensures no_start { plan.now.budget ≡ 0 → IfErr result (λ fault. fault ≢ Start) }
 {
-    let counts = zeros(alloc, net, dest)?;
+    let mut counts = zeros(alloc, net, dest)?;
     if plan.budget() == 0 || !can_any_turn(net, dest, &counts, from) {
         return Ok(finished_counts(net, dest, counts, from));
+    }
+    if let Some(from) = from {
+        // By the law a settled count is at most the number of nodes.
+        net.network_law();
+        if finish_soon(net, dest, &mut counts, from) {
+            return Ok(counts);
+        }
     }
     let copy = net.copied(alloc)?;
     let Closed {
