@@ -1,19 +1,17 @@
 //! Settling a network.
 
 ghost use Rattle.std.specs.Prelude.{◌≡◌, ◌≢◌, ℕ, ◌<◌, ◌≤◌, ◌^◌, ◌↔◌, IfOk, IfErr, IfSome, IsTrue, replicate, sum, sum_by};
-ghost use Rattle.std.specs.List.{All};
 ghost use Rattle.fr_net.specs.Counts.{AreLawful};
-ghost use Rattle.fr_core.specs.Finish.{HoldsAllThatCanTurn};
 ghost use Rattle.fr_core.specs.History.{moment_of};
 ghost use Rattle.fr_core.specs.Legal.{CanTurn};
-ghost use Rattle.fr_crew.specs.Settlements.{HoldsSinks, IsCounted, IsSettlement};
+ghost use Rattle.fr_crew.specs.Settlements.{AreFewTurns, HoldsSinks, IsCounted, IsSettlement};
 ghost use Rattle.fr_crew.specs.declared.fault.CrewFault.TheVariants.{Range, Start, Memory};
 
 use crate::crew::run_crew;
 use crate::fault::CrewFault;
 use crate::gate::Gate;
 use crate::plan::Plan;
-use fr_core::{can_turn, finish, finish_from, finish_soon};
+use fr_core::{can_turn, finish, finish_soon};
 use fr_net::Net;
 use fr_round::{Closed, Round};
 use std::alloc::Global;
@@ -63,7 +61,7 @@ pub fn settle<R: Threads + Wait + Sync, G: Gate + Sync>(
     ensures no_start { plan.now.budget ≡ 0 → IfErr result (λ fault. fault ≢ Start) }
 {
     let counts = zeros(alloc, &net, dest)?;
-    if plan.budget() == 0 || !can_any_turn(&net, dest, &counts, None) {
+    if plan.budget() == 0 || !can_any_turn(&net, dest, &counts) {
         return Ok(finished(net, dest, counts, 0));
     }
     let Closed {
@@ -96,10 +94,10 @@ pub fn settle_alone(alloc: Global, net: Net, dest: u32) -> Result<Settled, CrewF
 /// counts of [`settle`].
 ///
 /// For a caller that knows where sinks can be, as after an edit of a settled network: all that stand in `from`, where it is
-/// given, are nodes, and each sink but the destination is among them; some may stand there twice. Where none of them can turn
-/// it costs a look at each of them and a few passes over the counts, and no thread is started; nor is one where a few turns
-/// settle the network, as [`finish_soon`](fr_core::finish_soon) makes them. Else they are the workers' first candidates, in place of all
-/// nodes, and dealt out in turn.
+/// given, are nodes, and each sink but the destination is among them; some may stand there twice. Where a few turns settle the
+/// network, or none at all, they are made on the thread that calls, by [`finish_soon`](fr_core::finish_soon): that costs a look at
+/// each of these nodes and the turns, and no thread is started. Else they are the workers' first candidates, in place of all nodes,
+/// and dealt out in turn.
 ///
 /// `Range` where the destination is no node, which is tested first, or else `Start` and `Memory` as by `settle`.
 pub fn settled_counts<R: Threads + Wait + Sync, G: Gate + Sync>(
@@ -116,16 +114,12 @@ pub fn settled_counts<R: Threads + Wait + Sync, G: Gate + Sync>(
     ensures range { IfErr result (λ fault. (fault ≡ Range) ↔ (net.now.nodes ≤ dest)) }
     ensures no_start { plan.now.budget ≡ 0 → IfErr result (λ fault. fault ≢ Start) }
 {
-    let mut counts = zeros(alloc, net, dest)?;
-    if plan.budget() == 0 || !can_any_turn(net, dest, &counts, from) {
-        return Ok(finished_counts(net, dest, counts, from));
-    }
-    if let Some(from) = from {
-        // By the law a settled count is at most the number of nodes.
-        net.network_law();
-        if finish_soon(net, dest, &mut counts, from) {
-            return Ok(counts);
-        }
+    let counts = match after_few_turns(alloc, net, dest, from)? {
+        FewTurns::Enough(counts) => return Ok(counts),
+        FewTurns::TooFew(counts) => counts,
+    };
+    if plan.budget() == 0 || !can_any_turn(net, dest, &counts) {
+        return Ok(finished_counts(net, dest, counts));
     }
     let copy = net.copied(alloc)?;
     let Closed {
@@ -133,11 +127,11 @@ pub fn settled_counts<R: Threads + Wait + Sync, G: Gate + Sync>(
         counts,
         turned: _,
     } = turned_by_crew(rt, alloc, copy, dest, from, plan, gate)?;
-    Ok(finished_counts(&net, dest, counts, None))
+    Ok(finished_counts(&net, dest, counts))
 }
 
 /// The settled counts of a network, which stays as it is, on the thread that calls: by [`finish`](fr_core::finish) alone, or
-/// where `from` is given, by [`finish_from`](fr_core::finish_from). They are those of [`settled_counts`]. It starts no thread and
+/// where `from` is given and a few turns are enough, by [`finish_soon`](fr_core::finish_soon). They are those of [`settled_counts`]. It starts no thread and
 /// waits for nobody.
 ///
 /// `Range` where the destination is no node, which is tested first, or else `Memory`; never `Start`.
@@ -152,8 +146,10 @@ pub fn settled_counts_alone(
     ensures range { IfErr result (λ fault. (fault ≡ Range) ↔ (net.now.nodes ≤ dest)) }
     ensures no_start { IfErr result (λ fault. fault ≢ Start) }
 {
-    let counts = zeros(alloc, net, dest)?;
-    Ok(finished_counts(net, dest, counts, from))
+    match after_few_turns(alloc, net, dest, from)? {
+        FewTurns::Enough(counts) => Ok(counts),
+        FewTurns::TooFew(counts) => Ok(finished_counts(net, dest, counts)),
+    }
 }
 
 /// The counts with which every settlement begins: no node has turned. `Range` where the destination is no node, or else
@@ -169,30 +165,46 @@ fn zeros(alloc: Global, net: &Net, dest: u32) -> Result<Vec<u64>, CrewFault>
     Ok(vec![in alloc; 0u64; net.nodes() as usize]?)
 }
 
-/// Whether some node of `from` can turn at these counts.
-fn can_one_turn(net: &Net, dest: u32, counts: &[u64], from: &[u32]) -> bool
-    requires lawful { AreLawful net.now.nodes dest net.now.links counts.now }
-    requires nodes { All (λ (x : ℕ). x < net.now.nodes) from.now }
-    ensures { IsTrue result → (x : ℕ) × CanTurn net.now.nodes dest (moment_of net.now.links counts.now) x }
-{
-    for x in from {
-        if can_turn(net, dest, counts, *x) {
-            return true;
-        }
-    }
-    false
+/// What a few turns come to.
+#[derive(Drop)]
+enum FewTurns {
+    /// The settled counts.
+    Enough(Vec<u64>),
+    /// Counts at which there may be more to turn.
+    TooFew(Vec<u64>),
 }
 
-/// Whether it is worth while to start threads: only where some node can turn at these counts. It is sought among `from`, where
-/// these are given.
-fn can_any_turn(net: &Net, dest: u32, counts: &[u64], from: Option<&[u32]>) -> bool
+/// The counts after a few turns, where it is known which nodes can turn at first; else no node has turned. `Range` where the
+/// destination is no node, or else `Memory`.
+fn after_few_turns(
+    alloc: Global,
+    net: &Net,
+    dest: u32,
+    from: Option<&[u32]>,
+) -> Result<FewTurns, CrewFault>
+    requires { IfSome from (λ from. HoldsSinks net.now dest from.now) }
+    ensures turns { IfOk result (AreFewTurns net.now dest) }
+    ensures range { IfErr result (λ fault. (fault ≡ Range) ↔ (net.now.nodes ≤ dest)) }
+    ensures no_start { IfErr result (λ fault. fault ≢ Start) }
+{
+    // By the law a settled count is at most the number of nodes.
+    net.network_law();
+    let mut counts = zeros(alloc, net, dest)?;
+    let Some(from) = from else {
+        return Ok(FewTurns::TooFew(counts));
+    };
+    if finish_soon(net, dest, &mut counts, from) {
+        Ok(FewTurns::Enough(counts))
+    } else {
+        Ok(FewTurns::TooFew(counts))
+    }
+}
+
+/// Whether it is worth while to start threads: only where some node can turn at these counts.
+fn can_any_turn(net: &Net, dest: u32, counts: &[u64]) -> bool
     requires lawful { AreLawful net.now.nodes dest net.now.links counts.now }
-    requires nodes { IfSome from (λ from. All (λ (x : ℕ). x < net.now.nodes) from.now) }
     ensures { IsTrue result → (x : ℕ) × CanTurn net.now.nodes dest (moment_of net.now.links counts.now) x }
 {
-    if let Some(from) = from {
-        return can_one_turn(net, dest, counts, from);
-    }
     for x in 0..net.nodes() {
         if can_turn(net, dest, counts, x) {
             return true;
@@ -252,18 +264,13 @@ fn finished(mut net: Net, dest: u32, mut counts: Vec<u64>, by_workers: u64) -> S
     }
 }
 
-/// Finishes on one thread what is left to turn, from nodes of `from`, where these are given. The links stay as they are. It takes
-/// no memory.
-fn finished_counts(net: &Net, dest: u32, mut counts: Vec<u64>, from: Option<&[u32]>) -> Vec<u64>
+/// Finishes on one thread what is left to turn. The links stay as they are. It takes no memory.
+fn finished_counts(net: &Net, dest: u32, mut counts: Vec<u64>) -> Vec<u64>
     requires node { dest < net.now.nodes }
     requires lawful { AreLawful net.now.nodes dest net.now.links counts.items }
-    requires from { IfSome from (λ from. HoldsAllThatCanTurn net.now.nodes dest net.now.links counts.items from.now) }
     ensures { IsCounted net.now.nodes dest net.now.links result.items }
 {
     net.network_law();
-    let _turns = match from {
-        Some(from) => finish_from(net, dest, &mut counts, from),
-        None => finish(net, dest, &mut counts),
-    };
+    let _turns = finish(net, dest, &mut counts);
     counts
 }
