@@ -29,7 +29,7 @@ two_pass {X} p (x ∷ xs) (suc i) (suc j) d lt l e f =
     omega (arith, sum_by-cons weight x xs, two_pass p xs i j d (omega arith) (omega arith) e f)
 
 -- if none passes, or no two do
-none_pass : {X : Type 0} (p : X → Bool) (xs : List X) → ((j : ℕ) (d : X) → j < length xs → ¬ (p (get_or xs j d) ≡ true)) → count_by p xs ≡ 0
+pub none_pass : {X : Type 0} (p : X → Bool) (xs : List X) → ((j : ℕ) (d : X) → j < length xs → ¬ (p (get_or xs j d) ≡ true)) → count_by p xs ≡ 0
 none_pass p [] bar = refl
 none_pass {X} p (x ∷ xs) bar =
     let weight : X → ℕ = λ y. cond (p y) 1 0 in

@@ -105,9 +105,10 @@ pub(crate) fn report_of(net: &Net, dest: u32, counts: &[u64]) -> Report
     ensures { IsReport (state_after net.now dest counts.now) result.turned result.cut }
 {
     net.network_law();
+    let turned = counts.iter().sum();
     Report {
-        turned: counts.iter().sum(),
-        cut: alone_nodes(net, dest) + capped_nodes(net.nodes(), counts),
+        turned,
+        cut: alone_nodes(net, dest) + capped_nodes(net.nodes(), counts, turned),
     }
 }
 
@@ -124,12 +125,16 @@ pub(crate) fn alone_nodes(net: &Net, dest: u32) -> u64
     }
 }
 
-/// How many nodes have turned as often as there are nodes.
-fn capped_nodes(nodes: u32, counts: &[u64]) -> u64
-    requires { length counts.now ≡ nodes }
+/// How many nodes have turned as often as there are nodes: none, where there are fewer turns.
+fn capped_nodes(nodes: u32, counts: &[u64], turned: u64) -> u64
+    requires one_each { length counts.now ≡ nodes }
+    requires turned { turned ≡ sum counts.now }
     ensures { result ≡ count_by (λ count. count == nodes) counts.now }
 {
     let cap = u64::from(nodes);
+    if turned < cap {
+        return 0;
+    }
     counts.iter().filter(|count| **count == cap).count() as u64
 }
 

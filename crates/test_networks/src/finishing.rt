@@ -1,6 +1,6 @@
-//! Counts: which are lawful, where `finish` and `finish_from` end, which nodes are sinks, and where a link points.
+//! Counts: which are lawful, where `finish` and `finish_soon` end, which nodes are sinks, and where a link points.
 
-use fr_core::{Sense, finish, finish_from, is_sink, lawful, sense};
+use fr_core::{Sense, finish, finish_soon, is_sink, lawful, sense};
 use fr_net::{First, Net};
 use std::alloc::{AllocError, Global};
 use std::test::Fail;
@@ -42,15 +42,16 @@ fn settles_small_networks(rt: HostRuntime) -> Result<(), Fail> {
 }
 
 #[test]
-fn finishes_from_candidates(rt: HostRuntime) -> Result<(), Fail> {
+fn finishes_soon_or_gives_up(rt: HostRuntime) -> Result<(), Fail> {
     let net = Net::new(rt.alloc(), 3, &[(0, 1), (1, 2)])?;
+    // The three turns look at more than one entry, which is half the links.
     let mut counts = [0, 0, 0];
-    let turns = finish_from(&net, 0, &mut counts, &[2]);
-    assert!(rt; turns == 3 && counts == [0, 1, 2]);
+    assert!(rt; !finish_soon(&net, 0, &mut counts, &[2]));
+    finish(&net, 0, &mut counts);
+    assert!(rt; counts == [0, 1, 2]);
     // A candidate that stands there twice, and one that cannot turn, change nothing.
-    let mut again = [0, 0, 0];
-    let turns = finish_from(&net, 0, &mut again, &[2, 1, 2]);
-    assert!(rt; turns == 3 && again == [0, 1, 2]);
+    let mut settled = [0, 0, 0];
+    assert!(rt; finish_soon(&net, 2, &mut settled, &[2, 1, 2]) && settled == [0, 0, 0]);
     Ok(())
 }
 
