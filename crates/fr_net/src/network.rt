@@ -203,7 +203,7 @@ impl Net {
 
     /// The network with the link from `u` to `v` as well; or the first fault that then stands, in the order of
     /// [`NetFault`], where a closed walk follows the links with the new one among them. `Memory` where no room could be had. Time and
-    /// memory are linear in nodes and links; a way back is sought from both ends of the new link.
+    /// memory are linear in nodes and links, since the network is copied.
     pub fn with_link(&self, alloc: Global, u: u32, v: u32) -> Result<Net, NetFault>
         ensures ok { IfOk result (IsNetworkOf self.now.nodes (self.now.links ++ (u, v) ∷ [])) }
         ensures refused { IfErr result (λ fault. fault ≢ Memory
@@ -243,7 +243,7 @@ impl Net {
     /// Makes these edits where the network stands, each on the links that those before it left, if `way` then answers Ok of the
     /// network that they make, and answers what it answers. Where an edit is refused, as by `with_edits`, where no room could be
     /// had, or where `way` answers a fault, the edits are undone: the network is as it was. Each edit costs the moving of entries in
-    /// two rows, and where it adds a link, one search; only where a row is full all rows are laid out anew, with room to grow.
+    /// two rows, and where it adds a link, mostly a look at two heights, or else one search; only where a row is full all rows are laid out anew, with room to grow.
     pub fn edit_if<T, E, F: Fn(&Net) -> Result<T, E>>(
         &mut self,
         alloc: Global,
