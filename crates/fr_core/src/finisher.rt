@@ -80,7 +80,7 @@ pub fn finish(net: &Net, dest: u32, counts: &mut [u64]) -> u64
 }
 
 /// Goes to where [`finish`] goes, if a few turns lead there, and answers yes: no node can turn any more. Else it gives up and answers no,
-/// once it has looked at rows that are together half as long as there are links; the counts are then those of some turns, and
+/// once the rows of the nodes that it looked at are together longer than all rows of the network; the counts are then those of some turns, and
 /// lawful. For a caller that knows where the first sinks are, and has other means where there is more to turn, as threads. So it costs a
 /// look at each node of `from` and the few turns, and takes no memory. Each node that can turn has to be in `from`, and all that
 /// are there have to be nodes; they need not be able to turn, and may stand there twice.
@@ -91,10 +91,10 @@ pub fn finish_soon(net: &Net, dest: u32, counts: &mut [u64], from: &[u32]) -> bo
     ensures lawful { AreLawful net.now.nodes dest net.now.links counts.new }
     ensures settled { IsTrue result → AreSettled net.now.nodes dest net.now.links counts.new }
 {
-    // By the law a settled network is one in which no node can turn.
+    // By the law a settled network is one in which no node can turn, and twice the number of links fits.
     net.network_law();
     match worklist_from(net, dest, counts, from) {
-        Some(mut work) => turn_sinks(net, dest, counts, &mut work, net.link_count() / 2),
+        Some(mut work) => turn_sinks(net, dest, counts, &mut work, 2 * net.link_count()),
         None => false,
     }
 }

@@ -33,6 +33,18 @@ impl Plan {
         })
     }
 
+    /// The plan, with at most so many calls for each worker.
+    pub(crate) fn with_at_most(&self, calls: u64) -> Plan
+        ensures same { (result.workers ≡ self.now.workers) × (result.seed ≡ self.now.seed) }
+        ensures fewer { (result.budget ≤ self.now.budget) × (result.budget ≤ calls) }
+    {
+        Plan {
+            workers: self.workers,
+            seed: self.seed,
+            budget: self.budget.min(calls),
+        }
+    }
+
     /// How many workers there are, 1 to [`MAX_WORKERS`].
     pub fn workers(&self) -> u32
         ensures { result ≡ self.now.workers }

@@ -97,7 +97,8 @@ pub fn settle_alone(alloc: Global, net: Net, dest: u32) -> Result<Settled, CrewF
 /// given, are nodes, and each sink but the destination is among them; some may stand there twice. Where a few turns settle the
 /// network, or none at all, they are made on the thread that calls, by [`finish_soon`](fr_core::finish_soon): that costs a look at
 /// each of these nodes and the turns, and no thread is started. Else they are the workers' first candidates, in place of all nodes,
-/// and dealt out in turn.
+/// and dealt out in turn; and each worker makes at most as many calls as there are nodes, since with more of them it would take longer
+/// to turn what is left than to search.
 ///
 /// `Range` where the destination is no node, which is tested first, or else `Start` and `Memory` as by `settle`.
 pub fn settled_counts<R: Threads + Wait + Sync, G: Gate + Sync>(
@@ -121,12 +122,16 @@ pub fn settled_counts<R: Threads + Wait + Sync, G: Gate + Sync>(
     if plan.budget() == 0 || !can_any_turn(net, dest, &counts) {
         return Ok(finished_counts(net, dest, counts));
     }
+    let plan = match from {
+        Some(_) => plan.with_at_most(u64::from(net.nodes())),
+        None => *plan,
+    };
     let copy = net.copied(alloc)?;
     let Closed {
         net,
         counts,
         turned: _,
-    } = turned_by_crew(rt, alloc, copy, dest, from, plan, gate)?;
+    } = turned_by_crew(rt, alloc, copy, dest, from, &plan, gate)?;
     Ok(finished_counts(&net, dest, counts))
 }
 

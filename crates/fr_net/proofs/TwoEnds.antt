@@ -14,7 +14,7 @@ use Rattle.fr_net.specs.Faults.{IsFaultless}
 use Rattle.fr_net.specs.Graph.{IsGraph, shown}
 use Rattle.fr_net.specs.Heights.{AreFalling, FitBetween}
 use Rattle.fr_net.specs.Links.{HasPath, IsNet, IsPath, Points, end_of}
-use Rattle.fr_net.specs.PathSearch.{HasBegun, HasMet, HasMetMore, HasMovedEdge, HasPassed, HasWay, IsBeyond, IsPast, IsSettled, IsSide, IsWay, LeadsOn, MeetsNew, is_never, met_by, met_of, never_count, start_of, way_of_ended}
+use Rattle.fr_net.specs.PathSearch.{HasBegun, HasMet, HasMetMore, HasMovedEdge, HasPassed, HasWay, IsBeyond, IsPast, IsMetOrAside, IsSide, IsWay, LeadsOn, MeetsNew, is_never, met_by, met_of, never_count, start_of, way_of_ended}
 use Rattle.fr_net.specs.Network.{Network}
 use Rattle.fr_net.specs.RowLists.{opposite}
 use Rattle.fr_net.specs.Rows.{row}
@@ -137,7 +137,7 @@ more_after {first} {mid} {last} {a} {b} {c} h g =
 met_stays : (f : First) {before after : Side} {old new : List Met} (x : ℕ) → before.first ≡ f → HasMetMore before after old new → HasMet f old x → HasMet f new x
 met_stays f x first_is more h = elim (more.met x) [ inl e ↦ e ∙ h | inr w ↦ rw first_is at w.1 ]
 
-settled_stays : (f : First) {before after : Side} {old new : List Met} (x height : ℕ) → before.first ≡ f → HasMetMore before after old new → IsSettled f before old x height → IsSettled f after new x height
+settled_stays : (f : First) {before after : Side} {old new : List Met} (x height : ℕ) → before.first ≡ f → HasMetMore before after old new → IsMetOrAside f before old x height → IsMetOrAside f after new x height
 settled_stays f x height first_is more (inl met) = inl (met_stays f x first_is more met)
 settled_stays f {before} {after} x height first_is more (inr aside) = inr record {
   beyond = rw (more.same_first, more.same_limit) aside.beyond;
@@ -253,7 +253,7 @@ entry_below n links x entries k d is l = (row_holds n links x (get_or entries k 
 pub passed_stays : {f : First} {before after : Side} {old new : List Met} (heights : List ℕ) (entries : List (ℕ × First)) (place : ℕ) → before.first ≡ f → HasMetMore before after old new → HasPassed heights f before old entries place → HasPassed heights f after new entries place
 passed_stays {f} heights entries place first_is more passed k d lt same = settled_stays f _ _ first_is more (passed k d lt same)
 
-pub passed_more : (heights : List ℕ) (f : First) (side : Side) (met : List Met) (entries : List (ℕ × First)) (place : ℕ) (e : ℕ × First) → HasPassed heights f side met entries place → place < length entries → ((get_or entries place e).1 ≡ f → IsSettled f side met (get_or entries place e).0 (slice_index heights (get_or entries place e).0)) → HasPassed heights f side met entries (place + 1)
+pub passed_more : (heights : List ℕ) (f : First) (side : Side) (met : List Met) (entries : List (ℕ × First)) (place : ℕ) (e : ℕ × First) → HasPassed heights f side met entries place → place < length entries → ((get_or entries place e).1 ≡ f → IsMetOrAside f side met (get_or entries place e).0 (slice_index heights (get_or entries place e).0)) → HasPassed heights f side met entries (place + 1)
 passed_more heights f side met entries place e passed l here k d lt same =
     elim (cases_lt k place) [
       | inl less ↦ passed k d less same
@@ -265,10 +265,10 @@ passed_more heights f side met entries place e passed l here k d lt same =
 -- a side whose next row was read to its end
 pub side_reads : {net : Network} {heights : List ℕ} {f : First} {start limit : ℕ} {met : List Met} {side : Side} (x : ℕ) → IsNet net.nodes net.links → side.read < length side.nodes.items → get_or side.nodes.items side.read 0 ≡ x → HasPassed heights f side met (row net.nodes net.links x) (length (row net.nodes net.links x)) → IsSide net heights f start limit met side → IsSide net heights f start limit met (record side { read = side.read + 1 })
 side_reads {net} {heights} {f} {start} {limit} {met} {side} x is_net unread at_read passed s =
-    let here : (w : ℕ) → LeadsOn f net.links x w → IsSettled f side met w (slice_index heights w) = λ w step.
+    let here : (w : ℕ) → LeadsOn f net.links x w → IsMetOrAside f side met w (slice_index heights w) = λ w step.
     let at = row_of_leads f net.nodes net.links x w is_net step in
     let is : get_or (row net.nodes net.links x) at.0 (w, f) ≡ (w, f) = at.2 in
-    let entry_settled : ℕ × First → Type 0 = λ e. e.1 ≡ f → IsSettled f side met e.0 (slice_index heights e.0) in
+    let entry_settled : ℕ × First → Type 0 = λ e. e.1 ≡ f → IsMetOrAside f side met e.0 (slice_index heights e.0) in
     let done : entry_settled (w, f) = subst entry_settled is (passed at.0 (w, f) at.1) in
     done refl in
     record {
@@ -289,7 +289,7 @@ side_reads {net} {heights} {f} {start} {limit} {met} {side} x is_net unread at_r
       room = s.room;
     }
   where
-    again : (w : ℕ) → IsSettled f side met w (slice_index heights w) → IsSettled f (record side { read = side.read + 1 }) met w (slice_index heights w)
+    again : (w : ℕ) → IsMetOrAside f side met w (slice_index heights w) → IsMetOrAside f (record side { read = side.read + 1 }) met w (slice_index heights w)
     again w (inl h) = inl h
     again w (inr aside) = inr record { beyond = aside.beyond; past = aside.past }
 

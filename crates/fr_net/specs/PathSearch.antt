@@ -68,8 +68,8 @@ pub record IsLeftAside (side : Side) (height : ℕ) : Type 0 where
   pub past : IsPast side.first side.edge height
 
 -- the side has met x, of this height, or left it aside
-abbrev pub IsSettled : First → Side → List Met → ℕ → ℕ → Type 0
-IsSettled first side met x height = HasMet first met x ⊎ IsLeftAside side height
+abbrev pub IsMetOrAside : First → Side → List Met → ℕ → ℕ → Type 0
+IsMetOrAside first side met x height = HasMet first met x ⊎ IsLeftAside side height
 
 -- the side as it was, but that its edge may have come nearer
 pub record HasMovedEdge (before after : Side) : Type 0 where
@@ -100,14 +100,14 @@ pub record IsSide (net : Network) (heights : List ℕ) (first : First) (start li
   pub ways : All (HasWay first net.links start) side.nodes.items
   pub inside : side.read ≤ length side.nodes.items
   pub within : All (λ (x : ℕ). ¬ IsBeyond first limit (slice_index heights x)) side.nodes.items
-  pub leads_on : (k w : ℕ) → k < side.read → LeadsOn first net.links (slice_index side.nodes.items k) w → IsSettled first side met w (slice_index heights w)
+  pub leads_on : (k w : ℕ) → k < side.read → LeadsOn first net.links (slice_index side.nodes.items k) w → IsMetOrAside first side met w (slice_index heights w)
   pub room : HasRoom side met
 
 -- the side has met or left aside the neighbour of each entry of the row before this place whose link leaves in its direction
 abbrev pub HasPassed : List ℕ → First → Side → List Met → List (ℕ × First) → ℕ → Type 0
 HasPassed heights first side met entries place =
     (k : ℕ) (d : ℕ × First) → k < place → (slice_index_or entries k d).1 ≡ first
-    → IsSettled first side met (slice_index_or entries k d).0 (slice_index heights (slice_index_or entries k d).0)
+    → IsMetOrAside first side met (slice_index_or entries k d).0 (slice_index heights (slice_index_or entries k d).0)
 
 -- the side met x, which no side had met
 pub record MeetsNew (before after : Side) (met_before met_after : List Met) (x : ℕ) : Type 0 where

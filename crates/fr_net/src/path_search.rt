@@ -7,7 +7,7 @@ ghost use Rattle.std.specs.Prelude.{◌≡◌, ◌≢◌, ℕ, ◌<◌, ◌≤�
 ghost use Rattle.fr_net.specs.Graph.{IsGraph, shown};
 ghost use Rattle.fr_net.specs.Links.{HasPath};
 ghost use Rattle.fr_net.specs.RowLists.{opposite};
-ghost use Rattle.fr_net.specs.PathSearch.{HasBegun, HasMet, HasMetMore, HasMovedEdge, HasRoom, HasWay, IsBeyond, IsLeftAside, IsSettled, IsSide, IsWay, MeetsNew, met_by, start_of, way_of_ended};
+ghost use Rattle.fr_net.specs.PathSearch.{HasBegun, HasMet, HasMetMore, HasMovedEdge, HasRoom, HasWay, IsBeyond, IsLeftAside, IsMetOrAside, IsSide, IsWay, MeetsNew, met_by, start_of, way_of_ended};
 
 use crate::graph::Graph;
 use crate::rows::First;
@@ -126,7 +126,7 @@ impl Side {
         requires node { node < length met.old }
         requires room { HasRoom self.old met.old }
         ensures other { IsTrue result → HasMet (opposite self.old.first) met.old node }
-        ensures met { ¬ IsTrue result → IsSettled self.old.first self.new met.new node height }
+        ensures met { ¬ IsTrue result → IsMetOrAside self.old.first self.new met.new node height }
         ensures change { (HasMovedEdge self.old self.new × (met.new ≡ met.old)) ⊎ (MeetsNew self.old self.new met.old met.new node × ¬ IsBeyond self.old.first self.old.limit height) }
     {
         let own = Met::by(self.first);

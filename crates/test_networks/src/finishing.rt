@@ -44,7 +44,7 @@ fn settles_small_networks(rt: HostRuntime) -> Result<(), Fail> {
 #[test]
 fn finishes_soon_or_gives_up(rt: HostRuntime) -> Result<(), Fail> {
     let net = Net::new(rt.alloc(), 3, &[(0, 1), (1, 2)])?;
-    // The three turns look at more than one entry, which is half the links.
+    // The three turns look at more entries than the four of all rows.
     let mut counts = [0, 0, 0];
     assert!(rt; !finish_soon(&net, 0, &mut counts, &[2]));
     finish(&net, 0, &mut counts);

@@ -3,7 +3,7 @@ use denote.Enum.Bare.{same_false, same_true}
 use Rattle.std.proofs.lemmas.List.{get_or_default}
 use Rattle.fr_net.proofs.TwoEnds.{entry_below, entry_leads, graph_faultless, more_after, other_was, passed_more, passed_stays, side_goes_on, side_reads, way_on}
 use Rattle.fr_net.specs.Graph.{shown}
-use Rattle.fr_net.specs.PathSearch.{HasMet, HasPassed, HasWay, IsSettled, start_of}
+use Rattle.fr_net.specs.PathSearch.{HasMet, HasPassed, HasWay, IsMetOrAside, start_of}
 use Rattle.fr_net.specs.RowLists.{opposite}
 use Rattle.fr_net.specs.Rows.{row}
 use Rattle.fr_net.specs.contracts.rows.First.{the_type}
@@ -64,7 +64,7 @@ loop-neighbour-preserved c =
     elim c.else-eq.branch [
       | else-eq-via-then-eq+else-meet w ↦
           let on = side_goes_on (entry at).0 (below at) (way at w.if-eq.true) (rw w.height.ensures at w.meet.ensures.change) inv.side in
-          let settled : IsSettled f w.meet.new.self w.meet.new.met (entry at).0 height = rw (inv.side.first_is, w.height.ensures) at (w.meet.ensures.met (λ is. cc (is, w.if-meet.false))) in
+          let settled : IsMetOrAside f w.meet.new.self w.meet.new.met (entry at).0 height = rw (inv.side.first_is, w.height.ensures) at (w.meet.ensures.met (λ is. cc (is, w.if-meet.false))) in
           rw (w.self-is, w.met-is) record {
             side = on.0;
             more = more_after inv.more on.1;
@@ -72,7 +72,7 @@ loop-neighbour-preserved c =
             passed = passed_more heights f w.meet.new.self w.meet.new.met c.row-row.result.now place (0, Outward) (passed_stays heights c.row-row.result.now place inv.side.first_is on.1 inv.passed) c.loop-neighbour-test.true (λ _. settled);
           }
       | else-eq-via-else-eq w ↦
-          let passes : (entry at).1 ≡ f → IsSettled f c.loop-neighbour.self c.loop-neighbour.met (entry at).0 height = λ is. absurd (same_false the_type _ _ (sym c.eq.ensures ∙ w.if-eq.false) (is ∙ sym inv.side.first_is)) in
+          let passes : (entry at).1 ≡ f → IsMetOrAside f c.loop-neighbour.self c.loop-neighbour.met (entry at).0 height = λ is. absurd (same_false the_type _ _ (sym c.eq.ensures ∙ w.if-eq.false) (is ∙ sym inv.side.first_is)) in
           rw (w.self-is, w.met-is) record {
             side = inv.side;
             more = inv.more;
