@@ -79,11 +79,29 @@ pub fn finish(net: &Net, dest: u32, counts: &mut [u64]) -> u64
     finish_worklist(net, dest, counts, &mut work)
 }
 
-/// Goes to where [`finish`] goes, if a few turns lead there, and answers yes: no node can turn any more. Else it gives up and answers no,
+/// Goes to where [`finish`] goes, and looks for nodes that can turn among `from` alone and among the neighbours of nodes that it
+/// turns: for a caller that knows where the first of them are. So it costs a look at each node of `from` and the few turns, or else
+/// no more than `finish`, and takes no memory. Each node that can turn has to be in `from`, and all that are there have to be
+/// nodes; they need not be able to turn, and may stand there twice.
+pub fn finish_from(net: &Net, dest: u32, counts: &mut [u64], from: &[u32])
+    requires node { dest < net.now.nodes }
+    requires lawful { AreLawful net.now.nodes dest net.now.links counts.old }
+    requires from { HoldsAllThatCanTurn net.now.nodes dest net.now.links counts.old from.now }
+    ensures { AreSettled net.now.nodes dest net.now.links counts.new }
+{
+    net.network_law();
+    match worklist_from(net, dest, counts, from) {
+        Some(mut work) => settle(net, dest, counts, &mut work),
+        None => {
+            let _turns = finish(net, dest, counts);
+        }
+    }
+}
+
+/// Goes to where [`finish_from`] goes, if a few turns lead there, and answers yes: no node can turn any more. Else it gives up and answers no,
 /// once the rows of the nodes that it looked at are together longer than all rows of the network; the counts are then those of some turns, and
-/// lawful. For a caller that knows where the first sinks are, and has other means where there is more to turn, as threads. So it costs a
-/// look at each node of `from` and the few turns, and takes no memory. Each node that can turn has to be in `from`, and all that
-/// are there have to be nodes; they need not be able to turn, and may stand there twice.
+/// lawful. For a caller that has other means where there is more to turn, as threads. It takes no memory. The same nodes have to be in
+/// `from`.
 pub fn finish_soon(net: &Net, dest: u32, counts: &mut [u64], from: &[u32]) -> bool
     requires node { dest < net.now.nodes }
     requires lawful { AreLawful net.now.nodes dest net.now.links counts.old }

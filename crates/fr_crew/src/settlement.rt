@@ -2,6 +2,7 @@
 
 ghost use Rattle.std.specs.Prelude.{◌≡◌, ◌≢◌, ℕ, ◌<◌, ◌≤◌, ◌^◌, ◌↔◌, IfOk, IfErr, IfSome, IsTrue, replicate, sum, sum_by};
 ghost use Rattle.fr_net.specs.Counts.{AreLawful};
+ghost use Rattle.fr_core.specs.Finish.{HoldsAllThatCanTurn};
 ghost use Rattle.fr_core.specs.History.{moment_of};
 ghost use Rattle.fr_core.specs.Legal.{CanTurn};
 ghost use Rattle.fr_crew.specs.Settlements.{AreFewTurns, HoldsSinks, IsCounted, IsSettlement};
@@ -11,7 +12,7 @@ use crate::crew::run_crew;
 use crate::fault::CrewFault;
 use crate::gate::Gate;
 use crate::plan::Plan;
-use fr_core::{can_turn, finish, finish_soon};
+use fr_core::{can_turn, finish, finish_from, finish_soon};
 use fr_net::Net;
 use fr_round::{Closed, Round};
 use std::alloc::Global;
@@ -115,12 +116,15 @@ pub fn settled_counts<R: Threads + Wait + Sync, G: Gate + Sync>(
     ensures range { IfErr result (λ fault. (fault ≡ Range) ↔ (net.now.nodes ≤ dest)) }
     ensures no_start { plan.now.budget ≡ 0 → IfErr result (λ fault. fault ≢ Start) }
 {
+    if plan.budget() == 0 {
+        return settled_counts_alone(alloc, net, dest, from);
+    }
     let counts = match after_few_turns(alloc, net, dest, from)? {
         FewTurns::Enough(counts) => return Ok(counts),
         FewTurns::TooFew(counts) => counts,
     };
-    if plan.budget() == 0 || !can_any_turn(net, dest, &counts) {
-        return Ok(finished_counts(net, dest, counts));
+    if !can_any_turn(net, dest, &counts) {
+        return Ok(finished_counts(net, dest, counts, None));
     }
     let plan = match from {
         Some(_) => plan.with_at_most(u64::from(net.nodes())),
@@ -132,11 +136,11 @@ pub fn settled_counts<R: Threads + Wait + Sync, G: Gate + Sync>(
         counts,
         turned: _,
     } = turned_by_crew(rt, alloc, copy, dest, from, &plan, gate)?;
-    Ok(finished_counts(&net, dest, counts))
+    Ok(finished_counts(&net, dest, counts, None))
 }
 
 /// The settled counts of a network, which stays as it is, on the thread that calls: by [`finish`](fr_core::finish) alone, or
-/// where `from` is given and a few turns are enough, by [`finish_soon`](fr_core::finish_soon). They are those of [`settled_counts`]. It starts no thread and
+/// where `from` is given, by [`finish_from`](fr_core::finish_from). They are those of [`settled_counts`]. It starts no thread and
 /// waits for nobody.
 ///
 /// `Range` where the destination is no node, which is tested first, or else `Memory`; never `Start`.
@@ -151,10 +155,8 @@ pub fn settled_counts_alone(
     ensures range { IfErr result (λ fault. (fault ≡ Range) ↔ (net.now.nodes ≤ dest)) }
     ensures no_start { IfErr result (λ fault. fault ≢ Start) }
 {
-    match after_few_turns(alloc, net, dest, from)? {
-        FewTurns::Enough(counts) => Ok(counts),
-        FewTurns::TooFew(counts) => Ok(finished_counts(net, dest, counts)),
-    }
+    let counts = zeros(alloc, net, dest)?;
+    Ok(finished_counts(net, dest, counts, from))
 }
 
 /// The counts with which every settlement begins: no node has turned. `Range` where the destination is no node, or else
@@ -269,13 +271,20 @@ fn finished(mut net: Net, dest: u32, mut counts: Vec<u64>, by_workers: u64) -> S
     }
 }
 
-/// Finishes on one thread what is left to turn. The links stay as they are. It takes no memory.
-fn finished_counts(net: &Net, dest: u32, mut counts: Vec<u64>) -> Vec<u64>
+/// Finishes on one thread what is left to turn, from nodes of `from`, where these are given. The links stay as they are. It takes
+/// no memory.
+fn finished_counts(net: &Net, dest: u32, mut counts: Vec<u64>, from: Option<&[u32]>) -> Vec<u64>
     requires node { dest < net.now.nodes }
     requires lawful { AreLawful net.now.nodes dest net.now.links counts.items }
+    requires from { IfSome from (λ from. HoldsAllThatCanTurn net.now.nodes dest net.now.links counts.items from.now) }
     ensures { IsCounted net.now.nodes dest net.now.links result.items }
 {
     net.network_law();
-    let _turns = finish(net, dest, &mut counts);
+    match from {
+        Some(from) => finish_from(net, dest, &mut counts, from),
+        None => {
+            let _turns = finish(net, dest, &mut counts);
+        }
+    }
     counts
 }

@@ -1,6 +1,6 @@
-//! Counts: which are lawful, where `finish` and `finish_soon` end, which nodes are sinks, and where a link points.
+//! Counts: which are lawful, where `finish`, `finish_from` and `finish_soon` end, which nodes are sinks, and where a link points.
 
-use fr_core::{Sense, finish, finish_soon, is_sink, lawful, sense};
+use fr_core::{Sense, finish, finish_from, finish_soon, is_sink, lawful, sense};
 use fr_net::{First, Net};
 use std::alloc::{AllocError, Global};
 use std::test::Fail;
@@ -42,16 +42,21 @@ fn settles_small_networks(rt: HostRuntime) -> Result<(), Fail> {
 }
 
 #[test]
-fn finishes_soon_or_gives_up(rt: HostRuntime) -> Result<(), Fail> {
+fn finishes_from_candidates(rt: HostRuntime) -> Result<(), Fail> {
     let net = Net::new(rt.alloc(), 3, &[(0, 1), (1, 2)])?;
-    // The three turns look at more entries than the four of all rows.
     let mut counts = [0, 0, 0];
-    assert!(rt; !finish_soon(&net, 0, &mut counts, &[2]));
-    finish(&net, 0, &mut counts);
+    finish_from(&net, 0, &mut counts, &[2]);
     assert!(rt; counts == [0, 1, 2]);
     // A candidate that stands there twice, and one that cannot turn, change nothing.
+    let mut again = [0, 0, 0];
+    finish_from(&net, 0, &mut again, &[2, 1, 2]);
+    assert!(rt; again == [0, 1, 2]);
+    // The three turns look at more entries than the four of all rows.
+    let mut given_up = [0, 0, 0];
+    assert!(rt; !finish_soon(&net, 0, &mut given_up, &[2]));
+    // Where node 2 is the destination, nothing can turn.
     let mut settled = [0, 0, 0];
-    assert!(rt; finish_soon(&net, 2, &mut settled, &[2, 1, 2]) && settled == [0, 0, 0]);
+    assert!(rt; finish_soon(&net, 2, &mut settled, &[2]) && settled == [0, 0, 0]);
     Ok(())
 }
 
