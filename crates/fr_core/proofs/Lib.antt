@@ -19,6 +19,7 @@ pub mod LevelSearches
 pub mod LevelStarts
 pub mod SettledRuns
 pub mod Worklists
+pub mod CutOff
 pub mod SmallNetworks
 pub mod Loads
 pub mod MachineSteps

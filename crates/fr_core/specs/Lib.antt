@@ -11,6 +11,7 @@ pub mod NodeCounts
 pub mod Reaching
 pub mod LevelSearch
 pub mod Worklist
+pub mod CutOff
 pub mod Runs
 pub mod Limits
 pub mod Machine

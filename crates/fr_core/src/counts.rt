@@ -1,4 +1,5 @@
-//! What the counts of a network say: where a link points now, which counts are lawful, and which nodes are sinks.
+//! What the counts of a network say: where a link points now, which counts are lawful, which nodes are sinks, and whether none of them can
+//! turn.
 
 ghost use Rattle.std.specs.Prelude.{◌≡◌, ℕ, ◌<◌, ◌↔◌, IsTrue, length, All};
 ghost use Rattle.fr_net.specs.Counts.{AreLawful, IsKept, links_at};
@@ -8,6 +9,7 @@ ghost use Rattle.fr_core.specs.History.{moment_of};
 ghost use Rattle.fr_core.specs.Legal.{CanTurn};
 ghost use Rattle.fr_core.specs.NodeCounts.{IsLawfulCount, IsMostCount};
 ghost use Rattle.fr_core.specs.Senses.{sense_of};
+ghost use Rattle.fr_core.specs.Settled.{AreSettled};
 
 use crate::directions::Sense;
 use fr_net::{First, Net};
@@ -128,4 +130,21 @@ pub fn can_turn(net: &Net, dest: u32, counts: &[u64], x: u32) -> bool
     ensures { IsTrue result ↔ CanTurn net.now.nodes dest (moment_of net.now.links counts.now) x }
 {
     x != dest && counts[x as usize] < u64::from(net.nodes()) && is_sink(net, counts, x)
+}
+
+/// Whether lawful counts are the settled ones: no node can turn any more. It looks at nodes until it finds one that can; linear in
+/// nodes and links where there is none.
+pub fn are_settled(net: &Net, dest: u32, counts: &[u64]) -> bool
+    requires node { dest < net.now.nodes }
+    requires lawful { AreLawful net.now.nodes dest net.now.links counts.now }
+    ensures { IsTrue result ↔ AreSettled net.now.nodes dest net.now.links counts.now }
+{
+    // By the law lawful counts are settled where no node can turn.
+    net.network_law();
+    for x in 0..net.nodes() {
+        if can_turn(net, dest, counts, x) {
+            return false;
+        }
+    }
+    true
 }

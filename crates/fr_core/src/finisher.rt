@@ -1,15 +1,16 @@
 //! Where every schedule ends, found on one thread.
 
-ghost use Rattle.std.specs.Prelude.{◌≡◌, ℕ, ◌<◌, IsTrue, IfSome};
+ghost use Rattle.std.specs.Prelude.{◌≡◌, ℕ, ◌<◌, ◌↔◌, IsTrue, IfSome};
 ghost use Rattle.fr_net.specs.Counts.{AreLawful};
 ghost use Rattle.fr_net.specs.Links.{IsNet};
 ghost use Rattle.fr_core.specs.Finish.{HoldsAllThatCanTurn, IsFinish};
 ghost use Rattle.fr_core.specs.Settled.{AreSettled};
 ghost use Rattle.fr_core.specs.Worklist.{AreNodes, HoldsAll};
 
+use crate::counts::are_settled;
 use crate::levels;
 use crate::queue::Queue;
-use crate::worklist::{add_sinks, add_sinks_among, turn_sinks};
+use crate::worklist::{add_sinks, add_sinks_among, turn_few};
 use fr_net::{MAX_NODES, Net};
 
 /// Writes the settled counts: node by node where few turns are left, and else by a search, which goes on from counts that are
@@ -22,9 +23,7 @@ fn settle(net: &Net, dest: u32, counts: &mut [u64], work: &mut Queue)
     requires all { HoldsAll net.now.nodes dest net.now.links counts.old work.old 0 }
     ensures { AreSettled net.now.nodes dest net.now.links counts.new }
 {
-    // By the law there are few enough links that twice their number fits: so many entries all rows have together.
-    net.network_law();
-    if !turn_sinks(net, dest, counts, work, 2 * net.link_count()) {
+    if !turn_few(net, dest, counts, work) {
         levels::settle(net, dest, counts, work);
     }
 }
@@ -62,8 +61,9 @@ fn worklist_from(net: &Net, dest: u32, counts: &[u64], from: &[u32]) -> Option<Q
 }
 
 /// Goes from lawful counts to those at which turning node by node ends, and answers how many turns lie between. Few turns are
-/// made one by one; where they would cost more, a search writes the settled counts in their place. So it is linear in nodes
-/// and links, however many turns there are, and it takes no memory. That turning ends there is a law, the clause
+/// made one by one; a small part that is cut off is known by them, and given the counts at which it ends; and where they would cost more, a
+/// search writes the settled counts in their place. So it is linear in nodes and links, however many turns there are, and it takes no
+/// memory. That turning ends there is a law, the clause
 /// `leads` of [`schedule_law`](crate::laws::schedule_law): a run of turns alone leads from the old counts to the new ones,
 /// has as many turns as this answers, and leaves no node that can turn. By its clause `alike` each run that leaves no such
 /// node ends there too. The destination has to be a node, and the counts have to be lawful, as [`lawful`](crate::lawful)
@@ -98,21 +98,23 @@ pub fn finish_from(net: &Net, dest: u32, counts: &mut [u64], from: &[u32])
     }
 }
 
-/// Goes to where [`finish_from`] goes, if a few turns lead there, and answers yes: no node can turn any more. Else it gives up and answers no,
-/// once the rows of the nodes that it looked at are together longer than all rows of the network; the counts are then those of some turns, and
-/// lawful. For a caller that has other means where there is more to turn, as threads. It takes no memory. The same nodes have to be in
-/// `from`.
+/// Goes to where [`finish_from`] goes, if a few turns lead there, or these and the turns of a small part that is cut off. Else it gives up,
+/// once it has looked at about as many neighbours as all nodes have; the counts are then those of some turns, and lawful. The answer
+/// is yes exactly where no node can turn any more, and no where it gave up with a node that can: it then looks for one, as
+/// [`are_settled`] does. So it is linear in nodes and links at most. For a caller that has other means where there is more to turn, as
+/// threads. It takes no memory. The same nodes have to be in `from`.
 pub fn finish_soon(net: &Net, dest: u32, counts: &mut [u64], from: &[u32]) -> bool
     requires node { dest < net.now.nodes }
     requires lawful { AreLawful net.now.nodes dest net.now.links counts.old }
     requires from { HoldsAllThatCanTurn net.now.nodes dest net.now.links counts.old from.now }
     ensures lawful { AreLawful net.now.nodes dest net.now.links counts.new }
-    ensures settled { IsTrue result → AreSettled net.now.nodes dest net.now.links counts.new }
+    ensures settled { IsTrue result ↔ AreSettled net.now.nodes dest net.now.links counts.new }
 {
-    // By the law a settled network is one in which no node can turn, and twice the number of links fits.
+    // By the law a settled network is one in which no node can turn.
     net.network_law();
-    match worklist_from(net, dest, counts, from) {
-        Some(mut work) => turn_sinks(net, dest, counts, &mut work, 2 * net.link_count()),
+    let none_left = match worklist_from(net, dest, counts, from) {
+        Some(mut work) => turn_few(net, dest, counts, &mut work),
         None => false,
-    }
+    };
+    none_left || are_settled(net, dest, counts)
 }

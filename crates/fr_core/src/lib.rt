@@ -10,6 +10,7 @@
 
 mod check;
 mod counts;
+mod cut_off;
 mod directions;
 mod entry;
 mod finisher;
@@ -25,7 +26,7 @@ mod worker;
 mod worklist;
 
 pub use check::{CheckFault, Why, check_run};
-pub use counts::{can_turn, is_sink, lawful, sense};
+pub use counts::{are_settled, can_turn, is_sink, lawful, sense};
 pub use directions::Sense;
 pub use entry::{Entry, Reply};
 pub use finisher::{finish, finish_from, finish_soon};

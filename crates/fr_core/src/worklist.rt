@@ -1,6 +1,6 @@
 //! Turning node by node, as long as that is cheap.
 
-ghost use Rattle.std.specs.Prelude.{◌≡◌, ℕ, ◌<◌, ◌≤◌, ◌++◌, [], true, map, length};
+ghost use Rattle.std.specs.Prelude.{◌≡◌, ℕ, ◌<◌, ◌≤◌, ◌++◌, [], true, false, map, length};
 ghost use Rattle.fr_net.specs.Counts.{AreLawful};
 ghost use Rattle.fr_net.specs.Limits.{most_nodes};
 ghost use Rattle.fr_net.specs.Links.{IsNet};
@@ -12,6 +12,7 @@ ghost use Rattle.fr_core.specs.Legal.{NoneCanTurn};
 ghost use Rattle.fr_core.specs.Worklist.{AreNodes, HoldsAll, Carries};
 
 use crate::counts::can_turn;
+use crate::cut_off::cap_cut_off;
 use crate::queue::Queue;
 use fr_net::Net;
 
@@ -51,6 +52,7 @@ fn add_neighbours(net: &Net, x: u32, work: &mut Queue) -> bool
     requires node { x < net.now.nodes }
     ensures added { result ≡ true
         → work.new ≡ work.old ++ map (λ (e : ℕ × First). e.0) (row net.now.nodes net.now.links x) }
+    ensures full { result ≡ false → work.new ≡ work.old }
 {
     let row = net.row(x);
     if !work.has_room(row.len()) {
@@ -73,6 +75,7 @@ fn visit(net: &Net, dest: u32, counts: &mut [u64], x: u32, work: &mut Queue) -> 
     ensures nodes { result ≡ true → AreNodes net.now.nodes work.new }
     ensures carries { result ≡ true
         → Carries net.now.nodes dest net.now.links counts.old work.old x counts.new work.new }
+    ensures unchanged { result ≡ false → (counts.new ≡ counts.old) × (work.new ≡ work.old) }
 {
     if !can_turn(net, dest, counts, x) {
         return true;
@@ -84,32 +87,53 @@ fn visit(net: &Net, dest: u32, counts: &mut [u64], x: u32, work: &mut Queue) -> 
     true
 }
 
-/// Turns nodes from a worklist, which begins with all that can turn, until none can turn, and answers yes; or gives up and
-/// answers no, where the worklist has no more room, or the rows of the nodes that it looked at are together longer than
-/// the allowance.
-pub(crate) fn turn_sinks(
+/// Turns nodes from a worklist that holds all that can turn at the place `at` or behind it, and answers up to which place it came. That is the
+/// end of the list where none can turn any more. It stops before, where the worklist has no more room, or the rows of the nodes that
+/// it looks at would be together longer than the allowance.
+fn turn_sinks(
     net: &Net,
     dest: u32,
     counts: &mut [u64],
     work: &mut Queue,
+    mut at: usize,
     mut allowance: usize,
-) -> bool
+) -> usize
     requires net { IsNet net.now.nodes net.now.links }
+    requires lawful { AreLawful net.now.nodes dest net.now.links counts.old }
+    requires nodes { AreNodes net.now.nodes work.old }
+    requires all { HoldsAll net.now.nodes dest net.now.links counts.old work.old at }
+    ensures lawful { AreLawful net.now.nodes dest net.now.links counts.new }
+    ensures nodes { AreNodes net.now.nodes work.new }
+    ensures all { HoldsAll net.now.nodes dest net.now.links counts.new work.new result }
+{
+    while at < work.len() {
+        let x = work.node(at);
+        let cost = net.degree(x) as usize;
+        if cost > allowance || !visit(net, dest, counts, x, work) {
+            return at;
+        }
+        allowance -= cost;
+        at += 1;
+    }
+    at
+}
+
+/// Turns nodes from a worklist, which begins with all that can turn, as long as that is cheap: whether none can turn any more. It gives
+/// up where the worklist has no more room, or it has looked at about as many neighbours as all nodes have.
+pub(crate) fn turn_few(net: &Net, dest: u32, counts: &mut [u64], work: &mut Queue) -> bool
     requires lawful { AreLawful net.now.nodes dest net.now.links counts.old }
     requires nodes { AreNodes net.now.nodes work.old }
     requires all { HoldsAll net.now.nodes dest net.now.links counts.old work.old 0 }
     ensures lawful { AreLawful net.now.nodes dest net.now.links counts.new }
     ensures none { result ≡ true → NoneCanTurn net.now.nodes dest (moment_of net.now.links counts.new) }
 {
-    let mut at = 0;
-    while at < work.len() {
-        let x = work.node(at);
-        let cost = net.degree(x) as usize;
-        if cost > allowance || !visit(net, dest, counts, x, work) {
-            return false;
-        }
-        allowance -= cost;
-        at += 1;
+    // By the law there are few enough links that twice their number fits: so many entries all rows have together.
+    net.network_law();
+    // A small part that is cut off would turn on and on. A few turns show it, and need not be gone on with.
+    let at = turn_sinks(net, dest, counts, work, 0, net.nodes() as usize);
+    if at < work.len() {
+        cap_cut_off(net, dest, counts);
     }
-    true
+    let end = turn_sinks(net, dest, counts, work, at, 2 * net.link_count());
+    end >= work.len()
 }

@@ -22,10 +22,14 @@ zeros_hold net d from holds = record {
   all = λ x can. holds.sinks x (subst (λ (links : List (ℕ × ℕ)). IsSink links x) (links_at-zeros net.nodes net.links) can.sink) can.not_destination;
 }
 
--- settled counts that were written in the place of those of a vector
-pub counted : {Z : Type 0} (n d : ℕ) (first : List (ℕ × ℕ)) → IsNet n first → d < n → (before : Vec ℕ Z) (after : List ℕ) → length before.items ≡ n → AreSettled n d first after → IsCounted n d first (with_items before after).items
-counted n d first net below before after long settled = rw (with_items_is before after (omega (arith, settled.one_each, long))) (record {
+-- settled counts, at most n * n together
+pub counted_at : (n d : ℕ) (first : List (ℕ × ℕ)) → IsNet n first → d < n → (counts : List ℕ) → AreSettled n d first counts → IsCounted n d first counts
+counted_at n d first net below counts settled = record {
   destination = below;
   settled = settled;
-  most = lawful_sum n d first after (settled_lawful n d first net below after settled);
-})
+  most = lawful_sum n d first counts (settled_lawful n d first net below counts settled);
+}
+
+-- settled counts that were written in the place of those of a vector
+pub counted : {Z : Type 0} (n d : ℕ) (first : List (ℕ × ℕ)) → IsNet n first → d < n → (before : Vec ℕ Z) (after : List ℕ) → length before.items ≡ n → AreSettled n d first after → IsCounted n d first (with_items before after).items
+counted n d first net below before after long settled = rw (with_items_is before after (omega (arith, settled.one_each, long))) (counted_at n d first net below after settled)

@@ -2,11 +2,9 @@
 use Rattle.std.specs.Prelude.{◌≡◌, ℕ, ◌<◌, ◌≤◌, ◌+◌, ◌*◌, List, sum}
 use Rattle.std.specs.List.{All, Contains}
 use Rattle.fr_net.specs.Network.{Network, net_of}
-use Rattle.fr_net.specs.Counts.{AreLawful, links_at}
+use Rattle.fr_net.specs.Counts.{links_at}
 use Rattle.fr_net.specs.Turn.{IsSink}
 use Rattle.fr_core.specs.Settled.{AreSettled}
-use Rattle.fr_crew.specs.declared.settlement.FewTurns.{FewTurns}
-use Rattle.fr_crew.specs.declared.settlement.FewTurns.TheVariants.{Enough, TooFew}
 use Rattle.fr_crew.specs.declared.settlement.Settled.{Settled}
 
 -- the network with these first links is settled: the destination is a node,
@@ -32,8 +30,3 @@ pub record IsCounted (n d : ℕ) (first : List (ℕ × ℕ)) (counts : List ℕ)
 pub record HoldsSinks (net : Network) (d : ℕ) (from : List ℕ) : Type 0 where
   pub nodes : All (λ (x : ℕ). x < net.nodes) from
   pub sinks : (x : ℕ) → IsSink net.links x → ¬ (x ≡ d) → Contains from x
-
--- a few turns of a network whose destination is a node led to its settled counts, or to lawful ones
-abbrev pub AreFewTurns : Network → ℕ → FewTurns → Type 0
-AreFewTurns net d (Enough counts) = IsCounted net.nodes d net.links counts.items
-AreFewTurns net d (TooFew counts) = (d < net.nodes) × AreLawful net.nodes d net.links counts.items

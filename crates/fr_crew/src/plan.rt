@@ -33,10 +33,11 @@ impl Plan {
         })
     }
 
-    /// The plan, with at most so many calls for each worker.
+    /// The plan, with at most so many calls for each worker: its budget or these, whichever is less.
     pub(crate) fn with_at_most(&self, calls: u64) -> Plan
         ensures same { (result.workers ≡ self.now.workers) × (result.seed ≡ self.now.seed) }
         ensures fewer { (result.budget ≤ self.now.budget) × (result.budget ≤ calls) }
+        ensures either { (result.budget ≡ self.now.budget) ⊎ (result.budget ≡ calls) }
     {
         Plan {
             workers: self.workers,

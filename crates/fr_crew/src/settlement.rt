@@ -1,18 +1,16 @@
 //! Settling a network.
 
-ghost use Rattle.std.specs.Prelude.{◌≡◌, ◌≢◌, ℕ, ◌<◌, ◌≤◌, ◌^◌, ◌↔◌, IfOk, IfErr, IfSome, IsTrue, replicate, sum, sum_by};
+ghost use Rattle.std.specs.Prelude.{◌≡◌, ◌≢◌, ℕ, ◌<◌, ◌≤◌, ◌^◌, ◌↔◌, IfOk, IfErr, IfSome, replicate, sum, sum_by};
 ghost use Rattle.fr_net.specs.Counts.{AreLawful};
 ghost use Rattle.fr_core.specs.Finish.{HoldsAllThatCanTurn};
-ghost use Rattle.fr_core.specs.History.{moment_of};
-ghost use Rattle.fr_core.specs.Legal.{CanTurn};
-ghost use Rattle.fr_crew.specs.Settlements.{AreFewTurns, HoldsSinks, IsCounted, IsSettlement};
+ghost use Rattle.fr_crew.specs.Settlements.{HoldsSinks, IsCounted, IsSettlement};
 ghost use Rattle.fr_crew.specs.declared.fault.CrewFault.TheVariants.{Range, Start, Memory};
 
 use crate::crew::run_crew;
 use crate::fault::CrewFault;
 use crate::gate::Gate;
 use crate::plan::Plan;
-use fr_core::{can_turn, finish, finish_from, finish_soon};
+use fr_core::{are_settled, finish, finish_from, finish_soon};
 use fr_net::Net;
 use fr_round::{Closed, Round};
 use std::alloc::Global;
@@ -62,7 +60,7 @@ pub fn settle<R: Threads + Wait + Sync, G: Gate + Sync>(
     ensures no_start { plan.now.budget ≡ 0 → IfErr result (λ fault. fault ≢ Start) }
 {
     let counts = zeros(alloc, &net, dest)?;
-    if plan.budget() == 0 || !can_any_turn(&net, dest, &counts) {
+    if plan.budget() == 0 || are_settled(&net, dest, &counts) {
         return Ok(finished(net, dest, counts, 0));
     }
     let Closed {
@@ -119,12 +117,8 @@ pub fn settled_counts<R: Threads + Wait + Sync, G: Gate + Sync>(
     if plan.budget() == 0 {
         return settled_counts_alone(alloc, net, dest, from);
     }
-    let counts = match after_few_turns(alloc, net, dest, from)? {
-        FewTurns::Enough(counts) => return Ok(counts),
-        FewTurns::TooFew(counts) => counts,
-    };
-    if !can_any_turn(net, dest, &counts) {
-        return Ok(finished_counts(net, dest, counts, None));
+    if let Some(counts) = by_few_turns(alloc, net, dest, from)? {
+        return Ok(counts);
     }
     let plan = match from {
         Some(_) => plan.with_at_most(u64::from(net.nodes())),
@@ -172,52 +166,28 @@ fn zeros(alloc: Global, net: &Net, dest: u32) -> Result<Vec<u64>, CrewFault>
     Ok(vec![in alloc; 0u64; net.nodes() as usize]?)
 }
 
-/// What a few turns come to.
-#[derive(Drop)]
-enum FewTurns {
-    /// The settled counts.
-    Enough(Vec<u64>),
-    /// Counts at which there may be more to turn.
-    TooFew(Vec<u64>),
-}
-
-/// The counts after a few turns, where it is known which nodes can turn at first; else no node has turned. `Range` where the
-/// destination is no node, or else `Memory`.
-fn after_few_turns(
+/// The settled counts, where a few turns lead to them: none at all, or few from nodes of `from`, where these are given. None where it
+/// takes more. `Range` where the destination is no node, or else `Memory`.
+fn by_few_turns(
     alloc: Global,
     net: &Net,
     dest: u32,
     from: Option<&[u32]>,
-) -> Result<FewTurns, CrewFault>
+) -> Result<Option<Vec<u64>>, CrewFault>
     requires { IfSome from (λ from. HoldsSinks net.now dest from.now) }
-    ensures turns { IfOk result (AreFewTurns net.now dest) }
+    ensures node { IfOk result (λ _. dest < net.now.nodes) }
+    ensures settled { IfOk result (λ counts. IfSome counts (λ counts. IsCounted net.now.nodes dest net.now.links counts.items)) }
     ensures range { IfErr result (λ fault. (fault ≡ Range) ↔ (net.now.nodes ≤ dest)) }
     ensures no_start { IfErr result (λ fault. fault ≢ Start) }
 {
     // By the law a settled count is at most the number of nodes.
     net.network_law();
     let mut counts = zeros(alloc, net, dest)?;
-    let Some(from) = from else {
-        return Ok(FewTurns::TooFew(counts));
+    let settled = match from {
+        Some(from) => finish_soon(net, dest, &mut counts, from),
+        None => are_settled(net, dest, &counts),
     };
-    if finish_soon(net, dest, &mut counts, from) {
-        Ok(FewTurns::Enough(counts))
-    } else {
-        Ok(FewTurns::TooFew(counts))
-    }
-}
-
-/// Whether it is worth while to start threads: only where some node can turn at these counts.
-fn can_any_turn(net: &Net, dest: u32, counts: &[u64]) -> bool
-    requires lawful { AreLawful net.now.nodes dest net.now.links counts.now }
-    ensures { IsTrue result → (x : ℕ) × CanTurn net.now.nodes dest (moment_of net.now.links counts.now) x }
-{
-    for x in 0..net.nodes() {
-        if can_turn(net, dest, counts, x) {
-            return true;
-        }
-    }
-    false
+    Ok(settled.then_some(counts))
 }
 
 /// Opens a round, lets a crew of threads turn its nodes, and closes it. Its workers try the nodes of `from` first, where it is

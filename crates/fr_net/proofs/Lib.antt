@@ -44,3 +44,4 @@ pub mod RowTables
 pub mod LaidOut
 pub mod LiftedNodes
 pub mod StackedNodes
+pub mod TurnedNodes

@@ -71,20 +71,29 @@ entry_done_node counts done y e =
       | inr f ↦ rw f refl
     ]
 
--- a node that has not turned has nothing to do
-pub node_skipped : (net : Network) (counts : List ℕ) (x : ℕ) (table : Table) → get_or counts x 0 ≡ 0 → ArePartTurned net counts (is_done counts x) table → ArePartTurned net counts (is_done counts (x + 1)) table
-node_skipped net counts x table none at =
-    none_written net counts (is_done counts x) (is_done counts (x + 1)) table at
-    (λ y l e h. elim (cases_eq (get_or counts y 0) 0) [
-      | inl zero_y ↦ elim (cases_eq e.0 x) [
-        | inl it ↦
-            let same : get_or counts e.0 0 ≡ get_or counts y 0 = rw it (none ∙ sym zero_y) in
-            entry_stays counts (is_done counts x) y e same ∙ sym (entry_stays counts (is_done counts (x + 1)) y e same)
-        | inr other ↦ tests_agree counts (is_done counts x) (is_done counts (x + 1)) y e (grind (arith, nat_tests))
+-- nodes that have not turned have nothing to do
+pub nodes_skipped : (net : Network) (counts : List ℕ) (a b : ℕ) (table : Table) → a ≤ b → ((z : ℕ) → a ≤ z → z < b → get_or counts z 0 ≡ 0) → ArePartTurned net counts (is_done counts a) table → ArePartTurned net counts (is_done counts b) table
+nodes_skipped net counts a b table up none at =
+    none_written net counts (is_done counts a) (is_done counts b) table at
+    (λ y l e h.
+    let agree = tests_agree counts (is_done counts a) (is_done counts b) y e in
+    elim (cases_eq (get_or counts y 0) 0) [
+      | inl zero_y ↦ elim (cases_lt e.0 a) [
+        | inl before ↦ agree (grind (arith, nat_tests))
+        | inr from ↦ elim (cases_lt e.0 b) [
+          | inl within ↦
+              let same : get_or counts e.0 0 ≡ get_or counts y 0 = none e.0 from within ∙ sym zero_y in
+              entry_stays counts (is_done counts a) y e same ∙ sym (entry_stays counts (is_done counts b) y e same)
+          | inr after ↦ agree (grind (arith, nat_tests))
+        ]
       ]
-      | inr some ↦
-          let apart : y ≢ x = λ q. some (rw q none) in
-          tests_agree counts (is_done counts x) (is_done counts (x + 1)) y e (grind (arith, nat_tests))
+      | inr some ↦ elim (cases_lt y a) [
+        | inl before ↦ agree (grind (arith, nat_tests))
+        | inr from ↦ elim (cases_lt y b) [
+          | inl within ↦ absurd (some (none y from within))
+          | inr after ↦ agree (grind (arith, nat_tests))
+        ]
+      ]
     ])
 
 -- while x sees to its entries in the rows of others: those of neighbours below the bound are done with

@@ -10,6 +10,7 @@
 
 mod checks;
 mod closing;
+mod counts;
 mod cycle;
 mod edits;
 mod fault;
@@ -28,6 +29,7 @@ mod short_lines;
 mod turned;
 mod values;
 
+pub use counts::next_turned;
 pub use fault::{EditFault, NetFault, NotEdited};
 pub use limits::{MAX_EDITS, MAX_LINKS, MAX_NODES};
 pub use line_reader::LineReader;

@@ -293,7 +293,7 @@ impl Net {
         requires kept { All (IsKept counts.now) self.old.links }
         ensures { IsNetworkOf self.old.nodes (links_at self.old.links counts.now) self.new }
     {
-        turn_rows(&mut self.graph.rows, self.graph.nodes, counts);
+        turn_rows(&mut self.graph.rows, counts);
         self.graph.heights.raise(counts);
     }
 }

@@ -1,12 +1,14 @@
 //! Rows and links as counts turn them, each where it stands.
 
-ghost use Rattle.std.specs.Prelude.{◌≡◌, ℕ, ◌<◌, ◌+◌, ◌++◌, length, slice_index, map, All, Contains, IfOk, OnOk};
+ghost use Rattle.std.specs.Prelude.{◌≡◌, ℕ, ◌<◌, ◌≤◌, ◌+◌, ◌++◌, length, slice_index, map, All, Contains, IfOk, OnOk};
 ghost use Rattle.std.specs.List.Sorted.{IsStrictlyIncreasing};
+ghost use Rattle.fr_net.specs.Limits.{most_nodes};
 ghost use Rattle.fr_net.specs.Network.{Network};
 ghost use Rattle.fr_net.specs.KeptRows.{links_in};
 ghost use Rattle.fr_net.specs.RowLists.{out_links, turned_entry};
 ghost use Rattle.fr_net.specs.TurnedRows.{ArePartTurned, is_done, reversed_at};
 
+use crate::counts::next_turned;
 use crate::edits::place_in_row;
 use crate::row_table::RowTable;
 use crate::rows::First;
@@ -66,16 +68,16 @@ fn turn_node(rows: &mut RowTable, x: u32, counts: &[u64])
 }
 
 /// Turns the rows as the counts say: only those of nodes that have turned are touched, and in the others their entries.
-pub(crate) fn turn_rows(rows: &mut RowTable, nodes: u32, counts: &[u64])
-    requires nodes { nodes ≡ length counts.now }
+pub(crate) fn turn_rows(rows: &mut RowTable, counts: &[u64])
+    requires few { length counts.now ≤ most_nodes }
     requires rows { (net : Network) × ArePartTurned net counts.now (is_done counts.now 0) rows.old }
     ensures { (net : Network) → ArePartTurned net counts.now (is_done counts.now 0) rows.old
-        → ArePartTurned net counts.now (is_done counts.now nodes) rows.new }
+        → ArePartTurned net counts.now (is_done counts.now (length counts.now)) rows.new }
 {
-    for x in 0..nodes {
-        if counts[x as usize] > 0 {
-            turn_node(rows, x, counts);
-        }
+    let mut from = 0;
+    'turned: while let Some(x) = next_turned(counts, from) {
+        turn_node(rows, x, counts);
+        from = x + 1;
     }
 }
 

@@ -1,12 +1,14 @@
 -- How many nodes are cut off, by their hops, and by the counts of the round and the rows before it.
-use Rattle.std.proofs.Common.{Bool, Contains, List, [], ◌∷◌, add-one, ap, arith, cond, eq-eqb, eqb-true, false, get_or, inl, inr, length, map, mul-zero, ne_eqb, refl, replicate, slice_index, subst, sym, suc, true, zero, ℕ, ⊎_elim, ◌*◌, ◌+◌, ◌<◌, ◌≤◌, ◌↔◌, ◌∙◌, ◌≡◌, ◌⊎◌, ◌==◌, IsTrue}
-use Rattle.std.specs.List.{count_by, range_with_len}
+use Rattle.std.proofs.Common.{Bool, Contains, List, [], ◌∷◌, add-one, ap, append_assoc, arith, cond, eq-eqb, eqb-true, false, get_or, inl, inr, length, map, mul-zero, ne_eqb, refl, replicate, slice_index, subst, sym, suc, true, zero, zero-add, ℕ, ⊎_elim, ◌*◌, ◌+◌, ◌++◌, ◌<◌, ◌≤◌, ◌↔◌, ◌∙◌, ◌≡◌, ◌⊎◌, ◌==◌, IsTrue}
+use Rattle.std.specs.List.{All, count_by, filter, range_with_len}
 use Rattle.std.specs.Prelude.{not, ◌&&◌, ◌||◌}
-use Rattle.std.proofs.lemmas.Bool.{cases_eq, false≢true}
+use Rattle.std.proofs.lemmas.Bool.{cases_eq, cases_lt, false≢true}
 use Rattle.std.proofs.lemmas.Bool.Decides.{Decides-and, Decides-eqb, Decides-not, Decides-or}
+use Rattle.std.proofs.lemmas.List.{get_or_past, map-id}
+use Rattle.std.proofs.lemmas.List.Elements.{All-filter}
 use Rattle.std.proofs.lemmas.List.Folds.{sum_by-replicate}
-use Rattle.std.proofs.lemmas.List.FromFn.{fill_by_all}
-use Rattle.std.proofs.lemmas.List.Sums.{sum_by-cons}
+use Rattle.std.proofs.lemmas.List.FromFn.{fill_by_all, filter_of_map_range_with_len_more, get_or-range_with_len, length-range_with_len}
+use Rattle.std.proofs.lemmas.List.Sums.{length-filter, sum_by-cons}
 use Rattle.std.proofs.lemmas.Option.{slice_get-get_or}
 use Rattle.fr_net.specs.Links.{IsAlone, IsNet}
 use Rattle.fr_net.specs.Network.{Network, net_of}
@@ -14,8 +16,7 @@ use Rattle.fr_net.specs.Counts.{links_at}
 use Rattle.fr_net.specs.Rows.{alone_count, has_no_neighbour, row}
 use Rattle.fr_net.specs.Turn.{IsSink}
 use Rattle.fr_net.proofs.Booleans.{and_cases}
-use Rattle.fr_net.proofs.Counting.{count-range_agree, count-range_more, one_passes}
-use Rattle.fr_net.proofs.Members.{Contains-head, Contains-tail}
+use Rattle.fr_net.proofs.Counting.{count-range_agree, count-range_more}
 use Rattle.fr_net.proofs.Neighbours.{row_alone, row_linked}
 use Rattle.fr_core.proofs.Finishing.{links_at-zeros, zeros_lawful}
 use Rattle.fr_core.proofs.Settling.{settled_from_none}
@@ -24,7 +25,8 @@ use Rattle.fr_crew.proofs.Beginning.{zeros_sum}
 use Rattle.fr_crew.specs.Settlements.{IsCounted}
 use Rattle.fr_route.proofs.RoundEnds.{alone_cut_off, capped_cut_off, lawful, round_end, round_joined, round_joins, round_net}
 use Rattle.fr_route.proofs.Routing.{route_joined}
-use Rattle.fr_route.specs.Outcomes.{HasNoSink, lone_count, state_after, still_state}
+use Rattle.fr_route.proofs.Touched.{into_filter}
+use Rattle.fr_route.specs.Outcomes.{HasNoSink, cut_off_nodes, lone_count, state_after, still_state}
 use Rattle.fr_route.specs.Routes.{IsHop, AreHops, is_cut_off}
 use Rattle.fr_route.specs.States.{State, IsCutOff, IsAfterRound, IsCutCount, IsReport, IsRound}
 use Rattle.fr_route.specs.declared.hops.Hop.{Hop}
@@ -107,20 +109,26 @@ count_either p q (suc n) bar =
     let here : weight (either n) ≡ weight (p n) + weight (q n) = weigh_either (p n) (q n) (bar n (omega arith)) in
     omega (arith, whole, left, right, here, count_either p q n (λ x low. bar x (omega arith)))
 
+-- which of the numbers from 0 on pass a test, once one more is tried
+filter-range_more : (p : ℕ → Bool) (n : ℕ) → filter p (range_with_len 0 (n + 1)) ≡ filter p (range_with_len 0 n) ++ cond (p n) (n ∷ []) []
+filter-range_more p n =
+    ap (filter p) (sym (map-id (range_with_len 0 (n + 1))))
+    ∙ (filter_of_map_range_with_len_more p (λ x. x) 0 n n (zero-add n)
+    ∙ ap (λ (xs : List ℕ). filter p xs ++ cond (p n) (n ∷ []) []) (map-id (range_with_len 0 n)))
+
+-- and so behind others in a list
+pub filtered_more : (p : ℕ → Bool) (n : ℕ) (b : Bool) (before now : List ℕ) → p n ≡ b → now ≡ before ++ filter p (range_with_len 0 n) → now ++ cond b (n ∷ []) [] ≡ before ++ filter p (range_with_len 0 (n + 1))
+filtered_more p n b before now is so_far =
+    let last : Bool → List ℕ = λ t. cond t (n ∷ []) [] in
+    let so_many : List ℕ = filter p (range_with_len 0 n) in
+    ap (λ (xs : List ℕ). xs ++ last b) so_far
+    ∙ (append_assoc before so_many (last b)
+    ∙ ap (λ (xs : List ℕ). before ++ xs) (ap (λ (t : Bool). so_many ++ last t) (sym is) ∙ sym (filter-range_more p n)))
+
 count_listed : (p : ℕ → Bool) (xs : List ℕ) (n : ℕ) → length xs ≡ n → count_by p xs ≡ count_by (λ x. p (slice_index xs x)) (range_with_len 0 n)
 count_listed p xs n long =
     let at : ℕ → ℕ = λ x. slice_index xs x in
     ap (count_by p) (fill_by_all at xs n 0 long (λ k l. refl)) ∙ count_by-map p at (range_with_len 0 n)
-
-some_counted : (k : ℕ) (xs : List ℕ) → 0 < count_by (λ x. x == k) xs → Contains xs k
-some_counted k [] some = absurd (omega (arith, some))
-some_counted k (x ∷ xs) some = ⊎_elim
-    (λ e. subst (λ (y : ℕ). Contains (x ∷ xs) y) e (Contains-head x xs))
-    (λ apart.
-    let weight : ℕ → ℕ = λ y. cond (y == k) 1 0 in
-    let nothing : weight x ≡ 0 = rw (ne_eqb x k apart) refl in
-    Contains-tail k x xs (some_counted k xs (omega (arith, sum_by-cons weight x xs, nothing, some))))
-    (cases_eq x k)
 
 -- how many nodes without a link there are, as d is one of them or not
 pub alone_there : (n : ℕ) (links : List (ℕ × ℕ)) (d : ℕ) → d < n → length (row n links d) ≡ 0 → alone_count n links ≡ lone_count n links d + 1
@@ -218,20 +226,35 @@ still_cut net d is below none =
     let same : lone + count_by (λ count. count == net.nodes) (replicate net.nodes 0) ≡ lone = omega (arith, none_capped net.nodes (omega arith)) in
     subst (IsCutCount net.nodes d (still_state net d).links) same (cut_by_rows net d (replicate net.nodes 0) is (still_counted net d is below none))
 
--- a round has cut off a linked node just where it reports more than the nodes without a link
-module _ (s : State) (after : IsAfterRound s) (turned cut : ℕ) (report : IsReport s turned cut) where
+module _ (s : State) (after : IsAfterRound s) where
+  -- the nodes with a link that the round cut off are those that have turned as often as there are nodes
+  pub capped_cut : (x : ℕ) → slice_index s.counts x ≡ s.nodes → Contains (cut_off_nodes s) x
+  capped_cut x is =
+      let long : length s.counts ≡ s.nodes = after.round.counts.one_each in
+      let low : x < s.nodes = ⊎_elim
+      (λ l. l)
+      (λ past. absurd (omega (arith, is, after.dest, get_or_past s.counts x 0 (omega (arith, past, long)))))
+      (cases_lt x s.nodes) in
+      into_filter (λ (y : ℕ). slice_index s.counts y == s.nodes) (range_with_len 0 s.nodes) x (eq-eqb (slice_index s.counts x) s.nodes is)
+      (x, omega (arith, low, length-range_with_len 0 s.nodes), omega (arith, get_or-range_with_len 0 s.nodes x x low))
+
+  pub cut_below : All (λ (x : ℕ). x < s.nodes) (cut_off_nodes s)
+  cut_below = All-filter (λ (x : ℕ). slice_index s.counts x == s.nodes) (λ (x : ℕ). x < s.nodes) (range_with_len 0 s.nodes)
+      (λ k d low. let inside : k < s.nodes = omega (arith, low, length-range_with_len 0 s.nodes) in omega (arith, inside, get_or-range_with_len 0 s.nodes k d inside))
+
   alone_first : (x : ℕ) → x < s.nodes → IsTrue (has_no_neighbour s.nodes s.links x) ↔ IsAlone after.first x
   alone_first x low =
       let is = alone_just s.nodes s.links (round_net s.nodes s.dest after.first s after.is_net after.dest after.round) x in
       let joins = round_joins s.nodes s.dest after.first s after.is_net after.dest after.round x in
       ((λ e w h. (is.0 e) w ((joins w).0 h)), (λ alone. is.1 (λ w h. alone w ((joins w).1 h))))
 
-  reported : cut ≡ lone_count s.nodes s.links s.dest + count_by (λ count. count == s.nodes) s.counts
-  reported = cut_unique s.nodes s.dest s.links cut (lone_count s.nodes s.links s.dest + count_by (λ count. count == s.nodes) s.counts) report.cut_off
+  -- and the round reports them beside the nodes without a link
+  pub reported_cut : (turned cut : ℕ) → IsReport s turned cut → cut ≡ lone_count s.nodes s.links s.dest + length (cut_off_nodes s)
+  reported_cut turned cut report =
+      let lone : ℕ = lone_count s.nodes s.links s.dest in
+      let capped : ℕ → Bool = λ count. count == s.nodes in
+      let listed : count_by capped s.counts ≡ length (cut_off_nodes s) =
+      count_listed capped s.counts s.nodes after.round.counts.one_each ∙ sym (length-filter (λ (x : ℕ). slice_index s.counts x == s.nodes) (range_with_len 0 s.nodes)) in
+      cut_unique s.nodes s.dest s.links cut (lone + count_by capped s.counts) report.cut_off
       (cut_count s.nodes s.dest after.first s after.is_net after.dest after.round (has_no_neighbour s.nodes s.links) alone_first)
-
-  pub more_cut_off : (lone_count s.nodes s.links s.dest < cut) ↔ Contains s.counts s.nodes
-  more_cut_off = (
-    (λ more. some_counted s.nodes s.counts (omega (arith, more, reported))),
-    (λ (k, low, at). omega (arith, reported, one_passes (λ count. count == s.nodes) s.counts k s.nodes low (eq-eqb (get_or s.counts k s.nodes) s.nodes at))),
-  )
+      ∙ ap (λ (k : ℕ). lone + k) listed

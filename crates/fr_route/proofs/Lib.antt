@@ -12,5 +12,4 @@ pub mod Touched
 pub mod Moving
 pub mod Written
 pub mod Renewing
-pub mod Shown
 pub mod Inside

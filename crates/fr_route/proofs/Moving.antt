@@ -1,28 +1,27 @@
--- After a round that cut off no linked node: which nodes can turn once edits are made or the destination moves, and where the nodes
--- that those do not touch send on to.
+-- After a round: which nodes can be sinks once edits are made or the destination moves, and where the others send on to. These are not
+-- touched, and the round left each that is linked a way home.
 use Rattle.std.proofs.Common.{List, arith, inl, inr, refl, slice_index, subst, sym, ℕ, ⊎_elim, ◌<◌, ◌∙◌, ◌∷◌, ◌≡◌, Contains}
 use Rattle.std.specs.List.{All}
 use Rattle.std.proofs.lemmas.Bool.{cases_eq}
-use Rattle.std.proofs.lemmas.List.Elements.{All-cons, Contains-get_or}
+use Rattle.std.proofs.lemmas.List.Elements.{All-append, All-cons, Contains-append_left, Contains-append_right}
 use Rattle.fr_net.specs.Batches.{AreMade}
 use Rattle.fr_net.specs.Links.{IsNet, Joins, Points}
 use Rattle.fr_net.specs.Network.{Network}
 use Rattle.fr_net.specs.Turn.{IsSink}
 use Rattle.fr_net.specs.declared.requests.Edit.{Edit}
 use Rattle.fr_net.proofs.Giving.{Points-links_at_from, Points-links_at_same}
-use Rattle.fr_net.proofs.Linking.{joined_below}
 use Rattle.fr_net.proofs.Members.{Contains-head, Contains-tail, cases_some}
 use Rattle.fr_net.specs.Counts.{links_at}
 use Rattle.fr_net.specs.Order.{AreInOrder}
 use Rattle.fr_net.proofs.Ordering.{in_order_order, into_order, out_of_order}
 use Rattle.fr_crew.specs.Settlements.{HoldsSinks, IsCounted}
-use Rattle.fr_route.specs.Outcomes.{HoldsMoved, IsStale, ends_of, state_after, touched}
+use Rattle.fr_route.specs.Outcomes.{HoldsMoved, IsStale, cut_off_nodes, ends_of, movable, state_after, touched}
 use Rattle.fr_route.specs.Routes.{AreHops, IsHop}
 use Rattle.fr_route.specs.States.{IsAfterRound, IsRound, State, net_at}
 use Rattle.fr_route.specs.declared.hops.Hop.{Hop}
 use Rattle.fr_route.specs.declared.hops.Hop.TheVariants.{CutOff, Here, To}
 use Rattle.fr_route.proofs.Changing.{made_nodes}
-use Rattle.fr_route.proofs.CutNodes.{ended}
+use Rattle.fr_route.proofs.CutNodes.{capped_cut, cut_below, ended}
 use Rattle.fr_route.proofs.RoundEnds.{hop_leads_on, linked_joined, linked_out, round_joined, round_joins, round_net, still_cut_off}
 use Rattle.fr_route.proofs.Touched.{AreAt, HaveSameAt, edits_at}
 
@@ -36,17 +35,12 @@ here s after = round_net s.nodes s.dest after.first s after.is_net after.dest af
 pub made_net : (s : State) (edits : List Edit) (net : Network) → IsAfterRound s → AreMade (net_at s) edits net → IsNet net.nodes net.links
 made_net s edits net after made = let left : AreAt (net_at s) (ends_of edits) net = edits_at (net_at s) edits net (here s after) made in left.is_net
 
-module _ (s : State) (after : IsAfterRound s) (free : ¬ Contains s.counts s.nodes) where
-  linked_below : (x w : ℕ) → Joins s.links x w → ¬ (slice_index s.counts x ≡ s.nodes)
-  linked_below x w h e =
-      let below : x < s.nodes = (joined_below s.nodes s.links x w (here s after) h).0 in
-      free (subst (Contains s.counts) e (Contains-get_or s.counts x 0 (omega (arith, after.round.counts.one_each))))
-
-  -- a node whose links stay has a link that points from it, as long as it is linked and was not the destination
-  no_sink : (links : List (ℕ × ℕ)) (x : ℕ) → HaveSameAt s.links links x → ¬ (x ≡ s.dest) → ¬ IsSink links x
-  no_sink links x same apart sink =
+module _ (s : State) (after : IsAfterRound s) where
+  -- a linked node whose links stay has a link that points from it, if it was neither cut off nor the destination
+  no_sink : (links : List (ℕ × ℕ)) (x : ℕ) → HaveSameAt s.links links x → ¬ (x ≡ s.dest) → ¬ (slice_index s.counts x ≡ s.nodes) → ¬ IsSink links x
+  no_sink links x same apart free sink =
       let joins : Joins s.links x sink.0.0 = inr ((same.into sink.0.0).1 sink.0.1) in
-      let out = linked_out s.nodes s.dest after.first s after.is_net after.dest after.round x sink.0.0 joins (linked_below x sink.0.0 joins) apart in
+      let out = linked_out s.nodes s.dest after.first s after.is_net after.dest after.round x sink.0.0 joins free apart in
       sink.1 out.0 ((same.out out.0).0 out.1)
 
   module _ (edits : List Edit) (net : Network) (d : ℕ) (below : d < s.nodes) (made : AreMade (net_at s) edits net) where
@@ -64,18 +58,30 @@ module _ (s : State) (after : IsAfterRound s) (free : ¬ Contains s.counts s.nod
       left.keeps x (λ h. none (Contains-tail x s.dest (d ∷ ends_of edits) (Contains-tail x d (ends_of edits) h))),
     )
 
-    touched_below : All (λ (x : ℕ). x < net.nodes) (touched s d edits)
-    touched_below = subst (λ (n : ℕ). All (λ (x : ℕ). x < n) (touched s d edits)) (sym same_nodes)
-        (All-cons (λ (x : ℕ). x < s.nodes) s.dest (d ∷ ends_of edits) after.dest (All-cons (λ (x : ℕ). x < s.nodes) d (ends_of edits) below left.below))
+    -- what cannot move is not touched, and was not cut off with a link
+    unmoved : (x : ℕ) → ¬ Contains (movable s d edits) x → (¬ Contains (touched s d edits) x) × ¬ (slice_index s.counts x ≡ s.nodes)
+    unmoved x none = (
+      (λ h. none (Contains-append_left (touched s d edits) (cut_off_nodes s) x h)),
+      (λ e. none (Contains-append_right (touched s d edits) (cut_off_nodes s) x (capped_cut s after x e))),
+    )
 
-    -- each sink is touched
-    pub touched_sinks : HoldsSinks net d (touched s d edits)
-    touched_sinks = record {
-      nodes = touched_below;
+    movable_below : All (λ (x : ℕ). x < net.nodes) (movable s d edits)
+    movable_below = subst (λ (n : ℕ). All (λ (x : ℕ). x < n) (movable s d edits)) (sym same_nodes)
+        (All-append (λ (x : ℕ). x < s.nodes) (touched s d edits) (cut_off_nodes s)
+        (All-cons (λ (x : ℕ). x < s.nodes) s.dest (d ∷ ends_of edits) after.dest (All-cons (λ (x : ℕ). x < s.nodes) d (ends_of edits) below left.below))
+        (cut_below s after))
+
+    -- each sink can move
+    pub movable_sinks : HoldsSinks net d (movable s d edits)
+    movable_sinks = record {
+      nodes = movable_below;
       sinks = λ x sink apart. ⊎_elim
-          (λ some. subst (Contains (touched s d edits)) some.2 some.1)
-          (λ none. let not = untouched x (λ h. none x h refl) in absurd (no_sink net.links x not.2 not.0 sink))
-          (cases_some (λ (y : ℕ). y ≡ x) (λ y. cases_eq y x) (touched s d edits));
+          (λ some. subst (Contains (movable s d edits)) some.2 some.1)
+          (λ none.
+          let un = unmoved x (λ h. none x h refl) in
+          let not = untouched x un.0 in
+          absurd (no_sink net.links x not.2 not.0 un.1 sink))
+          (cases_some (λ (y : ℕ). y ≡ x) (λ y. cases_eq y x) (movable s d edits));
     }
 
     module _ (counts : List ℕ) (counted : IsCounted net.nodes d net.links counts) where
@@ -91,10 +97,11 @@ module _ (s : State) (after : IsAfterRound s) (free : ¬ Contains s.counts s.nod
       was_away x y rests h = ⊎_elim (λ p. p.0) (λ p. absurd (omega (arith, rests, p.1)))
           (Points-links_at_from net.links counts x y (out_of_order (links_at net.links counts) (x, y) h))
 
-      -- so where its links stayed in the edits, it sends on to where it did, unless that node has turned, or it was or is the destination
-      hop_stands : (x : ℕ) (hop : Hop) → HaveSameAt s.links net.links x → ¬ (x ≡ s.dest) → ¬ (x ≡ d) → ¬ IsStale (state_after net d counts) x hop → slice_index counts x ≡ 0 → IsHop s x hop → IsHop (state_after net d counts) x hop
-      hop_stands x Here same was becomes fresh rests h = absurd (was h)
-      hop_stands x (To y) same was becomes fresh rests h =
+      -- so where its links stayed in the edits, and it was not cut off with a link, it sends on to where it did, unless that node has
+      -- turned, or it was or is the destination
+      hop_stands : (x : ℕ) (hop : Hop) → HaveSameAt s.links net.links x → ¬ (x ≡ s.dest) → ¬ (x ≡ d) → ¬ (slice_index s.counts x ≡ s.nodes) → ¬ IsStale (state_after net d counts) x hop → slice_index counts x ≡ 0 → IsHop s x hop → IsHop (state_after net d counts) x hop
+      hop_stands x Here same was becomes free fresh rests h = absurd (was h)
+      hop_stands x (To y) same was becomes free fresh rests h =
           let link : Points net.links x y = (same.out y).0 h.1.1.link in
           let stays : slice_index counts y ≡ 0 = ⊎_elim
           (λ e. e)
@@ -102,18 +109,19 @@ module _ (s : State) (after : IsAfterRound s) (free : ¬ Contains s.counts s.nod
           (cases_eq (slice_index counts y) 0) in
           hop_leads_on net.nodes d net.links (state_after net d counts) left.is_net counted.destination round x y becomes (λ e. omega (arith, e, rests, counted.destination))
           (record { link = still_away x y rests stays link; least = λ w g. h.1.1.least w ((same.out w).1 (was_away x w rests g)) })
-      hop_stands x CutOff same was becomes fresh rests h =
+      hop_stands x CutOff same was becomes free fresh rests h =
           still_cut_off net.nodes d net.links (state_after net d counts) left.is_net counted.destination round x becomes
           (λ w g.
           let joins : Joins s.links x w = inl ((same.out w).1 (was_away x w rests g)) in
-          h.1 ((round_joined s.nodes s.dest after.first s after.is_net after.dest after.round x).0 (linked_joined s.nodes s.dest after.first s after.is_net after.dest after.round x w joins (linked_below x w joins))))
+          h.1 ((round_joined s.nodes s.dest after.first s after.is_net after.dest after.round x).0 (linked_joined s.nodes s.dest after.first s after.is_net after.dest after.round x w joins free)))
 
-      -- and the hop of each node that is not touched stays right, unless it is stale
-      pub untouched_hops : (hops : List Hop) → AreHops s s.nodes hops → HoldsMoved (state_after net d counts) hops (touched s d edits)
-      untouched_hops hops are = record {
-        below = touched_below;
+      -- and the hop of each node that cannot move stays right, unless it is stale
+      pub unmoved_hops : (hops : List Hop) → AreHops s s.nodes hops → HoldsMoved (state_after net d counts) hops (movable s d edits)
+      unmoved_hops hops are = record {
+        below = movable_below;
         others = λ x hop at none fresh.
-            let not = untouched x none in
+            let un = unmoved x none in
+            let not = untouched x un.0 in
             let rests : slice_index counts x ≡ 0 = ⊎_elim (λ e. e) (λ some. absurd (fresh (x, (omega (arith, some), inl refl)))) (cases_eq (slice_index counts x) 0) in
-            hop_stands x hop not.2 not.0 not.1 fresh rests (are.each x hop at);
+            hop_stands x hop not.2 not.0 not.1 un.1 fresh rests (are.each x hop at);
       }

@@ -45,14 +45,14 @@ listed_at a listed n net x made h =
     let same : HaveSameLinks listed net.links = same_from_permutation listed net.links made.same_links in
     then_at a listed net.links x h (record { out = λ w. same x w; into = λ w. same w x })
 
-keeps_by : (b : Bool) (p : ℕ × ℕ → Bool) (l : ℕ × ℕ) (ls : List (ℕ × ℕ)) (x : ℕ × ℕ) → b ≡ p l → p x ≡ true → (Contains ls x → Contains (filter p ls) x) → (l ≡ x) ⊎ Contains ls x → Contains (cond b (l ∷ filter p ls) (filter p ls)) x
-keeps_by true p l ls x is kept rest (inl e) = subst (λ (y : ℕ × ℕ). Contains (l ∷ filter p ls) y) e (Contains-head l (filter p ls))
+keeps_by : {X : Type 0} (b : Bool) (p : X → Bool) (l : X) (ls : List X) (x : X) → b ≡ p l → p x ≡ true → (Contains ls x → Contains (filter p ls) x) → (l ≡ x) ⊎ Contains ls x → Contains (cond b (l ∷ filter p ls) (filter p ls)) x
+keeps_by true p l ls x is kept rest (inl e) = subst (λ y. Contains (l ∷ filter p ls) y) e (Contains-head l (filter p ls))
 keeps_by true p l ls x is kept rest (inr h) = Contains-tail x l (filter p ls) (rest h)
 keeps_by false p l ls x is kept rest (inl e) = absurd (false≢true (is ∙ (ap p e ∙ kept)))
 keeps_by false p l ls x is kept rest (inr h) = rest h
 
--- a link that passes a test is kept
-into_filter : (p : ℕ × ℕ → Bool) (links : List (ℕ × ℕ)) (x : ℕ × ℕ) → p x ≡ true → Contains links x → Contains (filter p links) x
+-- what passes a test is kept
+pub into_filter : {X : Type 0} (p : X → Bool) (xs : List X) (x : X) → p x ≡ true → Contains xs x → Contains (filter p xs) x
 into_filter p [] x kept h = h
 into_filter p (l ∷ ls) x kept h = keeps_by (p l) p l ls x refl kept (into_filter p ls x kept) (Contains-cases x l ls h)
 

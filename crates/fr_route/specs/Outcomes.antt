@@ -1,6 +1,6 @@
 -- What a round on a network comes to, and the nodes at which edits change links.
-use Rattle.std.specs.Prelude.{◌≡◌, ℕ, ◌<◌, ◌≤◌, ◌⊎◌, not, ◌==◌, ◌&&◌, List, [], ◌∷◌, count_by, length, replicate, slice_get, slice_index, Option, Some, None, Vec}
-use Rattle.std.specs.List.{All, Contains, range_with_len}
+use Rattle.std.specs.Prelude.{◌≡◌, ℕ, ◌<◌, ◌≤◌, ◌⊎◌, not, ◌==◌, ◌&&◌, List, [], ◌∷◌, ◌++◌, count_by, length, replicate, slice_get, slice_index, Option, Some, None, Vec}
+use Rattle.std.specs.List.{All, Contains, filter, range_with_len}
 use Rattle.std.specs.declared.alloc.Global.{Global}
 use Rattle.fr_net.specs.Batches.{AreMade, IsBatchFault}
 use Rattle.fr_net.specs.Counts.{links_at}
@@ -61,6 +61,14 @@ ends_of (Join u v ∷ rest) = u ∷ (v ∷ ends_of rest)
 -- the nodes that edits and a new destination touch: both destinations, and the ends of the edits
 abbrev pub touched : State → ℕ → List Edit → List ℕ
 touched s d edits = s.dest ∷ (d ∷ ends_of edits)
+
+-- the nodes with a link that the last round cut off: each has turned as often as there are nodes
+abbrev pub cut_off_nodes : State → List ℕ
+cut_off_nodes s = filter (λ x. slice_index s.counts x == s.nodes) (range_with_len 0 s.nodes)
+
+-- the nodes that can be sinks once the edits are made and the destination has moved, and whose hops can be wrong though no node turns
+abbrev pub movable : State → ℕ → List Edit → List ℕ
+movable s d edits = touched s d edits ++ cut_off_nodes s
 
 -- the hop of x itself, or that of a neighbour which sends on to x
 abbrev pub SendsTo : List (ℕ × ℕ) → ℕ → ℕ → Hop → Type 0

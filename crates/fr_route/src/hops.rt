@@ -1,12 +1,12 @@
 //! Where each node sends on to.
 
-ghost use Rattle.std.specs.Prelude.{◌≡◌, ℕ, ◌<◌, All, Contains, length, sum, IfOk, IfSome, MatchOption};
+ghost use Rattle.std.specs.Prelude.{◌≡◌, ℕ, ◌<◌, All, Contains, length, sum, IfOk, MatchOption};
 ghost use Rattle.fr_net.specs.Links.{Points};
 ghost use Rattle.fr_route.specs.Routes.{IsNextHop, IsHop, AreHops};
 ghost use Rattle.fr_route.specs.Outcomes.{AreRenewed, HoldsMoved, IsStale, SendsTo};
 ghost use Rattle.fr_route.specs.States.{IsAfterRound, state_with};
 
-use fr_net::{First, Net};
+use fr_net::{First, Net, next_turned};
 use std::alloc::{AllocError, Global};
 
 /// Where a node sends on to, so that what it sends gets to the destination.
@@ -78,30 +78,25 @@ pub(crate) fn hop_table(
     Ok(hops)
 }
 
-/// Makes anew where nodes send on to, after so many turns. Where the touched nodes are given, only their hops are made anew, and
-/// those that turns have made stale; each other one is right as it stands.
+/// Makes anew where the moved nodes send on to, and what so many turns have made stale. Each other hop is right as it stands.
 pub(crate) fn renew_hops(
     hops: &mut [Hop],
     net: &Net,
     dest: u32,
     counts: &[u64],
     turned: u64,
-    touched: Option<&[u32]>,
+    moved: &[u32],
 )
     requires round { IsAfterRound (state_with net.now dest counts.now) }
     requires one_each { length hops.old ≡ net.now.nodes }
     requires turned { turned ≡ sum counts.now }
-    requires touched { IfSome touched (λ touched. HoldsMoved (state_with net.now dest counts.now) hops.old touched.now) }
+    requires moved { HoldsMoved (state_with net.now dest counts.now) hops.old moved.now }
     ensures { AreHops (state_with net.now dest counts.now) net.now.nodes hops.new }
 {
-    let Some(touched) = touched else {
-        renew_all(hops, net, dest, counts);
-        return;
-    };
     if turned > 0 {
         renew_turned(hops, net, dest, counts);
     }
-    renew_some(hops, net, dest, counts, touched);
+    renew_some(hops, net, dest, counts, moved);
 }
 
 /// Makes anew where each node sends on to that has turned, and each neighbour that sends on to such a node. The links of every
@@ -111,10 +106,12 @@ fn renew_turned(hops: &mut [Hop], net: &Net, dest: u32, counts: &[u64])
     requires one_each { length hops.old ≡ net.now.nodes }
     ensures { AreRenewed (state_with net.now dest counts.now) hops.old hops.new (λ x hop. ¬ IsStale (state_with net.now dest counts.now) x hop) }
 {
-    for x in 0..net.nodes() {
-        if counts[x as usize] > 0 {
-            renew_near(hops, net, dest, counts, x);
-        }
+    // By the law there are no more nodes than the limit admits.
+    net.network_law();
+    let mut from = 0;
+    'turned: while let Some(x) = next_turned(counts, from) {
+        renew_near(hops, net, dest, counts, x);
+        from = x + 1;
     }
 }
 

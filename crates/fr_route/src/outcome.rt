@@ -1,6 +1,7 @@
 //! What a round on a network comes to, before any of it is put in place.
 
-ghost use Rattle.std.specs.Prelude.{◌≡◌, ◌≢◌, ℕ, ◌<◌, ◌≤◌, ◌==◌, ◌↔◌, [], ◌∷◌, All, IsTrue, count_by, length, sum, IfOk, IfErr, IfSome};
+ghost use Rattle.std.specs.Prelude.{◌≡◌, ◌≢◌, ℕ, ◌<◌, ◌≤◌, ◌==◌, ◌↔◌, [], ◌∷◌, ◌++◌, All, IsTrue, count_by, length, slice_index, sum, IfOk, IfErr, OnOk};
+ghost use Rattle.std.specs.List.{filter, range_with_len};
 ghost use Rattle.fr_crew.specs.Settlements.{HoldsSinks, IsCounted};
 ghost use Rattle.fr_crew.specs.Ways.{Settles, NeverStarts};
 ghost use Rattle.fr_net.specs.Counts.{IsKept, links_at};
@@ -29,31 +30,29 @@ pub(crate) struct Outcome {
     pub(crate) report: Report,
 }
 
-/// What a round on a network comes to, settled in a way that is passed in. Each node that can turn at first is among `from`, where
-/// it is given, and the destination is then a node; where none of these can turn, nothing is settled.
+/// What a round on a network comes to, settled in a way that is passed in. Each node that can turn at first is among `from`; where
+/// none of these can turn, nothing is settled.
 pub(crate) fn outcome_of<F: Fn(&Net, u32, Option<&[u32]>) -> Result<Vec<u64>, CrewFault>>(
     net: &Net,
     dest: u32,
-    from: Option<&[u32]>,
+    from: &[u32],
     way: &F,
 ) -> Result<Outcome, RouteFault>
     requires settles { Settles F.pre F.post way.now }
-    requires from { IfSome from (λ from. (dest < net.now.nodes) × HoldsSinks net.now dest from.now) }
+    requires from { (dest < net.now.nodes) × HoldsSinks net.now dest from.now }
     ensures outcome { IfOk result (IsOutcome net.now dest) }
     ensures fault { IfErr result (IsOpenFault net.now.nodes dest) }
     ensures no_start { NeverStarts F.post way.now → IfErr result (λ fault. fault ≢ Start) }
 {
     net.network_law();
-    if let Some(from) = from {
-        if !has_sink(net, dest, from) {
-            let report = still_report(net, dest);
-            return Ok(Outcome {
-                counts: None,
-                report,
-            });
-        }
+    if !has_sink(net, dest, from) {
+        let report = still_report(net, dest);
+        return Ok(Outcome {
+            counts: None,
+            report,
+        });
     }
-    let counts = settled_counts_by(way, net, dest, from)?;
+    let counts = settled_counts_by(way, net, dest, Some(from))?;
     let report = report_of(net, dest, &counts);
     Ok(Outcome {
         counts: Some(counts),
@@ -167,26 +166,26 @@ pub(crate) fn put_counts(counts: &mut Vec<u64>, turned: u64, next: Option<Vec<u6
     }
 }
 
-/// Puts a round in place: turns the links as these settled counts say, and makes anew where nodes send on to. Where the touched
-/// nodes are given, only these are looked at, and those that turned.
+/// Puts a round in place: turns the links as these settled counts say, and makes anew where the moved nodes send on to, and what
+/// turns have made stale.
 pub(crate) fn put_in_place(
     net: &mut Net,
     hops: &mut [Hop],
     dest: u32,
     counts: &[u64],
     turned: u64,
-    touched: Option<&[u32]>,
+    moved: &[u32],
 )
     requires counted { IsCounted net.old.nodes dest net.old.links counts.now }
     requires turned { turned ≡ sum counts.now }
     requires one_each { length hops.old ≡ net.old.nodes }
-    requires touched { IfSome touched (λ touched. HoldsMoved (state_after net.old dest counts.now) hops.old touched.now) }
+    requires moved { HoldsMoved (state_after net.old dest counts.now) hops.old moved.now }
     ensures net { net.new ≡ net_of net.old.nodes (links_at net.old.links counts.now) }
     ensures hops { AreHops (state_after net.old dest counts.now) net.old.nodes hops.new }
 {
     net.network_law();
     turn_links(net, counts, turned);
-    renew_hops(hops, net, dest, counts, turned, touched);
+    renew_hops(hops, net, dest, counts, turned, moved);
 }
 
 /// The nodes that edits and a new destination touch: both destinations, and the ends of the links that are taken out or added.
@@ -208,6 +207,24 @@ pub(crate) fn touched_nodes(
         nodes.push(v)?;
     }
     Ok(nodes)
+}
+
+/// Pushes the nodes that have turned as often as there are nodes, in rising order.
+pub(crate) fn push_capped(
+    capped: &mut Vec<u32>,
+    nodes: u32,
+    counts: &[u64],
+) -> Result<(), AllocError>
+    requires { length counts.now ≡ nodes }
+    ensures { OnOk result (capped.new.items ≡ capped.old.items ++ filter (λ x. slice_index counts.now x == nodes) (range_with_len 0 nodes)) }
+{
+    let cap = u64::from(nodes);
+    for x in 0..nodes {
+        if counts[x as usize] == cap {
+            capped.push(x)?;
+        }
+    }
+    Ok(())
 }
 
 /// The ends of the link that an edit takes out or adds.

@@ -1,26 +1,27 @@
 //! A router: a settled network with its next hops and routes, and the changes after which it is settled anew.
 
-ghost use Rattle.std.specs.Prelude.{◌≡◌, ◌≢◌, ◌<◌, ◌↔◌, ◌∷◌, length, sum, Ok, IfOk, IfErr, IfSome, IsTrue, OnErr, Contains};
+ghost use Rattle.std.specs.Prelude.{◌≡◌, ◌≢◌, ◌<◌, ◌↔◌, ◌∷◌, ◌≤◌, length, sum, Ok, IfOk, IfErr, IfSome, OnErr};
 ghost use Rattle.fr_crew.specs.Settlements.{HoldsSinks};
 ghost use Rattle.fr_crew.specs.Ways.{Settles, NeverStarts};
 ghost use Rattle.fr_net.specs.Counts.{IsKept, links_at};
+ghost use Rattle.fr_net.specs.Limits.{most_edits};
 ghost use Rattle.fr_net.specs.Network.{net_of};
 ghost use Rattle.fr_route.specs.declared.change.Report.{Report};
 ghost use Rattle.fr_route.specs.declared.fault.RouteFault.TheVariants.{Start, Memory};
 ghost use Rattle.fr_route.specs.States.{IsRound, IsReport};
 ghost use Rattle.fr_route.specs.Routes.{IsHop, AreHops, IsWalked};
 ghost use Rattle.fr_route.specs.Changes.{IsOpenFault, IsChanged, IsRouteFault};
-ghost use Rattle.fr_route.specs.Outcomes.{IsEdited, IsEditingFault, IsOutcome, touched};
+ghost use Rattle.fr_route.specs.Outcomes.{IsEdited, IsEditingFault, IsOutcome, cut_off_nodes, movable};
 
 use crate::change::{Change, Report};
 use crate::fault::RouteFault;
 use crate::hops::{Hop, Walked, hop_table};
 use crate::outcome::{
-    Outcome, alone_nodes, outcome_of, put_counts, put_in_place, report_of, touched_nodes,
-    turn_links,
+    Outcome, alone_nodes, outcome_of, push_capped, put_counts, put_in_place, report_of,
+    touched_nodes, turn_links,
 };
 use fr_crew::{CrewFault, Gate, Plan, settled_counts, settled_counts_alone, settled_counts_by};
-use fr_net::{Edit, MAX_EDITS, Net};
+use fr_net::{Edit, MAX_EDITS, Net, NetFault};
 use std::alloc::{AllocError, Global};
 use std::marker::Model;
 use std::sync::Wait;
@@ -120,11 +121,11 @@ impl Router {
     /// first edit that `Net::with_edits` refuses, or its length; `Range` for a destination that is no node, and only there; `Start` and `Memory` as in `open`. Any
     /// fault leaves the router as it was.
     ///
-    /// The change is made where the network stands, and all that can fail is done before any of it stays. Where the last round
-    /// cut off no linked node, only the ends of the links and the two destinations are looked at for what can turn; where none can,
-    /// nothing is settled, and only their hops are made anew. Where nodes turn, the hops of these are made anew as well, and of the
-    /// neighbours that sent on to them, beside a few passes over the counts. Where the last round cut off a linked node, all hops
-    /// are made anew behind the round, in time linear in nodes and links.
+    /// The change is made where the network stands, and all that can fail is done before any of it stays. Only the ends of the
+    /// links, the two destinations, and the nodes with a link that the last round cut off are looked at for what can turn; where none
+    /// can, nothing is settled, and only their hops are made anew. Where nodes turn, the hops of these are made anew as well, and of
+    /// the neighbours that sent on to them, beside a few passes over the counts. The parts with a link that stay cut off turn anew in
+    /// each round, each of their nodes as often as there are nodes.
     pub fn change<R: Threads + Wait + Sync, G: Gate + Sync>(
         &mut self,
         rt: &R,
@@ -221,15 +222,19 @@ impl Router {
         ensures unchanged { OnErr result (self.new ≡ self.old) }
         ensures no_start { NeverStarts F.post way.now → IfErr result (λ fault. fault ≢ Start) }
     {
-        let touched = self.touched(alloc, edits, dest)?;
-        let from = touched.as_deref();
+        // As the network would, but before their ends are listed.
+        if edits.len() > MAX_EDITS {
+            return Err(RouteFault::Net(NetFault::TooMany));
+        }
+        let movable = self.movable(alloc, edits, dest)?;
+        let from = movable.as_slice();
         let (outcome, told) = self.net.edit_if(
             alloc,
             edits,
             &|net|
                 requires settles { Settles F.pre F.post way.now }
                 requires tells { K.IsAlwaysCallable tell.now }
-                requires from { IfSome from (λ from. (dest < net.now.nodes) × HoldsSinks net.now dest from.now) }
+                requires from { (dest < net.now.nodes) × HoldsSinks net.now dest from.now }
                 ensures outcome { IfOk result (λ made. IsOutcome net.entry.now dest made.0) }
                 ensures told { IfOk result (λ made. K.post tell.entry.now made.0.report (Ok made.1)) }
                 ensures fault { IfErr result (IsOpenFault net.entry.now.nodes dest) }
@@ -255,29 +260,28 @@ impl Router {
         Ok(told)
     }
 
-    /// The nodes that the edits and a new destination touch, where each other node has a way on that they leave: where no linked node
-    /// is cut off. For more edits than can be made there is no answer.
-    fn touched(
-        &self,
-        alloc: Global,
-        edits: &[Edit],
-        dest: u32,
-    ) -> Result<Option<Vec<u32>>, AllocError>
-        ensures { IfOk result (λ found. IfSome found (λ nodes.
-            (nodes.items ≡ touched self.now dest edits.now) × ¬ Contains self.now.counts self.now.nodes)) }
+    /// The nodes that can be sinks once these edits are made and the destination has moved, and whose hops can be wrong though no
+    /// node turns: those that the edits and the new destination touch, and those with a link that the last round cut off. Each other
+    /// node with a link has a way on that the edits leave.
+    fn movable(&self, alloc: Global, edits: &[Edit], dest: u32) -> Result<Vec<u32>, AllocError>
+        requires { length edits.now ≤ most_edits }
+        ensures { IfOk result (λ nodes. nodes.items ≡ movable self.now dest edits.now) }
     {
-        if edits.len() > MAX_EDITS || self.has_cut_off() {
-            return Ok(None);
+        let mut nodes = touched_nodes(alloc, self.dest, dest, edits)?;
+        let cut_off = self.linked_cut_off();
+        if cut_off > 0 {
+            nodes.reserve(cut_off as usize)?;
+            push_capped(&mut nodes, self.net.nodes(), &self.counts)?;
         }
-        Ok(Some(touched_nodes(alloc, self.dest, dest, edits)?))
+        Ok(nodes)
     }
 
-    /// Whether the last round cut off a node that has a link. Such a node has turned as often as there are nodes.
-    fn has_cut_off(&self) -> bool
-        ensures { IsTrue result ↔ Contains self.now.counts self.now.nodes }
+    /// How many nodes with a link the last round cut off. Such a node has turned as often as there are nodes.
+    fn linked_cut_off(&self) -> u64
+        ensures { result ≡ length (cut_off_nodes self.now) }
     {
         self.net.network_law();
-        self.report.cut > alone_nodes(&self.net, self.dest)
+        self.report.cut - alone_nodes(&self.net, self.dest)
     }
 
     /// What the last round reported: how many turns it took, and how many nodes are cut off.

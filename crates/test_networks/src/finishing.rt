@@ -1,6 +1,6 @@
 //! Counts: which are lawful, where `finish`, `finish_from` and `finish_soon` end, which nodes are sinks, and where a link points.
 
-use fr_core::{Sense, finish, finish_from, finish_soon, is_sink, lawful, sense};
+use fr_core::{Sense, are_settled, finish, finish_from, finish_soon, is_sink, lawful, sense};
 use fr_net::{First, Net};
 use std::alloc::{AllocError, Global};
 use std::test::Fail;
@@ -51,9 +51,8 @@ fn finishes_from_candidates(rt: HostRuntime) -> Result<(), Fail> {
     let mut again = [0, 0, 0];
     finish_from(&net, 0, &mut again, &[2, 1, 2]);
     assert!(rt; again == [0, 1, 2]);
-    // The three turns look at more entries than the four of all rows.
-    let mut given_up = [0, 0, 0];
-    assert!(rt; !finish_soon(&net, 0, &mut given_up, &[2]));
+    let mut soon = [0, 0, 0];
+    assert!(rt; finish_soon(&net, 0, &mut soon, &[2]) && soon == [0, 1, 2]);
     // Where node 2 is the destination, nothing can turn.
     let mut settled = [0, 0, 0];
     assert!(rt; finish_soon(&net, 2, &mut settled, &[2]) && settled == [0, 0, 0]);
@@ -67,6 +66,19 @@ fn long_chain(alloc: Global, nodes: u32, first: u32) -> Result<Vec<(u32, u32)>, 
         links.push((x, x + 1))?;
     }
     Ok(links)
+}
+
+/// A chain of eight nodes takes 28 turns. A few are made while nodes are looked at that have together no more than 8 and then 14
+/// neighbours.
+#[test]
+fn gives_up_where_there_is_much_to_turn(rt: HostRuntime) -> Result<(), Fail> {
+    let net = Net::new(rt.alloc(), 8, &long_chain(rt.alloc(), 8, 0)?)?;
+    let mut counts = [0, 0, 0, 0, 0, 0, 0, 0];
+    assert!(rt; !finish_soon(&net, 0, &mut counts, &[7]));
+    assert!(rt; lawful(&net, 0, &counts) && !are_settled(&net, 0, &counts));
+    finish_from(&net, 0, &mut counts, &[1, 2, 3, 4, 5, 6, 7]);
+    assert!(rt; counts == [0, 1, 2, 3, 4, 5, 6, 7] && are_settled(&net, 0, &counts));
+    Ok(())
 }
 
 /// Nodes of chains, the first node that has a link, and the turns.

@@ -178,23 +178,34 @@ impl Gate for CountingGate {
     fn after(&self, _worker: u32, _call: u64) {}
 }
 
-/// A chain of three nodes that points away from node 0. One worker that is given its sink, node 2, turns nodes 2, 1 and 2: three calls, and
-/// it may make no more. One that is given no nodes tries node 1 first, which is held, and finds at the end that it is held again.
+/// How many calls one worker makes to settle the counts of a network, from all nodes or from these, and whether those of the first eight
+/// nodes are the ones of a chain.
+fn calls_of_one<R: Threads + Wait + Sync>(
+    rt: &R,
+    alloc: Global,
+    net: &Net,
+    from: Option<&[u32]>,
+) -> Result<(u64, bool), Fail> {
+    let gate = CountingGate(AtomicU64::new(0));
+    let counts = settled_counts(rt, alloc, net, 0, from, &plan(1, 1000)?, &gate)?;
+    let settled = counts.starts_with(&[0, 1, 2, 3, 4, 5, 6, 7]);
+    Ok((gate.0.load(Ordering::SeqCst), settled))
+}
+
+/// A chain of eight nodes that points away from node 0: node 1 turns once, node 2 twice, up to node 7, and with each turn all their
+/// neighbours but node 0 are tried again, which makes 48 tries. Besides, one worker tries each of its first candidates: the sink,
+/// node 7, alone where it is given, and else all seven. It makes no more calls than there are nodes where its candidates are given.
 #[test]
 fn given_nodes_are_tried_first(rt: HostRuntime) -> Result<(), Fail> {
-    let alloc = rt.alloc();
-    let net = Net::new(alloc, 3, &[(0, 1), (1, 2)])?;
-    let one = plan(1, 1000)?;
-    let given = CountingGate(AtomicU64::new(0));
-    let of_given = settled_counts(&rt, alloc, &net, 0, Some(&[2]), &one, &given)?;
-    let every = CountingGate(AtomicU64::new(0));
-    let of_every = settled_counts(&rt, alloc, &net, 0, None, &one, &every)?;
-    let calls = (
-        given.0.load(Ordering::SeqCst),
-        every.0.load(Ordering::SeqCst),
-    );
-    assert!(rt; calls == (3, 5), "{calls:?}");
-    assert!(rt; of_given.as_slice() == [0, 1, 2].as_slice() && of_every == of_given);
+    let chain = &[(0, 1), (1, 2), (2, 3), (3, 4), (4, 5), (5, 6), (6, 7)];
+    let long = Net::new(rt.alloc(), 68, chain)?;
+    let given = calls_of_one(&rt, rt.alloc(), &long, Some(&[7]))?;
+    assert!(rt; given == (1 + 48, true), "{given:?}");
+    let every = calls_of_one(&rt, rt.alloc(), &long, None)?;
+    assert!(rt; every == (7 + 48, true), "{every:?}");
+    let short = Net::new(rt.alloc(), 8, chain)?;
+    let given = calls_of_one(&rt, rt.alloc(), &short, Some(&[7]))?;
+    assert!(rt; given == (8, true), "{given:?}");
     Ok(())
 }
 

@@ -194,6 +194,63 @@ fn routers_open_and_change(rt: HostRuntime) -> Result<(), Fail> {
     Ok(())
 }
 
+/// The links of a router, its counts, and where each node sends on to.
+fn hops_text(alloc: Global, router: &Router) -> Result<Vec<u8>, AllocError> {
+    let net = router.net();
+    let (links, counts) = (net.links(alloc)?, router.counts());
+    let mut hops = Vec::new(alloc);
+    for x in 0..net.nodes() {
+        hops.push(router.next_hop(x))?;
+    }
+    let mut text = Vec::new(alloc);
+    let _ = write!(text, "{links:?} {counts:?} {hops:?}");
+    Ok(text)
+}
+
+/// A network of two chains, of which one is cut off.
+const APART: &str = "[(1, 0), (2, 1), (3, 4)] [0, 0, 0, 5, 5] [Here, To(0), To(1), CutOff, CutOff]";
+
+/// Changes beside the nodes that are cut off: these are joined, more are cut off with them, and then one more without a link, which
+/// is joined again.
+const CHANGES_APART: &[(&str, &str, &str)] = &[
+    (
+        r#"["add",4,2]"#,
+        "Ok(Report { turned: 0, cut: 0 })",
+        "[(1, 0), (2, 1), (3, 4), (4, 2)] [0, 0, 0, 0, 0] [Here, To(0), To(1), To(4), To(2)]",
+    ),
+    (
+        r#"["cut",2,1]"#,
+        "Ok(Report { turned: 15, cut: 3 })",
+        "[(1, 0), (3, 4), (4, 2)] [0, 0, 5, 5, 5] [Here, To(0), CutOff, CutOff, CutOff]",
+    ),
+    (
+        r#"["cut",1,0]"#,
+        "Ok(Report { turned: 15, cut: 4 })",
+        "[(3, 4), (4, 2)] [0, 0, 5, 5, 5] [Here, CutOff, CutOff, CutOff, CutOff]",
+    ),
+    (
+        r#"["add",0,1]"#,
+        "Ok(Report { turned: 16, cut: 3 })",
+        "[(1, 0), (3, 4), (4, 2)] [0, 1, 5, 5, 5] [Here, To(0), CutOff, CutOff, CutOff]",
+    ),
+];
+
+#[test]
+fn routers_change_beside_nodes_cut_off(rt: HostRuntime) -> Result<(), Fail> {
+    let alloc = rt.alloc();
+    let plan = Plan::new(2, 0, 1_000).ok_or("no plan")?;
+    let net = Net::new(alloc, 5, &[(1, 0), (2, 1), (3, 4)])?;
+    let mut router = Router::open(&rt, alloc, net, 0, &plan, &OpenGate)?;
+    check_text(&rt, "opened", &hops_text(alloc, &router)?, APART);
+    for (line, end, hops) in CHANGES_APART {
+        let change = change_of(alloc, line).ok_or("no change")?;
+        let text = change_text(&rt, alloc, &mut router, change, &plan);
+        check_text(&rt, line, &text, end);
+        check_text(&rt, line, &hops_text(alloc, &router)?, hops);
+    }
+    Ok(())
+}
+
 /// A change of a network of nine nodes, by the next words of a generator: mostly an edit, else a batch of three or a new destination.
 fn drawn_change(alloc: Global, generator: &mut Lcg64Xsh32) -> Result<Change, AllocError> {
     let kind = generator.next_word() % 8;

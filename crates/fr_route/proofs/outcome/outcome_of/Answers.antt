@@ -9,6 +9,6 @@ pub returns-then-not-has_sink-clause-outcome : goal.returns-then-not-has_sink-cl
 returns-then-not-has_sink-clause-outcome g c =
     let net = c.args.net.now in
     let d = c.args.dest in
-    let from : (d < net.nodes) × HoldsSinks net d c.in-Some.from.now = rw c.in-Some.is at c.requires.from in
+    let from : (d < net.nodes) × HoldsSinks net d c.args.from.now = c.requires.from in
     let none : HasNoSink net.links d = λ x apart sink. false≢true (sym c.if-not-has_sink.true ∙ c.has_sink.ensures.1 (x, (from.1.sinks x sink apart, (apart, sink)))) in
     record { counts = still_counted net d c.network_law.ensures.is_net from.0 none; report = c.still_report-report.ensures }

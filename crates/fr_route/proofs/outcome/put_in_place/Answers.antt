@@ -1,4 +1,4 @@
-use Rattle.std.proofs.Common.{◌≡◌, ◌∙◌, IfSome, ap, subst, sym, ℕ}
+use Rattle.std.proofs.Common.{◌≡◌, ◌∙◌, ap, subst, sym, ℕ}
 use Rattle.fr_net.specs.Network.{Network}
 use Rattle.fr_core.proofs.Unique.{settled_lawful}
 use Rattle.fr_route.specs.Outcomes.{HoldsMoved, state_after}
@@ -24,9 +24,9 @@ renew_hops-requires-clause-round c =
 pub renew_hops-requires-clause-one_each : goal.renew_hops-requires-clause-one_each
 renew_hops-requires-clause-one_each c = c.requires.one_each ∙ ap (λ (m : Network). m.nodes) (sym c.turn_links.ensures)
 
-pub renew_hops-requires-clause-touched : goal.renew_hops-requires-clause-touched
-renew_hops-requires-clause-touched c =
-    subst (λ (s : State). IfSome c.args.touched (λ touched. HoldsMoved s c.args.hops.now touched.now)) (sym (reached (goal.at.renew_hops-requires-clause-touched c).After-turn_links)) c.requires.touched
+pub renew_hops-requires-clause-moved : goal.renew_hops-requires-clause-moved
+renew_hops-requires-clause-moved c =
+    subst (λ (s : State). HoldsMoved s c.args.hops.now c.args.moved.now) (sym (reached (goal.at.renew_hops-requires-clause-moved c).After-turn_links)) c.requires.moved
 
 pub returns-clause-hops : goal.returns-clause-hops
 returns-clause-hops c =

@@ -1,4 +1,4 @@
-use Rattle.std.proofs.Common.{arith, length, sym, ◌+◌, ◌∙◌, ◌≡◌}
+use Rattle.std.proofs.Common.{ap, arith, length, sym, ◌+◌, ◌∙◌, ◌≡◌}
 use Rattle.std.proofs.lemmas.List.{length_push}
 use Rattle.fr_net.proofs.AddedLinks.{added, faultless_added}
 use Rattle.fr_net.proofs.Remaking.{graph_of, network_of_rows}
@@ -32,7 +32,7 @@ returns-clause-graph c =
     let at = goal.at.returns-clause-graph c in
     let links = (shown c.args.self.now).links in
     let graph = c.requires.graph in
-    graph_of _ (added links c.args.tail c.args.head) (clear at.Start) (sym (more at.Start)) (rows at.After-put_in_rows) (c.admit.ensures.one_each ∙ graph.height_each) (c.admit.ensures.fit links graph.fit)
+    graph_of _ (added links c.args.tail c.args.head) (clear at.Start) (sym (more at.Start)) (rows at.After-put_in_rows) (ap length c.admit.ensures.same ∙ graph.height_each) (c.admit.ensures.fit links graph.fit)
 
 pub returns-clause-put : goal.returns-clause-put
 returns-clause-put c =

@@ -1,34 +1,32 @@
-use Rattle.std.proofs.Common.{◌≡◌, ◌∙◌, ◌<◌, IfSome, List, Contains, ap, arith, length, refl, subst, sym, vec_len, ℕ}
+use Rattle.std.proofs.Common.{◌≡◌, ◌∙◌, ◌<◌, List, ap, arith, inl, length, refl, subst, sym, vec_len, ℕ}
 use Rattle.std.proofs.lemmas.List.{with_items_is}
 use Rattle.std.proofs.lemmas.Result.{err_from_is_err_and}
 use Rattle.std.specs.Vec.{with_items}
 use Rattle.fr_net.specs.Batches.{AreMade}
 use Rattle.fr_net.specs.Counts.{links_at}
+use Rattle.fr_net.specs.Limits.{most_edits}
 use Rattle.fr_net.specs.Network.{Network, net_of}
 use Rattle.fr_crew.specs.Settlements.{HoldsSinks, IsCounted}
+use Rattle.fr_net.specs.declared.fault.NetFault.TheVariants.{TooMany}
 use Rattle.fr_net.specs.declared.fault.NotEdited.{NotEdited}
 use Rattle.fr_net.specs.declared.fault.NotEdited.TheVariants.{Fault, Refused}
 use Rattle.fr_route.specs.Changes.{IsOpenFault}
 use Rattle.fr_route.specs.Faults.{of_not_edited}
-use Rattle.fr_route.specs.Outcomes.{HoldsMoved, IsEditingFault, IsOutcome, counts_of, state_after, touched}
+use Rattle.fr_route.specs.Outcomes.{HoldsMoved, IsEditingFault, IsOutcome, counts_of, state_after, movable}
 use Rattle.fr_route.specs.Routes.{AreHops}
 use Rattle.fr_route.specs.RouterInside.{state_of}
 use Rattle.fr_route.specs.States.{IsReport, State}
 use Rattle.fr_route.specs.declared.fault.RouteFault.{RouteFault}
 use Rattle.fr_route.proofs.Changing.{made_nodes, refused_fault, round_fault}
 use Rattle.fr_route.proofs.Inside.{sound_after}
-use Rattle.fr_route.proofs.Moving.{made_net, touched_sinks, untouched_hops}
-use Rattle.fr_route.proofs.Shown.{shown, some_weaker}
+use Rattle.fr_route.proofs.Moving.{made_net, movable_sinks, unmoved_hops}
 use Rattle.fr_route.proofs.router.Router.edit_by.Given.{Over}
 use Rattle.fr_route.proofs.router.Router.edit_by.Goals as goal
-use Rattle.fr_route.proofs.router.Router.edit_by.Goals.{After-as_deref-from, After-put_counts, After-touched, In_ok-outcome}
+use Rattle.fr_route.proofs.router.Router.edit_by.Goals.{After-as_slice-from, After-put_counts, After-movable, In_ok-outcome}
 
--- the nodes from which the round begins, where they are given, are those that are touched, and no linked node was cut off
-from_touched : (g : Over) (c : After-as_deref-from g) → IfSome c.as_deref-from.result (λ from. (from.now ≡ touched (state_of c.self.inside) c.args.dest c.args.edits.now) × ¬ Contains (state_of c.self.inside).counts (state_of c.self.inside).nodes)
-from_touched g c =
-    let s : State = state_of c.self.inside in
-    shown c.as_deref-from.result c.in_ok-touched.touched (λ (nodes : List ℕ). (nodes ≡ touched s c.args.dest c.args.edits.now) × ¬ Contains s.counts s.nodes) c.as_deref-from.ensures.value
-    (subst (λ (now : State). IfSome c.in_ok-touched.touched (λ v. (v.items ≡ touched now c.args.dest c.args.edits.now) × ¬ Contains now.counts now.nodes)) (sym c.self.view_is) c.in_ok-touched.ensures)
+-- the nodes from which the round begins are those that can move
+from_movable : (g : Over) (c : After-as_slice-from g) → c.as_slice-from.result.now ≡ movable (state_of c.self.inside) c.args.dest c.args.edits.now
+from_movable g c = c.as_slice-from.ensures.value ∙ subst (λ (now : State). c.in_ok-movable.movable.items ≡ movable now c.args.dest c.args.edits.now) (sym c.self.view_is) c.in_ok-movable.ensures
 
 -- the edits are made, and the outcome is that of the network which they make
 edits_made : (g : Over) (c : In_ok-outcome g) → AreMade c.self.inside.net c.args.edits.now c.edit_if.new.self
@@ -39,7 +37,7 @@ outcome_is g c =
     let ok = c.in_ok-outcome.ensures.ok in
     subst (λ (m : Network). IsOutcome m c.args.dest c.in_ok-outcome.outcome) {y = c.edit_if.new.self} ok.1.shows ok.1.says.met.0
 
-in_range : (g : Over) (c : After-touched g) → c.args.dest < (state_of c.self.inside).nodes
+in_range : (g : Over) (c : After-movable g) → c.args.dest < (state_of c.self.inside).nodes
 in_range g c = subst (λ (now : State). c.args.dest < now.nodes) (sym c.self.view_is) c.requires.node
 
 -- the counts that are put in place are those of the round, and so is what it reports
@@ -60,23 +58,25 @@ edit_if-requires g c = record {
     c.requires.settles,
     (
       c.requires.tells,
-      some_weaker c.as_deref-from.result _ _
-          (λ from are.
+      let at = goal.at.edit_if-requires g c in
           let s : State = state_of c.self.inside in
-          let below : c.args.dest < s.nodes = subst (λ (now : State). c.args.dest < now.nodes) (sym c.self.view_is) c.requires.node in (
+          let below = in_range g at.After-movable in (
             omega (arith, below, made_nodes c.self.inside.net c.args.edits.now made.now is),
-            subst (HoldsSinks made.now c.args.dest) (sym are.0) (touched_sinks s c.self.invariant.round are.1 c.args.edits.now made.now c.args.dest below is),
-          ))
-          (from_touched g (goal.at.edit_if-requires g c).After-as_deref-from),
+            subst (HoldsSinks made.now c.args.dest) (sym (from_movable g at.After-as_slice-from)) (movable_sinks s c.self.invariant.round c.args.edits.now made.now c.args.dest below is),
+          ),
     ),
   );
 }
+
+pub returns-then-edits-gt-MAX_EDITS-clause-fault : goal.returns-then-edits-gt-MAX_EDITS-clause-fault
+returns-then-edits-gt-MAX_EDITS-clause-fault g c =
+    (record { at = most_edits; fault = TooMany }, (inl (omega (arith, c.if-edits-gt-MAX_EDITS.true), refl, refl), refl))
 
 pub returns-in_err-outcome-clause-fault : goal.returns-in_err-outcome-clause-fault
 returns-in_err-outcome-clause-fault g c =
     let s : State = state_of c.self.inside in
     let edits = c.args.edits.now in
-    let below = in_range g (goal.at.returns-in_err-outcome-clause-fault g c).After-touched in
+    let below = in_range g (goal.at.returns-in_err-outcome-clause-fault g c).After-movable in
     let reason = c.in_err-outcome.field-0.0 in
     let fault : (r : NotEdited RouteFault) → c.in_err-outcome.field-0.0 ≡ r → IsEditingFault s edits (of_not_edited r) =
     λ r. elim r as (λ (r : NotEdited RouteFault). c.in_err-outcome.field-0.0 ≡ r → IsEditingFault s edits (of_not_edited r)) [
@@ -104,20 +104,17 @@ put_in_place-requires-clause-turned g c =
     let at = goal.at.put_in_place-requires-clause-turned g c in
     rw c.deref.ensures.value (reported_is g at.After-put_counts (outcome_is g at.In_ok-outcome)).turns
 
-pub put_in_place-requires-clause-touched : goal.put_in_place-requires-clause-touched
-put_in_place-requires-clause-touched g c =
-    let at = goal.at.put_in_place-requires-clause-touched g c in
+pub put_in_place-requires-clause-moved : goal.put_in_place-requires-clause-moved
+put_in_place-requires-clause-moved g c =
+    let at = goal.at.put_in_place-requires-clause-moved g c in
     let s : State = state_of c.self.inside in
     let net : Network = c.edit_if.new.self in
     let counts : List ℕ = c.put_counts.new.counts.items in
-    let made = edits_made g at.In_ok-outcome in
     let hops : AreHops s s.nodes c.deref_mut.result.now = rw c.deref_mut.ensures.value c.self.invariant.hops in
-    let moved : IfSome c.as_deref-from.result (λ from. HoldsMoved (state_after net c.args.dest counts) c.deref_mut.result.now from.now) =
-    some_weaker c.as_deref-from.result _ _
-    (λ from are. subst (HoldsMoved (state_after net c.args.dest counts) c.deref_mut.result.now) (sym are.0)
-    (untouched_hops s c.self.invariant.round are.1 c.args.edits.now net c.args.dest (in_range g at.After-touched) made counts (counted_is g at.After-put_counts (outcome_is g at.In_ok-outcome)) c.deref_mut.result.now hops))
-    (from_touched g at.After-as_deref-from) in
-    subst (λ (cs : List ℕ). IfSome c.as_deref-from.result (λ from. HoldsMoved (state_after net c.args.dest cs) c.deref_mut.result.now from.now)) (sym c.deref.ensures.value) moved
+    let moved : HoldsMoved (state_after net c.args.dest counts) c.deref_mut.result.now c.as_slice-from.result.now =
+    subst (HoldsMoved (state_after net c.args.dest counts) c.deref_mut.result.now) (sym (from_movable g at.After-as_slice-from))
+    (unmoved_hops s c.self.invariant.round c.args.edits.now net c.args.dest (in_range g at.After-movable) (edits_made g at.In_ok-outcome) counts (counted_is g at.After-put_counts (outcome_is g at.In_ok-outcome)) c.deref_mut.result.now hops) in
+    subst (λ (cs : List ℕ). HoldsMoved (state_after net c.args.dest cs) c.deref_mut.result.now c.as_slice-from.result.now) (sym c.deref.ensures.value) moved
 
 pub invariant_of-self-2 : goal.invariant_of-self-2
 invariant_of-self-2 g c =
