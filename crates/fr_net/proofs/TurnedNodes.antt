@@ -1,9 +1,15 @@
 -- The nodes that have turned, one after another: what holds of all nodes below one holds of all nodes below the next.
-use Rattle.std.proofs.Common.{All, Contains, List, [], arith, drop, get_or, inl, inr, length, subst, sym, take, ℕ, ◌++◌, ◌+◌, ◌-◌, ◌<◌, ◌∙◌, ◌∷◌, ◌≡◌, ◌≤◌, ◌↔◌}
+use Rattle.std.proofs.Common.{All, Contains, List, [], ap, arith, drop, get_or, inl, inr, length, refl, replicate, subst, suc, sum, sym, take, zero, ℕ, ◌++◌, ◌+◌, ◌-◌, ◌<◌, ◌∙◌, ◌∷◌, ◌≡◌, ◌≤◌, ◌↔◌}
+use Rattle.std.proofs.Math.ListN.{get_or-append}
+use Rattle.std.proofs.Math.Seq.{get_or-append_seam}
 use Rattle.std.proofs.lemmas.Bool.{cases_eq, cases_lt}
-use Rattle.std.proofs.lemmas.List.{get_or-drop, get_or-take, get_or_past, length-drop, length-take-le}
+use Rattle.std.proofs.lemmas.List.{ext_get_or, get_or-drop, get_or-replicate, get_or-take, get_or_default, get_or_past, length-drop, length-replicate, length-take-le, length_push, take_all}
 use Rattle.std.proofs.lemmas.List.Elements.{Contains-append_left, Contains-get_or, Contains-push, Contains-push_cases}
+use Rattle.std.proofs.lemmas.List.Kept.{AllPairs-from_increasing}
+use Rattle.std.proofs.lemmas.List.Sums.{sum_by_more}
+use Rattle.std.specs.List.Sorted.{IsStrictlyIncreasing}
 use Rattle.fr_net.specs.Counts.{AreUnturned, IsNextTurned}
+use Rattle.fr_net.specs.Turns.{AreCleared, AreTurned}
 
 -- there is a count for each node that has turned
 pub turned_inside : (counts : List ℕ) (y : ℕ) → 0 < get_or counts y 0 → y < length counts
@@ -67,5 +73,131 @@ all_listed counts x list none listed z = (
   ],
 )
 
-pub listed_inside : (counts : List ℕ) (x : ℕ) (list : List ℕ) → AreListed counts x list → All (λ (z : ℕ). z < length counts) list
-listed_inside counts x list listed k d l = let z = get_or list k d in turned_inside counts z ((listed z).0 (Contains-get_or list k d l)).1
+-- a list that rises still does with one more behind all that stand there
+pub rises_more : (nodes : List ℕ) (y : ℕ) → IsStrictlyIncreasing nodes → ((z : ℕ) → Contains nodes z → z < y) → IsStrictlyIncreasing (nodes ++ y ∷ [])
+rises_more nodes y rising below k l =
+    let long = length_push nodes y in
+    elim (cases_lt (k + 1) (length nodes)) [
+      | inl inside ↦
+          let low = get_or-append nodes (y ∷ []) 0 k (omega (arith, inside)) in
+          let high = get_or-append nodes (y ∷ []) 0 (k + 1) inside in
+          omega (arith, low, high, rising k inside)
+      | inr last ↦
+          let end : k + 1 ≡ length nodes = omega (arith, last, l, long) in
+          let low = get_or-append nodes (y ∷ []) 0 k (omega (arith, end)) in
+          let high : get_or (nodes ++ y ∷ []) (k + 1) 0 ≡ y = rw end (get_or-append_seam nodes y [] 0) in
+          omega (arith, low, high, below (get_or nodes k 0) (Contains-get_or nodes k 0 (omega (arith, end))))
+    ]
+
+-- counts of 0 add nothing to the sum
+sum_unturned : (counts : List ℕ) (x d y : ℕ) → y ≡ x + d → y ≤ length counts → ((z : ℕ) → x ≤ z → z < y → get_or counts z 0 ≡ 0) → sum (take y counts) ≡ sum (take x counts)
+sum_unturned counts x zero y is inside none = let same : y ≡ x = omega (arith, is) in rw same refl
+sum_unturned counts x (suc d) y is inside none =
+    let w = x + d in
+    let next : y ≡ w + 1 = omega (arith, is) in
+    let more : sum (take (w + 1) counts) ≡ sum (take w counts) + get_or counts w 0 = sum_by_more (λ (count : ℕ). count) counts w 0 (omega (arith, next, inside)) in
+    let so_far : sum (take w counts) ≡ sum (take x counts) = sum_unturned counts x d w refl (omega (arith, next, inside)) (λ z from below. none z from (omega (arith, next, below))) in
+    let all : sum (take y counts) ≡ sum (take (w + 1) counts) = rw next refl in
+    omega (arith, all, more, so_far, none w (omega arith) (omega (arith, next)))
+
+-- the sum of the counts up to the next node that has turned
+pub sum_to_next : (counts : List ℕ) (x y : ℕ) → IsNextTurned counts x y → sum (take (y + 1) counts) ≡ sum (take x counts) + get_or counts y 0
+sum_to_next counts x y next =
+    let inside = turned_inside counts y next.turned in
+    let more : sum (take (y + 1) counts) ≡ sum (take y counts) + get_or counts y 0 = sum_by_more (λ (count : ℕ). count) counts y 0 inside in
+    omega (arith, more, sum_unturned counts x (y - x) y (omega (arith, next.from)) (omega (arith, inside)) next.between)
+
+-- the sum of all counts
+pub sum_at_last : (counts : List ℕ) (x : ℕ) → AreUnturned counts x → x ≤ length counts → sum counts ≡ sum (take x counts)
+sum_at_last counts x none inside =
+    let n = length counts in
+    let all : sum (take n counts) ≡ sum counts = ap sum (take_all n counts (omega arith)) in
+    sym all ∙ sum_unturned counts x (n - x) n (omega (arith, inside)) (omega arith) (λ z from below. none z from)
+
+-- the place behind the first i nodes of a list
+abbrev pub front : List ℕ → ℕ → ℕ
+front nodes zero = 0
+front nodes (suc i) = get_or nodes i 0 + 1
+
+up_to_front : (nodes : List ℕ) (i : ℕ) → IsStrictlyIncreasing nodes → i ≤ length nodes → (j : ℕ) → j < i → get_or nodes j 0 < front nodes i
+up_to_front nodes zero rising le j l = absurd (omega (arith, l))
+up_to_front nodes (suc i) rising le j l = elim (cases_eq j i) [
+  | inl same ↦ rw same (omega arith)
+  | inr apart ↦ let up = AllPairs-from_increasing nodes rising j i 0 (omega (arith, l, apart)) (omega (arith, le)) in omega (arith, up)
+]
+
+-- the next node of the list does not lie before this place
+pub front_below : (nodes : List ℕ) (i : ℕ) → IsStrictlyIncreasing nodes → i < length nodes → front nodes i ≤ get_or nodes i 0
+front_below nodes zero rising l = omega arith
+front_below nodes (suc i) rising l = let up = AllPairs-from_increasing nodes rising i (suc i) 0 (omega arith) l in omega (arith, up)
+
+-- a node from this place on that has turned stands behind the first i
+behind_front : (counts nodes : List ℕ) (i z : ℕ) → AreTurned counts nodes → i ≤ length nodes → front nodes i ≤ z → 0 < get_or counts z 0 → (j : ℕ) × (i ≤ j) × (j < length nodes) × (get_or nodes j 0 ≡ z)
+behind_front counts nodes i z listed le from turned =
+    let at = (listed.each z).1 turned in
+    let is : get_or nodes at.0 0 ≡ z = get_or_default nodes at.0 0 z at.1 ∙ at.2 in
+    elim (cases_lt at.0 i) [
+      | inl early ↦ absurd (omega (arith, from, is, up_to_front nodes i listed.rising le at.0 early))
+      | inr late ↦ (at.0, omega (arith, late), at.1, is)
+    ]
+
+-- no node between has turned
+pub none_between : (counts nodes : List ℕ) (i : ℕ) → AreTurned counts nodes → i < length nodes → (z : ℕ) → front nodes i ≤ z → z < get_or nodes i 0 → get_or counts z 0 ≡ 0
+none_between counts nodes i listed l z from below = elim (cases_eq (get_or counts z 0) 0) [
+  | inl none ↦ none
+  | inr some ↦
+      let at = behind_front counts nodes i z listed (omega (arith, l)) from (omega (arith, some)) in
+      elim (cases_eq i at.0) [
+        | inl same ↦ let is : get_or nodes i 0 ≡ z = rw same at.3 in absurd (omega (arith, below, is))
+        | inr apart ↦ let up = AllPairs-from_increasing nodes listed.rising i at.0 0 (omega (arith, apart, at.1)) at.2 in absurd (omega (arith, below, up, at.3))
+      ]
+]
+
+-- and none behind all of the list
+pub none_behind : (counts nodes : List ℕ) → AreTurned counts nodes → (z : ℕ) → front nodes (length nodes) ≤ z → get_or counts z 0 ≡ 0
+none_behind counts nodes listed z from = elim (cases_eq (get_or counts z 0) 0) [
+  | inl none ↦ none
+  | inr some ↦
+      let at = behind_front counts nodes (length nodes) z listed (omega arith) from (omega (arith, some)) in
+      absurd (omega (arith, at.1, at.2))
+]
+
+-- counts that are cleared at these nodes are all 0
+pub all_cleared : (before after nodes : List ℕ) → AreTurned before nodes → length after ≡ length before → AreCleared nodes before after → after ≡ replicate (length before) 0
+all_cleared before after nodes listed same cleared =
+    ext_get_or 0 after (replicate (length before) 0) (same ∙ sym (length-replicate (length before) 0))
+    (λ x inside. elim (cases_eq (get_or before x 0) 0) [
+      | inl none ↦
+          let out : ¬ Contains nodes x = λ h. absurd (omega (arith, none, (listed.each x).0 h)) in
+          cleared.others x out ∙ none ∙ sym (get_or-replicate (length before) x 0 0 (omega (arith, inside, same)))
+      | inr some ↦ cleared.these x ((listed.each x).1 (omega (arith, some))) ∙ sym (get_or-replicate (length before) x 0 0 (omega (arith, inside, same)))
+    ])
+
+-- no node has turned where all counts are 0
+pub none_turned : (n : ℕ) → AreTurned (replicate n 0) []
+none_turned n = record {
+  rising = λ k l. absurd (omega (arith, l));
+  each = λ x. (
+    λ h. absurd (omega (arith, h.1)),
+    λ turned. elim (cases_lt x n) [
+      | inl inside ↦ absurd (omega (arith, turned, get_or-replicate {A = ℕ} n x 0 0 inside))
+      | inr past ↦ absurd (omega (arith, turned, get_or_past {X = ℕ} (replicate n 0) x 0 (omega (arith, past, length-replicate {A = ℕ} n 0))))
+    ],
+  );
+}
+
+-- there is a count for each of them
+pub turned_below : (counts nodes : List ℕ) → AreTurned counts nodes → All (λ (x : ℕ). x < length counts) nodes
+turned_below counts nodes listed k d l = let z = get_or nodes k d in turned_inside counts z ((listed.each z).0 (Contains-get_or nodes k d l))
+
+-- the place behind all of the list is no more than there are counts
+pub front_inside : (counts nodes : List ℕ) (i : ℕ) → AreTurned counts nodes → i ≤ length nodes → front nodes i ≤ length counts
+front_inside counts nodes zero listed le = omega arith
+front_inside counts nodes (suc i) listed le = let below = turned_below counts nodes listed i 0 (omega (arith, le)) in omega (arith, below)
+
+-- how often one of them turned at most is so for all nodes
+pub most_of_all : (counts nodes : List ℕ) (most : ℕ) → AreTurned counts nodes → ((x : ℕ) → Contains nodes x → get_or counts x 0 ≤ most) → (x : ℕ) → get_or counts x 0 ≤ most
+most_of_all counts nodes most listed bound x = elim (cases_eq (get_or counts x 0) 0) [
+  | inl none ↦ omega (arith, none)
+  | inr some ↦ bound x ((listed.each x).1 (omega (arith, some)))
+]

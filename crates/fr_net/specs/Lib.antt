@@ -3,6 +3,7 @@ pub mod Links
 pub mod Order
 pub mod Turn
 pub mod Counts
+pub mod Turns
 pub mod Network
 pub mod Rows
 pub mod Faults

@@ -27,6 +27,7 @@ mod row_table;
 mod rows;
 mod short_lines;
 mod turned;
+mod turns;
 mod values;
 
 pub use counts::next_turned;
@@ -37,3 +38,4 @@ pub use network::Net;
 pub use read::read_line;
 pub use requests::{Edit, LineFault, Question, Request};
 pub use rows::First;
+pub use turns::Turns;

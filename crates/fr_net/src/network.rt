@@ -25,6 +25,7 @@ use crate::requests::Edit;
 use crate::row_table::RowTable;
 use crate::rows::{First, entries_of, first_twice, outward_links, sorted_halves};
 use crate::turned::{links_of_rows, turn_rows};
+use crate::turns::Turns;
 use std::alloc::{AllocError, Global};
 use std::marker::Model;
 
@@ -281,19 +282,21 @@ impl Net {
         ensures ok { IfOk result (IsNetworkOf self.now.nodes (links_at self.now.links counts.now)) }
         ensures memory { IfErr result (λ fault. fault ≡ Memory) }
     {
+        self.network_law();
         let mut net = self.copied(alloc)?;
-        net.turn(counts);
+        let room = Vec::with_capacity(alloc, counts.len())?;
+        net.turn(&Turns::of(counts.to_vec(alloc)?, room));
         Ok(net)
     }
 
-    /// Turns the links as the counts say, as `turned_by`, but where the network stands: it takes no memory and has no fault. Only the rows
+    /// Turns the links as these turns say, as `turned_by`, but where the network stands: it takes no memory and has no fault. Only the rows
     /// of nodes that turned are touched, with the entries of these in the rows of others.
-    pub fn turn(&mut self, counts: &[u64])
-        requires one_each { length counts.now ≡ self.old.nodes }
-        requires kept { All (IsKept counts.now) self.old.links }
-        ensures { IsNetworkOf self.old.nodes (links_at self.old.links counts.now) self.new }
+    pub fn turn(&mut self, turns: &Turns)
+        requires one_each { length turns.now ≡ self.old.nodes }
+        requires kept { All (IsKept turns.now) self.old.links }
+        ensures { IsNetworkOf self.old.nodes (links_at self.old.links turns.now) self.new }
     {
-        turn_rows(&mut self.graph.rows, counts);
-        self.graph.heights.raise(counts);
+        turn_rows(&mut self.graph.rows, turns);
+        self.graph.heights.raise(turns);
     }
 }

@@ -8,10 +8,10 @@ ghost use Rattle.fr_net.specs.KeptRows.{links_in};
 ghost use Rattle.fr_net.specs.RowLists.{out_links, turned_entry};
 ghost use Rattle.fr_net.specs.TurnedRows.{ArePartTurned, is_done, reversed_at};
 
-use crate::counts::next_turned;
 use crate::edits::place_in_row;
 use crate::row_table::RowTable;
 use crate::rows::First;
+use crate::turns::Turns;
 use std::alloc::{AllocError, Global};
 
 /// An entry of the row of `x`, with its link as the counts turn it.
@@ -67,17 +67,14 @@ fn turn_node(rows: &mut RowTable, x: u32, counts: &[u64])
     }
 }
 
-/// Turns the rows as the counts say: only those of nodes that have turned are touched, and in the others their entries.
-pub(crate) fn turn_rows(rows: &mut RowTable, counts: &[u64])
-    requires few { length counts.now ≤ most_nodes }
-    requires rows { (net : Network) × ArePartTurned net counts.now (is_done counts.now 0) rows.old }
-    ensures { (net : Network) → ArePartTurned net counts.now (is_done counts.now 0) rows.old
-        → ArePartTurned net counts.now (is_done counts.now (length counts.now)) rows.new }
+/// Turns the rows as these turns say: only those of nodes that have turned are touched, and in the others their entries.
+pub(crate) fn turn_rows(rows: &mut RowTable, turns: &Turns)
+    requires rows { (net : Network) × ArePartTurned net turns.now (is_done turns.now 0) rows.old }
+    ensures { (net : Network) → ArePartTurned net turns.now (is_done turns.now 0) rows.old
+        → ArePartTurned net turns.now (is_done turns.now (length turns.now)) rows.new }
 {
-    let mut from = 0;
-    'turned: while let Some(x) = next_turned(counts, from) {
-        turn_node(rows, x, counts);
-        from = x + 1;
+    for x in turns.nodes() {
+        turn_node(rows, *x, turns.counts());
     }
 }
 
