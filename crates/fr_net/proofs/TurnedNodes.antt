@@ -1,13 +1,14 @@
 -- The nodes that have turned, one after another: what holds of all nodes below one holds of all nodes below the next.
-use Rattle.std.proofs.Common.{All, Contains, List, [], ap, arith, drop, get_or, inl, inr, length, refl, replicate, subst, suc, sum, sym, take, zero, ℕ, ◌++◌, ◌+◌, ◌-◌, ◌<◌, ◌∙◌, ◌∷◌, ◌≡◌, ◌≤◌, ◌↔◌}
+use Rattle.std.proofs.Common.{All, Contains, List, [], ap, arith, drop, eqb, get_or, get_or-set_other, get_or-set_same, inl, inr, length, length-set, ne_eqb, refl, replicate, set, subst, suc, sum, sym, take, zero, ℕ, ◌++◌, ◌+◌, ◌-◌, ◌<◌, ◌∙◌, ◌∷◌, ◌≡◌, ◌≤◌, ◌↔◌}
 use Rattle.std.proofs.Math.ListN.{get_or-append}
 use Rattle.std.proofs.Math.Seq.{get_or-append_seam}
-use Rattle.std.proofs.lemmas.Bool.{cases_eq, cases_lt}
+use Rattle.std.proofs.lemmas.Bool.{cases_eq, cases_lt, false≢true}
 use Rattle.std.proofs.lemmas.List.{ext_get_or, get_or-drop, get_or-replicate, get_or-take, get_or_default, get_or_past, length-drop, length-replicate, length-take-le, length_push, take_all}
 use Rattle.std.proofs.lemmas.List.Elements.{Contains-append_left, Contains-get_or, Contains-push, Contains-push_cases}
-use Rattle.std.proofs.lemmas.List.Kept.{AllPairs-from_increasing}
 use Rattle.std.proofs.lemmas.List.Sums.{sum_by_more}
-use Rattle.std.specs.List.Sorted.{IsStrictlyIncreasing}
+use Rattle.std.proofs.lemmas.Map.Keys.{IsDistinct-from_apart}
+use Rattle.std.proofs.lemmas.Map.Steps.{length-le_from_distinct_below}
+use Rattle.std.proofs.lemmas.Map.Views.{Contains-from_any}
 use Rattle.fr_net.specs.Counts.{AreUnturned, IsNextTurned}
 use Rattle.fr_net.specs.Turns.{AreCleared, AreTurned}
 
@@ -73,20 +74,18 @@ all_listed counts x list none listed z = (
   ],
 )
 
--- a list that rises still does with one more behind all that stand there
-pub rises_more : (nodes : List ℕ) (y : ℕ) → IsStrictlyIncreasing nodes → ((z : ℕ) → Contains nodes z → z < y) → IsStrictlyIncreasing (nodes ++ y ∷ [])
-rises_more nodes y rising below k l =
+-- one more node that is not there yet leaves each once
+pub once_more : (nodes : List ℕ) (y : ℕ) → ((i j : ℕ) → i < j → j < length nodes → ¬ (get_or nodes i 0 ≡ get_or nodes j 0)) → ¬ Contains nodes y → (i j : ℕ) → i < j → j < length (nodes ++ y ∷ []) → ¬ (get_or (nodes ++ y ∷ []) i 0 ≡ get_or (nodes ++ y ∷ []) j 0)
+once_more nodes y once new i j lt l same =
     let long = length_push nodes y in
-    elim (cases_lt (k + 1) (length nodes)) [
-      | inl inside ↦
-          let low = get_or-append nodes (y ∷ []) 0 k (omega (arith, inside)) in
-          let high = get_or-append nodes (y ∷ []) 0 (k + 1) inside in
-          omega (arith, low, high, rising k inside)
+    let inside : i < length nodes = omega (arith, lt, l, long) in
+    let low : get_or (nodes ++ y ∷ []) i 0 ≡ get_or nodes i 0 = get_or-append nodes (y ∷ []) 0 i inside in
+    elim (cases_lt j (length nodes)) [
+      | inl early ↦ once i j lt early (sym low ∙ same ∙ get_or-append nodes (y ∷ []) 0 j early)
       | inr last ↦
-          let end : k + 1 ≡ length nodes = omega (arith, last, l, long) in
-          let low = get_or-append nodes (y ∷ []) 0 k (omega (arith, end)) in
-          let high : get_or (nodes ++ y ∷ []) (k + 1) 0 ≡ y = rw end (get_or-append_seam nodes y [] 0) in
-          omega (arith, low, high, below (get_or nodes k 0) (Contains-get_or nodes k 0 (omega (arith, end))))
+          let end : j ≡ length nodes = omega (arith, last, l, long) in
+          let high : get_or (nodes ++ y ∷ []) j 0 ≡ y = rw end (get_or-append_seam nodes y [] 0) in
+          new (subst (Contains nodes) (sym low ∙ same ∙ high) (Contains-get_or nodes i 0 inside))
     ]
 
 -- counts of 0 add nothing to the sum
@@ -114,54 +113,6 @@ sum_at_last counts x none inside =
     let all : sum (take n counts) ≡ sum counts = ap sum (take_all n counts (omega arith)) in
     sym all ∙ sum_unturned counts x (n - x) n (omega (arith, inside)) (omega arith) (λ z from below. none z from)
 
--- the place behind the first i nodes of a list
-abbrev pub front : List ℕ → ℕ → ℕ
-front nodes zero = 0
-front nodes (suc i) = get_or nodes i 0 + 1
-
-up_to_front : (nodes : List ℕ) (i : ℕ) → IsStrictlyIncreasing nodes → i ≤ length nodes → (j : ℕ) → j < i → get_or nodes j 0 < front nodes i
-up_to_front nodes zero rising le j l = absurd (omega (arith, l))
-up_to_front nodes (suc i) rising le j l = elim (cases_eq j i) [
-  | inl same ↦ rw same (omega arith)
-  | inr apart ↦ let up = AllPairs-from_increasing nodes rising j i 0 (omega (arith, l, apart)) (omega (arith, le)) in omega (arith, up)
-]
-
--- the next node of the list does not lie before this place
-pub front_below : (nodes : List ℕ) (i : ℕ) → IsStrictlyIncreasing nodes → i < length nodes → front nodes i ≤ get_or nodes i 0
-front_below nodes zero rising l = omega arith
-front_below nodes (suc i) rising l = let up = AllPairs-from_increasing nodes rising i (suc i) 0 (omega arith) l in omega (arith, up)
-
--- a node from this place on that has turned stands behind the first i
-behind_front : (counts nodes : List ℕ) (i z : ℕ) → AreTurned counts nodes → i ≤ length nodes → front nodes i ≤ z → 0 < get_or counts z 0 → (j : ℕ) × (i ≤ j) × (j < length nodes) × (get_or nodes j 0 ≡ z)
-behind_front counts nodes i z listed le from turned =
-    let at = (listed.each z).1 turned in
-    let is : get_or nodes at.0 0 ≡ z = get_or_default nodes at.0 0 z at.1 ∙ at.2 in
-    elim (cases_lt at.0 i) [
-      | inl early ↦ absurd (omega (arith, from, is, up_to_front nodes i listed.rising le at.0 early))
-      | inr late ↦ (at.0, omega (arith, late), at.1, is)
-    ]
-
--- no node between has turned
-pub none_between : (counts nodes : List ℕ) (i : ℕ) → AreTurned counts nodes → i < length nodes → (z : ℕ) → front nodes i ≤ z → z < get_or nodes i 0 → get_or counts z 0 ≡ 0
-none_between counts nodes i listed l z from below = elim (cases_eq (get_or counts z 0) 0) [
-  | inl none ↦ none
-  | inr some ↦
-      let at = behind_front counts nodes i z listed (omega (arith, l)) from (omega (arith, some)) in
-      elim (cases_eq i at.0) [
-        | inl same ↦ let is : get_or nodes i 0 ≡ z = rw same at.3 in absurd (omega (arith, below, is))
-        | inr apart ↦ let up = AllPairs-from_increasing nodes listed.rising i at.0 0 (omega (arith, apart, at.1)) at.2 in absurd (omega (arith, below, up, at.3))
-      ]
-]
-
--- and none behind all of the list
-pub none_behind : (counts nodes : List ℕ) → AreTurned counts nodes → (z : ℕ) → front nodes (length nodes) ≤ z → get_or counts z 0 ≡ 0
-none_behind counts nodes listed z from = elim (cases_eq (get_or counts z 0) 0) [
-  | inl none ↦ none
-  | inr some ↦
-      let at = behind_front counts nodes (length nodes) z listed (omega arith) from (omega (arith, some)) in
-      absurd (omega (arith, at.1, at.2))
-]
-
 -- counts that are cleared at these nodes are all 0
 pub all_cleared : (before after nodes : List ℕ) → AreTurned before nodes → length after ≡ length before → AreCleared nodes before after → after ≡ replicate (length before) 0
 all_cleared before after nodes listed same cleared =
@@ -176,7 +127,7 @@ all_cleared before after nodes listed same cleared =
 -- no node has turned where all counts are 0
 pub none_turned : (n : ℕ) → AreTurned (replicate n 0) []
 none_turned n = record {
-  rising = λ k l. absurd (omega (arith, l));
+  once = λ i j lt l same. absurd (omega (arith, l));
   each = λ x. (
     λ h. absurd (omega (arith, h.1)),
     λ turned. elim (cases_lt x n) [
@@ -190,10 +141,51 @@ none_turned n = record {
 pub turned_below : (counts nodes : List ℕ) → AreTurned counts nodes → All (λ (x : ℕ). x < length counts) nodes
 turned_below counts nodes listed k d l = let z = get_or nodes k d in turned_inside counts z ((listed.each z).0 (Contains-get_or nodes k d l))
 
--- the place behind all of the list is no more than there are counts
-pub front_inside : (counts nodes : List ℕ) (i : ℕ) → AreTurned counts nodes → i ≤ length nodes → front nodes i ≤ length counts
-front_inside counts nodes zero listed le = omega arith
-front_inside counts nodes (suc i) listed le = let below = turned_below counts nodes listed i 0 (omega (arith, le)) in omega (arith, below)
+-- a list of them has no more places than there are counts
+pub no_more : (counts nodes : List ℕ) → AreTurned counts nodes → length nodes ≤ length counts
+no_more counts nodes listed =
+    length-le_from_distinct_below nodes (length counts)
+    (IsDistinct-from_apart eqb nodes (λ i j d lt l. ne_eqb _ _ (λ same. listed.once i j lt l (sym (get_or_default nodes i d 0 (omega (arith, lt, l))) ∙ same ∙ get_or_default nodes j d 0 l))))
+    (λ q found. turned_inside counts q ((listed.each q).0 (Contains-from_any {eq = eqb} (λ x y same. elim (cases_eq x y) [ inl it ↦ it | inr apart ↦ absurd (false≢true (sym (ne_eqb x y apart) ∙ same)) ]) q nodes found)))
+
+-- a node that has not turned yet makes a turn
+pub first_turn : (counts nodes : List ℕ) (x count : ℕ) → AreTurned counts nodes → x < length counts → get_or counts x 0 ≡ 0 → 0 < count → AreTurned (set counts x count) (nodes ++ x ∷ [])
+first_turn counts nodes x count listed inside none some =
+    let here : get_or (set counts x count) x 0 ≡ count = get_or-set_same counts x count 0 inside in
+    record {
+      once = once_more nodes x listed.once (λ h. absurd (omega (arith, none, (listed.each x).0 h)));
+      each = λ y. elim (cases_eq y x) [
+        | inl it ↦ rw it ((λ h. omega (arith, here, some)), (λ turned. Contains-push nodes x))
+        | inr other ↦
+            let stays : get_or (set counts x count) y 0 ≡ get_or counts y 0 = get_or-set_other counts x y count 0 other in (
+              λ h. elim (Contains-push_cases nodes x y h) [
+                | inl old ↦ omega (arith, stays, (listed.each y).0 old)
+                | inr same ↦ absurd (other (sym same))
+              ],
+              λ turned. Contains-append_left nodes (x ∷ []) y ((listed.each y).1 (omega (arith, stays, turned))),
+            )
+      ];
+    }
+
+-- a node that has turned makes another turn
+pub further_turn : (counts nodes : List ℕ) (x count : ℕ) → AreTurned counts nodes → x < length counts → 0 < get_or counts x 0 → 0 < count → AreTurned (set counts x count) nodes
+further_turn counts nodes x count listed inside turned some =
+    let here : get_or (set counts x count) x 0 ≡ count = get_or-set_same counts x count 0 inside in
+    record {
+      once = listed.once;
+      each = λ y. elim (cases_eq y x) [
+        | inl it ↦ rw it ((λ h. omega (arith, here, some)), (λ t. (listed.each x).1 turned))
+        | inr other ↦
+            let stays : get_or (set counts x count) y 0 ≡ get_or counts y 0 = get_or-set_other counts x y count 0 other in
+            ((λ h. omega (arith, stays, (listed.each y).0 h)), (λ t. (listed.each y).1 (omega (arith, stays, t))))
+      ];
+    }
+
+-- there is a place left for it
+pub place_left : (counts nodes : List ℕ) (x : ℕ) → AreTurned counts nodes → x < length counts → get_or counts x 0 ≡ 0 → length nodes < length counts
+place_left counts nodes x listed inside none =
+    let few = no_more (set counts x 1) (nodes ++ x ∷ []) (first_turn counts nodes x 1 listed inside none (omega arith)) in
+    omega (arith, few, length_push nodes x, length-set counts x 1)
 
 -- how often one of them turned at most is so for all nodes
 pub most_of_all : (counts nodes : List ℕ) (most : ℕ) → AreTurned counts nodes → ((x : ℕ) → Contains nodes x → get_or counts x 0 ≤ most) → (x : ℕ) → get_or counts x 0 ≤ most

@@ -1,25 +1,25 @@
 -- The turns of a round: how often each node has turned, and which nodes have. In full reversal by E. Gafni and D. Bertsekas ("Distributed
 -- Algorithms for Generating Loop-Free Routes in Networks with Frequently Changing Topology", 1981) a node that turns reverses all its links.
-use Rattle.std.specs.Prelude.{◌≡◌, ℕ, ◌<◌, ◌≤◌, ◌↔◌, List, length, slice_index, sum}
+use Rattle.std.specs.Prelude.{◌≡◌, ℕ, ◌<◌, ◌≤◌, ◌-◌, ◌^◌, ◌↔◌, List, length, min, slice_index, sum, vec_capacity}
 use Rattle.std.specs.List.{Contains}
-use Rattle.std.specs.List.Sorted.{IsStrictlyIncreasing}
 use Rattle.fr_net.specs.Limits.{most_nodes}
 use Rattle.fr_net.specs.declared.turns.Turns.TheInside.{Inside}
 
--- these are the nodes that have turned, in rising order
+-- these are the nodes that have turned, each once
 pub record AreTurned (counts nodes : List ℕ) : Type 0 where
-  pub rising : IsStrictlyIncreasing nodes
+  pub once : (i j : ℕ) → i < j → j < length nodes → ¬ (slice_index nodes i ≡ slice_index nodes j)
   pub each : (x : ℕ) → Contains nodes x ↔ (0 < slice_index counts x)
 
 -- what the fields of a `Turns` show
 abbrev pub counts_in : Inside → List ℕ
 counts_in s = s.counts.items
 
--- the list has the nodes that have turned, and the total is that of their counts
+-- the list has the nodes that have turned, and room for all; and the total is that of the counts, or the most that a word holds
 pub record AreSound (s : Inside) : Type 0 where
   pub few : length s.counts.items ≤ most_nodes
   pub turned : AreTurned s.counts.items s.nodes.items
-  pub total : s.total ≡ sum s.counts.items
+  pub room : length s.counts.items ≤ vec_capacity s.nodes
+  pub total : s.total ≡ min (sum s.counts.items) (2 ^ 64 - 1)
 
 -- the counts of these nodes are 0, and each other is as before
 pub record AreCleared (nodes before after : List ℕ) : Type 0 where

@@ -284,8 +284,7 @@ impl Net {
     {
         self.network_law();
         let mut net = self.copied(alloc)?;
-        let room = Vec::with_capacity(alloc, counts.len())?;
-        net.turn(&Turns::of(counts.to_vec(alloc)?, room));
+        net.turn(&Turns::of(alloc, counts.to_vec(alloc)?)?);
         Ok(net)
     }
 

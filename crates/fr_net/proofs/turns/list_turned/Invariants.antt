@@ -1,5 +1,4 @@
-use Rattle.std.proofs.Common.{length, sum, take, vec_capacity, ◌-◌, ◌≡◌, ◌≤◌}
-use Rattle.std.specs.List.Sorted.{IsStrictlyIncreasing}
+use Rattle.std.proofs.Common.{get_or, length, min, sum, take, vec_capacity, ℕ, ◌-◌, ◌<◌, ◌^◌, ◌≡◌, ◌≤◌}
 use Rattle.fr_net.proofs.TurnedNodes.{AreListed}
 use Rattle.fr_net.proofs.turns.list_turned.Given as goal
 
@@ -8,9 +7,9 @@ invariant-turned l = record {
   same_room : vec_capacity l.nodes ≡ vec_capacity l.fn.nodes;
   inside : l.from ≤ length l.counts;
   few : length l.nodes.items ≤ l.from;
-  rising : IsStrictlyIncreasing l.nodes.items;
+  once : (i j : ℕ) → i < j → j < length l.nodes.items → ¬ (get_or l.nodes.items i 0 ≡ get_or l.nodes.items j 0);
   listed : AreListed l.counts l.from l.nodes.items;
-  total : l.total ≡ sum (take l.from l.counts);
+  total : l.total ≡ min (sum (take l.from l.counts)) (2 ^ 64 - 1);
 }
 
 abbrev pub decreases-turned : goal.decreases-turned

@@ -26,6 +26,7 @@ invariant_of-self c =
     record {
       few = rw counts (rw (length-replicate {A = ℕ} n 0) c.self.invariant.few);
       turned = rw (counts, c.clear.ensures.items) (none_turned n);
+      room = rw counts (rw (length-replicate {A = ℕ} n 0, c.clear.ensures.capacity) c.self.invariant.room);
       total = rw counts (omega (arith, sum_by-replicate (λ (count : ℕ). count) n 0));
     }
 
