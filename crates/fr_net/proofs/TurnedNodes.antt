@@ -88,41 +88,42 @@ once_more nodes y once new i j lt l same =
           new (subst (Contains nodes) (sym low ∙ same ∙ high) (Contains-get_or nodes i 0 inside))
     ]
 
--- counts of 0 add nothing to the sum
-sum_unturned : (counts : List ℕ) (x d y : ℕ) → y ≡ x + d → y ≤ length counts → ((z : ℕ) → x ≤ z → z < y → get_or counts z 0 ≡ 0) → sum (take y counts) ≡ sum (take x counts)
-sum_unturned counts x zero y is inside none = let same : y ≡ x = omega (arith, is) in rw same refl
-sum_unturned counts x (suc d) y is inside none =
-    let w = x + d in
-    let next : y ≡ w + 1 = omega (arith, is) in
-    let more : sum (take (w + 1) counts) ≡ sum (take w counts) + get_or counts w 0 = sum_by_more (λ (count : ℕ). count) counts w 0 (omega (arith, next, inside)) in
-    let so_far : sum (take w counts) ≡ sum (take x counts) = sum_unturned counts x d w refl (omega (arith, next, inside)) (λ z from below. none z from (omega (arith, next, below))) in
-    let all : sum (take y counts) ≡ sum (take (w + 1) counts) = rw next refl in
-    omega (arith, all, more, so_far, none w (omega arith) (omega (arith, next)))
-
--- the sum of the counts up to the next node that has turned
-pub sum_to_next : (counts : List ℕ) (x y : ℕ) → IsNextTurned counts x y → sum (take (y + 1) counts) ≡ sum (take x counts) + get_or counts y 0
-sum_to_next counts x y next =
-    let inside = turned_inside counts y next.turned in
-    let more : sum (take (y + 1) counts) ≡ sum (take y counts) + get_or counts y 0 = sum_by_more (λ (count : ℕ). count) counts y 0 inside in
-    omega (arith, more, sum_unturned counts x (y - x) y (omega (arith, next.from)) (omega (arith, inside)) next.between)
-
--- the sum of all counts
-pub sum_at_last : (counts : List ℕ) (x : ℕ) → AreUnturned counts x → x ≤ length counts → sum counts ≡ sum (take x counts)
-sum_at_last counts x none inside =
-    let n = length counts in
-    let all : sum (take n counts) ≡ sum counts = ap sum (take_all n counts (omega arith)) in
-    sym all ∙ sum_unturned counts x (n - x) n (omega (arith, inside)) (omega arith) (λ z from below. none z from)
-
--- counts that are cleared at these nodes are all 0
-pub all_cleared : (before after nodes : List ℕ) → AreTurned before nodes → length after ≡ length before → AreCleared nodes before after → after ≡ replicate (length before) 0
-all_cleared before after nodes listed same cleared =
-    ext_get_or 0 after (replicate (length before) 0) (same ∙ sym (length-replicate (length before) 0))
-    (λ x inside. elim (cases_eq (get_or before x 0) 0) [
+-- counts that are set at the nodes that have turned
+pub each_set : (counts after nodes : List ℕ) (count : ℕ) → AreTurned counts nodes → length after ≡ length counts → AreSet nodes count counts after → after ≡ map (set_to count) counts
+each_set counts after nodes count listed same set =
+    ext_get_or 0 after (map (set_to count) counts) (same ∙ sym (length-map counts (set_to count)))
+    (λ x inside.
+    let here : get_or (map (set_to count) counts) x 0 ≡ set_to count (get_or counts x 0) = get_or-map (set_to count) counts x 0 0 (omega (arith, inside, same)) in
+    elim (cases_eq (get_or counts x 0) 0) [
       | inl none ↦
           let out : ¬ Contains nodes x = λ h. absurd (omega (arith, none, (listed.each x).0 h)) in
-          cleared.others x out ∙ none ∙ sym (get_or-replicate (length before) x 0 0 (omega (arith, inside, same)))
-      | inr some ↦ cleared.these x ((listed.each x).1 (omega (arith, some))) ∙ sym (get_or-replicate (length before) x 0 0 (omega (arith, inside, same)))
+          set.others x out ∙ none ∙ sym (here ∙ cond-true _ _ _ (eq-eqb _ _ none))
+      | inr some ↦ set.these x ((listed.each x).1 (omega (arith, some))) ∙ sym (here ∙ cond-false _ _ _ (ne_eqb _ _ some))
     ])
+
+-- none has turned once their counts are set to 0
+pub all_cleared : (counts : List ℕ) → map (set_to 0) counts ≡ replicate (length counts) 0
+all_cleared [] = refl
+all_cleared (count ∷ counts) = elim (cases_Bool (eqb count 0)) [ inl t ↦ rw (t, all_cleared counts) refl | inr f ↦ rw (f, all_cleared counts) refl ]
+
+-- the same nodes have turned once their counts are set to one that is not 0
+pub still_turned : (counts nodes : List ℕ) (count : ℕ) → 0 < count → AreTurned counts nodes → AreTurned (map (set_to count) counts) nodes
+still_turned counts nodes count some listed = record {
+  once = listed.once;
+  each = λ x. (
+    λ h.
+        let turned = (listed.each x).0 h in
+        let here : get_or (map (set_to count) counts) x 0 ≡ set_to count (get_or counts x 0) = get_or-map (set_to count) counts x 0 0 (turned_inside counts x turned) in
+        omega (arith, here, some, cond-false (eqb (get_or counts x 0) 0) 0 count (ne_eqb _ _ (λ none. omega (arith, none, turned)))),
+    λ turned. elim (cases_eq (get_or counts x 0) 0) [
+      | inr before ↦ (listed.each x).1 (omega (arith, before))
+      | inl none ↦
+          let inside : x < length counts = omega (arith, turned_inside (map (set_to count) counts) x turned, length-map counts (set_to count)) in
+          let here : get_or (map (set_to count) counts) x 0 ≡ set_to count (get_or counts x 0) = get_or-map (set_to count) counts x 0 0 inside in
+          absurd (omega (arith, turned, here, cond-true (eqb (get_or counts x 0) 0) 0 count (eq-eqb _ _ none)))
+    ],
+  );
+}
 
 -- no node has turned where all counts are 0
 pub none_turned : (n : ℕ) → AreTurned (replicate n 0) []

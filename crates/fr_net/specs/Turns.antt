@@ -1,6 +1,6 @@
 -- The turns of a round: how often each node has turned, and which nodes have. In full reversal by E. Gafni and D. Bertsekas ("Distributed
 -- Algorithms for Generating Loop-Free Routes in Networks with Frequently Changing Topology", 1981) a node that turns reverses all its links.
-use Rattle.std.specs.Prelude.{◌≡◌, ℕ, ◌<◌, ◌≤◌, ◌-◌, ◌^◌, ◌↔◌, List, length, min, slice_index, sum, vec_capacity}
+use Rattle.std.specs.Prelude.{◌≡◌, ℕ, ◌<◌, ◌≤◌, ◌==◌, ◌↔◌, if◌then◌else◌, List, length, slice_index, vec_capacity}
 use Rattle.std.specs.List.{Contains}
 use Rattle.fr_net.specs.Limits.{most_nodes}
 use Rattle.fr_net.specs.declared.turns.Turns.TheInside.{Inside}
@@ -14,14 +14,17 @@ pub record AreTurned (counts nodes : List ℕ) : Type 0 where
 abbrev pub counts_in : Inside → List ℕ
 counts_in s = s.counts.items
 
--- the list has the nodes that have turned, and room for all; and the total is that of the counts, or the most that a word holds
+-- the list has the nodes that have turned, and room for all
 pub record AreSound (s : Inside) : Type 0 where
   pub few : length s.counts.items ≤ most_nodes
   pub turned : AreTurned s.counts.items s.nodes.items
   pub room : length s.counts.items ≤ vec_capacity s.nodes
-  pub total : s.total ≡ min (sum s.counts.items) (2 ^ 64 - 1)
 
--- the counts of these nodes are 0, and each other is as before
-pub record AreCleared (nodes before after : List ℕ) : Type 0 where
-  pub these : (x : ℕ) → Contains nodes x → slice_index after x ≡ 0
+-- this is the count of each of these nodes, and each other is as before
+pub record AreSet (nodes : List ℕ) (count : ℕ) (before after : List ℕ) : Type 0 where
+  pub these : (x : ℕ) → Contains nodes x → slice_index after x ≡ count
   pub others : (x : ℕ) → ¬ Contains nodes x → slice_index after x ≡ slice_index before x
+
+-- this count in place of that of a node that has turned
+abbrev pub set_to : ℕ → ℕ → ℕ
+set_to count before = if before == 0 then 0 else count

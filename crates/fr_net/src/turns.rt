@@ -1,8 +1,8 @@
 //! The turns of a round: how often each node has turned, and which nodes have.
 
-ghost use Rattle.std.specs.Prelude.{◌≡◌, ℕ, ◌<◌, ◌≤◌, ◌+◌, ◌-◌, ◌^◌, length, min, replicate, slice_index, slice_set, sum, vec_capacity, All, IfOk};
+ghost use Rattle.std.specs.Prelude.{◌≡◌, ℕ, ◌<◌, ◌≤◌, ◌+◌, ◌-◌, ◌^◌, length, map, min, replicate, slice_index, slice_set, sum, sum_by, vec_capacity, All, IfOk};
 ghost use Rattle.fr_net.specs.Limits.{most_nodes};
-ghost use Rattle.fr_net.specs.Turns.{AreCleared, AreTurned};
+ghost use Rattle.fr_net.specs.Turns.{AreSet, AreTurned, set_to};
 
 use crate::counts::next_turned;
 use std::alloc::{AllocError, Global};
@@ -15,7 +15,6 @@ pub struct Turns {
     counts: Vec<u64>,
     // There is a place for each node, so that a turn takes no memory.
     nodes: Vec<u32>,
-    total: u64,
 }
 
 impl Model for Turns {
@@ -30,34 +29,42 @@ impl Model for Turns {
     ghost invariant = { AreSound };
 }
 
-/// Lists the nodes that have turned, and answers how many turns there are, or the most that a `u64` holds.
-fn list_turned(nodes: &mut Vec<u32>, counts: &[u64]) -> u64
+/// Lists the nodes that have turned.
+fn list_turned(nodes: &mut Vec<u32>, counts: &[u64])
     requires few { length counts.now ≤ most_nodes }
     requires room { length counts.now ≤ vec_capacity nodes.old }
     ensures turned { AreTurned counts.now nodes.new.items }
-    ensures total { result ≡ min (sum counts.now) (2 ^ 64 - 1) }
     ensures same_room { vec_capacity nodes.new ≡ vec_capacity nodes.old }
 {
     nodes.clear();
-    let mut total = 0u64;
     let mut from = 0;
     'turned: while let Some(x) = next_turned(counts, from) {
         nodes.push_reserved(x);
-        total = total.saturating_add(counts[x as usize]);
         from = x + 1;
     }
-    total
 }
 
-/// Makes the counts of these nodes 0.
-fn clear_counts(counts: &mut [u64], nodes: &[u32])
+/// Makes this the count of each of these nodes.
+fn set_counts(counts: &mut [u64], nodes: &[u32], count: u64)
     requires { All (λ (x : ℕ). x < length counts.old) nodes.now }
     ensures one_each { length counts.new ≡ length counts.old }
-    ensures cleared { AreCleared nodes.now counts.old counts.new }
+    ensures set { AreSet nodes.now count counts.old counts.new }
 {
     for x in nodes {
-        counts[*x as usize] = 0;
+        counts[*x as usize] = count;
     }
+}
+
+/// The sum of the counts of these nodes, or the most that a `u64` holds.
+fn sum_of(counts: &[u64], nodes: &[u32]) -> u64
+    requires { All (λ (x : ℕ). x < length counts.now) nodes.now }
+    ensures { result ≡ min (sum_by (slice_index counts.now) nodes.now) (2 ^ 64 - 1) }
+{
+    let mut sum = 0u64;
+    for x in nodes {
+        sum = sum.saturating_add(counts[*x as usize]);
+    }
+    sum
 }
 
 impl Turns {
@@ -69,7 +76,6 @@ impl Turns {
         Ok(Turns {
             counts: vec![in alloc; 0u64; nodes as usize]?,
             nodes: Vec::with_capacity(alloc, nodes as usize)?,
-            total: 0,
         })
     }
 
@@ -79,12 +85,8 @@ impl Turns {
         ensures { IfOk result (λ turns. turns ≡ counts.items) }
     {
         let mut nodes = Vec::with_capacity(alloc, counts.len())?;
-        let total = list_turned(&mut nodes, &counts);
-        Ok(Turns {
-            counts,
-            nodes,
-            total,
-        })
+        list_turned(&mut nodes, &counts);
+        Ok(Turns { counts, nodes })
     }
 
     /// How often each node has turned: one count for each node.
@@ -101,11 +103,11 @@ impl Turns {
         &self.nodes
     }
 
-    /// How many turns there are together, or the most that a `u64` holds.
+    /// How many turns there are together, or the most that a `u64` holds. It costs a step for each node that has turned.
     pub fn total(&self) -> u64
         ensures { result ≡ min (sum self.now) (2 ^ 64 - 1) }
     {
-        self.total
+        sum_of(&self.counts, &self.nodes)
     }
 
     /// Adds a turn of node `x`. It takes no memory.
@@ -119,7 +121,6 @@ impl Turns {
             self.nodes.push_reserved(x);
         }
         self.counts[x as usize] = count + 1;
-        self.total = self.total.saturating_add(1);
     }
 
     /// Makes them the turns that these counts tell, one count for each node. It takes no memory.
@@ -128,16 +129,23 @@ impl Turns {
         ensures { self.new ≡ counts.now }
     {
         self.counts.copy_from_slice(counts);
-        self.total = list_turned(&mut self.nodes, counts);
+        list_turned(&mut self.nodes, counts);
+    }
+
+    /// Makes this the count of each node that has turned, which is not 0. It costs a step for each of them.
+    pub fn set_each(&mut self, count: u64)
+        requires { 0 < count }
+        ensures { self.new ≡ map (set_to count) self.old }
+    {
+        set_counts(&mut self.counts, &self.nodes, count);
     }
 
     /// Takes all turns back: each count is 0 then. It costs a step for each node that had turned.
     pub fn clear(&mut self)
         ensures { self.new ≡ replicate (length self.old) 0 }
     {
-        clear_counts(&mut self.counts, &self.nodes);
+        set_counts(&mut self.counts, &self.nodes, 0);
         self.nodes.clear();
-        self.total = 0;
     }
 
     /// The counts alone.
