@@ -1,5 +1,5 @@
 -- The steps by which the rows of a network turn where they stand.
-use Rattle.std.proofs.Common.{All, Bool, Contains, List, Some, [], ap, arith, cond, eq-eqb, eqb, false, get_or, inl, inr, leb, length, ltb, map, ne_eqb, refl, set, suc, sym, true, zero, ℕ, ◌&&◌, ◌+◌, ◌<◌, ◌||◌, ◌∙◌, ◌∷◌, ◌≡◌, ◌≢◌, ◌≤◌}
+use Rattle.std.proofs.Common.{All, Bool, Contains, List, Some, [], ap, arith, cond, eq-eqb, eqb, false, get_or, inl, inr, length, ltb, map, ne_eqb, refl, set, suc, sym, true, zero, ℕ, ◌&&◌, ◌+◌, ◌<◌, ◌||◌, ◌∙◌, ◌∷◌, ◌≡◌, ◌≢◌, ◌≤◌}
 use Rattle.std.proofs.lemmas.Bool.{cases_Bool, cases_eq, cases_lt, cond-false, cond-true}
 use Rattle.std.proofs.lemmas.Bool.Decides.{nat_tests}
 use Rattle.std.proofs.lemmas.List.{get_or-map, get_or_default, length-map, map-id}
@@ -19,7 +19,7 @@ use Rattle.fr_net.specs.Network.{Network}
 use Rattle.fr_net.specs.RowLists.{opposite, turned_entry}
 use Rattle.fr_net.specs.Rows.{row}
 use Rattle.fr_net.specs.Tables.{Table, row_of, with_row}
-use Rattle.fr_net.specs.TurnedRows.{ArePartTurned, entry_done, is_done, reversed_at}
+use Rattle.fr_net.specs.TurnedRows.{ArePartTurned, all_done, entry_done, is_done, none_done, reversed_at, seen_too}
 use Rattle.fr_net.specs.declared.rows.First.{First}
 use Rattle.fr_net.specs.declared.rows.First.TheVariants.{Inward, Outward}
 
@@ -71,49 +71,66 @@ entry_done_node counts done y e =
       | inr f ↦ rw f refl
     ]
 
+-- the nodes that stand before this place in a list
+abbrev pub stands_before : List ℕ → ℕ → ℕ → Bool
+stands_before nodes zero = λ y. false
+stands_before nodes (suc i) = seen_too (get_or nodes i 0) (stands_before nodes i)
+
+pub stands_not : (nodes : List ℕ) (i y : ℕ) → ((j : ℕ) → j < i → ¬ (get_or nodes j 0 ≡ y)) → stands_before nodes i y ≡ false
+stands_not nodes zero y apart = refl
+stands_not nodes (suc i) y apart =
+    rw (ne_eqb y (get_or nodes i 0) (λ q. apart i (omega arith) (sym q))) (stands_not nodes i y (λ j l. apart j (omega (arith, l))))
+
+pub stands_somewhere : (nodes : List ℕ) (i j y : ℕ) → j < i → get_or nodes j 0 ≡ y → stands_before nodes i y ≡ true
+stands_somewhere nodes zero j y l here = absurd (omega (arith, l))
+stands_somewhere nodes (suc i) j y l here = elim (cases_eq y (get_or nodes i 0)) [
+  | inl same ↦ rw (eq-eqb y (get_or nodes i 0) same) refl
+  | inr apart ↦
+      let other : j ≢ i = λ q. apart (sym here ∙ ap (λ (k : ℕ). get_or nodes k 0) q) in
+      rw (ne_eqb y (get_or nodes i 0) apart) (stands_somewhere nodes i j y (omega (arith, l, other)) here)
+]
+
+-- before the first node of the list, and behind the last
+pub none_seen : (net : Network) (counts : List ℕ) (table : Table) → ArePartTurned net counts none_done table → ArePartTurned net counts (is_done counts (λ y. false)) table
+none_seen net counts table at =
+    none_written net counts none_done (is_done counts (λ y. false)) table at
+    (λ y l e h. tests_agree counts none_done (is_done counts (λ y. false)) y e
+    (elim (cases_Bool (eqb (get_or counts y 0) 0)) [ inl t ↦ rw t refl | inr f ↦ rw f refl ]))
+
 -- nodes that have not turned have nothing to do
-pub nodes_skipped : (net : Network) (counts : List ℕ) (a b : ℕ) (table : Table) → a ≤ b → ((z : ℕ) → a ≤ z → z < b → get_or counts z 0 ≡ 0) → ArePartTurned net counts (is_done counts a) table → ArePartTurned net counts (is_done counts b) table
-nodes_skipped net counts a b table up none at =
-    none_written net counts (is_done counts a) (is_done counts b) table at
+pub all_seen : (net : Network) (counts : List ℕ) (seen : ℕ → Bool) (table : Table) → ((y : ℕ) → 0 < get_or counts y 0 → seen y ≡ true) → ArePartTurned net counts (is_done counts seen) table → ArePartTurned net counts all_done table
+all_seen net counts seen table each at =
+    none_written net counts (is_done counts seen) all_done table at
     (λ y l e h.
-    let agree = tests_agree counts (is_done counts a) (is_done counts b) y e in
+    let agree = tests_agree counts (is_done counts seen) all_done y e in
     elim (cases_eq (get_or counts y 0) 0) [
-      | inl zero_y ↦ elim (cases_lt e.0 a) [
-        | inl before ↦ agree (grind (arith, nat_tests))
-        | inr from ↦ elim (cases_lt e.0 b) [
-          | inl within ↦
-              let same : get_or counts e.0 0 ≡ get_or counts y 0 = none e.0 from within ∙ sym zero_y in
-              entry_stays counts (is_done counts a) y e same ∙ sym (entry_stays counts (is_done counts b) y e same)
-          | inr after ↦ agree (grind (arith, nat_tests))
-        ]
+      | inl zero_y ↦ elim (cases_eq (get_or counts e.0 0) 0) [
+        | inl zero_w ↦
+            let same : get_or counts e.0 0 ≡ get_or counts y 0 = zero_w ∙ sym zero_y in
+            entry_stays counts (is_done counts seen) y e same ∙ sym (entry_stays counts all_done y e same)
+        | inr some ↦ agree (cond-true _ _ _ (eq-eqb _ _ zero_y) ∙ each e.0 (omega (arith, some)))
       ]
-      | inr some ↦ elim (cases_lt y a) [
-        | inl before ↦ agree (grind (arith, nat_tests))
-        | inr from ↦ elim (cases_lt y b) [
-          | inl within ↦ absurd (some (none y from within))
-          | inr after ↦ agree (grind (arith, nat_tests))
-        ]
-      ]
+      | inr some ↦ agree (cond-false _ _ _ (ne_eqb _ _ some) ∙ each y (omega (arith, some)))
     ])
 
 -- while x sees to its entries in the rows of others: those of neighbours below the bound are done with
-abbrev pub is_halfway : List ℕ → ℕ → ℕ → ℕ → ℕ → Bool
-is_halfway counts x bound y w = cond (eqb (get_or counts y 0) 0) (ltb w x || ((eqb w x) && ltb y bound)) (leb y x)
+abbrev pub is_halfway : List ℕ → (ℕ → Bool) → ℕ → ℕ → ℕ → ℕ → Bool
+is_halfway counts seen x bound y w = cond (eqb (get_or counts y 0) 0) ((eqb w x && ltb y bound) || seen w) (seen_too x seen y)
 
 -- the row of x was turned
-pub own_row_turned : (net : Network) (counts : List ℕ) (x : ℕ) (table : Table) → 0 < get_or counts x 0 → x < net.nodes → ArePartTurned net counts (is_done counts x) table → ArePartTurned net counts (is_halfway counts x 0) (with_row table x (map (turned_entry counts x) (row_of table x)))
-own_row_turned net counts x table turned lt at =
+pub own_row_turned : (net : Network) (counts : List ℕ) (seen : ℕ → Bool) (x : ℕ) (table : Table) → seen x ≡ false → 0 < get_or counts x 0 → x < net.nodes → ArePartTurned net counts (is_done counts seen) table → ArePartTurned net counts (is_halfway counts seen x 0) (with_row table x (map (turned_entry counts x) (row_of table x)))
+own_row_turned net counts seen x table unseen turned lt at =
     let entries = row net.nodes net.links x in
-    let here : map (turned_entry counts x) (row_of table x) ≡ rows_done net counts (is_halfway counts x 0) x =
-    ap (map (turned_entry counts x)) (at.shown x lt) ∙ map-map (turned_entry counts x) (entry_done (is_done counts x) counts x) entries
-    ∙ map_alike (λ e. turned_entry counts x (entry_done (is_done counts x) counts x e)) (entry_done (is_halfway counts x 0) counts x) entries
+    let here : map (turned_entry counts x) (row_of table x) ≡ rows_done net counts (is_halfway counts seen x 0) x =
+    ap (map (turned_entry counts x)) (at.shown x lt) ∙ map-map (turned_entry counts x) (entry_done (is_done counts seen) counts x) entries
+    ∙ map_alike (λ e. turned_entry counts x (entry_done (is_done counts seen) counts x e)) (entry_done (is_halfway counts seen x 0) counts x) entries
     (λ e h.
-    let before : is_done counts x x e.0 ≡ false = grind (arith, nat_tests) in
-    let after : is_halfway counts x 0 x e.0 ≡ true = grind (arith, nat_tests) in
+    let before : is_done counts seen x e.0 ≡ false = grind (arith, nat_tests) in
+    let after : is_halfway counts seen x 0 x e.0 ≡ true = grind (arith, nat_tests) in
     rw (before, after) refl) in
     rw here
-    (one_written net counts (is_done counts x) (is_halfway counts x 0) x table at lt
-    (λ y l ne e h. tests_agree counts (is_done counts x) (is_halfway counts x 0) y e
+    (one_written net counts (is_done counts seen) (is_halfway counts seen x 0) x table at lt
+    (λ y l ne e h. tests_agree counts (is_done counts seen) (is_halfway counts seen x 0) y e
     (elim (cases_eq (get_or counts y 0) 0) [ inl none ↦ grind (arith, nat_tests) | inr some ↦ grind (arith, nat_tests) ])))
 
 -- a node is a neighbour of its neighbours
@@ -127,10 +144,10 @@ neighbour_from net x y e bound j is_net at h is =
     let back : Contains (row net.nodes net.links x) (y, opposite e.1) = rw is at (neighbour_back net y e is_net h) in
     (back.0, back.1, ap (λ (p : ℕ × First). p.0) back.2)
 
-bounds_alike : (net : Network) (counts : List ℕ) (x bound j w : ℕ) → IsNet net.nodes net.links → IsPlaceIn (row net.nodes net.links x) bound j → j < length (row net.nodes net.links x) → ((d : ℕ × First) → (get_or (row net.nodes net.links x) j d).0 ≡ w) → (y : ℕ) → (y ≡ w → get_or counts y 0 ≢ 0) → IsAlike net counts (is_halfway counts x bound) (is_halfway counts x (w + 1)) y
-bounds_alike net counts x bound j w is_net at inside here y other e h =
+bounds_alike : (net : Network) (counts : List ℕ) (seen : ℕ → Bool) (x bound j w : ℕ) → IsNet net.nodes net.links → IsPlaceIn (row net.nodes net.links x) bound j → j < length (row net.nodes net.links x) → ((d : ℕ × First) → (get_or (row net.nodes net.links x) j d).0 ≡ w) → (y : ℕ) → (y ≡ w → get_or counts y 0 ≢ 0) → IsAlike net counts (is_halfway counts seen x bound) (is_halfway counts seen x (w + 1)) y
+bounds_alike net counts seen x bound j w is_net at inside here y other e h =
     let entries = row net.nodes net.links x in
-    let agree = tests_agree counts (is_halfway counts x bound) (is_halfway counts x (w + 1)) y e in
+    let agree = tests_agree counts (is_halfway counts seen x bound) (is_halfway counts seen x (w + 1)) y e in
     elim (cases_eq (get_or counts y 0) 0) [
       | inl none ↦ elim (cases_eq e.0 x) [
         | inl it ↦
@@ -155,20 +172,20 @@ bounds_alike net counts x bound j w is_net at inside here y other e h =
     ]
 
 -- the next neighbour has turned, and sees to its own row
-pub neighbour_passed : (net : Network) (counts : List ℕ) (x bound j w : ℕ) (table : Table) → IsPlaceIn (row net.nodes net.links x) bound j → j < length (row net.nodes net.links x) → ((d : ℕ × First) → (get_or (row net.nodes net.links x) j d).0 ≡ w) → get_or counts w 0 ≢ 0 → ArePartTurned net counts (is_halfway counts x bound) table → ArePartTurned net counts (is_halfway counts x (w + 1)) table
-neighbour_passed net counts x bound j w table at inside here turned now =
-    none_written net counts (is_halfway counts x bound) (is_halfway counts x (w + 1)) table now
-    (λ y l. bounds_alike net counts x bound j w now.is_net at inside here y (λ q. rw q turned))
+pub neighbour_passed : (net : Network) (counts : List ℕ) (seen : ℕ → Bool) (x bound j w : ℕ) (table : Table) → IsPlaceIn (row net.nodes net.links x) bound j → j < length (row net.nodes net.links x) → ((d : ℕ × First) → (get_or (row net.nodes net.links x) j d).0 ≡ w) → get_or counts w 0 ≢ 0 → ArePartTurned net counts (is_halfway counts seen x bound) table → ArePartTurned net counts (is_halfway counts seen x (w + 1)) table
+neighbour_passed net counts seen x bound j w table at inside here turned now =
+    none_written net counts (is_halfway counts seen x bound) (is_halfway counts seen x (w + 1)) table now
+    (λ y l. bounds_alike net counts seen x bound j w now.is_net at inside here y (λ q. rw q turned))
 
 -- the next neighbour has not turned, and its entry of x was reversed
-pub neighbour_turned : (net : Network) (counts : List ℕ) (x bound j w : ℕ) (table : Table) → 0 < get_or counts x 0 → IsPlaceIn (row net.nodes net.links x) bound j → j < length (row net.nodes net.links x) → ((d : ℕ × First) → (get_or (row net.nodes net.links x) j d).0 ≡ w) → get_or counts w 0 ≡ 0 → w < net.nodes
-    → ArePartTurned net counts (is_halfway counts x bound) table → ArePartTurned net counts (is_halfway counts x (w + 1)) (with_row table w (map (reversed_at x) (row_of table w)))
-neighbour_turned net counts x bound j w table turned at inside here none below part =
+pub neighbour_turned : (net : Network) (counts : List ℕ) (seen : ℕ → Bool) (x bound j w : ℕ) (table : Table) → seen x ≡ false → 0 < get_or counts x 0 → IsPlaceIn (row net.nodes net.links x) bound j → j < length (row net.nodes net.links x) → ((d : ℕ × First) → (get_or (row net.nodes net.links x) j d).0 ≡ w) → get_or counts w 0 ≡ 0 → w < net.nodes
+    → ArePartTurned net counts (is_halfway counts seen x bound) table → ArePartTurned net counts (is_halfway counts seen x (w + 1)) (with_row table w (map (reversed_at x) (row_of table w)))
+neighbour_turned net counts seen x bound j w table unseen turned at inside here none below part =
     let entries = row net.nodes net.links w in
     let d : ℕ × First = (0, Outward) in
     let low : bound ≤ w = omega (arith, at.stops j d (omega arith) inside, here d) in
-    let done = is_halfway counts x bound in
-    let later = is_halfway counts x (w + 1) in
+    let done = is_halfway counts seen x bound in
+    let later = is_halfway counts seen x (w + 1) in
     let written : map (reversed_at x) (row_of table w) ≡ rows_done net counts later w =
     ap (map (reversed_at x)) (part.shown w below) ∙ map-map (reversed_at x) (entry_done done counts w) entries
     ∙ map_alike (λ e. reversed_at x (entry_done done counts w e)) (entry_done later counts w) entries
@@ -184,7 +201,7 @@ neighbour_turned net counts x bound j w table turned at inside here none below p
     ]) in
     rw written
     (one_written net counts done later w table part below
-    (λ y l ne. bounds_alike net counts x bound j w part.is_net at inside here y (λ q. absurd (ne q))))
+    (λ y l ne. bounds_alike net counts seen x bound j w part.is_net at inside here y (λ q. absurd (ne q))))
 
 -- the place after a neighbour
 pub place_after : (net : Network) (x bound j w : ℕ) → IsPlaceIn (row net.nodes net.links x) bound j → j < length (row net.nodes net.links x) → ((d : ℕ × First) → (get_or (row net.nodes net.links x) j d).0 ≡ w) → IsPlaceIn (row net.nodes net.links x) (w + 1) (j + 1)
@@ -198,11 +215,11 @@ place_after net x bound j w at inside here = record {
 }
 
 -- x has seen to all its entries
-pub node_done : (net : Network) (counts : List ℕ) (x bound : ℕ) (table : Table) → IsPlaceIn (row net.nodes net.links x) bound (length (row net.nodes net.links x)) → ArePartTurned net counts (is_halfway counts x bound) table → ArePartTurned net counts (is_done counts (x + 1)) table
-node_done net counts x bound table at part =
-    none_written net counts (is_halfway counts x bound) (is_done counts (x + 1)) table part
+pub node_done : (net : Network) (counts : List ℕ) (seen : ℕ → Bool) (x bound : ℕ) (table : Table) → IsPlaceIn (row net.nodes net.links x) bound (length (row net.nodes net.links x)) → ArePartTurned net counts (is_halfway counts seen x bound) table → ArePartTurned net counts (is_done counts (seen_too x seen)) table
+node_done net counts seen x bound table at part =
+    none_written net counts (is_halfway counts seen x bound) (is_done counts (seen_too x seen)) table part
     (λ y l e h.
-    let agree = tests_agree counts (is_halfway counts x bound) (is_done counts (x + 1)) y e in
+    let agree = tests_agree counts (is_halfway counts seen x bound) (is_done counts (seen_too x seen)) y e in
     elim (cases_eq (get_or counts y 0) 0) [
       | inl none ↦ elim (cases_eq e.0 x) [
         | inl it ↦
@@ -215,27 +232,18 @@ node_done net counts x bound table at part =
     ])
 
 -- before the first node, and after the last
-pub rows_begin : (net : Network) (counts : List ℕ) (table : Table) → IsNet net.nodes net.links → length counts ≡ net.nodes → AreRows net.nodes net.links table → ArePartTurned net counts (is_done counts 0) table
+pub rows_begin : (net : Network) (counts : List ℕ) (table : Table) → IsNet net.nodes net.links → length counts ≡ net.nodes → AreRows net.nodes net.links table → ArePartTurned net counts none_done table
 rows_begin net counts table is_net counted rows = record {
   is_net = is_net;
   counted = counted;
   one_each = rows.one_each;
-  shown = λ y l.
-      rows.shown y l ∙ sym (map-id (row net.nodes net.links y)) ∙ map_alike (λ e. e) (entry_done (is_done counts 0) counts y) (row net.nodes net.links y)
-      (λ e h. let none : is_done counts 0 y e.0 ≡ false = grind (arith, nat_tests) in sym (cond-false _ _ _ none));
+  shown = λ y l. rows.shown y l ∙ sym (map-id (row net.nodes net.links y));
 }
 
-pub rows_end : (net : Network) (counts : List ℕ) (table : Table) → All (IsKept counts) net.links → ArePartTurned net counts (is_done counts net.nodes) table → AreRows net.nodes (links_at net.links counts) table
+pub rows_end : (net : Network) (counts : List ℕ) (table : Table) → All (IsKept counts) net.links → ArePartTurned net counts all_done table → AreRows net.nodes (links_at net.links counts) table
 rows_end net counts table kept part = record {
   one_each = part.one_each;
-  shown = λ y l.
-      part.shown y l
-      ∙ map_alike (entry_done (is_done counts net.nodes) counts y) (turned_entry counts y) (row net.nodes net.links y)
-      (λ e h.
-      let below : e.0 < net.nodes = (row_holds net.nodes net.links y e h).0 in
-      let all : is_done counts net.nodes y e.0 ≡ true = grind (arith, nat_tests) in
-      cond-true _ _ _ all)
-      ∙ sym (row_turned net.nodes net.links counts y kept part.is_net);
+  shown = λ y l. part.shown y l ∙ sym (row_turned net.nodes net.links counts y kept part.is_net);
 }
 
 -- the neighbours of a row as it turns, and the entry of one of them reversed
@@ -292,29 +300,29 @@ entry_reversed es w k f d y rises inside here is =
     cond-false _ _ _ (ne_eqb _ _ apart))
 
 -- the state while x sees to its entries in the rows of others, as far as this place in its row
-pub record IsHalfTurned (net : Network) (counts : List ℕ) (x place : ℕ) (table : Table) : Type 0 where
+pub record IsHalfTurned (net : Network) (counts : List ℕ) (seen : ℕ → Bool) (x place : ℕ) (table : Table) : Type 0 where
   pub bound : ℕ
   pub at : IsPlaceIn (row net.nodes net.links x) bound place
-  pub rows : ArePartTurned net counts (is_halfway counts x bound) table
+  pub rows : ArePartTurned net counts (is_halfway counts seen x bound) table
 
 -- the neighbour that comes next
-pub record IsNext (net : Network) (counts : List ℕ) (x place : ℕ) (table : Table) (w : ℕ) : Type 0 where
+pub record IsNext (net : Network) (counts : List ℕ) (seen : ℕ → Bool) (x place : ℕ) (table : Table) (w : ℕ) : Type 0 where
   pub bound : ℕ
   pub at : IsPlaceIn (row net.nodes net.links x) bound place
   pub inside : place < length (row net.nodes net.links x)
   pub here : (d : ℕ × First) → (get_or (row net.nodes net.links x) place d).0 ≡ w
   pub below : w < net.nodes
-  pub rows : ArePartTurned net counts (is_halfway counts x bound) table
+  pub rows : ArePartTurned net counts (is_halfway counts seen x bound) table
 
 -- a row is as long while it turns
 pub length_shown : (net : Network) (counts : List ℕ) (done : ℕ → ℕ → Bool) (y : ℕ) (table : Table) → ArePartTurned net counts done table → y < net.nodes → length (row_of table y) ≡ length (row net.nodes net.links y)
 length_shown net counts done y table part lt = ap length (part.shown y lt) ∙ length-map (row net.nodes net.links y) (entry_done done counts y)
 
-pub next_neighbour : (net : Network) (counts : List ℕ) (x place : ℕ) (table : Table) → IsHalfTurned net counts x place table → x < net.nodes → place < length (row net.nodes net.links x) → IsNext net counts x place table (get_or (row_of table x) place (0, Outward)).0
-next_neighbour net counts x place table half lt inside =
+pub next_neighbour : (net : Network) (counts : List ℕ) (seen : ℕ → Bool) (x place : ℕ) (table : Table) → IsHalfTurned net counts seen x place table → x < net.nodes → place < length (row net.nodes net.links x) → IsNext net counts seen x place table (get_or (row_of table x) place (0, Outward)).0
+next_neighbour net counts seen x place table half lt inside =
     let d : ℕ × First = (0, Outward) in
     let node : ℕ × First → ℕ = λ e. e.0 in
-    let done = is_halfway counts x half.bound in
+    let done = is_halfway counts seen x half.bound in
     let row_x = row net.nodes net.links x in
     let read : (get_or (row_of table x) place d).0 ≡ (get_or row_x place d).0 =
     ap (λ (es : List (ℕ × First)). node (get_or es place d)) (half.rows.shown x lt)
@@ -329,24 +337,24 @@ next_neighbour net counts x place table half lt inside =
       rows = half.rows;
     }
 
-pub half_more : (net : Network) (counts : List ℕ) (x place : ℕ) (old new : Table) (w : ℕ) → IsNext net counts x place old w → ArePartTurned net counts (is_halfway counts x (w + 1)) new → IsHalfTurned net counts x (place + 1) new
-half_more net counts x place old new w next rows = record {
+pub half_more : (net : Network) (counts : List ℕ) (seen : ℕ → Bool) (x place : ℕ) (old new : Table) (w : ℕ) → IsNext net counts seen x place old w → ArePartTurned net counts (is_halfway counts seen x (w + 1)) new → IsHalfTurned net counts seen x (place + 1) new
+half_more net counts seen x place old new w next rows = record {
   bound = w + 1;
   at = place_after net x next.bound place w next.at next.inside next.here;
   rows = rows;
 }
 
-pub half_begins : (net : Network) (counts : List ℕ) (x : ℕ) (table : Table) → ArePartTurned net counts (is_halfway counts x 0) table → IsHalfTurned net counts x 0 table
-half_begins net counts x table rows = record {
+pub half_begins : (net : Network) (counts : List ℕ) (seen : ℕ → Bool) (x : ℕ) (table : Table) → ArePartTurned net counts (is_halfway counts seen x 0) table → IsHalfTurned net counts seen x 0 table
+half_begins net counts seen x table rows = record {
   bound = 0;
   at = record { inside = omega arith; before = λ k d l. absurd (omega arith); stops = λ k d l m. omega arith };
   rows = rows;
 }
 
-pub half_ends : (net : Network) (counts : List ℕ) (x place : ℕ) (table : Table) → IsHalfTurned net counts x place table → length (row net.nodes net.links x) ≤ place → ArePartTurned net counts (is_done counts (x + 1)) table
-half_ends net counts x place table half past =
+pub half_ends : (net : Network) (counts : List ℕ) (seen : ℕ → Bool) (x place : ℕ) (table : Table) → IsHalfTurned net counts seen x place table → length (row net.nodes net.links x) ≤ place → ArePartTurned net counts (is_done counts (seen_too x seen)) table
+half_ends net counts seen x place table half past =
     let all : place ≡ length (row net.nodes net.links x) = omega (arith, half.at.inside, past) in
-    node_done net counts x half.bound table (rw all at half.at) half.rows
+    node_done net counts seen x half.bound table (rw all at half.at) half.rows
 
 -- the neighbours of a row that rows show, as it turns, are nodes
 pub shown_below : (net : Network) (counts : List ℕ) (done : ℕ → ℕ → Bool) (y : ℕ) → All (λ (e : ℕ × First). e.0 < net.nodes) (rows_done net counts done y)

@@ -1,5 +1,5 @@
 -- How far the rows of a network are turned, while they turn where they stand. For `turn` alone.
-use Rattle.std.specs.Prelude.{◌≡◌, ℕ, ◌<◌, ◌==◌, if◌then◌else◌, Bool, nat_lt, List, length, map, slice_index}
+use Rattle.std.specs.Prelude.{◌≡◌, ℕ, ◌<◌, ◌==◌, ◌||◌, if◌then◌else◌, Bool, false, true, List, length, map, slice_index}
 use Rattle.fr_net.specs.Links.{IsNet}
 use Rattle.fr_net.specs.Network.{Network}
 use Rattle.fr_net.specs.RowLists.{opposite, turned_entry}
@@ -7,10 +7,21 @@ use Rattle.fr_net.specs.Rows.{row}
 use Rattle.fr_net.specs.Tables.{Table, row_of}
 use Rattle.fr_net.specs.declared.rows.First.{First}
 
--- whether the entry of w in the row of y is done with once the nodes below k are: a node that has turned sees to its own row, and
--- in those of nodes that have not to its own entries
-abbrev pub is_done : List ℕ → ℕ → ℕ → ℕ → Bool
-is_done counts k y w = if slice_index counts y == 0 then nat_lt w k else nat_lt y k
+-- whether the entry of w in the row of y is done with, by the nodes that have been seen to: a node that has turned sees to its own row,
+-- and in those of nodes that have not to its own entries
+abbrev pub is_done : List ℕ → (ℕ → Bool) → ℕ → ℕ → Bool
+is_done counts seen y w = if slice_index counts y == 0 then seen w else seen y
+
+-- x is seen to as well
+abbrev pub seen_too : ℕ → (ℕ → Bool) → ℕ → Bool
+seen_too x seen y = y == x || seen y
+
+-- no entry is done with, and each is
+abbrev pub none_done : ℕ → ℕ → Bool
+none_done y w = false
+
+abbrev pub all_done : ℕ → ℕ → Bool
+all_done y w = true
 
 -- an entry of the row of y, turned if it is done with
 abbrev pub entry_done : (ℕ → ℕ → Bool) → List ℕ → ℕ → ℕ × First → ℕ × First

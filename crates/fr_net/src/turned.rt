@@ -1,12 +1,11 @@
 //! Rows and links as counts turn them, each where it stands.
 
-ghost use Rattle.std.specs.Prelude.{◌≡◌, ℕ, ◌<◌, ◌≤◌, ◌+◌, ◌++◌, length, slice_index, map, All, Contains, IfOk, OnOk};
+ghost use Rattle.std.specs.Prelude.{◌≡◌, ℕ, ◌<◌, ◌++◌, Bool, false, length, slice_index, map, All, Contains, IfOk, OnOk};
 ghost use Rattle.std.specs.List.Sorted.{IsStrictlyIncreasing};
-ghost use Rattle.fr_net.specs.Limits.{most_nodes};
 ghost use Rattle.fr_net.specs.Network.{Network};
 ghost use Rattle.fr_net.specs.KeptRows.{links_in};
 ghost use Rattle.fr_net.specs.RowLists.{out_links, turned_entry};
-ghost use Rattle.fr_net.specs.TurnedRows.{ArePartTurned, is_done, reversed_at};
+ghost use Rattle.fr_net.specs.TurnedRows.{ArePartTurned, all_done, is_done, none_done, reversed_at, seen_too};
 
 use crate::edits::place_in_row;
 use crate::row_table::RowTable;
@@ -54,9 +53,10 @@ pub(crate) fn reverse_entry(row: &mut [(u32, First)], w: u32)
 fn turn_node(rows: &mut RowTable, x: u32, counts: &[u64])
     requires node { x < length counts.now }
     requires turned { 0 < slice_index counts.now x }
-    requires rows { (net : Network) × ArePartTurned net counts.now (is_done counts.now x) rows.old }
-    ensures { (net : Network) → ArePartTurned net counts.now (is_done counts.now x) rows.old
-        → ArePartTurned net counts.now (is_done counts.now (x + 1)) rows.new }
+    requires rows { (net : Network) × (seen : ℕ → Bool) × (seen x ≡ false)
+        × ArePartTurned net counts.now (is_done counts.now seen) rows.old }
+    ensures { (net : Network) (seen : ℕ → Bool) → seen x ≡ false → ArePartTurned net counts.now (is_done counts.now seen) rows.old
+        → ArePartTurned net counts.now (is_done counts.now (seen_too x seen)) rows.new }
 {
     rows.turn_row(x, counts);
     for place in 0..rows.row(x).len() {
@@ -69,9 +69,8 @@ fn turn_node(rows: &mut RowTable, x: u32, counts: &[u64])
 
 /// Turns the rows as these turns say: only those of nodes that have turned are touched, and in the others their entries.
 pub(crate) fn turn_rows(rows: &mut RowTable, turns: &Turns)
-    requires rows { (net : Network) × ArePartTurned net turns.now (is_done turns.now 0) rows.old }
-    ensures { (net : Network) → ArePartTurned net turns.now (is_done turns.now 0) rows.old
-        → ArePartTurned net turns.now (is_done turns.now (length turns.now)) rows.new }
+    requires rows { (net : Network) × ArePartTurned net turns.now none_done rows.old }
+    ensures { (net : Network) → ArePartTurned net turns.now none_done rows.old → ArePartTurned net turns.now all_done rows.new }
 {
     for x in turns.nodes() {
         turn_node(rows, *x, turns.counts());

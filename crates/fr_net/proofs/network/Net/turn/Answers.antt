@@ -1,4 +1,4 @@
-use Rattle.std.proofs.Common.{ap, arith, length, subst, sym, ◌∙◌, ◌≡◌}
+use Rattle.std.proofs.Common.{ap, length, subst, sym, ◌∙◌, ◌≡◌}
 use Rattle.fr_net.proofs.PartTurned.{rows_begin, rows_end}
 use Rattle.fr_net.proofs.Remaking.{graph_of, network_of_rows}
 use Rattle.fr_net.proofs.TurnedLinks.{length-links_at, turned_faultless}
@@ -7,7 +7,7 @@ use Rattle.fr_net.specs.Faults.{IsFaultless}
 use Rattle.fr_net.specs.Heights.{Fit}
 use Rattle.fr_net.specs.KeptRows.{AreRows}
 use Rattle.fr_net.specs.Network.{Network}
-use Rattle.fr_net.specs.TurnedRows.{ArePartTurned, is_done}
+use Rattle.fr_net.specs.TurnedRows.{ArePartTurned, none_done}
 use Rattle.fr_net.proofs.network.Net.turn.Goals as goal
 use Rattle.fr_net.proofs.network.Net.turn.Goals.{After-turn_rows, After-self}
 
@@ -21,7 +21,7 @@ nodes_are : (c : After-self) → c.self.inside.graph.nodes ≡ c.args.self.now.n
 nodes_are c = ap (λ (m : Network). m.nodes) c.self.view_is
 
 -- the rows before the first node, and after the last
-before : (c : After-self) → ArePartTurned c.args.self.now c.args.turns.now (is_done c.args.turns.now 0) c.self.inside.graph.rows
+before : (c : After-self) → ArePartTurned c.args.self.now c.args.turns.now none_done c.self.inside.graph.rows
 before c =
     rows_begin c.args.self.now c.args.turns.now c.self.inside.graph.rows (clear c).is_net c.requires.one_each
     (subst (λ (m : Network). AreRows m.nodes m.links c.self.inside.graph.rows) c.self.view_is c.self.invariant.rows)
@@ -29,7 +29,7 @@ before c =
 after : (c : After-turn_rows) → AreRows c.args.self.now.nodes (links_at c.args.self.now.links c.args.turns.now) c.turn_rows.new.rows
 after c =
     let at = (goal.at.After-turn_rows c).After-self in
-    rows_end c.args.self.now c.args.turns.now c.turn_rows.new.rows c.requires.kept (rw c.requires.one_each at (c.turn_rows.ensures c.args.self.now (before at)))
+    rows_end c.args.self.now c.args.turns.now c.turn_rows.new.rows c.requires.kept (c.turn_rows.ensures c.args.self.now (before at))
 
 pub turn_rows-requires : goal.turn_rows-requires
 turn_rows-requires c = record { rows = (c.args.self.now, before (goal.at.turn_rows-requires c).After-self) }
