@@ -1,16 +1,18 @@
 -- The nodes that have turned, one after another: what holds of all nodes below one holds of all nodes below the next.
-use Rattle.std.proofs.Common.{All, Contains, List, [], ap, arith, drop, eqb, get_or, get_or-set_other, get_or-set_same, inl, inr, length, length-set, ne_eqb, refl, replicate, set, subst, suc, sum, sym, take, zero, ℕ, ◌++◌, ◌+◌, ◌-◌, ◌<◌, ◌∙◌, ◌∷◌, ◌≡◌, ◌≤◌, ◌↔◌}
+use Rattle.std.proofs.Common.{All, Contains, List, [], ap, arith, cond, drop, eq-eqb, eqb, get_or, get_or-set_other, get_or-set_same, inl, inr, length, length-set, map, ne_eqb, refl, replicate, set, subst, suc, sum, sum_by, sym, take, zero, ℕ, ◌++◌, ◌*◌, ◌+◌, ◌-◌, ◌<◌, ◌∙◌, ◌∷◌, ◌≡◌, ◌≤◌, ◌↔◌}
 use Rattle.std.proofs.Math.ListN.{get_or-append}
 use Rattle.std.proofs.Math.Seq.{get_or-append_seam}
-use Rattle.std.proofs.lemmas.Bool.{cases_eq, cases_lt, false≢true}
-use Rattle.std.proofs.lemmas.List.{ext_get_or, get_or-drop, get_or-replicate, get_or-take, get_or_default, get_or_past, length-drop, length-replicate, length-take-le, length_push, take_all}
+use Rattle.std.proofs.lemmas.Bool.{cases_Bool, cases_eq, cases_lt, cond-false, cond-true, false≢true}
+use Rattle.std.proofs.lemmas.List.{ext_get_or, get_or-drop, get_or-map, get_or-replicate, get_or-take, get_or_default, get_or_past, length-drop, length-map, length-replicate, length-take-le, length_push}
 use Rattle.std.proofs.lemmas.List.Elements.{Contains-append_left, Contains-get_or, Contains-push, Contains-push_cases}
-use Rattle.std.proofs.lemmas.List.Sums.{sum_by_more}
+use Rattle.std.proofs.lemmas.List.Sums.{sum_by-cons, sum_by-set}
+use Rattle.std.proofs.lemmas.List.Folds.{sum_by-replicate}
 use Rattle.std.proofs.lemmas.Map.Keys.{IsDistinct-from_apart}
 use Rattle.std.proofs.lemmas.Map.Steps.{length-le_from_distinct_below}
 use Rattle.std.proofs.lemmas.Map.Views.{Contains-from_any}
 use Rattle.fr_net.specs.Counts.{AreUnturned, IsNextTurned}
-use Rattle.fr_net.specs.Turns.{AreCleared, AreTurned}
+use Rattle.fr_net.proofs.Members.{Contains-cases, Contains-head, Contains-none, Contains-tail}
+use Rattle.fr_net.specs.Turns.{AreSet, AreTurned, set_to}
 
 -- there is a count for each node that has turned
 pub turned_inside : (counts : List ℕ) (y : ℕ) → 0 < get_or counts y 0 → y < length counts
@@ -124,6 +126,46 @@ still_turned counts nodes count some listed = record {
     ],
   );
 }
+
+-- the sum over a list depends on its elements alone
+sum_by-alike : (f g : ℕ → ℕ) (xs : List ℕ) → ((x : ℕ) → Contains xs x → f x ≡ g x) → sum_by f xs ≡ sum_by g xs
+sum_by-alike f g [] same = refl
+sum_by-alike f g (x ∷ xs) same =
+    sum_by-cons f x xs ∙ sym (sum_by-cons g x xs ∙ ap (λ (n : ℕ). g x + n) (sym (sum_by-alike f g xs (λ y h. same y (Contains-tail y x xs h)))) ∙ ap (λ (n : ℕ). n + sum_by f xs) (sym (same x (Contains-head x xs))))
+
+-- the turns of the nodes that have turned are all there are
+pub sum_listed : (nodes counts : List ℕ) → AreTurned counts nodes → sum_by (λ x. get_or counts x 0) nodes ≡ sum counts
+sum_listed [] counts listed =
+    let zeros : counts ≡ replicate (length counts) 0 = each_set counts counts [] 0 listed refl (record {
+      these = λ x h. absurd (Contains-none x h);
+      others = λ x out. refl;
+    }) ∙ all_cleared counts in
+    let none : sum (replicate (length counts) 0) ≡ length counts * 0 = sum_by-replicate (λ (count : ℕ). count) (length counts) 0 in
+    let all : sum counts ≡ sum (replicate (length counts) 0) = ap sum zeros in
+    omega (arith, none, all)
+sum_listed (x ∷ nodes) counts listed =
+    let turned = (listed.each x).0 (Contains-head x nodes) in
+    let rest = set counts x 0 in
+    let here : get_or rest x 0 ≡ 0 = get_or-set_same counts x 0 0 (turned_inside counts x turned) in
+    let stays : (y : ℕ) → ¬ (y ≡ x) → get_or rest y 0 ≡ get_or counts y 0 = λ y other. get_or-set_other counts x y 0 0 other in
+    let apart : ¬ Contains nodes x = λ h. listed.once 0 (suc h.0) (omega arith) (omega (arith, h.1)) (sym h.2 ∙ get_or_default nodes h.0 x 0 h.1) in
+    let fewer : AreTurned rest nodes = record {
+      once = λ i j lt l. listed.once (suc i) (suc j) (omega (arith, lt)) (omega (arith, l));
+      each = λ y. elim (cases_eq y x) [
+        | inl it ↦ rw it ((λ h. absurd (apart h)), (λ t. absurd (omega (arith, here, t))))
+        | inr other ↦ (
+          λ h. omega (arith, stays y other, (listed.each y).0 (Contains-tail y x nodes h)),
+          λ t. elim (Contains-cases y x nodes ((listed.each y).1 (omega (arith, stays y other, t)))) [
+            | inl same ↦ absurd (other (sym same))
+            | inr h ↦ h
+          ],
+        )
+      ];
+    } in
+    let others : sum_by (λ y. get_or counts y 0) nodes ≡ sum_by (λ y. get_or rest y 0) nodes =
+    sum_by-alike (λ y. get_or counts y 0) (λ y. get_or rest y 0) nodes (λ y h. sym (stays y (λ it. apart (subst (Contains nodes) it h)))) in
+    let all : sum rest + get_or counts x 0 ≡ sum counts + 0 = sum_by-set (λ (count : ℕ). count) counts x 0 0 (turned_inside counts x turned) in
+    omega (arith, sum_by-cons (λ y. get_or counts y 0) x nodes, others, sum_listed nodes rest fewer, all)
 
 -- no node has turned where all counts are 0
 pub none_turned : (n : ℕ) → AreTurned (replicate n 0) []

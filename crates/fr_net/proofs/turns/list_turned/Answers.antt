@@ -1,6 +1,6 @@
-use Rattle.std.proofs.Common.{ap, arith, get_or, length, subst, sum, sym, take, ℕ, [], ◌++◌, ◌+◌, ◌∙◌, ◌∷◌, ◌≡◌, ◌≤◌}
+use Rattle.std.proofs.Common.{ap, arith, get_or, length, subst, sym, [], ◌++◌, ◌+◌, ◌∙◌, ◌∷◌, ◌≡◌, ◌≤◌}
 use Rattle.std.proofs.lemmas.List.{length_push}
-use Rattle.fr_net.proofs.TurnedNodes.{AreListed, all_listed, next_listed, once_more, sum_at_last, sum_to_next, turned_inside}
+use Rattle.fr_net.proofs.TurnedNodes.{AreListed, all_listed, next_listed, once_more, turned_inside}
 use Rattle.fr_net.proofs.turns.list_turned.Goals as goal
 
 pub turned-preserved : goal.turned-preserved
@@ -16,7 +16,6 @@ turned-preserved c =
       few = omega (arith, ap length items, length_push c.turned.nodes.items x, before.few, next.from);
       once = rw items (once_more c.turned.nodes.items x before.once (λ h. omega (arith, ((before.listed x).0 h).0, next.from)));
       listed = subst (AreListed counts (x + 1)) (sym items) (next_listed counts c.turned.from x c.turned.nodes.items next before.listed);
-      total = omega (arith, sum_to_next counts c.turned.from x next, before.total, c.saturating_add-total.ensures);
     }
 
 pub returns-clause-turned : goal.returns-clause-turned
@@ -24,6 +23,3 @@ returns-clause-turned c = record {
   once = c.turned.invariant.once;
   each = all_listed c.args.counts.now c.turned.from c.turned.nodes.items c.in_default.ensures c.turned.invariant.listed;
 }
-
-pub returns-clause-total : goal.returns-clause-total
-returns-clause-total c = rw (sum_at_last c.args.counts.now c.turned.from c.in_default.ensures c.turned.invariant.inside) c.turned.invariant.total

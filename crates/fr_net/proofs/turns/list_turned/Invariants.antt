@@ -1,4 +1,4 @@
-use Rattle.std.proofs.Common.{get_or, length, min, sum, take, vec_capacity, ℕ, ◌-◌, ◌<◌, ◌^◌, ◌≡◌, ◌≤◌}
+use Rattle.std.proofs.Common.{get_or, length, vec_capacity, ℕ, ◌-◌, ◌<◌, ◌≡◌, ◌≤◌}
 use Rattle.fr_net.proofs.TurnedNodes.{AreListed}
 use Rattle.fr_net.proofs.turns.list_turned.Given as goal
 
@@ -9,7 +9,6 @@ invariant-turned l = record {
   few : length l.nodes.items ≤ l.from;
   once : (i j : ℕ) → i < j → j < length l.nodes.items → ¬ (get_or l.nodes.items i 0 ≡ get_or l.nodes.items j 0);
   listed : AreListed l.counts l.from l.nodes.items;
-  total : l.total ≡ min (sum (take l.from l.counts)) (2 ^ 64 - 1);
 }
 
 abbrev pub decreases-turned : goal.decreases-turned

@@ -1,8 +1,6 @@
-use Rattle.std.proofs.Common.{ap, arith, get_or, length, length-set, min, set, sum, sym, ℕ, ◌+◌, ◌<◌, ◌∙◌, ◌≡◌, ◌≤◌}
+use Rattle.std.proofs.Common.{arith, get_or, length, length-set, set, sym, ◌+◌, ◌<◌, ◌∙◌, ◌≡◌, ◌≤◌}
 use Rattle.std.proofs.lemmas.List.{get_or_default}
-use Rattle.std.proofs.lemmas.List.Sums.{sum_by-set}
 use Rattle.fr_net.proofs.TurnedNodes.{first_turn, further_turn, place_left}
-use Rattle.fr_net.specs.declared.turns.Turns.TheInside.{Inside}
 use Rattle.fr_net.proofs.turns.Turns.add.Goals as goal
 use Rattle.fr_net.proofs.turns.Turns.add.Goals.{After-index-count, then-count-eq0, else-count-eq0}
 
@@ -25,19 +23,15 @@ invariant_of-self c =
     let x = c.args.x in
     let more = c.index-count.result.now + 1 in
     let long : length (set counts x more) ≡ length counts = length-set counts x more in
-    let total : sum (set counts x more) + get_or counts x 0 ≡ sum counts + more = sum_by-set (λ (count : ℕ). count) counts x more 0 (inside at) in
-    let before : (now : Inside) → c.if-count-eq0.self-inside ≡ now → c.if-count-eq0.self-inside.total ≡ now.total = λ now is. ap (λ (s : Inside). s.total) is in
     elim c.if-count-eq0.branch [
       | then-count-eq0 w ↦ rw w.self-inside-is (record {
         few = omega (arith, long, c.self.invariant.few);
         turned = rw w.push_reserved.ensures.items (first_turn counts c.self.inside.nodes.items x more c.self.invariant.turned (inside at) (count_is at ∙ w.if-count-eq0.true) (omega arith));
         room = omega (arith, long, c.self.invariant.room, w.push_reserved.ensures.capacity);
-        total = omega (arith, total, count_is at, before _ w.self-inside-is, c.self.invariant.total, c.saturating_add-self-inside.ensures);
       })
       | else-count-eq0 w ↦ rw w.self-inside-is (record {
         few = omega (arith, long, c.self.invariant.few);
         turned = further_turn counts c.self.inside.nodes.items x more c.self.invariant.turned (inside at) (omega (arith, count_is at, w.if-count-eq0.false)) (omega arith);
         room = omega (arith, long, c.self.invariant.room);
-        total = omega (arith, total, count_is at, before _ w.self-inside-is, c.self.invariant.total, c.saturating_add-self-inside.ensures);
       })
     ]
