@@ -1,8 +1,6 @@
 -- Counts as they begin: nobody has turned, and each sink but the destination can. And as they end.
-use Rattle.std.proofs.Common.{List, Vec, arith, length, mul-zero, replicate, subst, sum, ℕ, ◌<◌, ◌∙◌, ◌≡◌}
-use Rattle.std.proofs.lemmas.List.{with_items_is}
+use Rattle.std.proofs.Common.{List, mul-zero, replicate, subst, sum, ℕ, ◌<◌, ◌∙◌, ◌≡◌}
 use Rattle.std.proofs.lemmas.List.Folds.{sum_by-replicate}
-use Rattle.std.specs.Vec.{with_items}
 use Rattle.fr_core.proofs.Finishing.{links_at-zeros}
 use Rattle.fr_core.proofs.Runs.{lawful_sum}
 use Rattle.fr_core.proofs.Unique.{settled_lawful}
@@ -23,13 +21,9 @@ zeros_hold net d from holds = record {
 }
 
 -- settled counts, at most n * n together
-pub counted_at : (n d : ℕ) (first : List (ℕ × ℕ)) → IsNet n first → d < n → (counts : List ℕ) → AreSettled n d first counts → IsCounted n d first counts
-counted_at n d first net below counts settled = record {
+pub counted : (n d : ℕ) (first : List (ℕ × ℕ)) → IsNet n first → d < n → (counts : List ℕ) → AreSettled n d first counts → IsCounted n d first counts
+counted n d first net below counts settled = record {
   destination = below;
   settled = settled;
   most = lawful_sum n d first counts (settled_lawful n d first net below counts settled);
 }
-
--- settled counts that were written in the place of those of a vector
-pub counted : {Z : Type 0} (n d : ℕ) (first : List (ℕ × ℕ)) → IsNet n first → d < n → (before : Vec ℕ Z) (after : List ℕ) → length before.items ≡ n → AreSettled n d first after → IsCounted n d first (with_items before after).items
-counted n d first net below before after long settled = rw (with_items_is before after (omega (arith, settled.one_each, long))) (counted_at n d first net below after settled)

@@ -1,8 +1,9 @@
 //! Settling a network.
 
-ghost use Rattle.std.specs.Prelude.{◌≡◌, ◌≢◌, ℕ, ◌<◌, ◌≤◌, ◌^◌, ◌↔◌, IfOk, IfErr, IfSome, replicate, sum, sum_by};
+ghost use Rattle.std.specs.Prelude.{◌≡◌, ◌≢◌, ℕ, ◌<◌, ◌≤◌, ◌^◌, ◌↔◌, IfOk, IfErr, IfSome, IsTrue, OnOk, length, replicate, sum, sum_by};
 ghost use Rattle.fr_net.specs.Counts.{AreLawful};
 ghost use Rattle.fr_core.specs.Finish.{HoldsAllThatCanTurn};
+ghost use Rattle.fr_core.specs.Settled.{AreSettled};
 ghost use Rattle.fr_crew.specs.Settlements.{HoldsSinks, IsCounted, IsSettlement};
 ghost use Rattle.fr_crew.specs.declared.fault.CrewFault.TheVariants.{Range, Start, Memory};
 
@@ -11,7 +12,7 @@ use crate::fault::CrewFault;
 use crate::gate::Gate;
 use crate::plan::Plan;
 use fr_core::{are_settled, finish, finish_from, finish_soon};
-use fr_net::Net;
+use fr_net::{Net, Turns};
 use fr_round::{Closed, Round};
 use std::alloc::Global;
 use std::marker::Brand;
@@ -58,10 +59,11 @@ pub fn settle<R: Threads + Wait + Sync, G: Gate + Sync>(
     ensures settled { IfOk result (λ settled. IsSettlement net.nodes dest net.links settled) }
     ensures range { IfErr result (λ fault. (fault ≡ Range) ↔ (net.nodes ≤ dest)) }
     ensures no_start { plan.now.budget ≡ 0 → IfErr result (λ fault. fault ≢ Start) }
+    ensures still { AreSettled net.nodes dest net.links (replicate net.nodes 0) → IfErr result (λ fault. fault ≢ Start) }
 {
-    let counts = zeros(alloc, &net, dest)?;
-    if plan.budget() == 0 || are_settled(&net, dest, &counts) {
-        return Ok(finished(net, dest, counts, 0));
+    let mut turns = none_yet(alloc, &net, dest)?;
+    if plan.budget() == 0 || are_settled(&net, dest, turns.counts()) {
+        return Ok(finished(net, dest, turns, 0));
     }
     let Closed {
         net,
@@ -70,7 +72,8 @@ pub fn settle<R: Threads + Wait + Sync, G: Gate + Sync>(
     } = turned_by_crew(rt, alloc, net, dest, None, plan, gate)?;
     net.network_law();
     let by_workers = turns_of(&turned);
-    Ok(finished(net, dest, counts, by_workers))
+    turns.copy_from(&counts);
+    Ok(finished(net, dest, turns, by_workers))
 }
 
 /// Turns a network until no node can turn, on the thread that calls: by [`finish`](fr_core::finish) alone. The answer is that
@@ -84,13 +87,14 @@ pub fn settle_alone(alloc: Global, net: Net, dest: u32) -> Result<Settled, CrewF
     ensures by_finisher { IfOk result (λ settled. settled.by_workers ≡ 0) }
     ensures no_start { IfErr result (λ fault. fault ≢ Start) }
 {
-    let counts = zeros(alloc, &net, dest)?;
-    Ok(finished(net, dest, counts, 0))
+    let turns = none_yet(alloc, &net, dest)?;
+    Ok(finished(net, dest, turns, 0))
 }
 
 /// The settled counts of a network, which stays as it is: where a node can turn at all, by the crew of the plan on a copy of
 /// the network, and what they leave by [`finish`](fr_core::finish). Whatever the plan, the gate and the schedule, they are the
-/// counts of [`settle`].
+/// counts of [`settle`]. They are made in `turns`, a table in which no node has turned yet, so that who settles a network again and again
+/// can use one table for all rounds.
 ///
 /// For a caller that knows where sinks can be, as after an edit of a settled network: all that stand in `from`, where it is
 /// given, are nodes, and each sink but the destination is among them; some may stand there twice. Where a few turns settle the
@@ -108,17 +112,22 @@ pub fn settled_counts<R: Threads + Wait + Sync, G: Gate + Sync>(
     from: Option<&[u32]>,
     plan: &Plan,
     gate: &G,
-) -> Result<Vec<u64>, CrewFault>
-    requires { IfSome from (λ from. HoldsSinks net.now dest from.now) }
-    ensures settled { IfOk result (λ counts. IsCounted net.now.nodes dest net.now.links counts.items) }
+    mut turns: Turns,
+) -> Result<Turns, CrewFault>
+    requires from { IfSome from (λ from. HoldsSinks net.now dest from.now) }
+    requires none { turns ≡ replicate net.now.nodes 0 }
+    ensures settled { IfOk result (IsCounted net.now.nodes dest net.now.links) }
     ensures range { IfErr result (λ fault. (fault ≡ Range) ↔ (net.now.nodes ≤ dest)) }
     ensures no_start { plan.now.budget ≡ 0 → IfErr result (λ fault. fault ≢ Start) }
 {
     if plan.budget() == 0 {
-        return settled_counts_alone(alloc, net, dest, from);
+        return settled_counts_alone(net, dest, from, turns);
     }
-    if let Some(counts) = by_few_turns(alloc, net, dest, from)? {
-        return Ok(counts);
+    test_node(net, dest)?;
+    // By the law a settled count is at most the number of nodes.
+    net.network_law();
+    if turn_few(net, dest, from, &mut turns) {
+        return Ok(turns);
     }
     let plan = match from {
         Some(_) => plan.with_at_most(u64::from(net.nodes())),
@@ -130,64 +139,67 @@ pub fn settled_counts<R: Threads + Wait + Sync, G: Gate + Sync>(
         counts,
         turned: _,
     } = turned_by_crew(rt, alloc, copy, dest, from, &plan, gate)?;
-    Ok(finished_counts(&net, dest, counts, None))
+    turns.copy_from(&counts);
+    Ok(finished_counts(&net, dest, turns, None))
 }
 
 /// The settled counts of a network, which stays as it is, on the thread that calls: by [`finish`](fr_core::finish) alone, or
-/// where `from` is given, by [`finish_from`](fr_core::finish_from). They are those of [`settled_counts`]. It starts no thread and
-/// waits for nobody.
+/// where `from` is given, by [`finish_from`](fr_core::finish_from). They are those of [`settled_counts`], and made in `turns` as there. It
+/// starts no thread, waits for nobody, and takes no memory.
 ///
-/// `Range` where the destination is no node, which is tested first, or else `Memory`; never `Start`.
+/// The only fault is `Range`, where the destination is no node.
 pub fn settled_counts_alone(
-    alloc: Global,
     net: &Net,
     dest: u32,
     from: Option<&[u32]>,
-) -> Result<Vec<u64>, CrewFault>
-    requires { IfSome from (λ from. HoldsSinks net.now dest from.now) }
-    ensures settled { IfOk result (λ counts. IsCounted net.now.nodes dest net.now.links counts.items) }
-    ensures range { IfErr result (λ fault. (fault ≡ Range) ↔ (net.now.nodes ≤ dest)) }
-    ensures no_start { IfErr result (λ fault. fault ≢ Start) }
+    turns: Turns,
+) -> Result<Turns, CrewFault>
+    requires from { IfSome from (λ from. HoldsSinks net.now dest from.now) }
+    requires none { turns ≡ replicate net.now.nodes 0 }
+    ensures settled { IfOk result (IsCounted net.now.nodes dest net.now.links) }
+    ensures range { IfErr result (λ fault. (fault ≡ Range) × (net.now.nodes ≤ dest)) }
 {
-    let counts = zeros(alloc, net, dest)?;
-    Ok(finished_counts(net, dest, counts, from))
+    test_node(net, dest)?;
+    Ok(finished_counts(net, dest, turns, from))
 }
 
-/// The counts with which every settlement begins: no node has turned. `Range` where the destination is no node, or else
-/// `Memory`.
-fn zeros(alloc: Global, net: &Net, dest: u32) -> Result<Vec<u64>, CrewFault>
-    ensures zeros { IfOk result (λ counts. (dest < net.now.nodes) × (counts.items ≡ replicate net.now.nodes 0)) }
-    ensures range { IfErr result (λ fault. (fault ≡ Range) ↔ (net.now.nodes ≤ dest)) }
-    ensures no_start { IfErr result (λ fault. fault ≢ Start) }
+/// Whether the destination is a node; else `Range`.
+fn test_node(net: &Net, dest: u32) -> Result<(), CrewFault>
+    ensures node { OnOk result (dest < net.now.nodes) }
+    ensures range { IfErr result (λ fault. (fault ≡ Range) × (net.now.nodes ≤ dest)) }
 {
     if dest >= net.nodes() {
         return Err(CrewFault::Range);
     }
-    Ok(vec![in alloc; 0u64; net.nodes() as usize]?)
+    Ok(())
 }
 
-/// The settled counts, where a few turns lead to them: none at all, or few from nodes of `from`, where these are given. None where it
-/// takes more. `Range` where the destination is no node, or else `Memory`.
-fn by_few_turns(
-    alloc: Global,
-    net: &Net,
-    dest: u32,
-    from: Option<&[u32]>,
-) -> Result<Option<Vec<u64>>, CrewFault>
-    requires { IfSome from (λ from. HoldsSinks net.now dest from.now) }
-    ensures node { IfOk result (λ _. dest < net.now.nodes) }
-    ensures settled { IfOk result (λ counts. IfSome counts (λ counts. IsCounted net.now.nodes dest net.now.links counts.items)) }
+/// The table with which every settlement begins: no node has turned. `Range` where the destination is no node, or else
+/// `Memory`.
+fn none_yet(alloc: Global, net: &Net, dest: u32) -> Result<Turns, CrewFault>
+    ensures none { IfOk result (λ turns. (dest < net.now.nodes) × (turns ≡ replicate net.now.nodes 0)) }
     ensures range { IfErr result (λ fault. (fault ≡ Range) ↔ (net.now.nodes ≤ dest)) }
     ensures no_start { IfErr result (λ fault. fault ≢ Start) }
 {
-    // By the law a settled count is at most the number of nodes.
+    test_node(net, dest)?;
     net.network_law();
-    let mut counts = zeros(alloc, net, dest)?;
-    let settled = match from {
-        Some(from) => finish_soon(net, dest, &mut counts, from),
-        None => are_settled(net, dest, &counts),
-    };
-    Ok(settled.then_some(counts))
+    Ok(Turns::none(alloc, net.nodes())?)
+}
+
+/// Turns nodes where a few turns settle the network: none at all, or few from nodes of `from`, where these are given. Whether it is
+/// settled now.
+fn turn_few(net: &Net, dest: u32, from: Option<&[u32]>, turns: &mut Turns) -> bool
+    requires node { dest < net.now.nodes }
+    requires from { IfSome from (λ from. HoldsSinks net.now dest from.now) }
+    requires none { turns.old ≡ replicate net.now.nodes 0 }
+    ensures one_each { length turns.new ≡ net.now.nodes }
+    ensures settled { IsTrue result ↔ AreSettled net.now.nodes dest net.now.links turns.new }
+{
+    net.network_law();
+    match from {
+        Some(from) => finish_soon(net, dest, turns, from),
+        None => are_settled(net, dest, turns.counts()),
+    }
 }
 
 /// Opens a round, lets a crew of threads turn its nodes, and closes it. Its workers try the nodes of `from` first, where it is
@@ -223,19 +235,19 @@ fn turns_of(turned: &[(u32, u64)]) -> u64
 }
 
 /// Finishes on one thread what is left to turn of a network, and turns its links. It takes no memory.
-fn finished(mut net: Net, dest: u32, mut counts: Vec<u64>, by_workers: u64) -> Settled
+fn finished(mut net: Net, dest: u32, mut turns: Turns, by_workers: u64) -> Settled
     requires node { dest < net.nodes }
-    requires lawful { AreLawful net.nodes dest net.links counts.items }
-    requires turned { by_workers ≡ sum counts.items }
+    requires lawful { AreLawful net.nodes dest net.links turns }
+    requires turned { by_workers ≡ sum turns }
     ensures settled { IsSettlement net.nodes dest net.links result }
     ensures by_workers { result.by_workers ≡ by_workers }
 {
     net.network_law();
-    let by_finisher = finish(&net, dest, &mut counts);
-    net.turn(&counts);
+    let by_finisher = finish(&net, dest, &mut turns);
+    net.turn(&turns);
     Settled {
         net,
-        counts,
+        counts: turns.into_counts(),
         by_workers,
         by_finisher,
     }
@@ -243,18 +255,18 @@ fn finished(mut net: Net, dest: u32, mut counts: Vec<u64>, by_workers: u64) -> S
 
 /// Finishes on one thread what is left to turn, from nodes of `from`, where these are given. The links stay as they are. It takes
 /// no memory.
-fn finished_counts(net: &Net, dest: u32, mut counts: Vec<u64>, from: Option<&[u32]>) -> Vec<u64>
+fn finished_counts(net: &Net, dest: u32, mut turns: Turns, from: Option<&[u32]>) -> Turns
     requires node { dest < net.now.nodes }
-    requires lawful { AreLawful net.now.nodes dest net.now.links counts.items }
-    requires from { IfSome from (λ from. HoldsAllThatCanTurn net.now.nodes dest net.now.links counts.items from.now) }
-    ensures { IsCounted net.now.nodes dest net.now.links result.items }
+    requires lawful { AreLawful net.now.nodes dest net.now.links turns }
+    requires from { IfSome from (λ from. HoldsAllThatCanTurn net.now.nodes dest net.now.links turns from.now) }
+    ensures { IsCounted net.now.nodes dest net.now.links result }
 {
     net.network_law();
     match from {
-        Some(from) => finish_from(net, dest, &mut counts, from),
+        Some(from) => finish_from(net, dest, &mut turns, from),
         None => {
-            let _turns = finish(net, dest, &mut counts);
+            let _turns = finish(net, dest, &mut turns);
         }
     }
-    counts
+    turns
 }

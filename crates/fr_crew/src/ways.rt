@@ -1,28 +1,30 @@
 //! Settled counts in a way that is passed in.
 
-ghost use Rattle.std.specs.Prelude.{◌≡◌, ◌≢◌, ◌≤◌, ◌↔◌, IfOk, IfErr, IfSome};
+ghost use Rattle.std.specs.Prelude.{◌≡◌, ◌≢◌, ◌≤◌, ◌↔◌, IfOk, IfErr, IfSome, replicate};
 ghost use Rattle.fr_crew.specs.Settlements.{HoldsSinks, IsCounted};
 ghost use Rattle.fr_crew.specs.Ways.{Settles, NeverStarts};
 ghost use Rattle.fr_crew.specs.declared.fault.CrewFault.TheVariants.{Range, Start};
 
 use crate::fault::CrewFault;
-use fr_net::Net;
+use fr_net::{Net, Turns};
 
 /// The settled counts of a network in a way that is passed in, as a closure over [`settled_counts`](crate::settled_counts) or
 /// [`settled_counts_alone`](crate::settled_counts_alone). The answer is that of the way, and so `Range` where the destination is
 /// no node, and never `Start` where the way never answers it. A closure over `settled_counts` has to state what that call
-/// requires of `from`.
-pub fn settled_counts_by<F: Fn(&Net, u32, Option<&[u32]>) -> Result<Vec<u64>, CrewFault>>(
+/// requires of `from` and `turns`.
+pub fn settled_counts_by<F: Fn(&Net, u32, Option<&[u32]>, Turns) -> Result<Turns, CrewFault>>(
     way: &F,
     net: &Net,
     dest: u32,
     from: Option<&[u32]>,
-) -> Result<Vec<u64>, CrewFault>
+    turns: Turns,
+) -> Result<Turns, CrewFault>
     requires way { Settles F.pre F.post way.now }
     requires from { IfSome from (λ from. HoldsSinks net.now dest from.now) }
-    ensures settled { IfOk result (λ counts. IsCounted net.now.nodes dest net.now.links counts.items) }
+    requires none { turns ≡ replicate net.now.nodes 0 }
+    ensures settled { IfOk result (IsCounted net.now.nodes dest net.now.links) }
     ensures range { IfErr result (λ fault. (fault ≡ Range) ↔ (net.now.nodes ≤ dest)) }
     ensures no_start { NeverStarts F.post way.now → IfErr result (λ fault. fault ≢ Start) }
 {
-    way(net, dest, from)
+    way(net, dest, from, turns)
 }

@@ -3,7 +3,7 @@
 ghost use Rattle.std.specs.Prelude.{◌≡◌, ◌≢◌, ℕ, ◌<◌, ◌≤◌, ◌+◌, ◌++◌, [], ◌∷◌, length, slice_get, slice_index, Some, Ok, IfOk, IfErr, IfSome, IfNone, MatchOption, OnOk, OnErr, All, ◌⊎◌};
 ghost use Rattle.std.specs.List.{HoldsAt};
 ghost use Rattle.std.specs.Borrow.{Bor};
-ghost use Rattle.std.specs.Fn.{FnReturnsAt};
+ghost use Rattle.std.specs.Fn.{FnOnceReturnsAt};
 ghost use Rattle.fr_net.specs.Network.{Network};
 ghost use Rattle.fr_net.specs.Links.{Joins};
 ghost use Rattle.fr_net.specs.Order.{AreRising};
@@ -244,17 +244,18 @@ impl Net {
     /// Makes these edits where the network stands, each on the links that those before it left, if `way` then answers Ok of the
     /// network that they make, and answers what it answers. Where an edit is refused, as by `with_edits`, where no room could be
     /// had, or where `way` answers a fault, the edits are undone: the network is as it was. Each edit costs the moving of entries in
-    /// two rows, and where it adds a link, mostly a look at two heights, or else one search; only where a row is full all rows are laid out anew, with room to grow.
-    pub fn edit_if<T, E, F: Fn(&Net) -> Result<T, E>>(
+    /// two rows, and where it adds a link, mostly a look at two heights, or else one search, before which heights that are not known are
+    /// made anew; only where a row is full all rows are laid out anew, with room to grow.
+    pub fn edit_if<T, E, F: FnOnce(&Net) -> Result<T, E>>(
         &mut self,
         alloc: Global,
         edits: &[Edit],
-        way: &F,
+        way: F,
     ) -> Result<T, NotEdited<E>>
-        requires callable { (made : Bor Network) → AreMade self.old edits.now made.now → F.pre way.now made }
+        requires callable { (made : Bor Network) → AreMade self.old edits.now made.now → F.pre way made }
         ensures few { OnOk result (length edits.now ≤ most_edits) }
-        ensures ok { IfOk result (λ answer. AreMade self.old edits.now self.new × FnReturnsAt F.Fn way.now self.new (Ok answer)) }
-        ensures refused { IfErr result (IsNotEdited self.old edits.now (FnReturnsAt F.Fn way.now)) }
+        ensures ok { IfOk result (λ answer. AreMade self.old edits.now self.new × FnOnceReturnsAt F.FnOnce way self.new (Ok answer)) }
+        ensures refused { IfErr result (IsNotEdited self.old edits.now (FnOnceReturnsAt F.FnOnce way)) }
         ensures unchanged { OnErr result (self.new ≡ self.old) }
     {
         if let Err(refused) = test_few(edits) {

@@ -8,4 +8,4 @@ turns_of-by_workers-requires g c =
     let few = c.network_law.ensures.limits.nodes_few in
     let nodes = ap (λ (net : Network). net.nodes) c.in_ok-net.ensures.net in
     let fits = lawful_sum_fits _ _ _ _ (omega (arith, few, nodes)) c.in_ok-net.ensures.lawful in
-    rw c.deref-2.ensures.value (omega (arith, c.in_ok-net.ensures.turned, fits))
+    rw c.deref.ensures.value (omega (arith, c.in_ok-net.ensures.turned, fits))
