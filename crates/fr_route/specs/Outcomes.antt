@@ -1,7 +1,6 @@
 -- What a round on a network comes to, and the nodes at which edits change links.
-use Rattle.std.specs.Prelude.{◌≡◌, ℕ, ◌<◌, ◌≤◌, ◌⊎◌, not, ◌==◌, ◌&&◌, List, [], ◌∷◌, ◌++◌, count_by, length, replicate, slice_get, slice_index, Option, Some, None, Vec}
+use Rattle.std.specs.Prelude.{◌≡◌, ℕ, ◌<◌, ◌≤◌, ◌⊎◌, not, ◌==◌, ◌&&◌, List, [], ◌∷◌, ◌++◌, count_by, length, replicate, slice_get, slice_index, Some}
 use Rattle.std.specs.List.{All, Contains, filter, range_with_len}
-use Rattle.std.specs.declared.alloc.Global.{Global}
 use Rattle.fr_net.specs.Batches.{AreMade, IsBatchFault}
 use Rattle.fr_net.specs.Counts.{links_at}
 use Rattle.fr_net.specs.Limits.{most_edits}
@@ -25,19 +24,14 @@ use Rattle.fr_route.specs.declared.outcome.Outcome.{Outcome}
 abbrev pub state_after : Network → ℕ → List ℕ → State
 state_after net d counts = state_with (net_of net.nodes (links_at net.links counts)) d counts
 
--- the counts of a round: those that are given, or 0 for each of n nodes
-abbrev pub counts_of : ℕ → Option (Vec ℕ Global) → List ℕ
-counts_of n (Some counts) = counts.items
-counts_of n None = replicate n 0
-
 -- the state after a round in which no node turns
 abbrev pub still_state : Network → ℕ → State
 still_state net d = state_after net d (replicate net.nodes 0)
 
 -- the settled counts of a network, and the report of the round on it
 pub record IsOutcome (net : Network) (d : ℕ) (outcome : Outcome) : Type 0 where
-  pub counts : IsCounted net.nodes d net.links (counts_of net.nodes outcome.counts)
-  pub report : IsReport (state_after net d (counts_of net.nodes outcome.counts)) outcome.report.turned outcome.report.cut
+  pub counts : IsCounted net.nodes d net.links outcome.turns
+  pub report : IsReport (state_after net d outcome.turns) outcome.report.turned outcome.report.cut
 
 -- some node of the list is a sink, and not the destination
 abbrev pub HasSink : List (ℕ × ℕ) → ℕ → List ℕ → Type 0

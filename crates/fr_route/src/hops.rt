@@ -6,7 +6,7 @@ ghost use Rattle.fr_route.specs.Routes.{IsNextHop, IsHop, AreHops};
 ghost use Rattle.fr_route.specs.Outcomes.{AreRenewed, HoldsMoved, IsStale, SendsTo};
 ghost use Rattle.fr_route.specs.States.{IsAfterRound, state_with};
 
-use fr_net::{First, Net, next_turned};
+use fr_net::{First, Net, Turns};
 use std::alloc::{AllocError, Global};
 
 /// Where a node sends on to, so that what it sends gets to the destination.
@@ -78,40 +78,26 @@ pub(crate) fn hop_table(
     Ok(hops)
 }
 
-/// Makes anew where the moved nodes send on to, and what so many turns have made stale. Each other hop is right as it stands.
-pub(crate) fn renew_hops(
-    hops: &mut [Hop],
-    net: &Net,
-    dest: u32,
-    counts: &[u64],
-    turned: u64,
-    moved: &[u32],
-)
-    requires round { IsAfterRound (state_with net.now dest counts.now) }
+/// Makes anew where the moved nodes send on to, and what turns have made stale. Each other hop is right as it stands.
+pub(crate) fn renew_hops(hops: &mut [Hop], net: &Net, dest: u32, turns: &Turns, moved: &[u32])
+    requires round { IsAfterRound (state_with net.now dest turns.now) }
     requires one_each { length hops.old ≡ net.now.nodes }
-    requires turned { turned ≡ sum counts.now }
-    requires moved { HoldsMoved (state_with net.now dest counts.now) hops.old moved.now }
-    ensures { AreHops (state_with net.now dest counts.now) net.now.nodes hops.new }
+    requires moved { HoldsMoved (state_with net.now dest turns.now) hops.old moved.now }
+    ensures { AreHops (state_with net.now dest turns.now) net.now.nodes hops.new }
 {
-    if turned > 0 {
-        renew_turned(hops, net, dest, counts);
-    }
-    renew_some(hops, net, dest, counts, moved);
+    renew_turned(hops, net, dest, turns);
+    renew_some(hops, net, dest, turns.counts(), moved);
 }
 
 /// Makes anew where each node sends on to that has turned, and each neighbour that sends on to such a node. The links of every
 /// other node point as they did.
-fn renew_turned(hops: &mut [Hop], net: &Net, dest: u32, counts: &[u64])
-    requires round { IsAfterRound (state_with net.now dest counts.now) }
+fn renew_turned(hops: &mut [Hop], net: &Net, dest: u32, turns: &Turns)
+    requires round { IsAfterRound (state_with net.now dest turns.now) }
     requires one_each { length hops.old ≡ net.now.nodes }
-    ensures { AreRenewed (state_with net.now dest counts.now) hops.old hops.new (λ x hop. ¬ IsStale (state_with net.now dest counts.now) x hop) }
+    ensures { AreRenewed (state_with net.now dest turns.now) hops.old hops.new (λ x hop. ¬ IsStale (state_with net.now dest turns.now) x hop) }
 {
-    // By the law there are no more nodes than the limit admits.
-    net.network_law();
-    let mut from = 0;
-    'turned: while let Some(x) = next_turned(counts, from) {
-        renew_near(hops, net, dest, counts, x);
-        from = x + 1;
+    for x in turns.nodes() {
+        renew_near(hops, net, dest, turns.counts(), *x);
     }
 }
 

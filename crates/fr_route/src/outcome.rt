@@ -1,45 +1,47 @@
 //! What a round on a network comes to, before any of it is put in place.
 
-ghost use Rattle.std.specs.Prelude.{◌≡◌, ◌≢◌, ℕ, ◌<◌, ◌≤◌, ◌==◌, ◌↔◌, [], ◌∷◌, ◌++◌, All, IsTrue, count_by, length, slice_index, sum, IfOk, IfErr, OnOk};
+ghost use Rattle.std.specs.Prelude.{◌≡◌, ◌≢◌, ℕ, ◌<◌, ◌≤◌, ◌==◌, ◌↔◌, [], ◌∷◌, ◌++◌, All, IsTrue, count_by, length, replicate, slice_index, sum, IfOk, IfErr, OnOk};
 ghost use Rattle.std.specs.List.{filter, range_with_len};
 ghost use Rattle.fr_crew.specs.Settlements.{HoldsSinks, IsCounted};
 ghost use Rattle.fr_crew.specs.Ways.{Settles, NeverStarts};
-ghost use Rattle.fr_net.specs.Counts.{IsKept, links_at};
+ghost use Rattle.fr_net.specs.Counts.{links_at};
 ghost use Rattle.fr_net.specs.Limits.{most_edits};
 ghost use Rattle.fr_net.specs.Network.{net_of};
 ghost use Rattle.fr_net.specs.Turn.{IsSink};
 ghost use Rattle.fr_route.specs.Routes.{AreHops};
 ghost use Rattle.fr_route.specs.States.{IsReport};
 ghost use Rattle.fr_route.specs.Changes.{IsOpenFault};
-ghost use Rattle.fr_route.specs.Outcomes.{HoldsMoved, IsOutcome, HasSink, HasNoSink, counts_of, ends_of, lone_count, still_state, state_after};
+ghost use Rattle.fr_route.specs.Outcomes.{HoldsMoved, IsOutcome, HasSink, HasNoSink, ends_of, lone_count, still_state, state_after};
 ghost use Rattle.fr_route.specs.declared.fault.RouteFault.TheVariants.{Start};
 
 use crate::change::Report;
 use crate::fault::RouteFault;
 use crate::hops::{Hop, least_out, renew_hops};
 use fr_crew::{CrewFault, settled_counts_by};
-use fr_net::{Edit, Net};
+use fr_net::{Edit, Net, Turns};
 use std::alloc::{AllocError, Global};
 
 /// What a round on a network comes to.
 #[derive(Drop)]
 pub(crate) struct Outcome {
-    /// How often each node turns; None where no node does.
-    pub(crate) counts: Option<Vec<u64>>,
+    /// How often each node turns.
+    pub(crate) turns: Turns,
     /// What the round reports.
     pub(crate) report: Report,
 }
 
-/// What a round on a network comes to, settled in a way that is passed in. Each node that can turn at first is among `from`; where
-/// none of these can turn, nothing is settled.
-pub(crate) fn outcome_of<F: Fn(&Net, u32, Option<&[u32]>) -> Result<Vec<u64>, CrewFault>>(
+/// What a round on a network comes to, settled in a way that is passed in, and told in a table in which no node has turned yet. Each
+/// node that can turn at first is among `from`; where none of these can turn, nothing is settled.
+pub(crate) fn outcome_of<F: Fn(&Net, u32, Option<&[u32]>, Turns) -> Result<Turns, CrewFault>>(
     net: &Net,
     dest: u32,
     from: &[u32],
     way: &F,
+    turns: Turns,
 ) -> Result<Outcome, RouteFault>
     requires settles { Settles F.pre F.post way.now }
     requires from { (dest < net.now.nodes) × HoldsSinks net.now dest from.now }
+    requires none { turns ≡ replicate net.now.nodes 0 }
     ensures outcome { IfOk result (IsOutcome net.now dest) }
     ensures fault { IfErr result (IsOpenFault net.now.nodes dest) }
     ensures no_start { NeverStarts F.post way.now → IfErr result (λ fault. fault ≢ Start) }
@@ -47,17 +49,11 @@ pub(crate) fn outcome_of<F: Fn(&Net, u32, Option<&[u32]>) -> Result<Vec<u64>, Cr
     net.network_law();
     if !has_sink(net, dest, from) {
         let report = still_report(net, dest);
-        return Ok(Outcome {
-            counts: None,
-            report,
-        });
+        return Ok(Outcome { turns, report });
     }
-    let counts = settled_counts_by(way, net, dest, Some(from))?;
-    let report = report_of(net, dest, &counts);
-    Ok(Outcome {
-        counts: Some(counts),
-        report,
-    })
+    let turns = settled_counts_by(way, net, dest, Some(from), turns)?;
+    let report = report_of(net, dest, &turns);
+    Ok(Outcome { turns, report })
 }
 
 /// Whether a node other than the destination is a sink, among these nodes.
@@ -99,15 +95,15 @@ fn still_report(net: &Net, dest: u32) -> Report
 
 /// What the round with these settled counts reports: cut off are the nodes without a link, and those that have turned as often as
 /// there are nodes.
-pub(crate) fn report_of(net: &Net, dest: u32, counts: &[u64]) -> Report
-    requires { IsCounted net.now.nodes dest net.now.links counts.now }
-    ensures { IsReport (state_after net.now dest counts.now) result.turned result.cut }
+pub(crate) fn report_of(net: &Net, dest: u32, turns: &Turns) -> Report
+    requires { IsCounted net.now.nodes dest net.now.links turns.now }
+    ensures { IsReport (state_after net.now dest turns.now) result.turned result.cut }
 {
     net.network_law();
-    let turned = counts.iter().sum();
+    let turned = turns.total();
     Report {
         turned,
-        cut: alone_nodes(net, dest) + capped_nodes(net.nodes(), counts, turned),
+        cut: alone_nodes(net, dest) + capped_nodes(net.nodes(), turns.counts(), turned),
     }
 }
 
@@ -137,55 +133,18 @@ fn capped_nodes(nodes: u32, counts: &[u64], turned: u64) -> u64
     counts.iter().filter(|count| **count == cap).count() as u64
 }
 
-/// Turns the links of a network as the settled counts say, where there is any turn.
-pub(crate) fn turn_links(net: &mut Net, counts: &[u64], turned: u64)
-    requires one_each { length counts.now ≡ net.old.nodes }
-    requires kept { All (IsKept counts.now) net.old.links }
-    requires turned { turned ≡ sum counts.now }
-    ensures { net.new ≡ net_of net.old.nodes (links_at net.old.links counts.now) }
-{
-    net.order_law();
-    if turned > 0 {
-        net.turn(counts);
-    }
-}
-
-/// Puts the counts of a round in place of those of the last one, which took so many turns. Where none are given each is 0, as they
-/// stand if there was no turn.
-pub(crate) fn put_counts(counts: &mut Vec<u64>, turned: u64, next: Option<Vec<u64>>)
-    requires { turned ≡ sum counts.old.items }
-    ensures { counts.new.items ≡ counts_of (length counts.old.items) next }
-{
-    match next {
-        Some(next) => *counts = next,
-        None => {
-            if turned > 0 {
-                counts.fill(0);
-            }
-        }
-    }
-}
-
-/// Puts a round in place: turns the links as these settled counts say, and makes anew where the moved nodes send on to, and what
+/// Puts a round in place: turns the links as these turns leave them, and makes anew where the moved nodes send on to, and what
 /// turns have made stale.
-pub(crate) fn put_in_place(
-    net: &mut Net,
-    hops: &mut [Hop],
-    dest: u32,
-    counts: &[u64],
-    turned: u64,
-    moved: &[u32],
-)
-    requires counted { IsCounted net.old.nodes dest net.old.links counts.now }
-    requires turned { turned ≡ sum counts.now }
+pub(crate) fn put_in_place(net: &mut Net, hops: &mut [Hop], dest: u32, turns: &Turns, moved: &[u32])
+    requires counted { IsCounted net.old.nodes dest net.old.links turns.now }
     requires one_each { length hops.old ≡ net.old.nodes }
-    requires moved { HoldsMoved (state_after net.old dest counts.now) hops.old moved.now }
-    ensures net { net.new ≡ net_of net.old.nodes (links_at net.old.links counts.now) }
-    ensures hops { AreHops (state_after net.old dest counts.now) net.old.nodes hops.new }
+    requires moved { HoldsMoved (state_after net.old dest turns.now) hops.old moved.now }
+    ensures net { net.new ≡ net_of net.old.nodes (links_at net.old.links turns.now) }
+    ensures hops { AreHops (state_after net.old dest turns.now) net.old.nodes hops.new }
 {
     net.network_law();
-    turn_links(net, counts, turned);
-    renew_hops(hops, net, dest, counts, turned, moved);
+    net.turn(turns);
+    renew_hops(hops, net, dest, turns, moved);
 }
 
 /// The nodes that edits and a new destination touch: both destinations, and the ends of the links that are taken out or added.

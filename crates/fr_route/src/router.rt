@@ -1,11 +1,9 @@
 //! A router: a settled network with its next hops and routes, and the changes after which it is settled anew.
 
-ghost use Rattle.std.specs.Prelude.{◌≡◌, ◌≢◌, ◌<◌, ◌↔◌, ◌∷◌, ◌≤◌, length, sum, Ok, IfOk, IfErr, IfSome, OnErr};
+ghost use Rattle.std.specs.Prelude.{◌≡◌, ◌≢◌, ◌<◌, ◌≤◌, length, replicate, Ok, IfOk, IfErr, IfSome, OnErr};
 ghost use Rattle.fr_crew.specs.Settlements.{HoldsSinks};
 ghost use Rattle.fr_crew.specs.Ways.{Settles, NeverStarts};
-ghost use Rattle.fr_net.specs.Counts.{IsKept, links_at};
 ghost use Rattle.fr_net.specs.Limits.{most_edits};
-ghost use Rattle.fr_net.specs.Network.{net_of};
 ghost use Rattle.fr_route.specs.declared.change.Report.{Report};
 ghost use Rattle.fr_route.specs.declared.fault.RouteFault.TheVariants.{Start, Memory};
 ghost use Rattle.fr_route.specs.States.{IsRound, IsReport};
@@ -17,13 +15,13 @@ use crate::change::{Change, Report};
 use crate::fault::RouteFault;
 use crate::hops::{Hop, Walked, hop_table};
 use crate::outcome::{
-    Outcome, alone_nodes, outcome_of, push_capped, put_counts, put_in_place, report_of,
-    touched_nodes, turn_links,
+    Outcome, alone_nodes, outcome_of, push_capped, put_in_place, report_of, touched_nodes,
 };
 use fr_crew::{CrewFault, Gate, Plan, settled_counts, settled_counts_alone, settled_counts_by};
-use fr_net::{Edit, MAX_EDITS, Net, NetFault};
+use fr_net::{Edit, MAX_EDITS, Net, NetFault, Turns};
 use std::alloc::{AllocError, Global};
 use std::marker::Model;
+use std::mem;
 use std::sync::Wait;
 use std::thread::Threads;
 
@@ -33,7 +31,9 @@ use std::thread::Threads;
 pub struct Router {
     net: Net,
     dest: u32,
-    counts: Vec<u64>,
+    turns: Turns,
+    // A table for the next round, in which no node has turned; None before the first change, and after one that failed.
+    spare: Option<Turns>,
     hops: Vec<Hop>,
     report: Report,
 }
@@ -69,9 +69,10 @@ impl Router {
             alloc,
             net,
             dest,
-            &|net, dest, from|
-                requires { IfSome from (λ from. HoldsSinks net.now dest from.now) }
-            { settled_counts(rt, alloc, net, dest, from, plan, gate) },
+            &|net, dest, from, turns|
+                requires from { IfSome from (λ from. HoldsSinks net.now dest from.now) }
+                requires none { turns ≡ replicate net.now.nodes 0 }
+            { settled_counts(rt, alloc, net, dest, from, plan, gate, turns) },
         )
     }
 
@@ -85,12 +86,12 @@ impl Router {
             alloc,
             net,
             dest,
-            &|net, dest, from| settled_counts_alone(alloc, net, dest, from),
+            &|net, dest, from, turns| settled_counts_alone(net, dest, from, turns),
         )
     }
 
     /// Settles a network in a way that is passed in.
-    pub(crate) fn open_by<F: Fn(&Net, u32, Option<&[u32]>) -> Result<Vec<u64>, CrewFault>>(
+    pub(crate) fn open_by<F: Fn(&Net, u32, Option<&[u32]>, Turns) -> Result<Turns, CrewFault>>(
         alloc: Global,
         mut net: Net,
         dest: u32,
@@ -101,15 +102,20 @@ impl Router {
         ensures fault { IfErr result (IsOpenFault net.nodes dest) }
         ensures no_start { NeverStarts F.post way.now → IfErr result (λ fault. fault ≢ Start) }
     {
+        if dest >= net.nodes() {
+            return Err(RouteFault::Range);
+        }
         net.network_law();
-        let counts = settled_counts_by(way, &net, dest, None)?;
-        let report = report_of(&net, dest, &counts);
-        turn_links(&mut net, &counts, report.turned);
-        let hops = hop_table(alloc, &net, dest, &counts)?;
+        let turns = Turns::none(alloc, net.nodes())?;
+        let turns = settled_counts_by(way, &net, dest, None, turns)?;
+        let report = report_of(&net, dest, &turns);
+        net.turn(&turns);
+        let hops = hop_table(alloc, &net, dest, turns.counts())?;
         Ok(Router {
             net,
             dest,
-            counts,
+            turns,
+            spare: None,
             hops,
             report,
         })
@@ -124,7 +130,7 @@ impl Router {
     /// The change is made where the network stands, and all that can fail is done before any of it stays. Only the ends of the
     /// links, the two destinations, and the nodes with a link that the last round cut off are looked at for what can turn; where none
     /// can, nothing is settled, and only their hops are made anew. Where nodes turn, the hops of these are made anew as well, and of
-    /// the neighbours that sent on to them, beside a few passes over the counts. The parts with a link that stay cut off turn anew in
+    /// the neighbours that sent on to them: that costs a step for each of them and their links. The parts with a link that stay cut off turn anew in
     /// each round, each of their nodes as often as there are nodes.
     pub fn change<R: Threads + Wait + Sync, G: Gate + Sync>(
         &mut self,
@@ -142,9 +148,10 @@ impl Router {
         self.change_by(
             alloc,
             &change,
-            &|net, dest, from|
-                requires { IfSome from (λ from. HoldsSinks net.now dest from.now) }
-            { settled_counts(rt, alloc, net, dest, from, plan, gate) },
+            &|net, dest, from, turns|
+                requires from { IfSome from (λ from. HoldsSinks net.now dest from.now) }
+                requires none { turns ≡ replicate net.now.nodes 0 }
+            { settled_counts(rt, alloc, net, dest, from, plan, gate, turns) },
             &|report| Ok(report),
         )
     }
@@ -160,7 +167,7 @@ impl Router {
         self.change_by(
             alloc,
             &change,
-            &|net, dest, from| settled_counts_alone(alloc, net, dest, from),
+            &|net, dest, from, turns| settled_counts_alone(net, dest, from, turns),
             &|report| Ok(report),
         )
     }
@@ -169,7 +176,7 @@ impl Router {
     /// the report. All that the change needs is made before anything is put in place.
     pub(crate) fn change_by<
         T,
-        F: Fn(&Net, u32, Option<&[u32]>) -> Result<Vec<u64>, CrewFault>,
+        F: Fn(&Net, u32, Option<&[u32]>, Turns) -> Result<Turns, CrewFault>,
         K: Fn(Report) -> Result<T, AllocError>,
     >(&mut self, alloc: Global, change: &Change, way: &F, tell: &K) -> Result<T, RouteFault>
         requires settles { Settles F.pre F.post way.now }
@@ -203,7 +210,7 @@ impl Router {
     /// Makes these edits where the network stands, and settles it anew toward `dest`.
     fn edit_by<
         T,
-        F: Fn(&Net, u32, Option<&[u32]>) -> Result<Vec<u64>, CrewFault>,
+        F: Fn(&Net, u32, Option<&[u32]>, Turns) -> Result<Turns, CrewFault>,
         K: Fn(Report) -> Result<T, AllocError>,
     >(
         &mut self,
@@ -228,36 +235,45 @@ impl Router {
         }
         let movable = self.movable(alloc, edits, dest)?;
         let from = movable.as_slice();
+        let turns = self.spare_turns(alloc)?;
         let (outcome, told) = self.net.edit_if(
             alloc,
             edits,
-            &|net|
+            |net|
                 requires settles { Settles F.pre F.post way.now }
                 requires tells { K.IsAlwaysCallable tell.now }
                 requires from { (dest < net.now.nodes) × HoldsSinks net.now dest from.now }
+                requires none { turns ≡ replicate net.now.nodes 0 }
                 ensures outcome { IfOk result (λ made. IsOutcome net.entry.now dest made.0) }
                 ensures told { IfOk result (λ made. K.post tell.entry.now made.0.report (Ok made.1)) }
                 ensures fault { IfErr result (IsOpenFault net.entry.now.nodes dest) }
                 ensures no_start { NeverStarts F.post way.entry.now → IfErr result (λ fault. fault ≢ Start) }
             {
-                let outcome = outcome_of(net, dest, from, way)?;
+                let outcome = outcome_of(net, dest, from, way, turns)?;
                 let told = tell(outcome.report)?;
                 Ok((outcome, told))
             },
         )?;
-        let Outcome { counts, report } = outcome;
-        put_counts(&mut self.counts, self.report.turned, counts);
-        put_in_place(
-            &mut self.net,
-            &mut self.hops,
-            dest,
-            &self.counts,
-            report.turned,
-            from,
-        );
+        let Outcome { turns, report } = outcome;
+        put_in_place(&mut self.net, &mut self.hops, dest, &turns, from);
+        let mut last = mem::replace(&mut self.turns, turns);
+        last.clear();
+        self.spare = Some(last);
         self.dest = dest;
         self.report = report;
         Ok(told)
+    }
+
+    /// A table in which no node has turned: the spare one, or else a new one.
+    fn spare_turns(&mut self, alloc: Global) -> Result<Turns, AllocError>
+        ensures same { self.new ≡ self.old }
+        ensures none { IfOk result (λ turns. turns ≡ replicate self.old.nodes 0) }
+    {
+        self.net.network_law();
+        match self.spare.take() {
+            Some(turns) => Ok(turns),
+            None => Turns::none(alloc, self.net.nodes()),
+        }
     }
 
     /// The nodes that can be sinks once these edits are made and the destination has moved, and whose hops can be wrong though no
@@ -271,7 +287,7 @@ impl Router {
         let cut_off = self.linked_cut_off();
         if cut_off > 0 {
             nodes.reserve(cut_off as usize)?;
-            push_capped(&mut nodes, self.net.nodes(), &self.counts)?;
+            push_capped(&mut nodes, self.net.nodes(), self.turns.counts())?;
         }
         Ok(nodes)
     }
@@ -312,7 +328,7 @@ impl Router {
         ensures value { result.now ≡ self.now.counts }
         ensures one_each { length self.now.counts ≡ self.now.nodes }
     {
-        &self.counts
+        self.turns.counts()
     }
 
     /// Where each node sends on to.

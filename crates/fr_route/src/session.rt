@@ -1,6 +1,6 @@
 //! What the requests so far have made, and the answer to the next one.
 
-ghost use Rattle.std.specs.Prelude.{◌≡◌, ◌≢◌, ℕ, ◌<◌, ◌≤◌, ◌⊎◌, length, true, false, Some, None, IfOk, IfErr, OnErr, IfSome, IfNone, string_bytes};
+ghost use Rattle.std.specs.Prelude.{◌≡◌, ◌≢◌, ℕ, ◌<◌, ◌≤◌, ◌⊎◌, length, replicate, true, false, Some, None, IfOk, IfErr, OnErr, IfSome, IfNone, string_bytes};
 ghost use Rattle.std.specs.Option.{option_copied};
 ghost use Rattle.fr_net.specs.Requests.{ask, new_network, walk_from, plain, reading};
 ghost use Rattle.fr_crew.specs.Settlements.{HoldsSinks};
@@ -21,7 +21,7 @@ use crate::texts::{
     counts_line, hops_line, links_line, no_walk_line, refusal_line, report_line, walk_line,
 };
 use fr_crew::{CrewFault, Gate, Plan, settled_counts, settled_counts_alone};
-use fr_net::{LineFault, LineReader, Net, NetFault, Question, Request};
+use fr_net::{LineFault, LineReader, Net, NetFault, Question, Request, Turns};
 use std::alloc::Global;
 use std::marker::Model;
 use std::sync::Wait;
@@ -82,9 +82,10 @@ impl Session {
         self.answer_line_by(
             alloc,
             line,
-            &|net, dest, from|
-                requires { IfSome from (λ from. HoldsSinks net.now dest from.now) }
-            { settled_counts(rt, alloc, net, dest, from, plan, gate) },
+            &|net, dest, from, turns|
+                requires from { IfSome from (λ from. HoldsSinks net.now dest from.now) }
+                requires none { turns ≡ replicate net.now.nodes 0 }
+            { settled_counts(rt, alloc, net, dest, from, plan, gate, turns) },
         )
     }
 
@@ -104,12 +105,12 @@ impl Session {
         self.answer_line_by(
             alloc,
             line,
-            &|net, dest, from| settled_counts_alone(alloc, net, dest, from),
+            &|net, dest, from, turns| settled_counts_alone(net, dest, from, turns),
         )
     }
 
     /// The answer to a line, where networks are settled in a way that is passed in.
-    fn answer_line_by<F: Fn(&Net, u32, Option<&[u32]>) -> Result<Vec<u64>, CrewFault>>(
+    fn answer_line_by<F: Fn(&Net, u32, Option<&[u32]>, Turns) -> Result<Turns, CrewFault>>(
         &mut self,
         alloc: Global,
         line: &[u8],
@@ -149,9 +150,10 @@ impl Session {
         self.answer_by(
             alloc,
             request,
-            &|net, dest, from|
-                requires { IfSome from (λ from. HoldsSinks net.now dest from.now) }
-            { settled_counts(rt, alloc, net, dest, from, plan, gate) },
+            &|net, dest, from, turns|
+                requires from { IfSome from (λ from. HoldsSinks net.now dest from.now) }
+                requires none { turns ≡ replicate net.now.nodes 0 }
+            { settled_counts(rt, alloc, net, dest, from, plan, gate, turns) },
         )
     }
 
@@ -165,12 +167,12 @@ impl Session {
         self.answer_by(
             alloc,
             request,
-            &|net, dest, from| settled_counts_alone(alloc, net, dest, from),
+            &|net, dest, from, turns| settled_counts_alone(net, dest, from, turns),
         )
     }
 
     /// The answer to a request, where networks are settled in a way that is passed in.
-    fn answer_by<F: Fn(&Net, u32, Option<&[u32]>) -> Result<Vec<u64>, CrewFault>>(
+    fn answer_by<F: Fn(&Net, u32, Option<&[u32]>, Turns) -> Result<Turns, CrewFault>>(
         &mut self,
         alloc: Global,
         request: &Request,
@@ -200,7 +202,7 @@ impl Session {
     }
 
     /// Takes a network, or says for which fault it is refused.
-    fn open<F: Fn(&Net, u32, Option<&[u32]>) -> Result<Vec<u64>, CrewFault>>(
+    fn open<F: Fn(&Net, u32, Option<&[u32]>, Turns) -> Result<Turns, CrewFault>>(
         &mut self,
         alloc: Global,
         nodes: u32,
@@ -225,7 +227,7 @@ impl Session {
     }
 
     /// Changes the network, or says for which fault the change is refused.
-    fn change<F: Fn(&Net, u32, Option<&[u32]>) -> Result<Vec<u64>, CrewFault>>(
+    fn change<F: Fn(&Net, u32, Option<&[u32]>, Turns) -> Result<Turns, CrewFault>>(
         &mut self,
         alloc: Global,
         change: Change,

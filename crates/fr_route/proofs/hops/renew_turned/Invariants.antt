@@ -1,13 +1,8 @@
-use Rattle.std.proofs.Common.{length, slice_index, ℕ, ◌-◌, ◌<◌, ◌≤◌}
+use Rattle.std.proofs.Common.{get_or, ℕ, ◌<◌}
 use Rattle.fr_route.specs.Outcomes.{AreRenewed, SendsTo}
 use Rattle.fr_route.specs.States.{state_with}
 use Rattle.fr_route.proofs.hops.renew_turned.Given as goal
 
-abbrev pub invariant-turned : goal.invariant-turned
-invariant-turned l = record {
-  inside : l.from ≤ length l.counts;
-  renewed : AreRenewed (state_with l.net l.dest l.counts) l.fn.hops l.hops (λ y hop. (z : ℕ) → z < l.from → 0 < slice_index l.counts z → ¬ SendsTo l.net.links z y hop);
-}
-
-abbrev pub decreases-turned : goal.decreases-turned
-decreases-turned l = length l.counts - l.from
+-- left are the hops of nodes that have turned no more than those beside the nodes so far
+abbrev pub invariant-loop-x : goal.invariant-loop-x
+invariant-loop-x l = AreRenewed (state_with l.net l.dest l.turns) l.fn.hops l.hops (λ y hop. (j : ℕ) → j < l.x-index → ¬ SendsTo l.net.links (get_or l.x-items j 0) y hop)
