@@ -11,7 +11,7 @@ use crate::counts::are_settled;
 use crate::levels;
 use crate::queue::Queue;
 use crate::worklist::{add_sinks, add_sinks_among, turn_few};
-use fr_net::{MAX_NODES, Net, Turns};
+use fr_net::{MAX_NODES, Net};
 
 /// Writes the settled counts: node by node where few turns are left, and else by a search, which goes on from counts that are
 /// lawful still.
@@ -68,7 +68,7 @@ fn worklist_from(net: &Net, dest: u32, counts: &[u64], from: &[u32]) -> Option<Q
 /// has as many turns as this answers, and leaves no node that can turn. By its clause `alike` each run that leaves no such
 /// node ends there too. The destination has to be a node, and the counts have to be lawful, as [`lawful`](crate::lawful)
 /// tests; counts 0 are.
-fn finish_counts(net: &Net, dest: u32, counts: &mut [u64]) -> u64
+pub fn finish(net: &Net, dest: u32, counts: &mut [u64]) -> u64
     requires node { dest < net.now.nodes }
     requires lawful { AreLawful net.now.nodes dest net.now.links counts.old }
     ensures settled { AreSettled net.now.nodes dest net.now.links counts.new }
@@ -83,7 +83,7 @@ fn finish_counts(net: &Net, dest: u32, counts: &mut [u64]) -> u64
 /// turns: for a caller that knows where the first of them are. So it costs a look at each node of `from` and the few turns, or else
 /// no more than `finish`, and takes no memory. Each node that can turn has to be in `from`, and all that are there have to be
 /// nodes; they need not be able to turn, and may stand there twice.
-fn finish_from_counts(net: &Net, dest: u32, counts: &mut [u64], from: &[u32])
+pub fn finish_from(net: &Net, dest: u32, counts: &mut [u64], from: &[u32])
     requires node { dest < net.now.nodes }
     requires lawful { AreLawful net.now.nodes dest net.now.links counts.old }
     requires from { HoldsAllThatCanTurn net.now.nodes dest net.now.links counts.old from.now }
@@ -93,7 +93,7 @@ fn finish_from_counts(net: &Net, dest: u32, counts: &mut [u64], from: &[u32])
     match worklist_from(net, dest, counts, from) {
         Some(mut work) => settle(net, dest, counts, &mut work),
         None => {
-            let _turns = finish_counts(net, dest, counts);
+            let _turns = finish(net, dest, counts);
         }
     }
 }
@@ -103,7 +103,7 @@ fn finish_from_counts(net: &Net, dest: u32, counts: &mut [u64], from: &[u32])
 /// is yes exactly where no node can turn any more, and no where it gave up with a node that can: it then looks for one, as
 /// [`are_settled`] does. So it is linear in nodes and links at most. For a caller that has other means where there is more to turn, as
 /// threads. It takes no memory. The same nodes have to be in `from`.
-fn finish_soon_counts(net: &Net, dest: u32, counts: &mut [u64], from: &[u32]) -> bool
+pub fn finish_soon(net: &Net, dest: u32, counts: &mut [u64], from: &[u32]) -> bool
     requires node { dest < net.now.nodes }
     requires lawful { AreLawful net.now.nodes dest net.now.links counts.old }
     requires from { HoldsAllThatCanTurn net.now.nodes dest net.now.links counts.old from.now }
@@ -117,52 +117,4 @@ fn finish_soon_counts(net: &Net, dest: u32, counts: &mut [u64], from: &[u32]) ->
         None => false,
     };
     none_left || are_settled(net, dest, counts)
-}
-
-/// Scratch.
-pub fn finish(net: &Net, dest: u32, turns: &mut Turns) -> u64
-    requires node { dest < net.now.nodes }
-    requires lawful { AreLawful net.now.nodes dest net.now.links turns.old }
-    ensures settled { AreSettled net.now.nodes dest net.now.links turns.new }
-    ensures run { IsFinish net.now.nodes dest net.now.links turns.old turns.new result }
-{
-    net.network_law();
-    let mut table = [0u64; MAX_NODES as usize];
-    let counts = &mut table[..net.nodes() as usize];
-    counts.copy_from_slice(turns.counts());
-    let made = finish_counts(net, dest, counts);
-    turns.copy_from(counts);
-    made
-}
-
-/// Scratch.
-pub fn finish_from(net: &Net, dest: u32, turns: &mut Turns, from: &[u32])
-    requires node { dest < net.now.nodes }
-    requires lawful { AreLawful net.now.nodes dest net.now.links turns.old }
-    requires from { HoldsAllThatCanTurn net.now.nodes dest net.now.links turns.old from.now }
-    ensures { AreSettled net.now.nodes dest net.now.links turns.new }
-{
-    net.network_law();
-    let mut table = [0u64; MAX_NODES as usize];
-    let counts = &mut table[..net.nodes() as usize];
-    counts.copy_from_slice(turns.counts());
-    finish_from_counts(net, dest, counts, from);
-    turns.copy_from(counts);
-}
-
-/// Scratch.
-pub fn finish_soon(net: &Net, dest: u32, turns: &mut Turns, from: &[u32]) -> bool
-    requires node { dest < net.now.nodes }
-    requires lawful { AreLawful net.now.nodes dest net.now.links turns.old }
-    requires from { HoldsAllThatCanTurn net.now.nodes dest net.now.links turns.old from.now }
-    ensures lawful { AreLawful net.now.nodes dest net.now.links turns.new }
-    ensures settled { IsTrue result ↔ AreSettled net.now.nodes dest net.now.links turns.new }
-{
-    net.network_law();
-    let mut table = [0u64; MAX_NODES as usize];
-    let counts = &mut table[..net.nodes() as usize];
-    counts.copy_from_slice(turns.counts());
-    let none_left = finish_soon_counts(net, dest, counts, from);
-    turns.copy_from(counts);
-    none_left
 }

@@ -1,6 +1,6 @@
 use Rattle.fr_core.proofs.Settling.{settled_from_none}
-use Rattle.fr_core.proofs.finisher.finish_soon_counts.Goals as goal
-use Rattle.fr_core.proofs.finisher.finish_soon_counts.Goals.{in-None, in-Some}
+use Rattle.fr_core.proofs.finisher.finish_soon.Goals as goal
+use Rattle.fr_core.proofs.finisher.finish_soon.Goals.{in-None, in-Some}
 
 pub returns-then-none_left-clause-settled : goal.returns-then-none_left-clause-settled
 returns-then-none_left-clause-settled c = elim c.match-worklist_from.branch [
