@@ -7,13 +7,14 @@ use Rattle.std.proofs.lemmas.List.Elements.{All-contains, All-from_get_or, Conta
 use Rattle.fr_core.proofs.Sinks.{sink_from_bounds, sink_meets_bounds}
 use Rattle.fr_core.proofs.Turning.{All-from_Contains}
 use Rattle.fr_core.specs.Bounds.{MeetsBounds}
-use Rattle.fr_core.specs.CutOff.{AreApart, HasTurned, capped}
+use Rattle.fr_core.specs.CutOff.{AreApart, HasTurned}
 use Rattle.fr_core.specs.History.{moment_of}
 use Rattle.fr_core.specs.Legal.{CanTurn}
 use Rattle.fr_net.proofs.Neighbours.{in_of_row, out_of_row, row_of_in, row_of_out}
 use Rattle.fr_net.specs.Counts.{AreLawful, IsKept}
 use Rattle.fr_net.specs.Links.{IsNet, Joins}
 use Rattle.fr_net.specs.Rows.{row}
+use Rattle.fr_net.specs.Turns.{set_to}
 use Rattle.fr_net.specs.declared.rows.First.{First}
 use Rattle.fr_net.specs.declared.rows.First.TheVariants.{Inward, Outward}
 
@@ -22,30 +23,30 @@ entry_joins n first x (w, Outward) h = inl (out_of_row n first x w h)
 entry_joins n first x (w, Inward) h = inr (in_of_row n first x w h)
 
 module _ (first : List (ℕ × ℕ)) (cap : ℕ) (c : List ℕ) where
-  at_node : (x : ℕ) → slice_index (map (capped cap) c) x ≡ capped cap (slice_index c x)
-  at_node x = get_or-map (capped cap) c x 0
+  at_node : (x : ℕ) → slice_index (map (set_to cap) c) x ≡ set_to cap (slice_index c x)
+  at_node x = get_or-map (set_to cap) c x 0
 
-  still : (x : ℕ) → slice_index c x ≡ 0 → slice_index (map (capped cap) c) x ≡ 0
-  still x none = at_node x ∙ ap (capped cap) none
+  still : (x : ℕ) → slice_index c x ≡ 0 → slice_index (map (set_to cap) c) x ≡ 0
+  still x none = at_node x ∙ ap (set_to cap) none
 
-  turned : (x : ℕ) → 0 < slice_index c x → slice_index (map (capped cap) c) x ≡ cap
+  turned : (x : ℕ) → 0 < slice_index c x → slice_index (map (set_to cap) c) x ≡ cap
   turned x some = at_node x ∙ cond-false (eqb (slice_index c x) 0) 0 cap (ne_eqb (slice_index c x) 0 (λ e. omega (arith, e, some)))
 
   -- a neighbour of a node that has not turned has not turned
   neighbour_still : AreApart first c → (x w : ℕ) → Joins first x w → slice_index c x ≡ 0 → slice_index c w ≡ 0
   neighbour_still apart x w h none = ⊎_elim (λ e. e) (λ some. absurd (omega (arith, none, apart w x (⊎_elim (λ p. inr p) (λ p. inl p) h) (omega (arith, some))))) (cases_eq (slice_index c w) 0)
 
-  kept_capped : All (IsKept c) first → AreApart first c → All (IsKept (map (capped cap) c)) first
-  kept_capped kept apart = All-from_Contains (IsKept (map (capped cap) c)) first (λ l h.
+  kept_capped : All (IsKept c) first → AreApart first c → All (IsKept (map (set_to cap) c)) first
+  kept_capped kept apart = All-from_Contains (IsKept (map (set_to cap) c)) first (λ l h.
       elim (cases_eq (slice_index c l.0) 0) [
         | inl none ↦ inl (still l.1 (neighbour_still apart l.0 l.1 (inl h) none) ∙ sym (still l.0 none))
         | inr some ↦ let here : 0 < slice_index c l.0 = omega (arith, some) in inl (turned l.1 (apart l.0 l.1 (inl h) here) ∙ sym (turned l.0 here))
       ])
 
 module _ (n d : ℕ) (first : List (ℕ × ℕ)) (c : List ℕ) (lawful : AreLawful n d first c) (apart : AreApart first c) where
-  pub capped_lawful : AreLawful n d first (map (capped n) c)
+  pub capped_lawful : AreLawful n d first (map (set_to n) c)
   capped_lawful = record {
-    one_each = length-map c (capped n) ∙ lawful.one_each;
+    one_each = length-map c (set_to n) ∙ lawful.one_each;
     destination = still first n c d lawful.destination;
     alone = λ x none. still first n c x (lawful.alone x none);
     capped = λ x. elim (cases_eq (slice_index c x) 0) [
@@ -56,10 +57,10 @@ module _ (n d : ℕ) (first : List (ℕ × ℕ)) (c : List ℕ) (lawful : AreLaw
   }
 
   -- a node that can turn has not turned, and its links are as they were
-  pub could_before : (x : ℕ) → CanTurn n d (moment_of first (map (capped n) c)) x → CanTurn n d (moment_of first c) x
+  pub could_before : (x : ℕ) → CanTurn n d (moment_of first (map (set_to n) c)) x → CanTurn n d (moment_of first c) x
   could_before x now =
       let rests : slice_index c x ≡ 0 = ⊎_elim (λ e. e) (λ some. absurd (omega (arith, now.below_cap, turned first n c x (omega (arith, some))))) (cases_eq (slice_index c x) 0) in
-      let b = sink_meets_bounds first (map (capped n) c) (kept_capped first n c lawful.kept apart) x now.sink in
+      let b = sink_meets_bounds first (map (set_to n) c) (kept_capped first n c lawful.kept apart) x now.sink in
       let bounds : MeetsBounds first c x = record {
         linked = b.linked;
         along = λ w h. omega (arith, b.along w h, still first n c w (neighbour_still first n c apart x w (inl h) rests));

@@ -1,5 +1,5 @@
 -- Nodes that have turned, and are joined with no others. For `finish` alone.
-use Rattle.std.specs.Prelude.{ℕ, ◌<◌, ◌==◌, if◌then◌else◌, List, slice_index}
+use Rattle.std.specs.Prelude.{ℕ, ◌<◌, List, slice_index}
 use Rattle.fr_net.specs.Links.{Joins}
 use Rattle.fr_net.specs.declared.rows.First.{First}
 
@@ -10,7 +10,3 @@ HasTurned counts entry = 0 < slice_index counts entry.0
 -- each neighbour of a node that has turned has turned too
 abbrev pub AreApart : List (ℕ × ℕ) → List ℕ → Type 0
 AreApart first counts = (x w : ℕ) → Joins first x w → 0 < slice_index counts x → 0 < slice_index counts w
-
--- the cap in place of the count of a node that has turned
-abbrev pub capped : ℕ → ℕ → ℕ
-capped cap count = if count == 0 then 0 else cap

@@ -1,14 +1,15 @@
 //! Nodes that are cut off, as turns tell: where no link joins nodes that have turned with others, no way leads from them to the
 //! destination, which never turns.
 
-ghost use Rattle.std.specs.Prelude.{◌≡◌, ℕ, ◌<◌, ◌↔◌, IsTrue, All, length, map};
+ghost use Rattle.std.specs.Prelude.{◌≡◌, ℕ, ◌<◌, ◌≤◌, ◌↔◌, IsTrue, All, length, map, slice_index};
 ghost use Rattle.fr_net.specs.Counts.{AreLawful};
 ghost use Rattle.fr_net.specs.Rows.{row};
-ghost use Rattle.fr_core.specs.CutOff.{AreApart, HasTurned, capped};
+ghost use Rattle.fr_net.specs.Turns.{set_to};
+ghost use Rattle.fr_core.specs.CutOff.{AreApart, HasTurned};
 ghost use Rattle.fr_core.specs.History.{moment_of};
 ghost use Rattle.fr_core.specs.Legal.{CanTurn};
 
-use fr_net::{Net, next_turned};
+use fr_net::{Net, Turns};
 
 /// Whether each neighbour of node `x` has turned.
 fn have_neighbours_turned(net: &Net, counts: &[u64], x: u32) -> bool
@@ -26,47 +27,36 @@ fn have_neighbours_turned(net: &Net, counts: &[u64], x: u32) -> bool
 }
 
 /// Whether no link joins a node that has turned with one that has not.
-fn are_apart(net: &Net, counts: &[u64]) -> bool
-    requires { length counts.now ≡ net.now.nodes }
-    ensures { IsTrue result ↔ AreApart net.now.links counts.now }
+fn are_apart(net: &Net, turns: &Turns) -> bool
+    requires { length turns.now ≡ net.now.nodes }
+    ensures { IsTrue result ↔ AreApart net.now.links turns.now }
 {
-    // By the law there are few nodes, and each row has all links of its node.
+    // By the law each row has all links of its node.
     net.network_law();
-    let mut from = 0;
-    'turned: while let Some(x) = next_turned(counts, from) {
-        if !have_neighbours_turned(net, counts, x) {
+    let counts = turns.counts();
+    let turned = turns.nodes();
+    for x in turned {
+        if !have_neighbours_turned(net, counts, *x) {
             return false;
         }
-        from = x + 1;
     }
     true
 }
 
-/// The cap in place of the count of a node that has turned.
-fn capped(count: u64, cap: u64) -> u64
-    ensures { result ≡ capped cap count }
-{
-    if count > 0 { cap } else { 0 }
-}
-
-/// Gives each node that has turned this count.
-fn cap_turned(counts: &mut [u64], cap: u64)
-    ensures { counts.new ≡ map (capped cap) counts.old }
-{
-    for count in counts.iter_mut() {
-        *count = capped(*count, cap);
-    }
-}
-
 /// Where no link joins nodes that have turned with others, gives them the count at which they end: they are cut off, and turn up to the
-/// cap. Otherwise the counts stay. No node can turn afterwards that could not before.
-pub(crate) fn cap_cut_off(net: &Net, dest: u32, counts: &mut [u64])
-    requires lawful { AreLawful net.now.nodes dest net.now.links counts.old }
-    ensures lawful { AreLawful net.now.nodes dest net.now.links counts.new }
-    ensures fewer { (x : ℕ) → CanTurn net.now.nodes dest (moment_of net.now.links counts.new) x
-        → CanTurn net.now.nodes dest (moment_of net.now.links counts.old) x }
+/// cap. Otherwise the counts stay. No node can turn afterwards that could not before. It costs a look at each neighbour of a node that has
+/// turned, at most.
+pub(crate) fn cap_cut_off(net: &Net, dest: u32, turns: &mut Turns)
+    requires node { dest < net.now.nodes }
+    requires lawful { AreLawful net.now.nodes dest net.now.links turns.old }
+    ensures lawful { AreLawful net.now.nodes dest net.now.links turns.new }
+    ensures fewer { (x : ℕ) → CanTurn net.now.nodes dest (moment_of net.now.links turns.new) x
+        → CanTurn net.now.nodes dest (moment_of net.now.links turns.old) x }
+    ensures forth { (x : ℕ) → slice_index turns.old x ≤ slice_index turns.new x }
+    ensures apart { AreApart net.now.links turns.old → turns.new ≡ map (set_to net.now.nodes) turns.old }
+    ensures still { ¬ AreApart net.now.links turns.old → turns.new ≡ turns.old }
 {
-    if are_apart(net, counts) {
-        cap_turned(counts, u64::from(net.nodes()));
+    if are_apart(net, turns) {
+        turns.set_each(u64::from(net.nodes()));
     }
 }

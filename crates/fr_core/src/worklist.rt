@@ -1,6 +1,6 @@
 //! Turning node by node, as long as that is cheap.
 
-ghost use Rattle.std.specs.Prelude.{◌≡◌, ℕ, ◌<◌, ◌≤◌, ◌++◌, [], true, false, map, length};
+ghost use Rattle.std.specs.Prelude.{◌≡◌, ℕ, ◌<◌, ◌≤◌, ◌++◌, [], true, false, map, length, slice_index};
 ghost use Rattle.fr_net.specs.Counts.{AreLawful};
 ghost use Rattle.fr_net.specs.Limits.{most_nodes};
 ghost use Rattle.fr_net.specs.Links.{IsNet};
@@ -14,7 +14,7 @@ ghost use Rattle.fr_core.specs.Worklist.{AreNodes, HoldsAll, Carries};
 use crate::counts::can_turn;
 use crate::cut_off::cap_cut_off;
 use crate::queue::Queue;
-use fr_net::Net;
+use fr_net::{Net, Turns};
 
 /// Puts all nodes that can turn into the worklist, which is empty.
 pub(crate) fn add_sinks(net: &Net, dest: u32, counts: &[u64], work: &mut Queue)
@@ -66,24 +66,25 @@ fn add_neighbours(net: &Net, x: u32, work: &mut Queue) -> bool
 
 /// Looks at node `x`, and turns it if it can turn: its neighbours, which may be sinks then, are added to the worklist. Where
 /// they find no room there it answers no, and turns nothing.
-fn visit(net: &Net, dest: u32, counts: &mut [u64], x: u32, work: &mut Queue) -> bool
+fn visit(net: &Net, dest: u32, turns: &mut Turns, x: u32, work: &mut Queue) -> bool
     requires net { IsNet net.now.nodes net.now.links }
-    requires lawful { AreLawful net.now.nodes dest net.now.links counts.old }
+    requires lawful { AreLawful net.now.nodes dest net.now.links turns.old }
     requires node { x < net.now.nodes }
     requires nodes { AreNodes net.now.nodes work.old }
-    ensures lawful { AreLawful net.now.nodes dest net.now.links counts.new }
+    ensures lawful { AreLawful net.now.nodes dest net.now.links turns.new }
+    ensures forth { (y : ℕ) → slice_index turns.old y ≤ slice_index turns.new y }
     ensures nodes { result ≡ true → AreNodes net.now.nodes work.new }
     ensures carries { result ≡ true
-        → Carries net.now.nodes dest net.now.links counts.old work.old x counts.new work.new }
-    ensures unchanged { result ≡ false → (counts.new ≡ counts.old) × (work.new ≡ work.old) }
+        → Carries net.now.nodes dest net.now.links turns.old work.old x turns.new work.new }
+    ensures unchanged { result ≡ false → (turns.new ≡ turns.old) × (work.new ≡ work.old) }
 {
-    if !can_turn(net, dest, counts, x) {
+    if !can_turn(net, dest, turns.counts(), x) {
         return true;
     }
     if !add_neighbours(net, x, work) {
         return false;
     }
-    counts[x as usize] += 1;
+    turns.add(x);
     true
 }
 
@@ -93,23 +94,24 @@ fn visit(net: &Net, dest: u32, counts: &mut [u64], x: u32, work: &mut Queue) -> 
 fn turn_sinks(
     net: &Net,
     dest: u32,
-    counts: &mut [u64],
+    turns: &mut Turns,
     work: &mut Queue,
     mut at: usize,
     mut allowance: usize,
 ) -> usize
     requires net { IsNet net.now.nodes net.now.links }
-    requires lawful { AreLawful net.now.nodes dest net.now.links counts.old }
+    requires lawful { AreLawful net.now.nodes dest net.now.links turns.old }
     requires nodes { AreNodes net.now.nodes work.old }
-    requires all { HoldsAll net.now.nodes dest net.now.links counts.old work.old at }
-    ensures lawful { AreLawful net.now.nodes dest net.now.links counts.new }
+    requires all { HoldsAll net.now.nodes dest net.now.links turns.old work.old at }
+    ensures lawful { AreLawful net.now.nodes dest net.now.links turns.new }
+    ensures forth { (x : ℕ) → slice_index turns.old x ≤ slice_index turns.new x }
     ensures nodes { AreNodes net.now.nodes work.new }
-    ensures all { HoldsAll net.now.nodes dest net.now.links counts.new work.new result }
+    ensures all { HoldsAll net.now.nodes dest net.now.links turns.new work.new result }
 {
     while at < work.len() {
         let x = work.node(at);
         let cost = net.degree(x) as usize;
-        if cost > allowance || !visit(net, dest, counts, x, work) {
+        if cost > allowance || !visit(net, dest, turns, x, work) {
             return at;
         }
         allowance -= cost;
@@ -119,21 +121,24 @@ fn turn_sinks(
 }
 
 /// Turns nodes from a worklist, which begins with all that can turn, as long as that is cheap: whether none can turn any more. It gives
-/// up where the worklist has no more room, or it has looked at about as many neighbours as all nodes have.
-pub(crate) fn turn_few(net: &Net, dest: u32, counts: &mut [u64], work: &mut Queue) -> bool
-    requires lawful { AreLawful net.now.nodes dest net.now.links counts.old }
+/// up where the worklist has no more room, or it has looked at as many neighbours as there are nodes, and then at as many as all rows
+/// have.
+pub(crate) fn turn_few(net: &Net, dest: u32, turns: &mut Turns, work: &mut Queue) -> bool
+    requires node { dest < net.now.nodes }
+    requires lawful { AreLawful net.now.nodes dest net.now.links turns.old }
     requires nodes { AreNodes net.now.nodes work.old }
-    requires all { HoldsAll net.now.nodes dest net.now.links counts.old work.old 0 }
-    ensures lawful { AreLawful net.now.nodes dest net.now.links counts.new }
-    ensures none { result ≡ true → NoneCanTurn net.now.nodes dest (moment_of net.now.links counts.new) }
+    requires all { HoldsAll net.now.nodes dest net.now.links turns.old work.old 0 }
+    ensures lawful { AreLawful net.now.nodes dest net.now.links turns.new }
+    ensures forth { (x : ℕ) → slice_index turns.old x ≤ slice_index turns.new x }
+    ensures none { result ≡ true → NoneCanTurn net.now.nodes dest (moment_of net.now.links turns.new) }
 {
     // By the law there are few enough links that twice their number fits: so many entries all rows have together.
     net.network_law();
     // A small part that is cut off would turn on and on. A few turns show it, and need not be gone on with.
-    let at = turn_sinks(net, dest, counts, work, 0, net.nodes() as usize);
+    let at = turn_sinks(net, dest, turns, work, 0, net.nodes() as usize);
     if at < work.len() {
-        cap_cut_off(net, dest, counts);
+        cap_cut_off(net, dest, turns);
     }
-    let end = turn_sinks(net, dest, counts, work, at, 2 * net.link_count());
+    let end = turn_sinks(net, dest, turns, work, at, 2 * net.link_count());
     end >= work.len()
 }

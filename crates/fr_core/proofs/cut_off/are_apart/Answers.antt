@@ -1,30 +1,42 @@
-use Rattle.std.proofs.Common.{All, arith, refl, slice_index, ◌<◌}
+use Rattle.std.proofs.Common.{All, arith, get_or, length, refl, subst, take_all, ℕ, ◌<◌, ◌≡◌}
 use Rattle.std.proofs.lemmas.Bool.{false≢true}
+use Rattle.std.proofs.lemmas.List.Elements.{All-contains, All-get_or, All-more, Contains-get_or}
 use Rattle.fr_core.proofs.CutOff.{apart_by_rows, row_apart}
 use Rattle.fr_core.specs.CutOff.{HasTurned}
-use Rattle.fr_net.proofs.TurnedNodes.{holds_at_last, holds_to_next, turned_inside}
+use Rattle.fr_net.proofs.TurnedNodes.{turned_below}
 use Rattle.fr_net.specs.Rows.{row}
 use Rattle.fr_core.proofs.cut_off.are_apart.Goals as goal
 
 pub have_neighbours_turned-requires-clause-node : goal.have_neighbours_turned-requires-clause-node
-have_neighbours_turned-requires-clause-node c = omega (arith, turned_inside c.args.counts.now c.in-Some.x c.in-Some.ensures.turned, c.requires)
+have_neighbours_turned-requires-clause-node c =
+    let turned = c.nodes-turned.result.now in
+    omega (arith, turned_below c.args.turns.now turned c.nodes-turned.ensures c.loop-x.x-index 0 c.loop-x-test.true, c.requires)
 
 pub returns-then-not-have_neighbours_turned : goal.returns-then-not-have_neighbours_turned
-returns-then-not-have_neighbours_turned c = (
-  λ f. absurd (false≢true f),
-  λ apart. absurd (cc (c.have_neighbours_turned.ensures.1 (row_apart c.args.net.now.nodes c.args.net.now.links c.args.counts.now apart c.in-Some.x c.in-Some.ensures.turned), c.if-not-have_neighbours_turned.true)),
-)
+returns-then-not-have_neighbours_turned c =
+    let net = c.args.net.now in
+    let x : ℕ = get_or c.nodes-turned.result.now c.loop-x.x-index 0 in
+    let some : 0 < get_or c.args.turns.now x 0 = (c.nodes-turned.ensures.each x).0 (Contains-get_or c.nodes-turned.result.now c.loop-x.x-index 0 c.loop-x-test.true) in (
+      λ f. absurd (false≢true f),
+      λ apart.
+          let have : All (HasTurned c.counts-counts.result.now) (row net.nodes net.links x) = rw c.counts-counts.ensures (row_apart net.nodes net.links c.args.turns.now apart x some) in
+          absurd (cc (c.have_neighbours_turned.ensures.1 have, c.if-not-have_neighbours_turned.true)),
+    )
 
-pub turned-preserved : goal.turned-preserved
-turned-preserved c = record {
-  inside = omega (arith, turned_inside c.args.counts.now c.in-Some.x c.in-Some.ensures.turned);
-  apart = holds_to_next c.args.counts.now c.turned.from c.in-Some.x (λ y. 0 < slice_index c.args.counts.now y → All (HasTurned c.args.counts.now) (row c.args.net.now.nodes c.args.net.now.links y)) c.in-Some.ensures
-      c.turned.invariant.apart
-      (λ y none some. absurd (omega (arith, none, some)))
-      (λ some. c.have_neighbours_turned.ensures.0 c.if-not-have_neighbours_turned.false);
-}
+pub loop-x-preserved : goal.loop-x-preserved
+loop-x-preserved c =
+    let net = c.args.net.now in
+    All-more (λ (x : ℕ). All (HasTurned c.counts-counts.result.now) (row net.nodes net.links x)) c.nodes-turned.result.now c.loop-x.x-index 0 c.loop-x-test.true c.loop-x.invariant
+    (c.have_neighbours_turned.ensures.0 c.if-not-have_neighbours_turned.false)
 
 pub returns : goal.returns
 returns c =
-    let all = holds_at_last c.args.counts.now c.turned.from (λ y. 0 < slice_index c.args.counts.now y → All (HasTurned c.args.counts.now) (row c.args.net.now.nodes c.args.net.now.links y)) c.in_default.ensures c.turned.invariant.apart (λ y none some. absurd (omega (arith, none, some))) in
-    (λ t. apart_by_rows c.args.net.now.nodes c.args.net.now.links c.args.counts.now c.network_law.ensures.is_net all, λ apart. refl)
+    let net = c.args.net.now in
+    let turned = c.nodes-turned.result.now in
+    let whole : All (λ (x : ℕ). All (HasTurned c.counts-counts.result.now) (row net.nodes net.links x)) turned =
+    subst (All (λ (x : ℕ). All (HasTurned c.counts-counts.result.now) (row net.nodes net.links x))) (take_all c.loop-x.x-index turned c.loop-x-test.false) c.loop-x.invariant in
+    (
+      λ t. apart_by_rows net.nodes net.links c.args.turns.now c.network_law.ensures.is_net
+          (λ x some. rw c.counts-counts.ensures at (All-contains (λ (y : ℕ). All (HasTurned c.counts-counts.result.now) (row net.nodes net.links y)) turned x whole ((c.nodes-turned.ensures.each x).1 some))),
+      λ apart. refl,
+    )

@@ -1,14 +1,8 @@
-use Rattle.std.proofs.Common.{All, length, slice_index, ℕ, ◌-◌, ◌<◌, ◌≤◌}
+use Rattle.std.proofs.Common.{All, take, ℕ}
 use Rattle.fr_core.specs.CutOff.{HasTurned}
 use Rattle.fr_net.specs.Rows.{row}
 use Rattle.fr_core.proofs.cut_off.are_apart.Given as goal
 
--- each node that has been passed has neighbours that have turned, if it has turned itself
-abbrev pub invariant-turned : goal.invariant-turned
-invariant-turned l = record {
-  inside : l.from ≤ length l.counts;
-  apart : (y : ℕ) → y < l.from → 0 < slice_index l.counts y → All (HasTurned l.counts) (row l.net.nodes l.net.links y);
-}
-
-abbrev pub decreases-turned : goal.decreases-turned
-decreases-turned l = length l.counts - l.from
+-- each node so far has neighbours that have turned
+abbrev pub invariant-loop-x : goal.invariant-loop-x
+invariant-loop-x l = All (λ (x : ℕ). All (HasTurned l.counts) (row l.net.nodes l.net.links x)) (take l.x-index l.turned)

@@ -1,11 +1,18 @@
 use Rattle.fr_core.proofs.Turning.{turn_lawful}
 use Rattle.fr_core.proofs.Worklists.{nodes_neighbours, turn_carries}
+use Rattle.fr_core.specs.History.{moment_of}
+use Rattle.fr_core.specs.Legal.{CanTurn}
 use Rattle.fr_core.proofs.worklist.visit.Goals as goal
+use Rattle.fr_core.proofs.worklist.visit.Goals.{After-add_neighbours}
+
+can : (c : After-add_neighbours) → CanTurn c.args.net.now.nodes c.args.dest (moment_of c.args.net.now.links c.args.turns.now) c.args.x
+can c = rw c.counts.ensures at (c.can_turn.ensures.0 c.if-not-can_turn.false)
 
 pub returns-clause-lawful : goal.returns-clause-lawful
 returns-clause-lawful c =
     let net = c.args.net.now in
-    turn_lawful net.nodes c.args.dest net.links c.requires.net c.args.counts.now c.requires.lawful c.args.x (c.can_turn.ensures.0 c.if-not-can_turn.false)
+    let here = (goal.at.returns-clause-lawful c).After-add_neighbours in
+    rw c.add.ensures (turn_lawful net.nodes c.args.dest net.links c.requires.net c.args.turns.now c.requires.lawful c.args.x (can here))
 
 pub returns-clause-nodes : goal.returns-clause-nodes
 returns-clause-nodes c = λ _.
@@ -15,5 +22,6 @@ returns-clause-nodes c = λ _.
 pub returns-clause-carries : goal.returns-clause-carries
 returns-clause-carries c = λ _.
     let net = c.args.net.now in
-    rw (c.add_neighbours.ensures.added c.if-not-add_neighbours.false)
-    (turn_carries net.nodes c.args.dest net.links c.requires.net c.args.counts.now c.requires.lawful c.args.x (c.can_turn.ensures.0 c.if-not-can_turn.false) c.args.work.now)
+    let here = (goal.at.returns-clause-carries c).After-add_neighbours in
+    rw (c.add_neighbours.ensures.added c.if-not-add_neighbours.false, c.add.ensures)
+    (turn_carries net.nodes c.args.dest net.links c.requires.net c.args.turns.now c.requires.lawful c.args.x (can here) c.args.work.now)
