@@ -5,7 +5,7 @@ ghost use Rattle.fr_core.specs.Runs.{IsRunTo};
 ghost use Rattle.fr_core.specs.Settled.{AreSettled};
 
 use fr_core::{CheckFault, Entry, check_run, finish};
-use fr_net::Net;
+use fr_net::{Net, Turns};
 use std::alloc::Global;
 
 /// The counts at which a history ends if whoever wrote it goes on: the settled ones, if each of its entries is legal.
@@ -17,7 +17,9 @@ pub fn goes_on_to(
 ) -> Result<Vec<u64>, CheckFault>
     ensures { IfOk result (λ counts. AreSettled net.now.nodes dest net.now.links counts.items) }
 {
-    let mut counts = check_run(alloc, net, dest, history)?;
-    let _turns = finish(net, dest, &mut counts);
-    Ok(counts)
+    // By the law there are few enough nodes.
+    net.network_law();
+    let mut turns = Turns::of(alloc, check_run(alloc, net, dest, history)?)?;
+    let _made = finish(net, dest, &mut turns);
+    Ok(turns.into_counts())
 }

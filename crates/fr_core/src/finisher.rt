@@ -75,12 +75,12 @@ fn worklist_from(net: &Net, dest: u32, counts: &[u64], from: &[u32]) -> Option<Q
 
 /// Goes from lawful counts to those at which turning node by node ends, and answers how many turns lie between. Few turns are
 /// made one by one; a small part that is cut off is known by them, and given the counts at which it ends; and where they would cost more, a
-/// search writes the settled counts in their place. So it is linear in nodes and links, however many turns there are, and it takes no
-/// memory. That turning ends there is a law, the clause
+/// search writes the settled counts in their place. So it is linear in nodes and links, however many turns there are, and it allocates
+/// nothing. That turning ends there is a law, the clause
 /// `leads` of [`schedule_law`](crate::laws::schedule_law): a run of turns alone leads from the old counts to the new ones,
 /// has as many turns as this answers, and leaves no node that can turn. By its clause `alike` each run that leaves no such
 /// node ends there too. The destination has to be a node, and the counts have to be lawful, as [`lawful`](crate::lawful)
-/// tests; counts 0 are.
+/// tests; those of no turns are.
 pub fn finish(net: &Net, dest: u32, turns: &mut Turns) -> u64
     requires node { dest < net.now.nodes }
     requires lawful { AreLawful net.now.nodes dest net.now.links turns.old }
@@ -93,9 +93,9 @@ pub fn finish(net: &Net, dest: u32, turns: &mut Turns) -> u64
 }
 
 /// Goes to where [`finish`] goes, and looks for nodes that can turn among `from` alone and among the neighbours of nodes that it
-/// turns: for a caller that knows where the first of them are. So it costs a look at each node of `from` and the few turns, or else
-/// no more than `finish`, and takes no memory. Each node that can turn has to be in `from`, and all that are there have to be
-/// nodes; they need not be able to turn, and may stand there twice.
+/// turns: for a caller that knows where the first of them are. So it costs a look at each node of `from` and the few turns, with no
+/// step for any other node, or else no more than `finish`, and allocates nothing. Each node that can turn has to be in `from`, and all
+/// that are there have to be nodes; they need not be able to turn, and may stand there twice.
 pub fn finish_from(net: &Net, dest: u32, turns: &mut Turns, from: &[u32])
     requires node { dest < net.now.nodes }
     requires lawful { AreLawful net.now.nodes dest net.now.links turns.old }
@@ -112,10 +112,11 @@ pub fn finish_from(net: &Net, dest: u32, turns: &mut Turns, from: &[u32])
 }
 
 /// Goes to where [`finish_from`] goes, if a few turns lead there, or these and the turns of a small part that is cut off. Else it gives up,
-/// once it has looked at about as many neighbours as all nodes have; the counts are then those of some turns, and lawful. The answer
-/// is yes exactly where no node can turn any more, and no where it gave up with a node that can: it then looks for one, as
-/// [`are_settled`] does. So it is linear in nodes and links at most. For a caller that has other means where there is more to turn, as
-/// threads. It takes no memory. The same nodes have to be in `from`.
+/// once it has looked at as many neighbours as there are nodes and then at as many as all rows have, or its worklist, which has as many
+/// places as a network can have nodes, has no more room; the counts are then those of some turns, and lawful. No turn is ever taken
+/// back. The answer is yes exactly where no node can turn any more, and no where it gave up with a node that can: it then looks for
+/// one, as [`are_settled`] does. So it is linear in nodes and links at most. For a caller that has other means where there is more to
+/// turn, as threads. It allocates nothing. The same nodes have to be in `from`.
 pub fn finish_soon(net: &Net, dest: u32, turns: &mut Turns, from: &[u32]) -> bool
     requires node { dest < net.now.nodes }
     requires lawful { AreLawful net.now.nodes dest net.now.links turns.old }

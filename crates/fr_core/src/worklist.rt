@@ -121,8 +121,8 @@ fn turn_sinks(
 }
 
 /// Turns nodes from a worklist, which begins with all that can turn, as long as that is cheap: whether none can turn any more. It gives
-/// up where the worklist has no more room, or it has looked at as many neighbours as there are nodes, and then at as many as all rows
-/// have.
+/// up where it has looked at as many neighbours as there are nodes and then at as many as all rows have, or the worklist has no more
+/// room.
 pub(crate) fn turn_few(net: &Net, dest: u32, turns: &mut Turns, work: &mut Queue) -> bool
     requires node { dest < net.now.nodes }
     requires lawful { AreLawful net.now.nodes dest net.now.links turns.old }

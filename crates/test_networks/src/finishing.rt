@@ -1,18 +1,18 @@
 //! Counts: which are lawful, where `finish`, `finish_from` and `finish_soon` end, which nodes are sinks, and where a link points.
 
 use fr_core::{Sense, are_settled, finish, finish_from, finish_soon, is_sink, lawful, sense};
-use fr_net::{First, Net};
+use fr_net::{First, Net, Turns};
 use std::alloc::{AllocError, Global};
 use std::test::Fail;
 
 /// The number of turns and the counts at which `finish` ends from the counts 0, with destination 0.
 fn finished(alloc: Global, net: &Net) -> Result<String, AllocError> {
-    let mut counts = vec![in alloc; 0u64; net.nodes() as usize]?;
-    if net.nodes() == 0 || !lawful(net, 0, &counts) {
+    let mut turns = Turns::none(alloc, net.nodes())?;
+    if net.nodes() == 0 || !lawful(net, 0, turns.counts()) {
         return String::from_str(alloc, "not lawful");
     }
-    let turns = finish(net, 0, &mut counts);
-    format!(in alloc; "{turns} {counts:?}")
+    let made = finish(net, 0, &mut turns);
+    format!(in alloc; "{made} {:?}", turns.counts())
 }
 
 const SETTLED: &[(u32, &[(u32, u32)], &str)] = &[
@@ -44,18 +44,18 @@ fn settles_small_networks(rt: HostRuntime) -> Result<(), Fail> {
 #[test]
 fn finishes_from_candidates(rt: HostRuntime) -> Result<(), Fail> {
     let net = Net::new(rt.alloc(), 3, &[(0, 1), (1, 2)])?;
-    let mut counts = [0, 0, 0];
-    finish_from(&net, 0, &mut counts, &[2]);
-    assert!(rt; counts == [0, 1, 2]);
+    let mut turns = Turns::none(rt.alloc(), 3)?;
+    finish_from(&net, 0, &mut turns, &[2]);
+    assert!(rt; turns.counts() == [0, 1, 2].as_slice());
     // A candidate that stands there twice, and one that cannot turn, change nothing.
-    let mut again = [0, 0, 0];
-    finish_from(&net, 0, &mut again, &[2, 1, 2]);
-    assert!(rt; again == [0, 1, 2]);
-    let mut soon = [0, 0, 0];
-    assert!(rt; finish_soon(&net, 0, &mut soon, &[2]) && soon == [0, 1, 2]);
+    turns.clear();
+    finish_from(&net, 0, &mut turns, &[2, 1, 2]);
+    assert!(rt; turns.counts() == [0, 1, 2].as_slice());
+    turns.clear();
+    assert!(rt; finish_soon(&net, 0, &mut turns, &[2]) && turns.counts() == [0, 1, 2].as_slice());
     // Where node 2 is the destination, nothing can turn.
-    let mut settled = [0, 0, 0];
-    assert!(rt; finish_soon(&net, 2, &mut settled, &[2]) && settled == [0, 0, 0]);
+    turns.clear();
+    assert!(rt; finish_soon(&net, 2, &mut turns, &[2]) && turns.counts() == [0, 0, 0].as_slice());
     Ok(())
 }
 
@@ -73,11 +73,12 @@ fn long_chain(alloc: Global, nodes: u32, first: u32) -> Result<Vec<(u32, u32)>, 
 #[test]
 fn gives_up_where_there_is_much_to_turn(rt: HostRuntime) -> Result<(), Fail> {
     let net = Net::new(rt.alloc(), 8, &long_chain(rt.alloc(), 8, 0)?)?;
-    let mut counts = [0, 0, 0, 0, 0, 0, 0, 0];
-    assert!(rt; !finish_soon(&net, 0, &mut counts, &[7]));
-    assert!(rt; lawful(&net, 0, &counts) && !are_settled(&net, 0, &counts));
-    finish_from(&net, 0, &mut counts, &[1, 2, 3, 4, 5, 6, 7]);
-    assert!(rt; counts == [0, 1, 2, 3, 4, 5, 6, 7] && are_settled(&net, 0, &counts));
+    let mut turns = Turns::none(rt.alloc(), 8)?;
+    assert!(rt; !finish_soon(&net, 0, &mut turns, &[7]));
+    assert!(rt; lawful(&net, 0, turns.counts()) && !are_settled(&net, 0, turns.counts()));
+    finish_from(&net, 0, &mut turns, &[1, 2, 3, 4, 5, 6, 7]);
+    assert!(rt; turns.counts() == [0, 1, 2, 3, 4, 5, 6, 7].as_slice());
+    assert!(rt; are_settled(&net, 0, turns.counts()));
     Ok(())
 }
 

@@ -1,6 +1,6 @@
-use Rattle.std.proofs.Common.{All, arith, get_or, length, refl, subst, take_all, ℕ, ◌<◌, ◌≡◌}
+use Rattle.std.proofs.Common.{All, arith, get_or, refl, subst, take_all, ℕ, ◌<◌}
 use Rattle.std.proofs.lemmas.Bool.{false≢true}
-use Rattle.std.proofs.lemmas.List.Elements.{All-contains, All-get_or, All-more, Contains-get_or}
+use Rattle.std.proofs.lemmas.List.Elements.{All-contains, All-more, Contains-get_or}
 use Rattle.fr_core.proofs.CutOff.{apart_by_rows, row_apart}
 use Rattle.fr_core.specs.CutOff.{HasTurned}
 use Rattle.fr_net.proofs.TurnedNodes.{turned_below}
@@ -34,8 +34,7 @@ returns c =
     let net = c.args.net.now in
     let turned = c.nodes-turned.result.now in
     let whole : All (λ (x : ℕ). All (HasTurned c.counts-counts.result.now) (row net.nodes net.links x)) turned =
-    subst (All (λ (x : ℕ). All (HasTurned c.counts-counts.result.now) (row net.nodes net.links x))) (take_all c.loop-x.x-index turned c.loop-x-test.false) c.loop-x.invariant in
-    (
+    subst (All (λ (x : ℕ). All (HasTurned c.counts-counts.result.now) (row net.nodes net.links x))) (take_all c.loop-x.x-index turned c.loop-x-test.false) c.loop-x.invariant in (
       λ t. apart_by_rows net.nodes net.links c.args.turns.now c.network_law.ensures.is_net
           (λ x some. rw c.counts-counts.ensures at (All-contains (λ (y : ℕ). All (HasTurned c.counts-counts.result.now) (row net.nodes net.links y)) turned x whole ((c.nodes-turned.ensures.each x).1 some))),
       λ apart. refl,
