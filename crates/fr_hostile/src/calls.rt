@@ -1,11 +1,13 @@
 //! The calls of the libraries, each on a small network.
 
+ghost use Rattle.std.specs.Prelude.{◌≡◌, IfSome, replicate};
+
 use crate::telling::{number_told, told};
 use fr_core::{Machine, Target, check_run, play};
 use fr_crew::{
     OpenGate, Plan, live_walk, settle, settle_alone, settled_counts, settled_counts_alone,
 };
-use fr_net::{Edit, LineFault, LineReader, Net, NotEdited, Question, Request, read_line};
+use fr_net::{Edit, LineFault, LineReader, Net, NotEdited, Question, Request, Turns, read_line};
 use fr_round::{OpenWhy, Round};
 use fr_route::{Change, Report, Router, Session, counts_line, links_line};
 use std::alloc::{AllocError, Global};
@@ -124,6 +126,14 @@ fn chain<R: Alloc<A = Global> + Eprint>(rt: &R) -> Option<Net> {
     told(rt, Net::new(rt.alloc(), 4, &CHAIN))
 }
 
+/// A table of its nodes in which none has turned.
+fn unturned<R: Alloc<A = Global> + Eprint>(rt: &R, net: &Net) -> Option<Turns>
+    ensures { IfSome result (λ turns. turns ≡ replicate net.now.nodes 0) }
+{
+    net.network_law();
+    told(rt, Turns::none(rt.alloc(), net.nodes()))
+}
+
 /// The links of a network as text.
 fn links_of(alloc: Global, net: &Net) -> Result<String, AllocError> {
     links_line(alloc, &net.links(alloc)?)
@@ -180,7 +190,7 @@ fn edited_in_place<R: Alloc<A = Global> + Print + Eprint>(rt: &R) -> Option<Stri
     let alloc = rt.alloc();
     let mut net = chain(rt)?;
     let edits = [Edit::Cut { u: 1, v: 2 }, Edit::Add { u: 0, v: 3 }];
-    let why = match net.edit_if(alloc, &edits, &|edited| links_of(alloc, edited)) {
+    let why = match net.edit_if(alloc, &edits, |edited| links_of(alloc, edited)) {
         Ok(links) => return Some(links),
         Err(NotEdited::Refused(refused)) => told(rt, Err(refused.fault)),
         Err(NotEdited::Fault(fault)) => told(rt, Err(fault)),
@@ -336,17 +346,19 @@ fn counted<R: Threads + Wait + Sync + Alloc<A = Global> + Eprint>(rt: &R) -> Opt
     let alloc = rt.alloc();
     let plan = Plan::new(3, 0, 1000)?;
     let net = chain(rt)?;
-    let counts = told(
+    let turns = unturned(rt, &net)?;
+    let counted = told(
         rt,
-        settled_counts(rt, alloc, &net, 0, None, &plan, &OpenGate),
+        settled_counts(rt, alloc, &net, 0, None, &plan, &OpenGate, turns),
     )?;
-    told(rt, counts_line(alloc, &counts))
+    told(rt, counts_line(alloc, counted.counts()))
 }
 
 fn counted_alone<R: Alloc<A = Global> + Eprint>(rt: &R) -> Option<String> {
     let net = chain(rt)?;
-    let counts = told(rt, settled_counts_alone(rt.alloc(), &net, 0, None))?;
-    told(rt, counts_line(rt.alloc(), &counts))
+    let turns = unturned(rt, &net)?;
+    let counted = told(rt, settled_counts_alone(&net, 0, None, turns))?;
+    told(rt, counts_line(rt.alloc(), counted.counts()))
 }
 
 fn settled_alone<R: Alloc<A = Global> + Eprint>(rt: &R) -> Option<String> {

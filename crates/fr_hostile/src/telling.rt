@@ -1,11 +1,15 @@
 //! What is told of faults.
 
+ghost use Rattle.std.specs.Prelude.{◌≡◌, Ok, IfSome};
+
 use fr_net::{Net, NetFault};
 use fr_route::fault_number;
 use std::fmt::Display;
 
 /// What a call gave; the fault is told, which has to be want of memory or of a thread.
-pub fn told<T: Drop, E: Display + Drop, R: Eprint>(rt: &R, outcome: Result<T, E>) -> Option<T> {
+pub fn told<T: Drop, E: Display + Drop, R: Eprint>(rt: &R, outcome: Result<T, E>) -> Option<T>
+    ensures { IfSome result (λ value. outcome ≡ Ok value) }
+{
     match outcome {
         Ok(value) => Some(value),
         Err(fault) => {

@@ -1,5 +1,6 @@
--- Where the links point once each node has turned so often: the first links and one count a node say it.
-use Rattle.std.specs.Prelude.{◌≡◌, ℕ, ◌+◌, ◌<◌, ◌≤◌, ◌⊎◌, ◌==◌, if◌then◌else◌, List, length, Option, Some, None, slice_index}
+-- Where the links point once each node has turned so often: the first links and one count a node say it (J. Welch and J. Walter, "Link
+-- Reversal Algorithms").
+use Rattle.std.specs.Prelude.{◌≡◌, ℕ, ◌+◌, ◌≤◌, ◌⊎◌, ◌==◌, if◌then◌else◌, List, length, Option, Some, None, slice_index}
 use Rattle.std.specs.List.{All, filter_map}
 use Rattle.fr_net.specs.Links.{IsAlone}
 
@@ -28,13 +29,3 @@ pub record AreLawful (n d : ℕ) (first : List (ℕ × ℕ)) (counts : List ℕ)
   pub alone : (x : ℕ) → IsAlone first x → slice_index counts x ≡ 0
   pub capped : (x : ℕ) → slice_index counts x ≤ n
   pub kept : All (IsKept counts) first
-
--- no node from x on has turned
-abbrev pub AreUnturned : List ℕ → ℕ → Type 0
-AreUnturned counts x = (z : ℕ) → x ≤ z → slice_index counts z ≡ 0
-
--- y is the first node from x on that has turned: the nodes between have not
-pub record IsNextTurned (counts : List ℕ) (x y : ℕ) : Type 0 where
-  pub from : x ≤ y
-  pub turned : 0 < slice_index counts y
-  pub between : (z : ℕ) → x ≤ z → z < y → slice_index counts z ≡ 0

@@ -3,14 +3,14 @@
 //!
 //! A [`Net`] is made by [`Net::new`], which names the first fault of links that make no network. Layers above
 //! read it by `nodes`, `links`, `degree`, `neighbour` and `row`, make one network of another by `copied`, `with_cut`, `with_link`,
-//! `with_join`, `with_edits` and `turned_by`, and change one where it stands by `edit_if` and `turn`. What its rows show is the law
+//! `with_join`, `with_edits` and `turned_by`, and change one where it stands by `edit_if` and `turn`, the latter by [`Turns`], a table of
+//! how often each node has turned. What its rows show is the law
 //! [`rows_law`](laws::rows_law), and which way a link can point the law [`join_law`](laws::join_law). [`read_line`] reads a request,
 //! and a [`LineReader`] line after line.
 #![tactic(auto)]
 
 mod checks;
 mod closing;
-mod counts;
 mod cycle;
 mod edits;
 mod fault;
@@ -30,7 +30,6 @@ mod turned;
 mod turns;
 mod values;
 
-pub use counts::next_turned;
 pub use fault::{EditFault, NetFault, NotEdited};
 pub use limits::{MAX_EDITS, MAX_LINKS, MAX_NODES};
 pub use line_reader::LineReader;

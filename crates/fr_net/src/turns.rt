@@ -4,7 +4,6 @@ ghost use Rattle.std.specs.Prelude.{◌≡◌, ℕ, ◌<◌, ◌≤◌, ◌+◌,
 ghost use Rattle.fr_net.specs.Limits.{most_nodes};
 ghost use Rattle.fr_net.specs.Turns.{AreSet, AreTurned, set_to};
 
-use crate::counts::next_turned;
 use std::alloc::{AllocError, Global};
 use std::marker::Model;
 
@@ -37,10 +36,10 @@ fn list_turned(nodes: &mut Vec<u32>, counts: &[u64])
     ensures same_room { vec_capacity nodes.new ≡ vec_capacity nodes.old }
 {
     nodes.clear();
-    let mut from = 0;
-    'turned: while let Some(x) = next_turned(counts, from) {
-        nodes.push_reserved(x);
-        from = x + 1;
+    for x in 0..counts.len() as u32 {
+        if counts[x as usize] > 0 {
+            nodes.push_reserved(x);
+        }
     }
 }
 

@@ -7,6 +7,7 @@ use std::test::Fail;
 
 /// The number of turns and the counts at which `finish` ends from the counts 0, with destination 0.
 fn finished(alloc: Global, net: &Net) -> Result<String, AllocError> {
+    net.network_law();
     let mut turns = Turns::none(alloc, net.nodes())?;
     if net.nodes() == 0 || !lawful(net, 0, turns.counts()) {
         return String::from_str(alloc, "not lawful");
@@ -79,6 +80,16 @@ fn gives_up_where_there_is_much_to_turn(rt: HostRuntime) -> Result<(), Fail> {
     finish_from(&net, 0, &mut turns, &[1, 2, 3, 4, 5, 6, 7]);
     assert!(rt; turns.counts() == [0, 1, 2, 3, 4, 5, 6, 7].as_slice());
     assert!(rt; are_settled(&net, 0, turns.counts()));
+    Ok(())
+}
+
+/// Nodes 2 and 3 are cut off among 100, so each turns a hundred times: more than nodes are looked at. A few turns show that no link joins
+/// them with others, and then they have their counts at once.
+#[test]
+fn knows_a_part_that_is_cut_off(rt: HostRuntime) -> Result<(), Fail> {
+    let net = Net::new(rt.alloc(), 100, &[(1, 0), (2, 3)])?;
+    let mut turns = Turns::none(rt.alloc(), 100)?;
+    assert!(rt; finish_soon(&net, 0, &mut turns, &[3]) && turns.total() == 200);
     Ok(())
 }
 

@@ -14,3 +14,5 @@ mod machines;
 mod networks;
 #[cfg(test)]
 mod request_lines;
+#[cfg(test)]
+mod tables;

@@ -6,7 +6,7 @@ ghost use Rattle.fr_net.specs.Counts.{IsKept};
 use fr_net::Edit::{Add, Cut, Join};
 use fr_net::laws::{join_law, rows_law};
 use fr_net::{
-    Edit, EditFault, LineFault, MAX_EDITS, MAX_LINKS, MAX_NODES, Net, NetFault, NotEdited,
+    Edit, EditFault, LineFault, MAX_EDITS, MAX_LINKS, MAX_NODES, Net, NetFault, NotEdited, Turns,
 };
 use std::alloc::{AllocError, Global};
 use std::fmt::Write;
@@ -307,7 +307,7 @@ fn judged(alloc: Global, net: &mut Net, edits: &[Edit], most: usize) -> Result<S
         let links = made.link_count();
         if links <= most { Ok(links) } else { Err(links) }
     };
-    let answer = match net.edit_if(alloc, edits, &way) {
+    let answer = match net.edit_if(alloc, edits, way) {
         Ok(links) => format!(in alloc; "{links} links"),
         Err(NotEdited::Fault(links)) => format!(in alloc; "not {links} links"),
         Err(NotEdited::Refused(refused)) => {
@@ -466,7 +466,8 @@ fn turns_links_by_counts(rt: HostRuntime) -> Result<(), Fail> {
             return Err(Fail::from("no such counts"));
         }
         let beside = told(rt.alloc(), net.turned_by(rt.alloc(), counts))?;
-        net.turn(counts);
+        net.network_law();
+        net.turn(&Turns::of(rt.alloc(), counts.to_vec(rt.alloc())?)?);
         let anew = Net::new(rt.alloc(), net.nodes(), &net.links(rt.alloc())?)?;
         let as_anew = rows(rt.alloc(), &net)? == rows(rt.alloc(), &anew)?;
         let in_place = told(rt.alloc(), Ok(net))?;

@@ -1,7 +1,7 @@
 //! The answers of worked examples under many plans, and how the turns are split between the workers and the finisher.
 
 use fr_crew::{CrewFault, Gate, OpenGate, Plan, settle, settled_counts, settled_counts_alone};
-use fr_net::Net;
+use fr_net::{Net, Turns};
 use std::alloc::{AllocError, Global};
 use std::rt::HostRuntime;
 use std::sync::Wait;
@@ -153,16 +153,17 @@ fn counts_are_settled_beside_the_network(rt: HostRuntime) -> Result<(), Fail> {
     let net = Net::new(alloc, 3, &[(0, 1), (1, 2)])?;
     let crew = plan(2, 1000)?;
     let nobody = plan(2, 0)?;
-    let by_crew = settled_counts(&rt, alloc, &net, 0, Some(&[2]), &crew, &OpenGate)?;
-    let of_all = settled_counts(&rt, alloc, &net, 0, None, &crew, &OpenGate)?;
-    let by_nobody = settled_counts(&rt, alloc, &net, 0, Some(&[2]), &nobody, &OpenGate)?;
-    let alone = settled_counts_alone(alloc, &net, 0, Some(&[2]))?;
-    for counts in [&by_crew, &of_all, &by_nobody, &alone] {
-        assert!(rt; counts.as_slice() == [0, 1, 2].as_slice(), "{counts:?}");
+    let none = || Turns::none(alloc, 3);
+    let by_crew = settled_counts(&rt, alloc, &net, 0, Some(&[2]), &crew, &OpenGate, none()?)?;
+    let of_all = settled_counts(&rt, alloc, &net, 0, None, &crew, &OpenGate, none()?)?;
+    let by_nobody = settled_counts(&rt, alloc, &net, 0, Some(&[2]), &nobody, &OpenGate, none()?)?;
+    let alone = settled_counts_alone(&net, 0, Some(&[2]), none()?)?;
+    for turns in [&by_crew, &of_all, &by_nobody, &alone] {
+        assert!(rt; turns.counts() == [0, 1, 2].as_slice(), "{turns:?}");
     }
     assert!(rt; net.links(alloc)?.as_slice() == [(0, 1), (1, 2)].as_slice());
-    let none = settled_counts_alone(alloc, &net, 3, None);
-    assert!(rt; matches!(none, Err(CrewFault::Range)));
+    let fault = settled_counts_alone(&net, 3, None, none()?);
+    assert!(rt; matches!(fault, Err(CrewFault::Range)));
     Ok(())
 }
 
@@ -187,14 +188,17 @@ fn calls_of_one<R: Threads + Wait + Sync>(
     from: Option<&[u32]>,
 ) -> Result<(u64, bool), Fail> {
     let gate = CountingGate(AtomicU64::new(0));
-    let counts = settled_counts(rt, alloc, net, 0, from, &plan(1, 1000)?, &gate)?;
-    let settled = counts.starts_with(&[0, 1, 2, 3, 4, 5, 6, 7]);
+    net.network_law();
+    let none = Turns::none(alloc, net.nodes())?;
+    let turns = settled_counts(rt, alloc, net, 0, from, &plan(1, 1000)?, &gate, none)?;
+    let settled = turns.counts().starts_with(&[0, 1, 2, 3, 4, 5, 6, 7]);
     Ok((gate.0.load(Ordering::SeqCst), settled))
 }
 
 /// A chain of eight nodes that points away from node 0: node 1 turns once, node 2 twice, up to node 7, and with each turn all their
 /// neighbours but node 0 are tried again, which makes 48 tries. Besides, one worker tries each of its first candidates: the sink,
-/// node 7, alone where it is given, and else all seven. It makes no more calls than there are nodes where its candidates are given.
+/// node 7, alone where it is given, and else all seven. It makes no more calls than there are nodes where its candidates are given; so
+/// there are 60 nodes more, and no more than that, since a few turns alone would settle the chain among more nodes.
 #[test]
 fn given_nodes_are_tried_first(rt: HostRuntime) -> Result<(), Fail> {
     let chain = &[(0, 1), (1, 2), (2, 3), (3, 4), (4, 5), (5, 6), (6, 7)];

@@ -1,4 +1,4 @@
-use Rattle.std.proofs.Common.{arith, get_or, length, length-set, set, sym, ◌+◌, ◌<◌, ◌∙◌, ◌≡◌, ◌≤◌}
+use Rattle.std.proofs.Common.{arith, get_or, length, length-set, set, sym, ◌+◌, ◌<◌, ◌∙◌, ◌≡◌}
 use Rattle.std.proofs.lemmas.List.{get_or_default}
 use Rattle.fr_net.proofs.TurnedNodes.{first_turn, further_turn, place_left}
 use Rattle.fr_net.proofs.turns.Turns.add.Goals as goal

@@ -1,8 +1,8 @@
-use Rattle.std.proofs.Common.{List, ap, arith, length, map, subst, sym, ℕ, ◌∙◌, ◌≡◌}
+use Rattle.std.proofs.Common.{List, ap, length, map, sym, ℕ, ◌∙◌, ◌≡◌}
 use Rattle.std.proofs.lemmas.List.{length-map, with_items_is}
 use Rattle.std.specs.Vec.{with_items}
 use Rattle.fr_net.proofs.TurnedNodes.{each_set, still_turned, turned_below}
-use Rattle.fr_net.specs.Turns.{AreSet, AreTurned, set_to}
+use Rattle.fr_net.specs.Turns.{AreSet, set_to}
 use Rattle.fr_net.proofs.turns.Turns.set_each.Goals as goal
 use Rattle.fr_net.proofs.turns.Turns.set_each.Goals.{After-set_counts}
 

@@ -1,4 +1,4 @@
-use Rattle.std.proofs.Common.{List, ap, get_or, min, subst, sum, sum_by, ℕ, ◌-◌, ◌^◌, ◌∙◌, ◌≡◌}
+use Rattle.std.proofs.Common.{ap, get_or, min, sum, sum_by, ℕ, ◌-◌, ◌^◌, ◌∙◌, ◌≡◌}
 use Rattle.fr_net.proofs.TurnedNodes.{sum_listed, turned_below}
 use Rattle.fr_net.proofs.turns.Turns.total.Goals as goal
 
