@@ -1,4 +1,4 @@
--- Nodes that have turned, and are joined with no others. For `finish` alone.
+-- Nodes that have turned, and are joined with no others. For the finisher alone.
 use Rattle.std.specs.Prelude.{ℕ, ◌<◌, List, slice_index}
 use Rattle.fr_net.specs.Links.{Joins}
 use Rattle.fr_net.specs.declared.rows.First.{First}

@@ -1,4 +1,4 @@
--- Histories of replies, and what they make of the links and of the counts.
+-- Histories of replies, and what they make of the links and of the counts (J. Welch and J. Walter, "Link Reversal Algorithms").
 use Rattle.std.specs.Prelude.{ℕ, ◌+◌, ◌==◌, ◌&&◌, if◌then◌else◌, Bool, true, false, List, [], ◌∷◌, slice_index, slice_set}
 use Rattle.std.specs.List.{count_by, filter}
 use Rattle.fr_net.specs.Counts.{links_at}

@@ -1,4 +1,5 @@
--- The laws of full reversal with counts. Each is the contract of a function of src/laws.rt.
+-- The laws of full reversal with counts (E. Gafni and D. Bertsekas, 1981; J. Welch and J. Walter, "Link Reversal Algorithms"). Each is the
+-- contract of a function of src/laws.rt.
 use Rattle.std.specs.Prelude.{◌≡◌, ℕ, ◌<◌, ◌≤◌, ◌+◌, ◌-◌, ◌*◌, ◌⊎◌, ◌↔◌, List, ◌++◌, length, replicate, slice_index, slice_set, sum}
 use Rattle.std.specs.List.Sorted.{IsPermutation}
 use Rattle.std.specs.Option.{option_map}

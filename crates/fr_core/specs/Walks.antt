@@ -1,4 +1,4 @@
--- Walks over links in either direction, and their away numbers.
+-- Walks over links in either direction, and their away numbers (J. Welch and J. Walter, "Link Reversal Algorithms").
 use Rattle.std.specs.Prelude.{◌≡◌, ℕ, ◌+◌, ◌≤◌, ◌⊎◌, List, [], ◌∷◌}
 use Rattle.fr_net.specs.Links.{Points}
 

@@ -1,4 +1,4 @@
--- The worklist of nodes that may turn. For `finish` alone.
+-- The worklist of nodes that may turn. For the finisher alone.
 use Rattle.std.specs.Prelude.{◌≡◌, ℕ, ◌+◌, ◌<◌, ◌≤◌, List, length, slice_index}
 use Rattle.fr_core.specs.History.{moment_of}
 use Rattle.fr_core.specs.Legal.{CanTurn}

@@ -16,7 +16,7 @@ use Rattle.fr_net.specs.Counts.{links_at}
 use Rattle.fr_net.specs.Rows.{alone_count, has_no_neighbour, row}
 use Rattle.fr_net.specs.Turn.{IsSink}
 use Rattle.fr_net.proofs.Booleans.{and_cases}
-use Rattle.fr_net.proofs.Counting.{count-range_agree, count-range_more}
+use Rattle.fr_net.proofs.Counting.{count-range_agree, count-range_more, count_by-map}
 use Rattle.fr_net.proofs.Neighbours.{row_alone, row_linked}
 use Rattle.fr_core.proofs.Finishing.{links_at-zeros, zeros_lawful}
 use Rattle.fr_core.proofs.Settling.{settled_from_none}
@@ -51,11 +51,6 @@ pub hop_cut_off : (s : State) (x : ℕ) (hop : Hop) → IsHop s x hop → IsTrue
 hop_cut_off s x Here h = ((λ e. absurd (false≢true e)), (λ cut. absurd (cut.0 h)))
 hop_cut_off s x (To y) h = ((λ e. absurd (false≢true e)), (λ cut. absurd (cut.1 (route_joined s.links s.dest x (y ∷ h.0) h.1))))
 hop_cut_off s x CutOff h = ((λ e. h), (λ cut. refl))
-
-count_by-map : {X Y : Type 0} (p : Y → Bool) (f : X → Y) (xs : List X) → count_by p (map f xs) ≡ count_by (λ x. p (f x)) xs
-count_by-map p f [] = refl
-count_by-map {X} {Y} p f (x ∷ xs) =
-    omega (arith, sum_by-cons (λ (y : Y). cond (p y) 1 0) (f x) (map f xs), sum_by-cons (λ (z : X). cond (p (f z)) 1 0) x xs, count_by-map p f xs)
 
 pub hops_cut_count : (s : State) (n : ℕ) (hops : List Hop) → AreHops s n hops → IsCutCount n s.dest s.links (count_by is_cut_off hops)
 hops_cut_count s n hops are =

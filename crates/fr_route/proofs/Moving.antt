@@ -12,8 +12,7 @@ use Rattle.fr_net.specs.declared.requests.Edit.{Edit}
 use Rattle.fr_net.proofs.Giving.{Points-links_at_from, Points-links_at_same}
 use Rattle.fr_net.proofs.Members.{Contains-head, Contains-tail, cases_some}
 use Rattle.fr_net.specs.Counts.{links_at}
-use Rattle.fr_net.specs.Order.{AreInOrder}
-use Rattle.fr_net.proofs.Ordering.{in_order_order, into_order, out_of_order}
+use Rattle.fr_net.proofs.Ordering.{into_order, out_of_order}
 use Rattle.fr_crew.specs.Settlements.{HoldsSinks, IsCounted}
 use Rattle.fr_route.specs.Outcomes.{HoldsMoved, IsStale, cut_off_nodes, ends_of, movable, state_after, touched}
 use Rattle.fr_route.specs.Routes.{AreHops, IsHop}
@@ -24,9 +23,6 @@ use Rattle.fr_route.proofs.Changing.{made_nodes}
 use Rattle.fr_route.proofs.CutNodes.{capped_cut, cut_below, ended}
 use Rattle.fr_route.proofs.RoundEnds.{hop_leads_on, linked_joined, linked_out, round_joined, round_joins, round_net, still_cut_off}
 use Rattle.fr_route.proofs.Touched.{AreAt, HaveSameAt, edits_at}
-
-round_order : (s : State) → IsAfterRound s → AreInOrder s.links
-round_order s after = subst AreInOrder (sym after.round.links) (in_order_order (links_at after.first s.counts))
 
 here : (s : State) → IsAfterRound s → IsNet s.nodes s.links
 here s after = round_net s.nodes s.dest after.first s after.is_net after.dest after.round

@@ -184,18 +184,3 @@ ends_more es k e nodes x y u v low is so_far =
     let longer : ends_of (take (k + 1) es) ≡ (before ++ u ∷ []) ++ v ∷ [] =
     ap ends_of (take_more es k e low) ∙ (ends_push (take k es) (get_or es k e) ∙ (ap (λ (ends : List ℕ). before ++ ends) is ∙ sym (append_assoc before (u ∷ []) (v ∷ [])))) in
     ap (λ (ends : List ℕ). (ends ++ u ∷ []) ++ v ∷ []) so_far ∙ ap (λ (ends : List ℕ). x ∷ (y ∷ ends)) (sym longer)
-
--- where nobody turns, the links stay
-pub zeros : (counts : List ℕ) → sum counts ≡ 0 → counts ≡ replicate (length counts) 0
-zeros [] e = refl
-zeros (x ∷ xs) e =
-    let parts = sum_by-cons (λ (y : ℕ). y) x xs in
-    ap₂ (λ (h : ℕ) (t : List ℕ). h ∷ t) (omega (arith, e, parts)) (zeros xs (omega (arith, e, parts)))
-
-pub rising_order : (links : List (ℕ × ℕ)) → AreRising links → AreInOrder links
-rising_order links rising = λ k d l. ⊎_elim (λ a. inl a) (λ a. inr (a.0, omega (arith, a.1))) (rising k d l)
-
-pub still_links : (links : List (ℕ × ℕ)) (counts : List ℕ) → AreInOrder links → sum counts ≡ 0 → in_order (links_at links counts) ≡ links
-still_links links counts sorted none =
-    ap (λ (c : List ℕ). in_order (links_at links c)) (zeros counts none)
-    ∙ (ap in_order (links_at-zeros (length counts) links) ∙ sym (order_of_listed links links (IsPermutation-refl links) sorted))

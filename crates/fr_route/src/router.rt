@@ -124,8 +124,8 @@ impl Router {
     /// Changes the network or its destination and settles it anew by a crew, by the plan and under the gate, and answers what
     /// the round reports. A batch is one round, after its last edit. `Net` with the fault for which the change is refused: a cut
     /// for `NoLink` alone, an added link for what `Net::with_link` names, a join for what `Net::with_join` names, and a batch for the
-    /// first edit that `Net::with_edits` refuses, or its length; `Range` for a destination that is no node, and only there; `Start` and `Memory` as in `open`. Any
-    /// fault leaves the router as it was.
+    /// first edit that `Net::with_edits` refuses, or its length; `Range` for a destination that is no node, and only there; `Start` and
+    /// `Memory` as in `open`. Any fault leaves the router as it was.
     ///
     /// The change is made where the network stands, and all that can fail is done before any of it stays. Only the ends of the
     /// links, the two destinations, and the nodes with a link that the last round cut off are looked at for what can turn; where none
