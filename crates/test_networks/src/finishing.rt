@@ -75,11 +75,12 @@ fn long_chain(alloc: Global, nodes: u32, first: u32) -> Result<Vec<(u32, u32)>, 
 fn gives_up_where_there_is_much_to_turn(rt: HostRuntime) -> Result<(), Fail> {
     let net = Net::new(rt.alloc(), 8, &long_chain(rt.alloc(), 8, 0)?)?;
     let mut turns = Turns::none(rt.alloc(), 8)?;
-    assert!(rt; !finish_soon(&net, 0, &mut turns, &[7]));
+    let from = [1, 2, 3, 4, 5, 6, 7];
+    assert!(rt; !finish_soon(&net, 0, &mut turns, &from));
     assert!(rt; lawful(&net, 0, turns.counts()) && !are_settled(&net, 0, turns.counts()));
-    finish_from(&net, 0, &mut turns, &[1, 2, 3, 4, 5, 6, 7]);
+    finish_from(&net, 0, &mut turns, &from);
     assert!(rt; turns.counts() == [0, 1, 2, 3, 4, 5, 6, 7].as_slice());
-    assert!(rt; are_settled(&net, 0, turns.counts()));
+    assert!(rt; lawful(&net, 0, turns.counts()) && are_settled(&net, 0, turns.counts()));
     Ok(())
 }
 
