@@ -1,27 +1,23 @@
 -- What edits and a new destination touch: the links of every other node stay as they are, and so does where it sends on to.
-use Rattle.std.proofs.Common.{Bool, Contains, List, [], ap, ap₂, append_assoc, arith, cond, false, get_or, inl, inr, length, refl, replicate, subst, sum, sym, take, true, ℕ, ⊎_elim, ◌+◌, ◌++◌, ◌<◌, ◌↔◌, ◌∙◌, ◌∷◌, ◌≡◌, ◌⊎◌}
+use Rattle.std.proofs.Common.{Bool, Contains, List, [], ap, append_assoc, cond, false, get_or, inl, inr, length, refl, subst, sym, take, true, ℕ, ⊎_elim, ◌+◌, ◌++◌, ◌<◌, ◌↔◌, ◌∙◌, ◌∷◌, ◌≡◌, ◌⊎◌}
 use Rattle.std.specs.Prelude.{not}
 use Rattle.std.specs.List.{All, filter}
 use Rattle.std.proofs.lemmas.Bool.{cases_Bool, false≢true}
 use Rattle.std.proofs.lemmas.List.{take_more}
 use Rattle.std.proofs.lemmas.List.Elements.{All-cons, All-nil, Contains-append_left, Contains-push, Contains-push_cases}
-use Rattle.std.proofs.lemmas.List.Sorted.{IsPermutation-refl}
-use Rattle.std.proofs.lemmas.List.Sums.{sum_by-cons}
 use Rattle.fr_net.specs.Batches.{AreMade, IsMade}
-use Rattle.fr_net.specs.Counts.{links_at}
 use Rattle.fr_net.specs.Edits.{without}
 use Rattle.fr_net.specs.Faults.{IsNetworkOf}
 use Rattle.fr_net.specs.Links.{HaveSameLinks, IsNet, Points, is_between}
 use Rattle.fr_net.specs.Network.{Network}
-use Rattle.fr_net.specs.Order.{AreInOrder, AreRising, in_order}
+use Rattle.fr_net.specs.Order.{AreInOrder}
 use Rattle.fr_net.specs.declared.requests.Edit.{Edit}
 use Rattle.fr_net.specs.declared.requests.Edit.TheVariants.{Add, Cut, Join}
 use Rattle.fr_net.proofs.Building.{permuted_net}
 use Rattle.fr_net.proofs.Editing.{from_filter}
 use Rattle.fr_net.proofs.Linking.{joined_below, joined_from, link_below}
 use Rattle.fr_net.proofs.Members.{Contains-cases, Contains-head, Contains-tail}
-use Rattle.fr_net.proofs.Ordering.{in_order_order, order_of_listed}
-use Rattle.fr_core.proofs.Finishing.{links_at-zeros}
+use Rattle.fr_net.proofs.Ordering.{in_order_order}
 use Rattle.fr_core.proofs.SameLinks.{same_from_permutation}
 use Rattle.fr_route.specs.Outcomes.{ends_of}
 

@@ -4,7 +4,6 @@ use Rattle.std.proofs.lemmas.List.{get_or_default}
 use Rattle.fr_net.proofs.TurnedNodes.{turned_below}
 use Rattle.fr_route.specs.Outcomes.{SendsTo}
 use Rattle.fr_route.specs.States.{State, state_with}
-use Rattle.fr_route.specs.declared.hops.Hop.{Hop}
 use Rattle.fr_route.proofs.Renewing.{renewed_as, renewed_none, renewed_then}
 use Rattle.fr_route.proofs.hops.renew_turned.Goals as goal
 

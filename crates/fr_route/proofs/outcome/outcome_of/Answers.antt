@@ -1,4 +1,4 @@
-use Rattle.std.proofs.Common.{List, ℕ, subst, sym, ◌<◌, ◌∙◌}
+use Rattle.std.proofs.Common.{sym, ◌<◌, ◌∙◌}
 use Rattle.std.proofs.lemmas.Bool.{false≢true}
 use Rattle.fr_crew.specs.Settlements.{HoldsSinks}
 use Rattle.fr_route.specs.Outcomes.{HasNoSink}
