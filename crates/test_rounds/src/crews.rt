@@ -1,5 +1,8 @@
 //! The answers of worked examples under many plans, and how the turns are split between the workers and the finisher.
 
+ghost use Rattle.std.specs.Prelude.{IfSome};
+ghost use Rattle.fr_crew.specs.Settlements.{HoldsSinks};
+
 use fr_crew::{CrewFault, Gate, OpenGate, Plan, settle, settled_counts, settled_counts_alone};
 use fr_net::{Net, Turns};
 use std::alloc::{AllocError, Global};
@@ -186,7 +189,9 @@ fn calls_of_one<R: Threads + Wait + Sync>(
     alloc: Global,
     net: &Net,
     from: Option<&[u32]>,
-) -> Result<(u64, bool), Fail> {
+) -> Result<(u64, bool), Fail>
+    requires { IfSome from (λ from. HoldsSinks net.now 0 from.now) }
+{
     let gate = CountingGate(AtomicU64::new(0));
     net.network_law();
     let none = Turns::none(alloc, net.nodes())?;
