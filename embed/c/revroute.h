@@ -22,7 +22,7 @@
  *   gives the same memory back twice. Memory that was moved, as by realloc, is no copy if the old place is used no more.
  * - Memory is the process's malloc, realloc and free, of one allocator as long as a session is open. So no call is made from a
  *   signal handler, or in the child that a process with threads has forked.
- * - The thread has 256 KiB of stack left. A request was seen to take 32, a line that nests as deep as JSON may here 124.
+ * - The thread has 256 KiB of stack left. A request was seen to take 56, a line that nests as deep as JSON may here 72.
  *
  * A call waits for nobody, starts no thread, reads no file and keeps no pointer of its caller's.
  */

@@ -1,13 +1,15 @@
 -- What the worklist holds: one node more, and the neighbours of a node that turns.
-use Rattle.std.proofs.Common.{List, [], arith, ap, inl, inr, length, map, refl, slice_index, subst, sym, ℕ, ◌++◌, ◌+◌, ◌-◌, ◌<◌, ◌∙◌, ◌∷◌, ◌≡◌, ◌≤◌, ◌⊎◌}
+use Rattle.std.proofs.Common.{List, [], arith, ap, drop, inl, inr, length, map, refl, slice_index, subst, sym, ℕ, ◌++◌, ◌+◌, ◌-◌, ◌<◌, ◌∙◌, ◌∷◌, ◌≡◌, ◌≤◌, ◌⊎◌}
+use Rattle.std.specs.List.{Contains}
 use Rattle.std.proofs.lemmas.Bool.{cases_Bool, cases_eq, cases_lt, true≢false}
-use Rattle.std.proofs.lemmas.List.{get_or-append-add, get_or-map, get_or_append_left, get_or_push, length-append, length-map, length_push}
-use Rattle.std.proofs.lemmas.List.Elements.{All-contains}
+use Rattle.std.proofs.lemmas.List.{get_or-append-add, get_or-drop, get_or-map, get_or_append_left, get_or_push, length-append, length-drop, length-map, length_push}
+use Rattle.std.proofs.lemmas.List.Elements.{All-contains, All-from_get_or, Contains-get_or}
 use Rattle.fr_core.proofs.Reaching.{queued_more}
 use Rattle.fr_core.proofs.RowLinks.{row_below}
 use Rattle.fr_core.proofs.Sinks.{kept_at, sink_from_bounds, sink_meets_bounds}
 use Rattle.fr_core.proofs.Turning.{raised, raised-here, raised-other, turn_lawful}
 use Rattle.fr_core.specs.Bounds.{MeetsBounds}
+use Rattle.fr_core.specs.Finish.{HoldsAllThatCanTurn}
 use Rattle.fr_core.specs.History.{moment_of}
 use Rattle.fr_core.specs.Legal.{CanTurn, NoneCanTurn}
 use Rattle.fr_core.specs.Reaching.{IsQueued}
@@ -151,3 +153,17 @@ module _ (n d : ℕ) (first : List (ℕ × ℕ)) (net : IsNet n first) (c : List
               (h.0, omega (arith, h.1, past), omega (arith, whole, h.2), get_or_append_left work more 0 h.0 h.2 ∙ h.3)
         ]
       ]
+
+-- the nodes of a worklist from a place on hold all that can turn, if the worklist holds all from there on
+pub held_among : (n d : ℕ) (first : List (ℕ × ℕ)) (c work : List ℕ) (at : ℕ) → AreNodes n work → at ≤ length work → HoldsAll n d first c work at → HoldsAllThatCanTurn n d first c (drop at work)
+held_among n d first c work at nodes within holds = record {
+  nodes = All-from_get_or (λ (y : ℕ). y < n) (drop at work) 0 (λ i below.
+      let here : at + i < length work = omega (arith, below, length-drop at work) in
+      subst (λ (y : ℕ). y < n) (sym (get_or-drop at work i 0)) (nodes (at + i) here));
+  all = λ x can.
+      let h = holds x can in
+      let i : ℕ = h.0 - at in
+      let place : at + i ≡ h.0 = omega (arith, h.1) in
+      let here : slice_index (drop at work) i ≡ x = get_or-drop at work i 0 ∙ ap (slice_index work) place ∙ h.3 in
+      subst (Contains (drop at work)) here (Contains-get_or (drop at work) i 0 (omega (arith, h.1, h.2, length-drop at work)));
+}

@@ -9,7 +9,7 @@ ghost use Rattle.fr_core.specs.Reaching.{IsNeighbour, IsReached, ReachesOnly, un
 ghost use Rattle.fr_core.specs.Settled.{AreSettled};
 
 use crate::counts::most_count;
-use crate::queue::Queue;
+use crate::queue::{ALL_NODES, Queue};
 use fr_net::{First, Net};
 
 /// Gives the neighbour of an entry of a row the count `level` and a place in the queue, if its link first points this way
@@ -20,7 +20,7 @@ fn reach(
     way: First,
     level: u64,
     counts: &mut [u64],
-    queue: &mut Queue,
+    queue: &mut Queue<ALL_NODES>,
 )
     requires one_each { length counts.old ≡ net.now.nodes }
     requires node { entry.0 < net.now.nodes }
@@ -45,7 +45,7 @@ fn reach_neighbours(
     way: First,
     level: u64,
     counts: &mut [u64],
-    queue: &mut Queue,
+    queue: &mut Queue<ALL_NODES>,
 )
     requires one_each { length counts.old ≡ net.now.nodes }
     requires node { x < net.now.nodes }
@@ -62,7 +62,13 @@ fn reach_neighbours(
 
 /// Follows links from head to tail, which costs no turn: from the nodes of a level, and from those that this adds to it.
 /// The level stands in the queue from `start` on. The search began at the queue's first node.
-fn close_level(net: &Net, level: u64, counts: &mut [u64], queue: &mut Queue, start: usize)
+fn close_level(
+    net: &Net,
+    level: u64,
+    counts: &mut [u64],
+    queue: &mut Queue<ALL_NODES>,
+    start: usize,
+)
     requires net { IsNet net.now.nodes net.now.links }
     requires one_each { length counts.old ≡ net.now.nodes }
     requires search { IsLevelSearch net.now.nodes (slice_index queue.old 0) net.now.links
@@ -80,7 +86,7 @@ fn close_level(net: &Net, level: u64, counts: &mut [u64], queue: &mut Queue, sta
 
 /// Follows links from tail to head, which costs a turn: from the nodes of the level before, which stand in the queue from
 /// `start` on. Those that this reaches are the first of the level.
-fn open_level(net: &Net, level: u64, counts: &mut [u64], queue: &mut Queue, start: usize)
+fn open_level(net: &Net, level: u64, counts: &mut [u64], queue: &mut Queue<ALL_NODES>, start: usize)
     requires net { IsNet net.now.nodes net.now.links }
     requires one_each { length counts.old ≡ net.now.nodes }
     requires search { IsLevelSearch net.now.nodes (slice_index queue.old 0) net.now.links
@@ -105,8 +111,8 @@ fn clear(net: &Net, counts: &mut [u64])
 }
 
 /// Writes the settled counts, level by level: a level is the nodes of one count, and the next one is reached from it. No
-/// memory is taken, and each row is read twice. The queue is begun anew.
-pub(crate) fn settle(net: &Net, dest: u32, counts: &mut [u64], queue: &mut Queue)
+/// memory is taken, and each row is read twice.
+pub(crate) fn settle(net: &Net, dest: u32, counts: &mut [u64])
     requires net { IsNet net.now.nodes net.now.links }
     requires one_each { length counts.old ≡ net.now.nodes }
     requires node { dest < net.now.nodes }
@@ -114,14 +120,15 @@ pub(crate) fn settle(net: &Net, dest: u32, counts: &mut [u64], queue: &mut Queue
 {
     clear(net, counts);
     counts[dest as usize] = 0;
-    queue.restart(dest);
+    let mut queue = Queue::new();
+    queue.push(dest);
     let mut start = 0;
     let mut level = 0;
     while start < queue.len() {
-        close_level(net, level, counts, queue, start);
+        close_level(net, level, counts, &mut queue, start);
         let end = queue.len();
         level += 1;
-        open_level(net, level, counts, queue, start);
+        open_level(net, level, counts, &mut queue, start);
         start = end;
     }
 }

@@ -1,40 +1,42 @@
 //! The queue of a search, and of nodes that may turn.
 
 ghost use Rattle.std.specs.Prelude.{◌≡◌, ℕ, ◌+◌, ◌<◌, ◌≤◌, ◌↔◌, IsTrue, List, [], ◌∷◌, ◌++◌, length, take, slice_index};
-ghost use Rattle.fr_net.specs.Limits.{most_nodes};
 
 use fr_net::MAX_NODES;
 use std::marker::Model;
 
+/// How many places a queue has in which all nodes of a network find room.
+pub(crate) const ALL_NODES: usize = MAX_NODES as usize;
+
 /// Nodes in the order in which they were put there, by a search that reached them, or as those that may turn. There is room
-/// for as many as a network can have.
+/// for so many. All places are cleared when it is made, so a long queue costs more than a short one before it holds a node.
 #[derive(Drop)]
-pub(crate) struct Queue {
-    places: [u32; MAX_NODES as usize],
+pub(crate) struct Queue<const PLACES: usize> {
+    places: [u32; PLACES],
     len: usize,
 }
 
-impl Model for Queue {
+impl<const PLACES: usize> Model for Queue<PLACES> {
     ghost Value = { List ℕ };
 
     ghost view = { λ q. take q.len q.places };
 
-    ghost invariant = { λ q. q.len ≤ most_nodes };
+    ghost invariant = { λ q. q.len ≤ PLACES };
 }
 
-impl Queue {
+impl<const PLACES: usize> Queue<PLACES> {
     pub fn new() -> Self
         ensures { result ≡ [] }
     {
         Queue {
-            places: [0; MAX_NODES as usize],
+            places: [0; PLACES],
             len: 0,
         }
     }
 
     pub fn len(&self) -> usize
         ensures value { result ≡ length self.now }
-        ensures few { length self.now ≤ most_nodes }
+        ensures few { length self.now ≤ PLACES }
     {
         self.len
     }
@@ -47,26 +49,25 @@ impl Queue {
         self.places[..self.len][at]
     }
 
+    /// All nodes, the first that was put there at the front.
+    pub fn nodes(&self) -> &[u32]
+        ensures { result.now ≡ self.now }
+    {
+        &self.places[..self.len]
+    }
+
     /// Whether so many nodes more find room.
     pub fn has_room(&self, more: usize) -> bool
-        ensures { IsTrue result ↔ (length self.now + more ≤ most_nodes) }
+        ensures { IsTrue result ↔ (length self.now + more ≤ PLACES) }
     {
-        more <= MAX_NODES as usize - self.len
+        more <= PLACES - self.len
     }
 
     pub fn push(&mut self, node: u32)
-        requires { length self.old < most_nodes }
+        requires { length self.old < PLACES }
         ensures { self.new ≡ self.old ++ node ∷ [] }
     {
         self.places[self.len] = node;
         self.len += 1;
-    }
-
-    /// Begins anew with one node.
-    pub fn restart(&mut self, node: u32)
-        ensures { self.new ≡ node ∷ [] }
-    {
-        self.len = 0;
-        self.push(node);
     }
 }

@@ -131,15 +131,15 @@ impl RowTable {
         &self.entries[self.starts[x]..self.ends[x]]
     }
 
-    /// How many entries the row at this place has room for once it is laid out anew: half as many more as it has, and four; and, if
-    /// room is kept, no fewer than it has room for.
+    /// How many entries the row at this place has room for once it is laid out anew: an eighth more than it has, and six, for links
+    /// come to short rows as to long ones; and, if room is kept, no fewer than it has room for.
     fn room_anew(&self, x: usize, keeps_room: bool) -> usize
         requires { x < length self.now.rows }
         ensures room { length (row_of self.now x) < result }
         ensures kept { IsTrue keeps_room → room_of self.now x ≤ result }
     {
         let long = self.row_at(x).len();
-        let wide = long + long / 2 + 4;
+        let wide = long + long / 8 + 6;
         let held = self.starts[x + 1] - self.starts[x];
         if keeps_room { wide.max(held) } else { wide }
     }
@@ -153,7 +153,7 @@ impl RowTable {
         whole
     }
 
-    /// The same rows laid out anew, each with room to grow by half and four more; and, if room is kept, with no less than it has.
+    /// The same rows laid out anew, each with room to grow by an eighth and six more; and, if room is kept, with no less than it has.
     fn laid_out(&self, alloc: Global, keeps_room: bool) -> Result<RowTable, AllocError>
         ensures rows { IfOk result (λ table. table.rows ≡ self.now.rows) }
         ensures room { IfOk result (λ table. (x : ℕ) → x < length self.now.rows → HasRoomIn table x) }
@@ -222,8 +222,8 @@ impl RowTable {
         })
     }
 
-    /// Takes room for one entry more in the row of `x`. Where it has none, all rows are laid out anew, each with room to grow by half
-    /// and four more. No row has less room afterwards, so that edits made before can still be undone.
+    /// Takes room for one entry more in the row of `x`. Where it has none, all rows are laid out anew, each with room to grow by an
+    /// eighth and six more. No row has less room afterwards, so that edits made before can still be undone.
     pub(crate) fn make_room(&mut self, alloc: Global, x: u32) -> Result<(), AllocError>
         requires { x < length self.old.rows }
         ensures rows { self.new.rows ≡ self.old.rows }

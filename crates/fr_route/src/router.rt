@@ -51,9 +51,9 @@ impl Model for Router {
 }
 
 impl Router {
-    /// Settles a network by a crew, by the plan and under the gate. `Range` where the destination is no node, `Start`
-    /// where a thread could not be started, `Memory` where no room could be had; never `Net`. On a fault the network is
-    /// given up. It waits for the threads of the crew, which end where the calls of the gate return.
+    /// Settles a network by a crew, by the plan and under the gate. `Range` where the destination is no node, `Start` where a thread
+    /// could not be started, which with the budget 0 never comes, `Memory` where no room could be had; never `Net`. On a fault the
+    /// network is given up. It waits for the threads of the crew, which end where the calls of the gate return.
     pub fn open<R: Threads + Wait + Sync, G: Gate + Sync>(
         rt: &R,
         alloc: Global,
@@ -64,6 +64,7 @@ impl Router {
     ) -> Result<Router, RouteFault>
         ensures opened { IfOk result (λ router. (dest < net.nodes) × IsRound net.nodes dest net.links router) }
         ensures fault { IfErr result (IsOpenFault net.nodes dest) }
+        ensures no_start { plan.now.budget ≡ 0 → IfErr result (λ fault. fault ≢ Start) }
     {
         Router::open_by(
             alloc,
@@ -144,6 +145,7 @@ impl Router {
         ensures report { IfOk result (λ report. IsReport self.new report.turned report.cut) }
         ensures fault { IfErr result (IsRouteFault self.old change) }
         ensures unchanged { OnErr result (self.new ≡ self.old) }
+        ensures no_start { plan.now.budget ≡ 0 → IfErr result (λ fault. fault ≢ Start) }
     {
         self.change_by(
             alloc,

@@ -63,9 +63,9 @@ impl Session {
     }
 
     /// The answer to a line, or None for a blank one; `specs/Answers.antt` says what the answer to a line is. The session is
-    /// then in the state after the line, which for a refused line is the state before it. A fault says that no thread could
-    /// be started, or that memory ran out, and leaves the session as it was. Networks are settled by the plan and under the
-    /// gate, on which no answer depends.
+    /// then in the state after the line, which for a refused line is the state before it. A fault says that a thread could
+    /// not be started, which with the budget 0 never comes, or that memory ran out, and leaves the session as it was. Networks are
+    /// settled by the plan and under the gate, on which no answer depends.
     pub fn answer_line<R: Threads + Wait + Sync, G: Gate + Sync>(
         &mut self,
         rt: &R,
@@ -78,6 +78,7 @@ impl Session {
         ensures text { IfOk result (λ answer. IfSome answer (λ text. (is_blank_line line.now ≡ false)
             × IsLineAnswer self.old (reading line.now) (string_bytes text) self.new)) }
         ensures unchanged { OnErr result ((is_blank_line line.now ≡ false) × (self.new ≡ self.old)) }
+        ensures no_start { plan.now.budget ≡ 0 → IfErr result (λ fault. fault ≢ Start) }
     {
         self.answer_line_by(
             alloc,
@@ -146,6 +147,7 @@ impl Session {
     ) -> Result<String, AnswerFault>
         ensures text { IfOk result (λ text. IsAnswer self.old (plain request.now) (string_bytes text) self.new) }
         ensures unchanged { OnErr result (self.new ≡ self.old) }
+        ensures no_start { plan.now.budget ≡ 0 → IfErr result (λ fault. fault ≢ Start) }
     {
         self.answer_by(
             alloc,

@@ -32,6 +32,7 @@ pub(crate) fn answer_all<T: Threads + Wait + Sync, W: Write, G: Gate + Sync>(
     ensures memory { result ≡ Err RunFault.Memory → StopsAtLine input.now (W.contents writer.old) (W.contents writer.new) }
     ensures no_read { result ≢ Err RunFault.Read }
     ensures no_length { result ≢ Err RunFault.TooLong }
+    ensures no_start { plan.now.budget ≡ 0 → result ≢ Err RunFault.Start }
 {
     let mut session = Session::new();
     let mut rest = Some(input);
@@ -66,6 +67,7 @@ fn answer_one<T: Threads + Wait + Sync, W: Write, G: Gate + Sync>(
     ensures memory { result ≡ Err RunFault.Memory → (is_blank line.now ≡ false) × Keeps (W.contents writer.old) (W.contents writer.new) }
     ensures no_read { result ≢ Err RunFault.Read }
     ensures no_length { result ≢ Err RunFault.TooLong }
+    ensures no_start { plan.now.budget ≡ 0 → result ≢ Err RunFault.Start }
 {
     let answer = match session.answer_line(rt, alloc, line, plan, gate) {
         Ok(answer) => answer,

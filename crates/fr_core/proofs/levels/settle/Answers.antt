@@ -7,7 +7,7 @@ use Rattle.fr_core.proofs.levels.settle.Goals as goal
 pub loop-start-init : goal.loop-start-init
 loop-start-init c =
     let net = c.args.net.now in
-    rw c.restart.ensures (search_starts net.nodes c.args.dest net.links c.clear.new.counts (omega arith) c.requires.node c.clear.ensures)
+    rw (c.push.ensures, c.new-queue.ensures) (search_starts net.nodes c.args.dest net.links c.clear.new.counts (omega arith) c.requires.node c.clear.ensures)
 
 pub open_level-requires-clause-search : goal.open_level-requires-clause-search
 open_level-requires-clause-search c =

@@ -3,4 +3,4 @@ use Rattle.fr_net.specs.declared.rows.First.{First}
 use Rattle.fr_core.proofs.worklist.add_neighbours.Given as goal
 
 abbrev pub invariant-loop-w : goal.invariant-loop-w
-invariant-loop-w l = l.work ≡ l.initial.work ++ map (λ (e : ℕ × First). e.0) (take l.w-index l.row)
+invariant-loop-w g l = l.work ≡ l.initial.work ++ map (λ (e : ℕ × First). e.0) (take l.w-index l.row)

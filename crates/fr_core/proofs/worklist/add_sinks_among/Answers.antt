@@ -1,16 +1,15 @@
 use Rattle.std.proofs.Common.{[], arith, inl, inr, length, slice_index, subst, ℕ, ◌++◌, ◌<◌, ◌∷◌, ◌≡◌}
 use Rattle.std.proofs.lemmas.Bool.{cases_lt}
-use Rattle.std.proofs.lemmas.List.{length_push}
 use Rattle.std.proofs.lemmas.List.Elements.{All-contains, All-from_get_or, All-get_or}
 use Rattle.fr_core.proofs.Worklists.{nodes_push, queued_last, queued_push}
 use Rattle.fr_core.specs.History.{moment_of}
 use Rattle.fr_core.specs.Legal.{CanTurn}
 use Rattle.fr_core.specs.Reaching.{IsQueued}
 use Rattle.fr_core.proofs.worklist.add_sinks_among.Goals as goal
-use Rattle.fr_core.proofs.worklist.add_sinks_among.Goals.{else-can_turn, then-can_turn}
+use Rattle.fr_core.proofs.worklist.add_sinks_among.Goals.{else-can_turn, then-can_turn+else-not-has_room}
 
 pub loop-x-preserved : goal.loop-x-preserved
-loop-x-preserved c =
+loop-x-preserved g c =
     let l = c.loop-x.invariant in
     let from = c.args.from.now in
     let at : ℕ = c.loop-x.x-index in
@@ -18,8 +17,7 @@ loop-x-preserved c =
     let work = c.loop-x.work in
     let below : at < length from = omega arith in
     elim c.if-can_turn.branch [
-      | then-can_turn w ↦ rw (w.work-is, w.push.ensures) (record {
-        few = omega (arith, length_push work x, l.few);
+      | then-can_turn+else-not-has_room w ↦ rw (w.work-is, w.push.ensures) (record {
         nodes = nodes_push c.args.net.now.nodes work x (All-get_or (λ (y : ℕ). y < c.args.net.now.nodes) from at 0 below c.requires.from.nodes) l.nodes;
         all = λ i less can. elim (cases_lt i at) [
           | inl before ↦ queued_push work x (slice_index from i) (l.all i before can)
@@ -29,7 +27,6 @@ loop-x-preserved c =
         ];
       })
       | else-can_turn w ↦ rw w.work-is (record {
-        few = omega arith;
         nodes = l.nodes;
         all = λ i less can. elim (cases_lt i at) [
           | inl before ↦ l.all i before can
@@ -41,7 +38,7 @@ loop-x-preserved c =
     ]
 
 pub returns-clause-all : goal.returns-clause-all
-returns-clause-all c = λ x can.
+returns-clause-all g c = λ t x can.
     let net = c.args.net.now in
     let from = c.args.from.now in
     let work = c.loop-x.work in

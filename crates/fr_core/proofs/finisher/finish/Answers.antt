@@ -2,8 +2,8 @@ use Rattle.std.proofs.Common.{arith, subst, sum, ◌-◌, ◌<◌, ◌^◌, ◌�
 use Rattle.fr_core.proofs.SettledRuns.{lawful_sum_fits, run_to_settled}
 use Rattle.fr_core.proofs.Unique.{settled_lawful}
 use Rattle.fr_core.specs.Finish.{IsFinish}
-use Rattle.fr_core.proofs.finisher.finish_worklist.Goals as goal
-use Rattle.fr_core.proofs.finisher.finish_worklist.Goals.{After-total-after}
+use Rattle.fr_core.proofs.finisher.finish.Goals as goal
+use Rattle.fr_core.proofs.finisher.finish.Goals.{After-total-after}
 
 -- the totals are the sums
 exact_before : (c : After-total-after) → c.total-before.result ≡ sum c.args.turns.now
