@@ -31,7 +31,7 @@ fn points(net: &Net, counts: &[u64], x: u32, w: u32) -> bool
     net.network_law();
     let row = net.row(x);
     for (neighbour, first) in row {
-        if *neighbour == w {
+        if *neighbour as u32 == w {
             return match sense(*first, counts[x as usize], counts[w as usize]) {
                 Some(Sense::Outward) => true,
                 Some(Sense::Inward) => false,

@@ -16,7 +16,7 @@ use fr_net::{First, Net};
 /// and it was not reached before.
 fn reach(
     net: &Net,
-    entry: (u32, First),
+    entry: (u16, First),
     way: First,
     level: u64,
     counts: &mut [u64],
@@ -35,7 +35,7 @@ fn reach(
         return;
     }
     counts[node as usize] = level;
-    queue.push(node);
+    queue.push(node as u32);
 }
 
 /// Reaches the neighbours of node `x` whose links first point this way.

@@ -71,7 +71,7 @@ fn add_neighbours<const PLACES: usize>(net: &Net, x: u32, work: &mut Queue<PLACE
         return false;
     }
     for (w, _) in row {
-        work.push(*w);
+        work.push(*w as u32);
     }
     true
 }

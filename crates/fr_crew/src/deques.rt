@@ -54,8 +54,9 @@ impl<J: Naming> Deque<J> {
     {
         let dest = round.dest();
         for (neighbour, _) in round.net().row(x) {
-            if *neighbour != dest {
-                self.put(*neighbour);
+            let neighbour = *neighbour as u32;
+            if neighbour != dest {
+                self.put(neighbour);
             }
         }
     }

@@ -38,25 +38,25 @@ start_behind t = start_of t (rows_in t)
 -- the fields once a row is laid behind the others, with this room
 pub record IsBehind (t u : Inside) (row rest : List (ℕ × First)) (room : ℕ) : Type 0 where
   pub within : length row + length rest ≡ room
-  pub starts : u.starts.items ≡ t.starts.items ++ (start_behind t + room) ∷ []
-  pub ends : u.ends.items ≡ t.ends.items ++ (start_behind t + length row) ∷ []
+  pub starts : u.places.starts ≡ t.places.starts ++ (start_behind t + room) ∷ []
+  pub ends : u.places.ends ≡ t.places.ends ++ (start_behind t + length row) ∷ []
   pub entries : u.entries.items ≡ take (start_behind t) t.entries.items ++ (row ++ rest)
   pub empty : u.empty ≡ t.empty + count_by has_none (row ∷ [])
 
 rows_more : (t u : Inside) (row rest : List (ℕ × First)) (room : ℕ) → IsBehind t u row rest room → rows_in u ≡ rows_in t + 1
-rows_more t u row rest room to = ap length to.ends ∙ length_push t.ends.items (start_behind t + length row)
+rows_more t u row rest room to = ap length to.ends ∙ length_push t.places.ends (start_behind t + length row)
 
 start_stays : (t u : Inside) (row rest : List (ℕ × First)) (room : ℕ) → IsTable t → IsBehind t u row rest room → (x : ℕ) → x ≤ rows_in t → start_of u x ≡ start_of t x
-start_stays t u row rest room is to x le = ap (λ ss. get_or ss x 0) to.starts ∙ get_or_append_left t.starts.items ((start_behind t + room) ∷ []) 0 x (omega (arith, is.one_each))
+start_stays t u row rest room is to x le = ap (λ ss. get_or ss x 0) to.starts ∙ get_or_append_left t.places.starts ((start_behind t + room) ∷ []) 0 x (omega (arith, is.one_each))
 
 end_stays : (t u : Inside) (row rest : List (ℕ × First)) (room : ℕ) → IsBehind t u row rest room → (x : ℕ) → x < rows_in t → end_of u x ≡ end_of t x
-end_stays t u row rest room to x lt = ap (λ es. get_or es x 0) to.ends ∙ get_or_append_left t.ends.items ((start_behind t + length row) ∷ []) 0 x lt
+end_stays t u row rest room to x lt = ap (λ es. get_or es x 0) to.ends ∙ get_or_append_left t.places.ends ((start_behind t + length row) ∷ []) 0 x lt
 
 start_more : (t u : Inside) (row rest : List (ℕ × First)) (room : ℕ) → IsTable t → IsBehind t u row rest room → start_of u (rows_in t + 1) ≡ start_behind t + room
-start_more t u row rest room is to = ap (λ ss. get_or ss (rows_in t + 1) 0) to.starts ∙ get_or_push t.starts.items (start_behind t + room) 0 (rows_in t + 1) is.one_each
+start_more t u row rest room is to = ap (λ ss. get_or ss (rows_in t + 1) 0) to.starts ∙ get_or_push t.places.starts (start_behind t + room) 0 (rows_in t + 1) is.one_each
 
 end_more : (t u : Inside) (row rest : List (ℕ × First)) (room : ℕ) → IsBehind t u row rest room → end_of u (rows_in t) ≡ start_behind t + length row
-end_more t u row rest room to = ap (λ es. get_or es (rows_in t) 0) to.ends ∙ get_or_push t.ends.items (start_behind t + length row) 0 (rows_in t) refl
+end_more t u row rest room to = ap (λ es. get_or es (rows_in t) 0) to.ends ∙ get_or_push t.places.ends (start_behind t + length row) 0 (rows_in t) refl
 
 entries_more : (t u : Inside) (row rest : List (ℕ × First)) (room : ℕ) → IsTable t → IsBehind t u row rest room → length u.entries.items ≡ start_behind t + room
 entries_more t u row rest room is to =
@@ -107,7 +107,7 @@ table_behind t u row rest room is to =
     let n = rows_in t in
     let more = rows_more t u row rest room to in
     record {
-      one_each = omega (arith, ap length to.starts, length_push t.starts.items (start_behind t + room), is.one_each, more);
+      one_each = omega (arith, ap length to.starts, length_push t.places.starts (start_behind t + room), is.one_each, more);
       low = λ x lt. elim (cases_eq x n) [
         | inl e ↦ rw e (omega (arith, start_stays t u row rest room is to n (omega arith), end_more t u row rest room to))
         | inr ne ↦
@@ -125,7 +125,7 @@ table_behind t u row rest room is to =
           | inl e ↦ rw e (omega (arith, start_more t u row rest room is to, entries_more t u row rest room is to))
           | inr ne ↦
               let none : start_of u x ≡ 0 =
-              get_or_past u.starts.items x 0 (omega (arith, past, ne, ap length to.starts, length_push t.starts.items (start_behind t + room), is.one_each)) in
+              get_or_past u.places.starts x 0 (omega (arith, past, ne, ap length to.starts, length_push t.places.starts (start_behind t + room), is.one_each)) in
               omega (arith, none)
         ]
         | inr le ↦ omega (arith, start_stays t u row rest room is to x le, starts_rise t is x n le (omega arith), entries_more t u row rest room is to)

@@ -40,6 +40,7 @@ pub mod Outward
 pub mod Undoing
 pub mod ShortLineTexts
 pub mod ShortLineValues
+pub mod RowPlaces
 pub mod RowTables
 pub mod LaidOut
 pub mod LiftedNodes

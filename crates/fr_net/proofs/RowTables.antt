@@ -1,7 +1,7 @@
 -- Rows that stand in one list, each between its start and its end, and one of which changes where it stands.
 use Rattle.std.proofs.Common.{Bool, List, [], ap, arith, count_by, drop, eq-eqb, eqb, false, get_or, inl, inr, length, length-drop, map, ne_eqb, refl, set, slice_range, subst, suc, sym, take, true, zero, ℕ, ◌++◌, ◌+◌, ◌-◌, ◌<◌, ◌∙◌, ◌∷◌, ◌≡◌, ◌≢◌, ◌≤◌}
 use Rattle.std.proofs.lemmas.Bool.{cases_eq, cases_lt}
-use Rattle.std.proofs.lemmas.List.{append_assoc, drop-append-le, drop-drop, drop-take, drop_more, get_or-append_right, get_or-drop, get_or-set_other, get_or-set_same, get_or_read, length-set, length-take-le, same_lists, set-get_or, set_at, take-append-le, take-take, take_all, take_more, with_items_is}
+use Rattle.std.proofs.lemmas.List.{append_assoc, drop-append-le, drop-drop, drop-take, drop_more, get_or-append_right, get_or-drop, get_or-set_other, get_or-set_same, length-set, length-take-le, same_lists, set-get_or, set_at, take-append-le, take-take, take_all, take_more, with_items_is}
 use Rattle.std.proofs.lemmas.List.Edits.{length-between, length-insert, length-remove}
 use Rattle.std.proofs.lemmas.List.FromFn.{get_or-map-range_with_len, length-map-range_with_len, sum_by-map-range_with_len_more}
 use Rattle.std.proofs.lemmas.List.Sums.{count_by-le-length, get_or-le-sum_by, sum_by-set}
@@ -44,14 +44,14 @@ weigh-le false = omega arith
 
 -- where the row of x starts, and where it ends
 abbrev pub start_of : Inside → ℕ → ℕ
-start_of t x = get_or t.starts.items x 0
+start_of t x = get_or t.places.starts x 0
 
 abbrev pub end_of : Inside → ℕ → ℕ
-end_of t x = get_or t.ends.items x 0
+end_of t x = get_or t.places.ends x 0
 
 -- how many rows there are
 abbrev pub rows_in : Inside → ℕ
-rows_in t = length t.ends.items
+rows_in t = length t.places.ends
 
 pub length_rows : (t : Inside) → length (table_of t).rows ≡ rows_in t
 length_rows t = length-map-range_with_len (row_between t) 0 (rows_in t)
@@ -65,7 +65,7 @@ room_shown t x lt = get_or-map-range_with_len (room_between t) 0 (rows_in t) x x
 -- the place of a row that the table has
 pub record IsRowAt (t : Inside) (table : Table) (x : ℕ) : Type 0 where
   pub has : x < rows_in t
-  pub starts : x + 1 < length t.starts.items
+  pub starts : x + 1 < length t.places.starts
   pub low : start_of t x ≤ end_of t x
   pub high : end_of t x ≤ start_of t (x + 1)
   pub inside : start_of t (x + 1) ≤ length t.entries.items
@@ -97,8 +97,8 @@ starts_rise t is = starts_up (start_of t) (rows_in t) (λ y l. omega (arith, is.
 
 -- fields of which only those of the row of x were written: from the place `at` on this part, which stays in the room of x, and its end
 pub record IsWritten (t after : Inside) (x at end : ℕ) (part : List (ℕ × First)) : Type 0 where
-  pub starts : after.starts.items ≡ t.starts.items
-  pub ends : after.ends.items ≡ set t.ends.items x end
+  pub starts : after.places.starts ≡ t.places.starts
+  pub ends : after.places.ends ≡ set t.places.ends x end
   pub entries : after.entries.items ≡ put_mid at (length part) t.entries.items part
   pub behind_start : start_of t x ≤ at
   pub in_room : at + length part ≤ start_of t (x + 1)
@@ -107,16 +107,16 @@ pub record IsWritten (t after : Inside) (x at end : ℕ) (part : List (ℕ × Fi
 
 module _ (t after : Inside) (x at end : ℕ) (part : List (ℕ × First)) (is : IsTable t) (lt : x < rows_in t) (w : IsWritten t after x at end part) where
   pub as_many : rows_in after ≡ rows_in t
-  as_many = ap length w.ends ∙ length-set t.ends.items x end
+  as_many = ap length w.ends ∙ length-set t.places.ends x end
 
   start_stays : (y : ℕ) → start_of after y ≡ start_of t y
   start_stays y = ap (λ (xs : List ℕ). get_or xs y 0) w.starts
 
   pub end_written : end_of after x ≡ end
-  end_written = ap (λ (xs : List ℕ). get_or xs x 0) w.ends ∙ get_or-set_same t.ends.items x end 0 lt
+  end_written = ap (λ (xs : List ℕ). get_or xs x 0) w.ends ∙ get_or-set_same t.places.ends x end 0 lt
 
   end_stays : (y : ℕ) → y ≢ x → end_of after y ≡ end_of t y
-  end_stays y ne = ap (λ (xs : List ℕ). get_or xs y 0) w.ends ∙ get_or-set_other t.ends.items x y end 0 ne
+  end_stays y ne = ap (λ (xs : List ℕ). get_or xs y 0) w.ends ∙ get_or-set_other t.places.ends x y end 0 ne
 
   size_stays : length after.entries.items ≡ length t.entries.items
   size_stays = ap length w.entries ∙ length_put at (length part) t.entries.items part (omega (arith, w.in_room, is.inside (x + 1))) refl
@@ -276,7 +276,7 @@ row_shows t after table x at end part row is view lt w here count =
 -- an entry was put into the row of x
 pub entry_inserted : (t after : Inside) (table : Table) (x p : ℕ) (entry : ℕ × First) (part : List (ℕ × First)) → IsTable t → table_of t ≡ table → x < length table.rows → p ≤ length (row_of table x) → HasRoomIn table x
     → length part ≡ end_of t x + 1 - (start_of t x + p) → part ≡ take (end_of t x + 1 - (start_of t x + p)) (entry ∷ slice_range t.entries.items (start_of t x + p) (end_of t x + 1))
-    → after.starts.items ≡ t.starts.items → after.ends.items ≡ set t.ends.items x (end_of t x + 1) → after.entries.items ≡ put_mid (start_of t x + p) (length part) t.entries.items part
+    → after.places.starts ≡ t.places.starts → after.places.ends ≡ set t.places.ends x (end_of t x + 1) → after.entries.items ≡ put_mid (start_of t x + p) (length part) t.entries.items part
     → after.empty + weigh (eqb (start_of t x) (end_of t x)) ≡ t.empty → ShowsRowWritten after table x (insert (row_of table x) p entry)
 entry_inserted t after table x p entry part is view lt inside room long is_part starts ends entries count =
     let s = start_of t x in
@@ -304,7 +304,7 @@ entry_inserted t after table x p entry part is view lt inside room long is_part 
 -- an entry was taken out of the row of x
 pub entry_removed : (t after : Inside) (table : Table) (x p e : ℕ) (part : List (ℕ × First)) → IsTable t → table_of t ≡ table → x < length table.rows → p < length (row_of table x) → e + 1 ≡ end_of t x
     → length part ≡ e + 1 - (start_of t x + p) → take (e + 1 - (start_of t x + p) - 1) part ≡ drop 1 (slice_range t.entries.items (start_of t x + p) (e + 1))
-    → after.starts.items ≡ t.starts.items → after.ends.items ≡ set t.ends.items x e → after.entries.items ≡ put_mid (start_of t x + p) (length part) t.entries.items part
+    → after.places.starts ≡ t.places.starts → after.places.ends ≡ set t.places.ends x e → after.entries.items ≡ put_mid (start_of t x + p) (length part) t.entries.items part
     → after.empty ≡ t.empty + weigh (eqb (start_of t x) e) → ShowsRowWritten after table x (remove (row_of table x) p)
 entry_removed t after table x p e part is view lt inside last long is_part starts ends entries count =
     let s = start_of t x in
@@ -340,14 +340,14 @@ none_few t is = omega (arith, is.counted, count_by-le-length has_none (table_of 
 
 -- the entries of the row of x were written over
 pub row_rewritten : (t after : Inside) (table : Table) (x : ℕ) (part : List (ℕ × First)) → IsTable t → table_of t ≡ table → x < length table.rows → length part ≡ length (row_of table x)
-    → after.starts.items ≡ t.starts.items → after.ends.items ≡ t.ends.items → after.entries.items ≡ put_mid (start_of t x) (length part) t.entries.items part → after.empty ≡ t.empty → ShowsRowWritten after table x part
+    → after.places.starts ≡ t.places.starts → after.places.ends ≡ t.places.ends → after.entries.items ≡ put_mid (start_of t x) (length part) t.entries.items part → after.empty ≡ t.empty → ShowsRowWritten after table x part
 row_rewritten t after table x part is view lt long starts ends entries count =
     let s = start_of t x in
     let e = end_of t x in
     let at = row_at t table x is view lt in
     let w : IsWritten t after x s e part = record {
       starts = starts;
-      ends = ends ∙ sym (set-get_or t.ends.items x 0);
+      ends = ends ∙ sym (set-get_or t.places.ends x 0);
       entries = entries;
       behind_start = omega arith;
       in_room = omega (arith, long, at.long, at.low, at.high);
@@ -366,10 +366,8 @@ pub record IsPart (t : Inside) (table : Table) (x i j : ℕ) (entries : List (�
   pub is_row : slice_range entries i j ≡ row_of table x
   pub long : length (row_of table x) ≡ j - i
 
-pub part_read : (t : Inside) (table : Table) (x i j : ℕ) (entries : List (ℕ × First)) → IsRowAt t table x → i ≡ get_or t.starts.items x i → j ≡ get_or t.ends.items x j → entries ≡ t.entries.items → IsPart t table x i j entries
-part_read t table x i j entries at first last same =
-    let start : i ≡ start_of t x = get_or_read t.starts.items x i (omega (arith, at.starts)) first 0 in
-    let end : j ≡ end_of t x = get_or_read t.ends.items x j at.has last 0 in
+pub part_read : (t : Inside) (table : Table) (x i j : ℕ) (entries : List (ℕ × First)) → IsRowAt t table x → i ≡ start_of t x → j ≡ end_of t x → entries ≡ t.entries.items → IsPart t table x i j entries
+part_read t table x i j entries at start end same =
     record {
       start = start;
       low = omega (arith, start, end, at.low);
@@ -380,9 +378,9 @@ part_read t table x i j entries at first last same =
 
 -- and once it is written over by as many entries, the row of x is these
 pub part_rewritten : (t : Inside) (table : Table) (x i j : ℕ) (entries new : List (ℕ × First)) → IsTable t → table_of t ≡ table → x < length table.rows → IsPart t table x i j entries → entries ≡ t.entries.items → length new ≡ length (row_of table x)
-    → ShowsRowWritten (record { starts = t.starts; ends = t.ends; entries = with_items t.entries (put_mid i (j - i) entries new); empty = t.empty }) table x new
+    → ShowsRowWritten (record { places = t.places; entries = with_items t.entries (put_mid i (j - i) entries new); empty = t.empty }) table x new
 part_rewritten t table x i j entries new is view lt part same long =
-    row_rewritten t (record { starts = t.starts; ends = t.ends; entries = with_items t.entries (put_mid i (j - i) entries new); empty = t.empty }) table x new is view lt long refl refl
+    row_rewritten t (record { places = t.places; entries = with_items t.entries (put_mid i (j - i) entries new); empty = t.empty }) table x new is view lt long refl refl
     (part_put t.entries entries new i (j - i) same (omega (arith, long, part.long)) (omega (arith, part.low, part.high, ap length same)) ∙ ap (λ k. put_mid k (length new) t.entries.items new) part.start)
     refl
 
@@ -397,17 +395,17 @@ count-map-range {X} p q f (suc n) same =
     subst (λ k. count_by p (map f (range_with_len 0 k)) ≡ count_by q (range_with_len 0 k)) next
     (omega (arith, sum_by-map-range_with_len_more weight f 0 n n (omega arith), count-range_more q n, here, rest))
 
-module _ (t : Inside) (packed : ArePacked t.starts.items t.entries.items) (ends : t.ends.items ≡ drop 1 t.starts.items) where
+module _ (t : Inside) (packed : ArePacked t.places.starts t.entries.items) (ends : t.places.ends ≡ drop 1 t.places.starts) where
   end_next : (x : ℕ) → end_of t x ≡ start_of t (x + 1)
   end_next x =
       let next : 1 + x ≡ x + 1 = omega arith in
-      ap (λ (xs : List ℕ). get_or xs x 0) ends ∙ get_or-drop 1 t.starts.items x 0 ∙ ap (start_of t) next
+      ap (λ (xs : List ℕ). get_or xs x 0) ends ∙ get_or-drop 1 t.places.starts x 0 ∙ ap (start_of t) next
 
   -- starts of rows that stand one behind the other make a table
-  pub packed_one_each : length t.starts.items ≡ rows_in t + 1
-  packed_one_each = omega (arith, ap length ends, length-drop 1 t.starts.items, packed.some)
+  pub packed_one_each : length t.places.starts ≡ rows_in t + 1
+  packed_one_each = omega (arith, ap length ends, length-drop 1 t.places.starts, packed.some)
 
-  pub packed_row : (x : ℕ) → x + 1 < length t.starts.items → row_of (table_of t) x ≡ slice_range t.entries.items (start_of t x) (start_of t (x + 1))
+  pub packed_row : (x : ℕ) → x + 1 < length t.places.starts → row_of (table_of t) x ≡ slice_range t.entries.items (start_of t x) (start_of t (x + 1))
   packed_row x l = row_shown t x (omega (arith, l, packed_one_each)) ∙ ap (slice_range t.entries.items (start_of t x)) (end_next x)
 
   pub packed_table : t.empty ≡ count_by (λ x. eqb (start_of t x) (end_of t x)) (range_with_len 0 (rows_in t)) → IsTable t

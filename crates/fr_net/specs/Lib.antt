@@ -12,6 +12,7 @@ pub mod Batches
 pub mod RowLists
 pub mod Halves
 pub mod TurnedRows
+pub mod RowPlaces
 pub mod Tables
 pub mod KeptRows
 pub mod Heights

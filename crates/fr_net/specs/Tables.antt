@@ -41,23 +41,23 @@ pub record ArePacked (starts : List ℕ) (entries : List (ℕ × First)) : Type 
 
 -- the part of the entries that is the row of x
 abbrev pub row_between : Inside → ℕ → List (ℕ × First)
-row_between t x = slice_range t.entries.items (slice_index t.starts.items x) (slice_index t.ends.items x)
+row_between t x = slice_range t.entries.items (slice_index t.places.starts x) (slice_index t.places.ends x)
 
 -- from where the row of x starts to where the next one does
 abbrev pub room_between : Inside → ℕ → ℕ
-room_between t x = slice_index t.starts.items (x + 1) - slice_index t.starts.items x
+room_between t x = slice_index t.places.starts (x + 1) - slice_index t.places.starts x
 
 -- what the fields of a `RowTable` show
 abbrev pub table_of : Inside → Table
 table_of t = record {
-  rows = map (row_between t) (range_with_len 0 (length t.ends.items));
-  rooms = map (room_between t) (range_with_len 0 (length t.ends.items));
+  rows = map (row_between t) (range_with_len 0 (length t.places.ends));
+  rooms = map (room_between t) (range_with_len 0 (length t.places.ends));
 }
 
 -- each row ends before the next one starts, and the number of empty rows is kept
 pub record IsTable (t : Inside) : Type 0 where
-  pub one_each : length t.starts.items ≡ length t.ends.items + 1
-  pub low : (x : ℕ) → x < length t.ends.items → slice_index t.starts.items x ≤ slice_index t.ends.items x
-  pub high : (x : ℕ) → x < length t.ends.items → slice_index t.ends.items x ≤ slice_index t.starts.items (x + 1)
-  pub inside : (x : ℕ) → slice_index t.starts.items x ≤ length t.entries.items
+  pub one_each : length t.places.starts ≡ length t.places.ends + 1
+  pub low : (x : ℕ) → x < length t.places.ends → slice_index t.places.starts x ≤ slice_index t.places.ends x
+  pub high : (x : ℕ) → x < length t.places.ends → slice_index t.places.ends x ≤ slice_index t.places.starts (x + 1)
+  pub inside : (x : ℕ) → slice_index t.places.starts x ≤ length t.entries.items
   pub counted : t.empty ≡ count_by has_none (table_of t).rows

@@ -19,7 +19,7 @@ struct Step {
 }
 
 /// The first place of the row, from `from` on, whose link leads to a node that was not met.
-fn first_unmet(row: &[(u32, First)], met: &[bool], from: usize) -> usize
+fn first_unmet(row: &[(u16, First)], met: &[bool], from: usize) -> usize
     requires below { All (λ (e : ℕ × First). e.0 < length met.now) row.now }
     requires from { from ≤ length row.now }
     ensures low { from ≤ result }
@@ -69,7 +69,7 @@ pub(crate) fn closing_walk(
         let row = graph.row(step.node);
         let place = first_unmet(row, &met, step.next as usize);
         if place < row.len() {
-            let head = row[place].0;
+            let head = row[place].0 as u32;
             path.push(Step {
                 node: step.node,
                 next: place as u32 + 1,

@@ -6,19 +6,20 @@ ghost use Rattle.fr_net.specs.Network.{Network};
 ghost use Rattle.fr_net.specs.Edits.{without};
 ghost use Rattle.fr_net.specs.Halves.{IsPlaceIn};
 ghost use Rattle.fr_net.specs.KeptRows.{AreRows, ShowsLink, ShowsNoLink};
+ghost use Rattle.fr_net.specs.Limits.{most_nodes};
 ghost use Rattle.fr_net.specs.Tables.{HasRoomIn, row_of, with_row};
 
 use crate::row_table::RowTable;
 use crate::rows::First;
 
 /// The first place in the row, which is in rising order of the neighbour, whose neighbour is not below `w`.
-pub(crate) fn place_in_row(row: &[(u32, First)], w: u32) -> usize
+pub(crate) fn place_in_row(row: &[(u16, First)], w: u32) -> usize
     requires { IsNonDecreasingBy (λ (e : ℕ × First). e.0) row.now }
     ensures inside { result ≤ length row.now }
     ensures before { (k : ℕ) (d : ℕ × First) → k < result → (slice_index_or row.now k d).0 < w }
     ensures stops { (k : ℕ) (d : ℕ × First) → result ≤ k → k < length row.now → w ≤ (slice_index_or row.now k d).0 }
 {
-    row.partition_point(|entry| entry.0 < w)
+    row.partition_point(|entry| (entry.0 as u32) < w)
 }
 
 /// Takes the entry of `w` out of the row of `x`, which has one.
@@ -46,16 +47,18 @@ pub(crate) fn cut_from_rows(rows: &mut RowTable, u: u32, v: u32)
 fn put_entry(rows: &mut RowTable, x: u32, w: u32, first: First)
     requires row { x < length rows.old.rows }
     requires rising { IsStrictlyIncreasing (map (λ (e : ℕ × First). e.0) (row_of rows.old x)) }
+    requires few { w < most_nodes }
     requires room { HasRoomIn rows.old x }
     ensures { (place : ℕ) × IsPlaceIn (row_of rows.old x) w place × (rows.new ≡ with_row rows.old x (insert (row_of rows.old x) place (w, first))) }
 {
     let place = place_in_row(rows.row(x), w);
-    rows.insert(x, place, (w, first));
+    rows.insert(x, place, (w as u16, first));
 }
 
 /// Puts the entries of a link into the rows of both its ends, which no link has joined yet and which have room for them.
 pub(crate) fn put_in_rows(rows: &mut RowTable, tail: u32, head: u32)
     requires shown { (net : Network) × ShowsNoLink net tail head rows.old }
+    requires few { length rows.old.rows ≤ most_nodes }
     requires tail_room { HasRoomIn rows.old tail }
     requires head_room { HasRoomIn rows.old head }
     ensures rows { (net : Network) → ShowsNoLink net tail head rows.old → AreRows net.nodes (net.links ++ (tail, head) ∷ []) rows.new }

@@ -58,7 +58,7 @@ pub(crate) enum Done {
 
 impl Graph {
     /// The neighbours of node `x` in rising order, each with the direction of its link as seen from `x`.
-    pub(crate) fn row(&self, x: u32) -> &[(u32, First)]
+    pub(crate) fn row(&self, x: u32) -> &[(u16, First)]
         requires graph { IsGraph self.now }
         requires node { x < self.now.nodes }
         ensures { result.now ≡ row self.now.nodes (shown self.now).links x }
@@ -78,7 +78,7 @@ impl Graph {
         }
         let row = self.row(u);
         let (w, first) = *row.get(place_in_row(row, v))?;
-        if w != v {
+        if w as u32 != v {
             return None;
         }
         match first {

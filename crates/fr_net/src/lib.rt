@@ -23,6 +23,7 @@ mod network;
 mod path_search;
 mod read;
 mod requests;
+mod row_places;
 mod row_table;
 mod rows;
 mod short_lines;

@@ -169,9 +169,8 @@ impl Side {
     {
         let row = graph.row(self.nodes[self.read]);
         for (neighbour, first) in row {
-            if *first == self.first
-                && self.meet(*neighbour, graph.heights.height(*neighbour), met)
-            {
+            let neighbour = *neighbour as u32;
+            if *first == self.first && self.meet(neighbour, graph.heights.height(neighbour), met) {
                 return true;
             }
         }

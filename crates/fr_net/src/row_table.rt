@@ -9,6 +9,7 @@ ghost use Rattle.fr_net.specs.Tables.{ArePacked, HasRoomIn, KeepsRooms, has_none
 ghost use Rattle.fr_net.specs.TurnedRows.{reversed_at};
 
 use crate::limits::MAX_LINKS;
+use crate::row_places::RowPlaces;
 use crate::rows::First;
 use crate::turned::{reverse_entry, turn_row};
 use std::alloc::{AllocError, Global};
@@ -21,10 +22,9 @@ const MOST_ROOM: usize = 8 * MAX_LINKS;
 /// Rows of neighbours, one for each node. Contracts see the rows, and how many entries each has room for.
 #[derive(Debug, Drop)]
 pub(crate) struct RowTable {
-    // Row x stands in `entries` from `starts[x]` up to `ends[x]`, and its room goes on up to `starts[x + 1]`.
-    starts: Vec<usize>,
-    ends: Vec<usize>,
-    entries: Vec<(u32, First)>,
+    // Each row stands in `entries` from where it starts up to where it ends, and its room goes on up to where the next one starts.
+    places: RowPlaces,
+    entries: Vec<(u16, First)>,
     // How many rows are empty.
     empty: usize,
 }
@@ -41,20 +41,20 @@ impl Model for RowTable {
     ghost invariant = { IsTable };
 }
 
-/// How many of the rows between these starts and ends are empty.
-fn empty_between(starts: &[usize], ends: &[usize]) -> usize
-    requires { length starts.now ≡ length ends.now + 1 }
-    ensures { result ≡ count_by (λ x. slice_index starts.now x == slice_index ends.now x) (range_with_len 0 (length ends.now)) }
+/// How many of the rows at these places are empty.
+fn empty_between(places: &RowPlaces) -> usize
+    requires { length places.now.starts ≡ length places.now.ends + 1 }
+    ensures { result ≡ count_by (λ x. slice_index places.now.starts x == slice_index places.now.ends x) (range_with_len 0 (length places.now.ends)) }
 {
     let mut empty = 0;
-    for x in 0..ends.len() {
-        empty += usize::from(starts[x] == ends[x]);
+    for x in 0..places.len() {
+        empty += usize::from(places.start(x) == places.end(x));
     }
     empty
 }
 
 /// Puts the entry first, and each other one place on: the last one is lost.
-fn shift_in(entries: &mut [(u32, First)], entry: (u32, First))
+fn shift_in(entries: &mut [(u16, First)], entry: (u16, First))
     requires { 0 < length entries.old }
     ensures { entries.new ≡ take (length entries.old) (entry ∷ entries.old) }
 {
@@ -67,7 +67,7 @@ fn shift_in(entries: &mut [(u32, First)], entry: (u32, First))
 }
 
 /// Puts each entry but the first one place back: the first one is lost, and the last one stands twice.
-fn shift_out(entries: &mut [(u32, First)])
+fn shift_out(entries: &mut [(u16, First)])
     requires { 0 < length entries.old }
     ensures one_each { length entries.new ≡ length entries.old }
     ensures rest { take (length entries.old - 1) entries.new ≡ drop 1 entries.old }
@@ -82,53 +82,47 @@ impl RowTable {
     fn with_capacity(alloc: Global, rows: usize, entries: usize) -> Result<RowTable, AllocError>
         ensures { IfOk result (λ table. (table.rows ≡ []) × (table.rooms ≡ [])) }
     {
-        let mut starts = Vec::with_capacity(alloc, rows.saturating_add(1))?;
-        starts.push(0)?;
         Ok(RowTable {
-            starts,
-            ends: Vec::with_capacity(alloc, rows)?,
+            places: RowPlaces::none(alloc, rows, 0)?,
             entries: Vec::with_capacity(alloc, entries)?,
             empty: 0,
         })
     }
 
     /// The table with a row behind the others, which has room for so many entries.
-    fn with_row_behind(self, row: &[(u32, First)], room: usize) -> Result<RowTable, AllocError>
+    fn with_row_behind(self, row: &[(u16, First)], room: usize) -> Result<RowTable, AllocError>
         requires { length row.now ≤ room }
         ensures rows { IfOk result (λ table. table.rows ≡ self.rows ++ row.now ∷ []) }
         ensures rooms { IfOk result (λ table. table.rooms ≡ self.rooms ++ room ∷ []) }
     {
         let RowTable {
-            mut starts,
-            mut ends,
+            mut places,
             mut entries,
             mut empty,
         } = self;
-        let start = starts[starts.len() - 1];
+        let start = places.start(places.len());
         let next = start.checked_add(room).ok_or(AllocError)?;
         // Entries behind the room of the last row are of no row.
         entries.truncate(start);
         entries.extend_from_slice(row)?;
-        ends.push(entries.len())?;
+        places.push(entries.len(), next)?;
         entries.resize(next, (0, First::Outward))?;
-        starts.push(next)?;
         if row.is_empty() {
             empty += 1;
         }
         Ok(RowTable {
-            starts,
-            ends,
+            places,
             entries,
             empty,
         })
     }
 
     /// The row at this place.
-    fn row_at(&self, x: usize) -> &[(u32, First)]
+    fn row_at(&self, x: usize) -> &[(u16, First)]
         requires { x < length self.now.rows }
         ensures { result.now ≡ row_of self.now x }
     {
-        &self.entries[self.starts[x]..self.ends[x]]
+        &self.entries[self.places.start(x)..self.places.end(x)]
     }
 
     /// How many entries the row at this place has room for once it is laid out anew: an eighth more than it has, and six, for links
@@ -140,14 +134,14 @@ impl RowTable {
     {
         let long = self.row_at(x).len();
         let wide = long + long / 8 + 6;
-        let held = self.starts[x + 1] - self.starts[x];
+        let held = self.places.room_end(x) - self.places.start(x);
         if keeps_room { wide.max(held) } else { wide }
     }
 
     /// How many entries all rows together have room for once they are laid out anew.
     fn whole_room_anew(&self, keeps_room: bool) -> usize {
         let mut whole: usize = 0;
-        for x in 0..self.ends.len() {
+        for x in 0..self.places.len() {
             whole = whole.saturating_add(self.room_anew(x, keeps_room));
         }
         whole
@@ -159,7 +153,7 @@ impl RowTable {
         ensures room { IfOk result (λ table. (x : ℕ) → x < length self.now.rows → HasRoomIn table x) }
         ensures kept { IsTrue keeps_room → IfOk result (KeepsRooms self.now) }
     {
-        let rows = self.ends.len();
+        let rows = self.places.len();
         let mut table = RowTable::with_capacity(alloc, rows, self.whole_room_anew(keeps_room))?;
         for x in 0..rows {
             table = table.with_row_behind(self.row_at(x), self.room_anew(x, keeps_room))?;
@@ -171,25 +165,24 @@ impl RowTable {
     pub(crate) fn packed(
         alloc: Global,
         starts: Vec<usize>,
-        entries: Vec<(u32, First)>,
+        entries: Vec<(u16, First)>,
     ) -> Result<RowTable, AllocError>
         requires { ArePacked starts.items entries.items }
         ensures one_each { IfOk result (λ table. length table.rows + 1 ≡ length starts.items) }
         ensures rows { IfOk result (λ table. (x : ℕ) → x + 1 < length starts.items
             → row_of table x ≡ slice_range entries.items (slice_index starts.items x) (slice_index starts.items (x + 1))) }
     {
-        let ends = starts[1..].to_vec(alloc)?;
-        let empty = empty_between(&starts, &ends);
+        let places = RowPlaces::packed(alloc, &starts)?;
+        let empty = empty_between(&places);
         Ok(RowTable {
-            starts,
-            ends,
+            places,
             entries,
             empty,
         })
     }
 
     /// The row of `x`.
-    pub(crate) fn row(&self, x: u32) -> &[(u32, First)]
+    pub(crate) fn row(&self, x: u32) -> &[(u16, First)]
         requires { x < length self.now.rows }
         ensures { result.now ≡ row_of self.now x }
     {
@@ -215,8 +208,7 @@ impl RowTable {
         ensures { IfOk result (λ copy. copy ≡ self.now) }
     {
         Ok(RowTable {
-            starts: self.starts.to_vec(alloc)?,
-            ends: self.ends.to_vec(alloc)?,
+            places: self.places.copied(alloc)?,
             entries: self.entries.to_vec(alloc)?,
             empty: self.empty,
         })
@@ -231,7 +223,7 @@ impl RowTable {
         ensures room { OnOk result (HasRoomIn self.new x) }
         ensures unchanged { OnErr result (self.new ≡ self.old) }
     {
-        if self.ends[x as usize] == self.starts[x as usize + 1] {
+        if self.places.end(x as usize) == self.places.room_end(x as usize) {
             *self = self.laid_out(alloc, true)?;
         }
         Ok(())
@@ -248,16 +240,16 @@ impl RowTable {
     }
 
     /// Puts an entry into the row of `x`, which has room for it, before the entry at this place.
-    pub(crate) fn insert(&mut self, x: u32, place: usize, entry: (u32, First))
+    pub(crate) fn insert(&mut self, x: u32, place: usize, entry: (u16, First))
         requires row { x < length self.old.rows }
         requires place { place ≤ length (row_of self.old x) }
         requires room { HasRoomIn self.old x }
         ensures { self.new ≡ with_row self.old x (insert (row_of self.old x) place entry) }
     {
-        let start = self.starts[x as usize];
-        let end = self.ends[x as usize];
+        let start = self.places.start(x as usize);
+        let end = self.places.end(x as usize);
         shift_in(&mut self.entries[start + place..end + 1], entry);
-        self.ends[x as usize] = end + 1;
+        self.places.set_end(x as usize, end + 1);
         self.empty -= usize::from(start == end);
     }
 
@@ -267,10 +259,10 @@ impl RowTable {
         requires place { place < length (row_of self.old x) }
         ensures { self.new ≡ with_row self.old x (remove (row_of self.old x) place) }
     {
-        let start = self.starts[x as usize];
-        let end = self.ends[x as usize] - 1;
+        let start = self.places.start(x as usize);
+        let end = self.places.end(x as usize) - 1;
         shift_out(&mut self.entries[start + place..end + 1]);
-        self.ends[x as usize] = end;
+        self.places.set_end(x as usize, end);
         self.empty += usize::from(start == end);
     }
 
@@ -282,7 +274,7 @@ impl RowTable {
         ensures { self.new ≡ with_row self.old x (map (turned_entry counts.now x) (row_of self.old x)) }
     {
         turn_row(
-            &mut self.entries[self.starts[x as usize]..self.ends[x as usize]],
+            &mut self.entries[self.places.start(x as usize)..self.places.end(x as usize)],
             x,
             counts,
         );
@@ -296,7 +288,7 @@ impl RowTable {
         ensures { self.new ≡ with_row self.old x (map (reversed_at w) (row_of self.old x)) }
     {
         reverse_entry(
-            &mut self.entries[self.starts[x as usize]..self.ends[x as usize]],
+            &mut self.entries[self.places.start(x as usize)..self.places.end(x as usize)],
             w,
         );
     }

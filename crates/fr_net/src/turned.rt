@@ -14,7 +14,7 @@ use crate::turns::Turns;
 use std::alloc::{AllocError, Global};
 
 /// An entry of the row of `x`, with its link as the counts turn it.
-fn turned_at(entry: (u32, First), x: u32, counts: &[u64]) -> (u32, First)
+fn turned_at(entry: (u16, First), x: u32, counts: &[u64]) -> (u16, First)
     requires node { x < length counts.now }
     requires neighbour { entry.0 < length counts.now }
     ensures { result ≡ turned_entry counts.now x entry }
@@ -28,7 +28,7 @@ fn turned_at(entry: (u32, First), x: u32, counts: &[u64]) -> (u32, First)
 }
 
 /// Turns each link of the row of `x` as the counts say.
-pub(crate) fn turn_row(row: &mut [(u32, First)], x: u32, counts: &[u64])
+pub(crate) fn turn_row(row: &mut [(u16, First)], x: u32, counts: &[u64])
     requires node { x < length counts.now }
     requires below { All (λ (e : ℕ × First). e.0 < length counts.now) row.old }
     ensures { row.new ≡ map (turned_entry counts.now x) row.old }
@@ -39,7 +39,7 @@ pub(crate) fn turn_row(row: &mut [(u32, First)], x: u32, counts: &[u64])
 }
 
 /// Reverses the entry of `w` in the row, which has one.
-pub(crate) fn reverse_entry(row: &mut [(u32, First)], w: u32)
+pub(crate) fn reverse_entry(row: &mut [(u16, First)], w: u32)
     requires rising { IsStrictlyIncreasing (map (λ (e : ℕ × First). e.0) row.old) }
     requires stands { Contains (map (λ (e : ℕ × First). e.0) row.old) w }
     ensures { row.new ≡ map (reversed_at w) row.old }
@@ -60,7 +60,7 @@ fn turn_node(rows: &mut RowTable, x: u32, counts: &[u64])
 {
     rows.turn_row(x, counts);
     for place in 0..rows.row(x).len() {
-        let w = rows.row(x)[place].0;
+        let w = rows.row(x)[place].0 as u32;
         if counts[w as usize] == 0 {
             rows.reverse_entry(w, x);
         }
@@ -81,13 +81,13 @@ pub(crate) fn turn_rows(rows: &mut RowTable, turns: &Turns)
 fn push_out_links(
     links: &mut Vec<(u32, u32)>,
     x: u32,
-    row: &[(u32, First)],
+    row: &[(u16, First)],
 ) -> Result<(), AllocError>
     ensures { OnOk result (links.new.items ≡ links.old.items ++ out_links x row.now) }
 {
     for (w, first) in row {
         if *first == First::Outward {
-            links.push((x, *w))?;
+            links.push((x, *w as u32))?;
         }
     }
     Ok(())

@@ -67,7 +67,7 @@ pub(crate) fn look_at(
     seen.raise(&terms.net, x, c);
     for entry in terms.net.row(x) {
         if !is_met(terms, words, seat, seen, x, c, *entry) {
-            return Reply::Held { by: entry.0 };
+            return Reply::Held { by: entry.0 as u32 };
         }
     }
     confirm(terms, words, seat, seen, x, c)

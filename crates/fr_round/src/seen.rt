@@ -127,7 +127,7 @@ impl Seen {
     }
 
     /// Whether a neighbour, a row's entry, misses its bound for the count `own`, by what was seen.
-    pub fn misses(&self, entry: (u32, First), own: u64) -> bool
+    pub fn misses(&self, entry: (u16, First), own: u64) -> bool
         requires { entry.0 < length self.now.counts.items }
         ensures { result ≡ misses self.now.counts.items own entry }
     {

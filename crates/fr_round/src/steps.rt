@@ -32,7 +32,7 @@ fn load_neighbour(
     seat: &mut RoundSeat,
     x: u32,
     c: u64,
-    entry: (u32, First),
+    entry: (u16, First),
 ) -> u64
     requires table { IsAtWords words.now.key words.now seat.old }
     requires call { IsInCall (setup_of words.now.key) x c seat.old.me.0 }
@@ -59,7 +59,7 @@ pub(crate) fn is_met(
     seen: &mut Seen,
     x: u32,
     c: u64,
-    entry: (u32, First),
+    entry: (u16, First),
 ) -> bool
     requires table { IsAtWords terms.now words.now seat.old }
     requires call { IsInCall (setup_of terms.now) x c seat.old.me.0 }
@@ -76,7 +76,7 @@ pub(crate) fn is_met(
         return true;
     }
     let found = load_neighbour(words, seat, x, c, entry);
-    seen.raise(&terms.net, entry.0, found);
+    seen.raise(&terms.net, entry.0 as u32, found);
     !seen.misses(entry, c)
 }
 
@@ -144,7 +144,7 @@ pub(crate) fn turn_at(
     }
     for entry in terms.net.row(x) {
         if !is_met(terms, words, seat, seen, x, c, *entry) {
-            return Reply::Held { by: entry.0 };
+            return Reply::Held { by: entry.0 as u32 };
         }
     }
     exchange(terms, words, seat, seen, x, c)

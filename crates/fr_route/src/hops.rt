@@ -38,7 +38,7 @@ pub(crate) fn least_out(net: &Net, x: u32) -> Option<u32>
     let row = net.row(x);
     for (w, first) in row {
         if *first == First::Outward {
-            return Some(*w);
+            return Some(*w as u32);
         }
     }
     None
@@ -113,7 +113,7 @@ fn renew_near(hops: &mut [Hop], net: &Net, dest: u32, counts: &[u64], x: u32)
     renew_one(hops, net, dest, counts, x);
     let row = net.row(x);
     for (w, _) in row {
-        renew_sender(hops, net, dest, counts, *w, x);
+        renew_sender(hops, net, dest, counts, *w as u32, x);
     }
 }
 

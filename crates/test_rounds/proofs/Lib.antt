@@ -1,1 +1,2 @@
 pub mod SmallChains
+pub mod SmallFans

@@ -182,8 +182,8 @@ impl Gate for CountingGate {
     fn after(&self, _worker: u32, _call: u64) {}
 }
 
-/// How many calls one worker makes to settle the counts of a network, from all nodes or from these, and whether those of the first eight
-/// nodes are the ones of a chain.
+/// How many calls one worker makes to settle the counts of a network, from all nodes or from these, and whether those of the first
+/// fifteen nodes are the ones of the fan below.
 fn calls_of_one<R: Threads + Wait + Sync>(
     rt: &R,
     alloc: Global,
@@ -196,25 +196,45 @@ fn calls_of_one<R: Threads + Wait + Sync>(
     net.network_law();
     let none = Turns::none(alloc, net.nodes())?;
     let turns = settled_counts(rt, alloc, net, 0, from, &plan(1, 1000)?, &gate, none)?;
-    let settled = turns.counts().starts_with(&[0, 1, 2, 3, 4, 5, 6, 7]);
-    Ok((gate.0.load(Ordering::SeqCst), settled))
+    let wanted = &[0, 1, 2, 3, 3, 3, 3, 3, 3, 3, 3, 3, 3, 3, 3];
+    Ok((
+        gate.0.load(Ordering::SeqCst),
+        turns.counts().starts_with(wanted),
+    ))
 }
 
-/// A chain of eight nodes that points away from node 0: node 1 turns once, node 2 twice, up to node 7, and with each turn all their
-/// neighbours but node 0 are tried again, which makes 48 tries. Besides, one worker tries each of its first candidates: the sink,
-/// node 7, alone where it is given, and else all seven. It makes no more calls than there are nodes where its candidates are given; so
-/// there are 60 nodes more, and no more than that, since a few turns alone would settle the chain among more nodes.
+/// A fan: a link from node 0 to node 1, one from there to node 2, and from there one to each of twelve nodes more. So node 1 turns once,
+/// node 2 twice, and each of the twelve three times, and with each turn all their neighbours but node 0 are tried again: 1, twice 13 and
+/// 36 tries. Besides, one worker tries each of its first candidates: the twelve sinks where they are given, and else all fourteen. Where
+/// they are given it makes no more calls than there are nodes; so there are 65 nodes more, and few enough for a few turns not
+/// to settle the fan, since it takes long to look at node 2 again after each turn of the twelve.
 #[test]
 fn given_nodes_are_tried_first(rt: HostRuntime) -> Result<(), Fail> {
-    let chain = &[(0, 1), (1, 2), (2, 3), (3, 4), (4, 5), (5, 6), (6, 7)];
-    let long = Net::new(rt.alloc(), 68, chain)?;
-    let given = calls_of_one(&rt, rt.alloc(), &long, Some(&[7]))?;
-    assert!(rt; given == (1 + 48, true), "{given:?}");
+    let fan = &[
+        (0, 1),
+        (1, 2),
+        (2, 3),
+        (2, 4),
+        (2, 5),
+        (2, 6),
+        (2, 7),
+        (2, 8),
+        (2, 9),
+        (2, 10),
+        (2, 11),
+        (2, 12),
+        (2, 13),
+        (2, 14),
+    ];
+    let sinks = &[3, 4, 5, 6, 7, 8, 9, 10, 11, 12, 13, 14];
+    let long = Net::new(rt.alloc(), 80, fan)?;
+    let given = calls_of_one(&rt, rt.alloc(), &long, Some(sinks))?;
+    assert!(rt; given == (12 + 63, true), "{given:?}");
     let every = calls_of_one(&rt, rt.alloc(), &long, None)?;
-    assert!(rt; every == (7 + 48, true), "{every:?}");
-    let short = Net::new(rt.alloc(), 8, chain)?;
-    let given = calls_of_one(&rt, rt.alloc(), &short, Some(&[7]))?;
-    assert!(rt; given == (8, true), "{given:?}");
+    assert!(rt; every == (14 + 63, true), "{every:?}");
+    let short = Net::new(rt.alloc(), 15, fan)?;
+    let given = calls_of_one(&rt, rt.alloc(), &short, Some(sinks))?;
+    assert!(rt; given == (15, true), "{given:?}");
     Ok(())
 }
 

@@ -19,6 +19,9 @@ beside c =
 pub put_entry-requires-clause-row : goal.put_entry-requires-clause-row
 put_entry-requires-clause-row c = let shown = c.requires.shown.1 in omega (arith, shown.nodes.tail, shown.rows.one_each)
 
+pub put_entry-requires-clause-few : goal.put_entry-requires-clause-few
+put_entry-requires-clause-few c = let shown = c.requires.shown.1 in omega (arith, shown.nodes.head, shown.rows.one_each, c.requires.few)
+
 pub put_entry-requires-clause-rising : goal.put_entry-requires-clause-rising
 put_entry-requires-clause-rising c =
     let net = c.requires.shown.0 in
@@ -30,6 +33,9 @@ put_entry-requires-2-clause-row c =
     let shown = c.requires.shown.1 in
     let long = length_beside net.nodes net.links c.args.rows.now c.put_entry.new.rows c.args.tail (insert (row_of c.args.rows.now c.args.tail) c.put_entry.ensures.0 (c.args.head, Outward)) shown.rows c.put_entry.ensures.2 in
     omega (arith, shown.nodes.head, long)
+
+pub put_entry-requires-2-clause-few : goal.put_entry-requires-2-clause-few
+put_entry-requires-2-clause-few c = let shown = c.requires.shown.1 in omega (arith, shown.nodes.tail, shown.rows.one_each, c.requires.few)
 
 pub put_entry-requires-2-clause-rising : goal.put_entry-requires-2-clause-rising
 put_entry-requires-2-clause-rising c = rw (beside (goal.at.put_entry-requires-2-clause-rising c).After-put_entry) (neighbours_rise c.requires.shown.0.nodes c.requires.shown.0.links c.args.head)

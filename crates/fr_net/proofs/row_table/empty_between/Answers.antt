@@ -7,10 +7,10 @@ use Rattle.fr_net.proofs.row_table.empty_between.Goals.{After-from-empty}
 
 -- whether a row is empty
 abbrev is_none : (c : After-from-empty) → ℕ → Bool
-is_none c x = eqb (get_or c.args.starts.now x 0) (get_or c.args.ends.now x 0)
+is_none c x = eqb (get_or c.args.places.now.starts x 0) (get_or c.args.places.now.ends x 0)
 
 counts : (c : After-from-empty) → c.from-empty.result ≡ weigh (is_none c c.loop-x.x)
-counts c = c.from-empty.ensures ∙ bit_is (is_none c c.loop-x.x)
+counts c = rw (← c.start.ensures, ← c.end.ensures) (c.from-empty.ensures ∙ bit_is (eqb c.start.result c.end.result))
 
 pub overflow_add-empty : goal.overflow_add-empty
 overflow_add-empty c =

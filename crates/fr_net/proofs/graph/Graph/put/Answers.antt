@@ -24,6 +24,9 @@ rows c = c.put_in_rows.ensures.rows (shown c.args.self.now) (before (goal.at.Aft
 pub put_in_rows-requires-clause-shown : goal.put_in_rows-requires-clause-shown
 put_in_rows-requires-clause-shown c = (shown c.args.self.now, before (goal.at.put_in_rows-requires-clause-shown c).Start)
 
+pub put_in_rows-requires-clause-few : goal.put_in_rows-requires-clause-few
+put_in_rows-requires-clause-few c = omega (arith, c.requires.graph.rows.one_each, c.requires.graph.faultless.limits.nodes_few)
+
 pub overflow_add-self : goal.overflow_add-self
 overflow_add-self c = omega (arith, c.requires.graph.counted, c.requires.few)
 

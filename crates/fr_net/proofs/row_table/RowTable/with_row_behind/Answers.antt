@@ -1,10 +1,8 @@
-use Rattle.std.proofs.Common.{List, [], add-zero, ap, arith, cond, count_by, false, get_or, length, length-append, replicate, sym, take, true, vec_len, ℕ, ◌+◌, ◌++◌, ◌-◌, ◌<◌, ◌^◌, ◌∙◌, ◌∷◌, ◌≡◌}
-use Rattle.std.proofs.lemmas.List.{append_assoc, get_or_read, length-replicate, length-take-le, take_all}
-use Rattle.std.proofs.lemmas.List.Sums.{count_by-le-length}
-use Rattle.std.proofs.lemmas.List.FromFn.{length-map-range_with_len}
-use Rattle.fr_net.proofs.RowTables.{none_is}
+use Rattle.std.proofs.Common.{List, [], add-zero, ap, arith, cond, count_by, false, length, length-append, replicate, sym, take, true, vec_len, ℕ, ◌+◌, ◌++◌, ◌-◌, ◌∙◌, ◌∷◌, ◌≡◌}
+use Rattle.std.proofs.lemmas.List.{append_assoc, length-replicate, length-take-le, length_push, take_all}
+use Rattle.fr_net.proofs.RowTables.{none_few, none_is, start_of}
 use Rattle.fr_net.proofs.LaidOut.{IsBehind, rooms_behind, rows_behind, start_behind, table_behind}
-use Rattle.fr_net.specs.Tables.{has_none, row_between, table_of}
+use Rattle.fr_net.specs.Tables.{has_none}
 use Rattle.fr_net.specs.declared.row_table.RowTable.TheInside.{Inside}
 use Rattle.fr_net.specs.declared.rows.First.{First}
 use Rattle.fr_net.specs.declared.rows.First.TheVariants.{Outward}
@@ -14,11 +12,8 @@ use Rattle.fr_net.proofs.row_table.RowTable.with_row_behind.Goals.{Joined-is_emp
 abbrev old : Joined-is_empty → Inside
 old c = c.self.inside
 
-start_is : (c : Joined-is_empty) → c.index-start.result.now ≡ start_behind (old c)
-start_is c =
-    let at : c.len.result - 1 ≡ length c.self.inside.ends.items = omega (arith, c.len.ensures, c.self.inside.starts.ok.0, c.self.invariant.one_each) in
-    get_or_read c.self.inside.starts.items (c.len.result - 1) c.index-start.result.now (omega (arith, at, c.self.invariant.one_each)) c.index-start.ensures 0
-    ∙ ap (λ n. get_or c.self.inside.starts.items n 0) at
+start_is : (c : Joined-is_empty) → c.start-start.result ≡ start_behind (old c)
+start_is c = c.start-start.ensures ∙ ap (start_of (old c)) c.len.ensures
 
 next_is : (c : Joined-is_empty) → c.in_ok-next.next ≡ start_behind (old c) + c.args.room
 next_is c = (rw c.in_ok-next.ensures.ok_part at c.checked_add.ensures).1 ∙ ap (λ s. s + c.args.room) (start_is c)
@@ -32,7 +27,7 @@ long : (c : Joined-is_empty) → length c.extend_from_slice.new.self.items ≡ s
 long c =
     let s = start_behind (old c) in
     let xs = c.self.inside.entries.items in
-    ap length (extended c) ∙ length-append (take s xs) c.args.row.now ∙ ap (λ n. n + length c.args.row.now) (length-take-le s xs (c.self.invariant.inside (length c.self.inside.ends.items)))
+    ap length (extended c) ∙ length-append (take s xs) c.args.row.now ∙ ap (λ n. n + length c.args.row.now) (length-take-le s xs (c.self.invariant.inside (length c.self.inside.places.ends)))
 
 abbrev filler : Joined-is_empty → List (ℕ × First)
 filler c = replicate (c.args.room - length c.args.row.now) (0, Outward)
@@ -57,29 +52,27 @@ empty_is c = elim c.if-is_empty.branch [
       w.empty-is ∙ sym (add-zero c.self.inside.empty) ∙ ap (λ b. c.self.inside.empty + (0 + cond b 1 0)) (sym some)
 ]
 
-behind : (c : Joined-is_empty) → IsBehind (old c) (record { starts = c.push-2.new.self; ends = c.push.new.self; entries = c.resize.new.self; empty = c.if-is_empty.empty }) c.args.row.now (filler c) c.args.room
+behind : (c : Joined-is_empty) → IsBehind (old c) (record { places = c.push.new.self; entries = c.resize.new.self; empty = c.if-is_empty.empty }) c.args.row.now (filler c) c.args.room
 behind c = record {
   within = omega (arith, length-replicate {A = ℕ × First} (c.args.room - length c.args.row.now) (0, Outward), c.requires);
-  starts = c.in_ok-push-2.ensures.items ∙ ap (λ s. c.self.inside.starts.items ++ s ∷ []) (next_is c);
+  starts = c.in_ok-push.ensures.starts ∙ ap (λ s. c.self.inside.places.starts ++ s ∷ []) (next_is c);
   ends =
       let counted : c.len-2.result ≡ start_behind (old c) + length c.args.row.now = c.len-2.ensures ∙ c.extend_from_slice.new.self.ok.0 ∙ long c in
-      c.in_ok-push.ensures.items ∙ ap (λ e. c.self.inside.ends.items ++ e ∷ []) counted;
+      c.in_ok-push.ensures.ends ∙ ap (λ e. c.self.inside.places.ends ++ e ∷ []) counted;
   entries = entries_are c;
   empty = empty_is c;
 }
 
 pub overflow_add-empty : goal.overflow_add-empty
 overflow_add-empty c =
-    let fits : c.len.result < 2 ^ 64 = c.len.type_inv in
+    let places = c.self.inside.places in
     omega (
       arith,
-      c.self.invariant.counted,
-      count_by-le-length has_none (table_of c.self.inside).rows,
-      length-map-range_with_len (row_between c.self.inside) 0 (length c.self.inside.ends.items),
+      none_few c.self.inside c.self.invariant,
       c.self.invariant.one_each,
-      c.len.ensures,
-      c.self.inside.starts.ok.0,
-      fits,
+      ap length c.in_ok-push.ensures.starts,
+      length_push places.starts c.in_ok-next.next,
+      c.in_ok-push.ensures.few,
     )
 
 pub invariant_of-result : goal.invariant_of-result
