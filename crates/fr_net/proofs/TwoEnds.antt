@@ -14,7 +14,7 @@ use Rattle.fr_net.specs.Faults.{IsFaultless}
 use Rattle.fr_net.specs.Graph.{IsGraph, shown}
 use Rattle.fr_net.specs.Heights.{AreFalling, FitBetween}
 use Rattle.fr_net.specs.Links.{HasPath, IsNet, IsPath, Points, end_of}
-use Rattle.fr_net.specs.PathSearch.{HasBegun, HasMet, HasMetMore, HasMovedEdge, HasPassed, HasWay, IsBeyond, IsPast, IsMetOrAside, IsSide, IsWay, LeadsOn, MeetsNew, is_never, met_by, met_of, never_count, start_of, way_of_ended}
+use Rattle.fr_net.specs.PathSearch.{HasBegun, HasMet, HasMetMore, HasMovedEdge, HasPassed, HasWay, IsBeyond, IsPast, IsMetOrAside, IsSide, IsWay, LeadsOn, LiesOn, MeetsNew, is_never, met_by, met_of, never_count, way_of_ended}
 use Rattle.fr_net.specs.Network.{Network}
 use Rattle.fr_net.specs.RowLists.{opposite}
 use Rattle.fr_net.specs.Rows.{row}
@@ -37,6 +37,17 @@ leads_by_row Inward n links x w h = in_of_row n links x w h
 row_of_leads : (f : First) (n : ℕ) (links : List (ℕ × ℕ)) (x w : ℕ) → IsNet n links → LeadsOn f links x w → Contains (row n links x) (w, f)
 row_of_leads Outward n links x w net h = row_of_out n links x w net h
 row_of_leads Inward n links x w net h = row_of_in n links x w net h
+
+-- links fall, so heights tell which way the link to a neighbour points
+pub leads_lies : (f : First) (heights : List ℕ) (links : List (ℕ × ℕ)) (x w : ℕ) → AreFalling heights links → LeadsOn f links x w → LiesOn f (slice_index heights x) (slice_index heights w)
+leads_lies Outward heights links x w falling step = falling x w step
+leads_lies Inward heights links x w falling step = falling w x step
+
+lies_leads : (f g : First) (heights : List ℕ) (links : List (ℕ × ℕ)) (x w : ℕ) → AreFalling heights links → LeadsOn g links x w → LiesOn f (slice_index heights x) (slice_index heights w) → LeadsOn f links x w
+lies_leads Outward Outward heights links x w falling step lies = step
+lies_leads Outward Inward heights links x w falling step lies = absurd (omega (arith, falling w x step))
+lies_leads Inward Outward heights links x w falling step lies = absurd (omega (arith, falling x w step))
+lies_leads Inward Inward heights links x w falling step lies = step
 
 -- ways of no link, of one link more, and of two parts
 way_here : (f : First) (links : List (ℕ × ℕ)) (x : ℕ) → HasWay f links x x
@@ -117,6 +128,42 @@ none_more m = record {
   counted = rw m.same_nodes refl;
 }
 
+-- a side whose edge came nearer, or stayed
+pub with_edge_nearer : {side : Side} {f : First} {edge : ℕ} → side.first ≡ f → ((height : ℕ) → IsPast f side.edge height → IsPast f edge height) → HasMovedEdge side (record side { edge = edge })
+with_edge_nearer first_is nearer = record {
+  same_first = refl;
+  same_limit = refl;
+  nearer = rw first_is nearer;
+  same_nodes = refl;
+  same_read = refl;
+}
+
+-- a side that met nothing, and whose edge stayed
+pub same_more : (side : Side) (met : List Met) → HasMetMore side side met met
+same_more side met = record {
+  same_first = refl;
+  same_limit = refl;
+  nearer = λ height past. past;
+  longer = omega arith;
+  stands = λ k l. refl;
+  met = λ x. inl refl;
+  one_each = refl;
+  counted = refl;
+}
+
+-- a side that met more nodes still did so, whichever edges are put in place of theirs, as long as they come nearer
+pub more_by_edges : {before after : Side} {f : First} {old new : List Met} {edge nearer_edge : ℕ} → before.first ≡ f → ((height : ℕ) → IsPast f edge height → IsPast f nearer_edge height) → HasMetMore before after old new → HasMetMore (record before { edge = edge }) (record after { edge = nearer_edge }) old new
+more_by_edges first_is nearer m = record {
+  same_first = m.same_first;
+  same_limit = m.same_limit;
+  nearer = rw first_is nearer;
+  longer = m.longer;
+  stands = m.stands;
+  met = m.met;
+  one_each = m.one_each;
+  counted = m.counted;
+}
+
 pub more_after : {first mid last : Side} {a b c : List Met} → HasMetMore first mid a b → HasMetMore mid last b c → HasMetMore first last a c
 more_after {first} {mid} {last} {a} {b} {c} h g =
     let then : (x : ℕ) → (met_of c x ≡ met_of b x) ⊎ ((met_of b x ≡ Never) × HasMet first.first c x) = rw h.same_first at g.met in
@@ -194,7 +241,7 @@ side_meets {net} {heights} {f} {start} {limit} {old} {new} {before} {after} {x} 
     }
 
 -- a side that may have left one node more aside
-side_moves : {net : Network} {heights : List ℕ} {f : First} {start limit : ℕ} {met : List Met} {before after : Side} → HasMovedEdge before after → IsSide net heights f start limit met before → IsSide net heights f start limit met after
+pub side_moves : {net : Network} {heights : List ℕ} {f : First} {start limit : ℕ} {met : List Met} {before after : Side} → HasMovedEdge before after → IsSide net heights f start limit met before → IsSide net heights f start limit met after
 side_moves {net} {heights} {f} {start} {limit} {met} {before} {after} m s = record {
   one_each = s.one_each;
   first_is = m.same_first ∙ s.first_is;
@@ -210,10 +257,10 @@ side_moves {net} {heights} {f} {start} {limit} {met} {before} {after} m s = reco
   room = rw m.same_nodes s.room;
 }
 
--- so it keeps its state, whether it has met the node, left it aside, or done so before
-pub side_goes_on : {net : Network} {heights : List ℕ} {f : First} {start limit : ℕ} {old new : List Met} {before after : Side} (x : ℕ) → x < net.nodes → HasWay f net.links start x → (HasMovedEdge before after × (new ≡ old)) ⊎ (MeetsNew before after old new x × ¬ IsBeyond before.first before.limit (slice_index heights x)) → IsSide net heights f start limit old before → IsSide net heights f start limit new after × HasMetMore before after old new × (after.read ≡ before.read)
-side_goes_on x below way (inl m) s = rw m.1 (side_moves m.0 s, none_more m.0, m.0.same_read)
-side_goes_on x below way (inr m) s = (side_meets below way (rw (s.first_is, s.limit_is) at m.1) m.0 s, one_more (omega (arith, s.one_each)) m.0, m.0.same_read)
+-- so it keeps its state, whether it meets a node within the limit now, or has met it before
+pub side_goes_on : {net : Network} {heights : List ℕ} {f : First} {start limit : ℕ} {old new : List Met} {before after : Side} (x : ℕ) → x < net.nodes → HasWay f net.links start x → ¬ IsBeyond f limit (slice_index heights x) → ((after ≡ before) × (new ≡ old)) ⊎ MeetsNew before after old new x → IsSide net heights f start limit old before → IsSide net heights f start limit new after × HasMetMore before after old new × (after.read ≡ before.read) × (after.edge ≡ before.edge)
+side_goes_on {old = old} {before = before} x below way near (inl m) s = rw (m.0, m.1) (s, same_more before old, refl, refl)
+side_goes_on x below way near (inr m) s = (side_meets below way near m s, one_more (omega (arith, s.one_each)) m, m.same_read, m.same_edge)
 
 -- the other side as a side meets more
 pub other_stays : {net : Network} {heights : List ℕ} {start limit : ℕ} {old new : List Met} {before after other : Side} (f : First) → before.first ≡ f → HasMetMore before after old new → IsSide net heights (opposite f) start limit old other → IsSide net heights (opposite f) start limit new other
@@ -245,6 +292,11 @@ entry_leads f n links x entries k d is l same =
     let w = (get_or entries k d).0 in
     let listed : Contains entries (w, f) = (k, l, get_or_default entries k (w, f) d l ∙ entry_is (get_or entries k d) f same) in
     leads_by_row f n links x w (subst (λ (es : List (ℕ × First)). Contains es (w, f)) is listed)
+
+pub entry_leads_by_height : (f : First) (n : ℕ) (heights : List ℕ) (links : List (ℕ × ℕ)) (x : ℕ) (entries : List (ℕ × First)) (k : ℕ) (d : ℕ × First) → AreFalling heights links → entries ≡ row n links x → k < length entries → LiesOn f (slice_index heights x) (slice_index heights (get_or entries k d).0) → LeadsOn f links x (get_or entries k d).0
+entry_leads_by_height f n heights links x entries k d falling is l lies =
+    let e = get_or entries k d in
+    lies_leads f e.1 heights links x e.0 falling (entry_leads e.1 n links x entries k d is l refl) lies
 
 pub entry_below : (n : ℕ) (links : List (ℕ × ℕ)) (x : ℕ) (entries : List (ℕ × First)) (k : ℕ) (d : ℕ × First) → entries ≡ row n links x → k < length entries → (get_or entries k d).0 < n
 entry_below n links x entries k d is l = (row_holds n links x (get_or entries k d) (subst (λ (es : List (ℕ × First)). Contains es (get_or entries k d)) is (Contains-get_or entries k d l))).0
@@ -292,10 +344,6 @@ side_reads {net} {heights} {f} {start} {limit} {met} {side} x is_net unread at_r
     again : (w : ℕ) → IsMetOrAside f side met w (slice_index heights w) → IsMetOrAside f (record side { read = side.read + 1 }) met w (slice_index heights w)
     again w (inl h) = inl h
     again w (inr aside) = inr record { beyond = aside.beyond; past = aside.past }
-
--- a side with its direction, its start and its limit as it keeps them itself
-pub side_itself : {net : Network} {heights : List ℕ} {f : First} {start limit : ℕ} {met : List Met} {side : Side} → IsSide net heights f start limit met side → IsSide net heights side.first (start_of side) side.limit met side
-side_itself s = rw (← s.first_is, ← s.start_is, ← s.limit_is) at s
 
 -- a way leads to each node that a side has met
 pub way_to_met : {net : Network} {heights : List ℕ} {f : First} {start limit : ℕ} {met : List Met} {side : Side} (x : ℕ) → IsSide net heights f start limit met side → HasMet f met x → HasWay f net.links start x

@@ -17,6 +17,11 @@ abbrev pub LeadsOn : First → List (ℕ × ℕ) → ℕ → ℕ → Type 0
 LeadsOn Outward links x w = Points links x w
 LeadsOn Inward links x w = Points links w x
 
+-- so the one height lies on from the other, since links fall: below it for the side that goes along them, and above it for the other
+abbrev pub LiesOn : First → ℕ → ℕ → Type 0
+LiesOn Outward own height = height < own
+LiesOn Inward own height = own < height
+
 -- such links lead from x to y
 abbrev pub HasWay : First → List (ℕ × ℕ) → ℕ → ℕ → Type 0
 HasWay Outward links x y = HasPath links x y

@@ -1,13 +1,13 @@
 //! Whether links lead from one node to another, sought from both ends: forward along the links from the one and backward against
-//! them from the other, a row of either side in turn. All links fall, so either side leaves aside what lies beyond the height of
-//! the other end. The search ends where the sides meet, or where one has nothing left to read, so that it reads few rows where few
-//! nodes lie between the ends on either side.
+//! them from the other, mostly a row of the side that has fewer nodes left to read. All links fall, so either side leaves aside what lies
+//! beyond the height of the other end. The search ends where the sides meet, or where one has nothing left to read, so that it reads few
+//! rows where few nodes lie between the ends on either side.
 
 ghost use Rattle.std.specs.Prelude.{◌≡◌, ◌≢◌, ℕ, ◌<◌, ◌≤◌, ◌+◌, ◌++◌, [], ◌∷◌, ◌⊎◌, ◌↔◌, length, slice_index, true, vec_capacity, IfOk, IsTrue};
 ghost use Rattle.fr_net.specs.Graph.{IsGraph, shown};
 ghost use Rattle.fr_net.specs.Links.{HasPath};
 ghost use Rattle.fr_net.specs.RowLists.{opposite};
-ghost use Rattle.fr_net.specs.PathSearch.{HasBegun, HasMet, HasMetMore, HasMovedEdge, HasRoom, HasWay, IsBeyond, IsLeftAside, IsMetOrAside, IsSide, IsWay, MeetsNew, met_by, start_of, way_of_ended};
+ghost use Rattle.fr_net.specs.PathSearch.{HasBegun, HasMet, HasMetMore, HasRoom, HasWay, IsBeyond, IsPast, IsSide, IsWay, LiesOn, MeetsNew, met_by, start_of, unread_count, way_of_ended};
 
 use crate::graph::Graph;
 use crate::rows::First;
@@ -48,6 +48,10 @@ pub(crate) enum Way {
         high: u64,
     },
 }
+
+/// So many times as many rows as the other side one may have read where it has fewer nodes left to read, so that the search reads few
+/// rows wherever one side is soon done.
+const LEAD: usize = 4;
 
 /// One side of the search: it goes along the links that leave a node in one direction.
 #[derive(Drop)]
@@ -90,28 +94,29 @@ impl Side {
         })
     }
 
-    /// Leaves a node of this height aside, if it lies beyond the limit, and answers whether it does.
-    fn leaves_aside(&mut self, height: u64) -> bool
-        ensures aside { IsTrue result → IsLeftAside self.new height }
-        ensures within { ¬ IsTrue result → ¬ IsBeyond self.old.first self.old.limit height }
-        ensures same { ¬ IsTrue result → self.new ≡ self.old }
-        ensures change { HasMovedEdge self.old self.new }
+    /// Whether the side goes on from a node of height `own` to a neighbour of this height. All links fall, so the two heights tell which
+    /// way the link between them points; and the neighbour has to lie within the limit.
+    fn goes_on(&self, own: u64, height: u64) -> bool
+        ensures lies { IsTrue result → LiesOn self.now.first own height }
+        ensures within { IsTrue result → ¬ IsBeyond self.now.first self.now.limit height }
+        ensures beyond { ¬ IsTrue result → LiesOn self.now.first own height → IsBeyond self.now.first self.now.limit height }
     {
         match self.first {
-            First::Outward => {
-                if height < self.limit {
-                    self.edge = self.edge.max(height);
-                    return true;
-                }
-            }
-            First::Inward => {
-                if height > self.limit {
-                    self.edge = self.edge.min(height);
-                    return true;
-                }
-            }
+            First::Outward => self.limit <= height && height < own,
+            First::Inward => own < height && height <= self.limit,
         }
-        false
+    }
+
+    /// The edge, or the height of a neighbour beyond the limit that is nearer.
+    fn nearer(&self, edge: u64, height: u64) -> u64
+        ensures past { IsBeyond self.now.first self.now.limit height → IsPast self.now.first result height }
+        ensures nearer { (other : ℕ) → IsPast self.now.first edge other → IsPast self.now.first result other }
+    {
+        match self.first {
+            First::Outward if height < self.limit => edge.max(height),
+            First::Inward if height > self.limit => edge.min(height),
+            _ => edge,
+        }
     }
 
     /// Whether it has met a node whose row it has not read.
@@ -121,21 +126,36 @@ impl Side {
         self.read < self.nodes.len()
     }
 
-    /// Meets a node of this height, unless it was met before or lies beyond the limit, and answers whether the other side has met it.
-    fn meet(&mut self, node: u32, height: u64, met: &mut [Met]) -> bool
+    /// How many nodes it has met whose rows it has not read.
+    fn unread(&self) -> usize
+        ensures { result ≡ unread_count self.now }
+    {
+        self.nodes.len().saturating_sub(self.read)
+    }
+
+    /// Whether this side reads the next row, and not the other one: the side with fewer nodes left to read does, as it is likelier to be
+    /// done soon, unless it has read far more rows.
+    fn goes_next(&self, other: &Side) -> bool {
+        if self.unread() <= other.unread() {
+            self.read / LEAD <= other.read
+        } else {
+            other.read / LEAD > self.read
+        }
+    }
+
+    /// Meets a node that lies within the limit, unless it was met before, and answers whether the other side has met it.
+    fn meet(&mut self, node: u32, met: &mut [Met]) -> bool
         requires node { node < length met.old }
         requires room { HasRoom self.old met.old }
         ensures other { IsTrue result → HasMet (opposite self.old.first) met.old node }
-        ensures met { ¬ IsTrue result → IsMetOrAside self.old.first self.new met.new node height }
-        ensures change { (HasMovedEdge self.old self.new × (met.new ≡ met.old)) ⊎ (MeetsNew self.old self.new met.old met.new node × ¬ IsBeyond self.old.first self.old.limit height) }
+        ensures met { ¬ IsTrue result → HasMet self.old.first met.new node }
+        ensures change { ((self.new ≡ self.old) × (met.new ≡ met.old)) ⊎ MeetsNew self.old self.new met.old met.new node }
     {
         let own = Met::by(self.first);
         match met[node as usize] {
             Met::Never => {
-                if !self.leaves_aside(height) {
-                    met[node as usize] = own;
-                    self.nodes.push_reserved(node);
-                }
+                met[node as usize] = own;
+                self.nodes.push_reserved(node);
                 false
             }
             side => side != own,
@@ -160,6 +180,7 @@ impl Side {
     /// Reads the row of the next node, and answers whether it leads on to a node that the other side has met.
     fn read_next(&mut self, graph: &Graph, met: &mut [Met]) -> bool
         requires graph { IsGraph graph.now }
+        requires known { graph.now.heights.known ≡ true }
         requires side { IsSide (shown graph.now) graph.now.heights.heights self.old.first (start_of self.old) self.old.limit met.old self.old }
         requires unread { self.old.read < length self.old.nodes.items }
         ensures found { IsTrue result → (w : ℕ) × (HasMet (opposite self.old.first) met.old w × HasWay self.old.first (shown graph.now).links (start_of self.old) w) }
@@ -167,13 +188,20 @@ impl Side {
         ensures read { ¬ IsTrue result → self.new.read ≡ self.old.read + 1 }
         ensures more { HasMetMore self.old self.new met.old met.new }
     {
-        let row = graph.row(self.nodes[self.read]);
-        for (neighbour, first) in row {
+        let node = self.nodes[self.read];
+        let own = graph.heights.height(node);
+        let row = graph.row(node);
+        // Most entries lead nowhere, so that one test lets them pass, and the edge is kept beside.
+        let mut edge = self.edge;
+        for (neighbour, _) in row {
             let neighbour = *neighbour as u32;
-            if *first == self.first && self.meet(neighbour, graph.heights.height(neighbour), met) {
+            let height = graph.heights.height(neighbour);
+            edge = self.nearer(edge, height);
+            if self.goes_on(own, height) && self.meet(neighbour, met) {
                 return true;
             }
         }
+        self.edge = edge;
         self.read += 1;
         false
     }
@@ -202,7 +230,12 @@ pub(crate) fn way_between(
     let mut ahead = Side::begun(alloc, First::Outward, from, low, graph.nodes)?;
     let mut behind = Side::begun(alloc, First::Inward, to, high, graph.nodes)?;
     while ahead.has_unread() && behind.has_unread() {
-        if ahead.read_next(graph, met) || behind.read_next(graph, met) {
+        let leads = if ahead.goes_next(&behind) {
+            ahead.read_next(graph, met)
+        } else {
+            behind.read_next(graph, met)
+        };
+        if leads {
             return Ok(Way::Leads);
         }
     }

@@ -1,83 +1,98 @@
-use Rattle.std.proofs.Common.{arith, get_or, length, refl, slice_index, rules, sym, true, ℕ, ◌<◌, ◌∙◌, ◌≡◌}
-use denote.Enum.Bare.{same_false, same_true}
+use Rattle.std.proofs.Common.{arith, get_or, inl, inr, length, refl, slice_index, sym, true, ℕ, ◌<◌, ◌∙◌, ◌≡◌}
 use Rattle.std.proofs.lemmas.List.{get_or_default}
-use Rattle.fr_net.proofs.TwoEnds.{entry_below, entry_leads, graph_faultless, more_after, other_was, passed_more, passed_stays, side_goes_on, side_reads, way_on}
+use Rattle.fr_net.proofs.TwoEnds.{entry_below, entry_leads, entry_leads_by_height, graph_faultless, leads_lies, more_after, more_by_edges, other_was, passed_more, passed_stays, same_more, side_goes_on, side_moves, side_reads, way_on, with_edge_nearer}
 use Rattle.fr_net.specs.Graph.{shown}
-use Rattle.fr_net.specs.PathSearch.{HasMet, HasPassed, HasWay, IsMetOrAside, start_of}
+use Rattle.fr_net.specs.PathSearch.{HasMet, HasPassed, HasWay, IsBeyond, IsMetOrAside, IsPast, LiesOn, start_of}
 use Rattle.fr_net.specs.RowLists.{opposite}
 use Rattle.fr_net.specs.Rows.{row}
-use Rattle.fr_net.specs.contracts.rows.First.{the_type}
+use Rattle.fr_net.specs.declared.path_search.Side.{Side}
 use Rattle.fr_net.specs.declared.rows.First.{First}
 use Rattle.fr_net.specs.declared.rows.First.TheVariants.{Outward}
 use Rattle.fr_net.proofs.path_search.Side.read_next.Goals as goal
-use Rattle.fr_net.proofs.path_search.Side.read_next.Goals.{After-eq, else-eq-via-then-eq+else-meet, else-eq-via-else-eq}
+use Rattle.fr_net.proofs.path_search.Side.read_next.Goals.{After-goes_on, else-goes_on-via-then-goes_on+else-meet, else-goes_on-via-else-goes_on}
 
--- the entry that is read, which leads on where its link leaves in the direction of the side
-abbrev entry : (c : After-eq) → ℕ × First
+pub height-height-requires : goal.height-height-requires
+height-height-requires c =
+    let net = shown c.args.graph.now in
+    omega (arith, entry_below net.nodes net.links c.index-node.result.now c.row-row.result.now c.loop-neighbour.neighbour-index (0, Outward) c.row-row.ensures c.loop-neighbour-test.true, c.requires.graph.height_each)
+
+-- the entry that is read
+abbrev entry : (c : After-goes_on) → ℕ × First
 entry c = get_or c.row-row.result.now c.loop-neighbour.neighbour-index (0, Outward)
 
-below : (c : After-eq) → (entry c).0 < c.args.graph.now.nodes
+abbrev height_of : (c : After-goes_on) → ℕ → ℕ
+height_of c x = slice_index c.args.graph.now.heights.heights x
+
+below : (c : After-goes_on) → (entry c).0 < c.args.graph.now.nodes
 below c =
     let net = shown c.args.graph.now in
-    entry_below net.nodes net.links c.index.result.now c.row-row.result.now c.loop-neighbour.neighbour-index (0, Outward) c.row-row.ensures c.loop-neighbour-test.true
+    entry_below net.nodes net.links c.index-node.result.now c.row-row.result.now c.loop-neighbour.neighbour-index (0, Outward) c.row-row.ensures c.loop-neighbour-test.true
 
-same : (c : After-eq) → c.eq.result ≡ true → (entry c).1 ≡ c.args.self.now.first
-same c is = same_true the_type (search rules) _ _ (sym c.eq.ensures ∙ is) ∙ c.loop-neighbour.invariant.side.first_is
-
-way : (c : After-eq) → c.eq.result ≡ true → HasWay c.args.self.now.first (shown c.args.graph.now).links (start_of c.args.self.now) (entry c).0
+-- where the side goes on, a way leads to the node of the entry, which lies within the limit
+way : (c : After-goes_on) → c.goes_on.result ≡ true → HasWay c.args.self.now.first (shown c.args.graph.now).links (start_of c.args.self.now) (entry c).0
 way c is =
     let net = shown c.args.graph.now in
     let f = c.args.self.now.first in
-    let at_read : get_or c.args.self.now.nodes.items c.args.self.now.read 0 ≡ c.index.result.now = get_or_default c.args.self.now.nodes.items c.args.self.now.read 0 c.index.result.now c.requires.unread ∙ sym c.index.ensures in
-    way_on f net.links (start_of c.args.self.now) c.index.result.now (entry c).0 (rw at_read at (c.requires.side.ways c.args.self.now.read 0 c.requires.unread))
-    (entry_leads f net.nodes net.links c.index.result.now c.row-row.result.now c.loop-neighbour.neighbour-index (0, Outward) c.row-row.ensures c.loop-neighbour-test.true (same c is))
+    let x = c.index-node.result.now in
+    let at_read : get_or c.args.self.now.nodes.items c.args.self.now.read 0 ≡ x = get_or_default c.args.self.now.nodes.items c.args.self.now.read 0 x c.requires.unread ∙ sym c.index-node.ensures in
+    let lies : LiesOn f (height_of c x) (height_of c (entry c).0) = rw (c.loop-neighbour.invariant.side.first_is, c.height-own.ensures, c.height-height.ensures) at (c.goes_on.ensures.lies is) in
+    way_on f net.links (start_of c.args.self.now) x (entry c).0 (rw at_read at (c.requires.side.ways c.args.self.now.read 0 c.requires.unread))
+    (entry_leads_by_height f net.nodes c.args.graph.now.heights.heights net.links x c.row-row.result.now c.loop-neighbour.neighbour-index (0, Outward) (c.requires.graph.fit c.requires.known) c.row-row.ensures c.loop-neighbour-test.true lies)
 
-pub height-requires : goal.height-requires
-height-requires c = omega (arith, below (goal.at.height-requires c).After-eq, c.requires.graph.height_each)
+near : (c : After-goes_on) → c.goes_on.result ≡ true → ¬ IsBeyond c.args.self.now.first c.args.self.now.limit (height_of c (entry c).0)
+near c is =
+    let inv = c.loop-neighbour.invariant in
+    rw (inv.side.first_is, inv.side.limit_is, c.height-height.ensures) at (c.goes_on.ensures.within is)
+
+-- where it does not, it leaves the node aside, if the link leads on
+aside : (c : After-goes_on) → ¬ (c.goes_on.result ≡ true) → (entry c).1 ≡ c.args.self.now.first → IsMetOrAside c.args.self.now.first (record c.loop-neighbour.self { edge = c.nearer-edge.result }) c.loop-neighbour.met (entry c).0 (height_of c (entry c).0)
+aside c other same =
+    let net = shown c.args.graph.now in
+    let f = c.args.self.now.first in
+    let x = c.index-node.result.now in
+    let leads = entry_leads f net.nodes net.links x c.row-row.result.now c.loop-neighbour.neighbour-index (0, Outward) c.row-row.ensures c.loop-neighbour-test.true same in
+    let lies : LiesOn c.loop-neighbour.self.first c.height-own.result c.height-height.result = rw (c.loop-neighbour.invariant.side.first_is, c.height-own.ensures, c.height-height.ensures) (leads_lies f c.args.graph.now.heights.heights net.links x (entry c).0 (c.requires.graph.fit c.requires.known) leads) in
+    let beyond = c.goes_on.ensures.beyond other lies in
+    inr record { beyond = rw c.height-height.ensures at beyond; past = rw c.height-height.ensures at (c.nearer-edge.ensures.past beyond) }
 
 pub meet-requires-clause-node : goal.meet-requires-clause-node
-meet-requires-clause-node c = omega (arith, below (goal.at.meet-requires-clause-node c).After-eq, c.loop-neighbour.invariant.side.one_each)
+meet-requires-clause-node c = omega (arith, below (goal.at.meet-requires-clause-node c).After-goes_on, c.loop-neighbour.invariant.side.one_each)
 
 pub returns-then-meet-clause-found : goal.returns-then-meet-clause-found
 returns-then-meet-clause-found c =
-    let at = (goal.at.returns-then-meet-clause-found c).After-eq in
+    let at = (goal.at.returns-then-meet-clause-found c).After-goes_on in
     let inv = c.loop-neighbour.invariant in
     let f = c.args.self.now.first in
     let other : HasMet (opposite f) c.loop-neighbour.met (entry at).0 = rw inv.side.first_is at (c.meet.ensures.other c.if-meet.true) in
-    λ _. ((entry at).0, (other_was f (entry at).0 refl inv.more other, way at c.if-eq.true))
-
-pub returns-then-meet-clause-more : goal.returns-then-meet-clause-more
-returns-then-meet-clause-more c =
-    let at = (goal.at.returns-then-meet-clause-more c).After-eq in
-    let inv = c.loop-neighbour.invariant in
-    let on = side_goes_on (entry at).0 (below at) (way at c.if-eq.true) (rw c.height.ensures at c.meet.ensures.change) inv.side in
-    more_after inv.more on.1
+    λ _. ((entry at).0, (other_was f (entry at).0 refl inv.more other, way at c.if-goes_on.true))
 
 pub loop-neighbour-preserved : goal.loop-neighbour-preserved
 loop-neighbour-preserved c =
-    let at = (goal.at.loop-neighbour-preserved c).After-eq in
+    let at = (goal.at.loop-neighbour-preserved c).After-goes_on in
     let inv = c.loop-neighbour.invariant in
     let f = c.args.self.now.first in
     let heights = c.args.graph.now.heights.heights in
     let place = c.loop-neighbour.neighbour-index in
-    let height = slice_index heights (entry at).0 in
-    elim c.else-eq.branch [
-      | else-eq-via-then-eq+else-meet w ↦
-          let on = side_goes_on (entry at).0 (below at) (way at w.if-eq.true) (rw w.height.ensures at w.meet.ensures.change) inv.side in
-          let settled : IsMetOrAside f w.meet.new.self w.meet.new.met (entry at).0 height = rw (inv.side.first_is, w.height.ensures) at (w.meet.ensures.met (λ is. cc (is, w.if-meet.false))) in
+    let edge = c.nearer-edge.result in
+    let nearer : (height : ℕ) → IsPast f c.loop-neighbour.edge height → IsPast f edge height = rw inv.side.first_is at c.nearer-edge.ensures.nearer in
+    elim c.else-goes_on.branch [
+      | else-goes_on-via-then-goes_on+else-meet w ↦
+          let on = side_goes_on (entry at).0 (below at) (way at w.if-goes_on.true) (near at w.if-goes_on.true) w.meet.ensures.change inv.side in
+          let met : HasMet f w.meet.new.met (entry at).0 = rw inv.side.first_is at (w.meet.ensures.met (λ is. cc (is, w.if-meet.false))) in
           rw (w.self-is, w.met-is) record {
             side = on.0;
             more = more_after inv.more on.1;
             same_read = on.2 ∙ inv.same_read;
-            passed = passed_more heights f w.meet.new.self w.meet.new.met c.row-row.result.now place (0, Outward) (passed_stays heights c.row-row.result.now place inv.side.first_is on.1 inv.passed) c.loop-neighbour-test.true (λ _. settled);
+            nearer = λ height past. nearer height (inv.nearer height (rw on.3 at past));
+            passed = passed_more heights f (record w.meet.new.self { edge = edge }) w.meet.new.met c.row-row.result.now place (0, Outward) (passed_stays heights c.row-row.result.now place inv.side.first_is (more_by_edges inv.side.first_is nearer on.1) inv.passed) c.loop-neighbour-test.true (λ _. inl met);
           }
-      | else-eq-via-else-eq w ↦
-          let passes : (entry at).1 ≡ f → IsMetOrAside f c.loop-neighbour.self c.loop-neighbour.met (entry at).0 height = λ is. absurd (same_false the_type _ _ (sym c.eq.ensures ∙ w.if-eq.false) (is ∙ sym inv.side.first_is)) in
+      | else-goes_on-via-else-goes_on w ↦
           rw (w.self-is, w.met-is) record {
             side = inv.side;
             more = inv.more;
             same_read = inv.same_read;
-            passed = passed_more heights f c.loop-neighbour.self c.loop-neighbour.met c.row-row.result.now place (0, Outward) inv.passed c.loop-neighbour-test.true passes;
+            nearer = λ height past. nearer height (inv.nearer height past);
+            passed = passed_more heights f (record c.loop-neighbour.self { edge = edge }) c.loop-neighbour.met c.row-row.result.now place (0, Outward) (passed_stays heights c.row-row.result.now place inv.side.first_is (more_by_edges inv.side.first_is nearer (same_more c.loop-neighbour.self c.loop-neighbour.met)) inv.passed) c.loop-neighbour-test.true (aside at (λ is. cc (is, w.if-goes_on.false)));
           }
     ]
 
@@ -85,8 +100,9 @@ pub returns-clause-side : goal.returns-clause-side
 returns-clause-side c =
     let inv = c.loop-neighbour.invariant in
     let net = shown c.args.graph.now in
-    let x = c.index.result.now in
-    let at_read : get_or c.loop-neighbour.self.nodes.items c.loop-neighbour.self.read 0 ≡ x = rw inv.same_read (inv.more.stands c.args.self.now.read c.requires.unread ∙ get_or_default c.args.self.now.nodes.items c.args.self.now.read 0 x c.requires.unread ∙ sym c.index.ensures) in
+    let x = c.index-node.result.now in
+    let read : Side = record c.loop-neighbour.self { edge = c.loop-neighbour.edge } in
+    let at_read : get_or read.nodes.items read.read 0 ≡ x = rw inv.same_read (inv.more.stands c.args.self.now.read c.requires.unread ∙ get_or_default c.args.self.now.nodes.items c.args.self.now.read 0 x c.requires.unread ∙ sym c.index-node.ensures) in
     let all : c.loop-neighbour.neighbour-index ≡ length c.row-row.result.now = omega arith in
-    let passed : HasPassed c.args.graph.now.heights.heights c.args.self.now.first c.loop-neighbour.self c.loop-neighbour.met (row net.nodes net.links x) (length (row net.nodes net.links x)) = rw (all, c.row-row.ensures) at inv.passed in
-    λ _. side_reads x (graph_faultless c.args.graph.now c.requires.graph).is_net (omega (arith, inv.same_read, inv.more.longer, c.requires.unread)) at_read passed inv.side
+    let passed : HasPassed c.args.graph.now.heights.heights c.args.self.now.first read c.loop-neighbour.met (row net.nodes net.links x) (length (row net.nodes net.links x)) = rw (all, c.row-row.ensures) at inv.passed in
+    λ _. side_reads x (graph_faultless c.args.graph.now c.requires.graph).is_net (omega (arith, inv.same_read, inv.more.longer, c.requires.unread)) at_read passed (side_moves (with_edge_nearer inv.side.first_is inv.nearer) inv.side)
