@@ -140,16 +140,7 @@ with_edge_nearer first_is nearer = record {
 
 -- a side that met nothing, and whose edge stayed
 pub same_more : (side : Side) (met : List Met) → HasMetMore side side met met
-same_more side met = record {
-  same_first = refl;
-  same_limit = refl;
-  nearer = λ height past. past;
-  longer = omega arith;
-  stands = λ k l. refl;
-  met = λ x. inl refl;
-  one_each = refl;
-  counted = refl;
-}
+same_more side met = none_more {before = side} {after = side} {met = met} record { same_first = refl; same_limit = refl; nearer = λ height past. past; same_nodes = refl; same_read = refl }
 
 -- a side that met more nodes still did so, whichever edges are put in place of theirs, as long as they come nearer
 pub more_by_edges : {before after : Side} {f : First} {old new : List Met} {edge nearer_edge : ℕ} → before.first ≡ f → ((height : ℕ) → IsPast f edge height → IsPast f nearer_edge height) → HasMetMore before after old new → HasMetMore (record before { edge = edge }) (record after { edge = nearer_edge }) old new
