@@ -4,9 +4,9 @@ use Rattle.json.specs.Json.{Json, if_last, value}
 use Rattle.json.specs.Token.{Token}
 use Rattle.serde_json.specs.Data.{Data}
 use Rattle.serde_json.specs.Read.{max_depth, of_json}
-use Rattle.fr_net.specs.declared.requests.LineFault.{LineFault}
-use Rattle.fr_net.specs.declared.requests.LineFault.TheVariants.{Memory}
-use Rattle.fr_net.specs.declared.requests.Request.{Request}
+use Rattle.fr_net.specs.declared.lines.requests.LineFault.{LineFault}
+use Rattle.fr_net.specs.declared.lines.requests.LineFault.TheVariants.{Memory}
+use Rattle.fr_net.specs.declared.lines.requests.Request.{Request}
 use Rattle.fr_net.specs.Requests.{PlainRequest, plain, reading_of_value}
 
 -- the value that was parsed, where no token is left behind it

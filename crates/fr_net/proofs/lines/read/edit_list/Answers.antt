@@ -1,0 +1,18 @@
+use Rattle.std.proofs.Common.{None, Some, drop, get_or, map, sym, ◌∙◌, ◌≡◌}
+use Rattle.serde_json.specs.View.{view}
+use Rattle.fr_net.proofs.lines.Items.{items_viewed, reading_ends, reading_stops}
+use Rattle.fr_net.specs.Requests.{items_in, edit_in, edits_in, read_all}
+use Rattle.fr_net.proofs.lines.read.edit_list.Goals as goal
+
+pub returns-in_default-edit-clause-refused : goal.returns-in_default-edit-clause-refused
+returns-in_default-edit-clause-refused c _ =
+    let items : items_in (view c.args.value.now) ≡ Some (map view c.in-Some.items.now.items) = items_viewed _ _ (sym c.in-Some.ensures) in
+    let no_edit : edit_in (view (get_or c.deref-item-items.result.now c.loop-item.item-index c.item-item.result)) ≡ None = rw (← c.item-item.is) (sym c.in_default-edit.ensures) in
+    let stops : read_all edit_in (map view (drop c.loop-item.item-index c.deref-item-items.result.now)) ≡ None = reading_stops edit_in _ _ _ c.loop-item-test.true no_edit in
+    let none : edits_in (view c.args.value.now) ≡ None = rw (items, ← c.deref-item-items.ensures.value) (rw stops at c.loop-item.invariant) in
+    rw none
+
+pub returns-clause-ok : goal.returns-clause-ok
+returns-clause-ok c =
+    let items : items_in (view c.args.value.now) ≡ Some (map view c.in-Some.items.now.items) = items_viewed _ _ (sym c.in-Some.ensures) in
+    rw (items, ← c.deref-item-items.ensures.value) (c.loop-item.invariant ∙ reading_ends edit_in _ _ _ c.loop-item-test.false)
