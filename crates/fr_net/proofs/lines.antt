@@ -4,3 +4,4 @@ pub mod TokenItems
 pub mod WordLines
 pub mod ShortLineTexts
 pub mod ShortLineValues
+pub mod HandedOn

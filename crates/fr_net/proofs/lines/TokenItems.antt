@@ -1,14 +1,16 @@
 -- The items of an array, token by token, as values that are put one behind the other, and the members of an object.
-use Rattle.std.proofs.Common.{List, None, Option, Some, [], ap, arith, length, option_and_then, option_map, refl, suc, zero, ℕ, ◌++◌, ◌-◌, ◌<◌, ◌∙◌, ◌∷◌, ◌≡◌, ◌≤◌}
-use Rattle.json.proofs.Grammar.{items_end, items_more, members_end, members_more, members_no_key, value-begin_array, value-begin_object}
+use Rattle.std.proofs.Common.{List, None, Option, Some, [], ap, arith, length, option_and_then, option_map, refl, suc, zero, ℕ, ◌+◌, ◌++◌, ◌-◌, ◌<◌, ◌∙◌, ◌∷◌, ◌≡◌, ◌≤◌}
+use Rattle.json.proofs.Grammar.{items_end, items_more, members_end, members_more, members_no_key, value-begin_array, value-begin_object, value_is}
 use Rattle.json.specs.Json as json
-use Rattle.json.specs.Json.{Parse, after_end_array, items, items_step, members, parse_map, read_key, value}
+use Rattle.json.specs.Json.{Parse, after_end_array, items, items_step, members, parse_map, read_key, value, value_with}
+use Rattle.json.specs.Reads.{token_of}
 use Rattle.json.specs.Token.{Token}
+use Rattle.json.specs.declared.token.Token as reader
 use Rattle.serde_json.specs.Data.{Data, Items, Members, array, item, no_items, no_members, object, put}
 use Rattle.serde_json.specs.Read.{converted, of_items, of_json, of_members}
 use Rattle.serde_json.specs.View.{items_view, view}
 use Rattle.serde_json.specs.declared.value.Value.{Value}
-use Rattle.fr_net.specs.LineTokens.{value_alone}
+use Rattle.fr_net.specs.LineTokens.{single_data, value_alone}
 
 abbrev or_else : {A : Type 0} → A → Option A → A
 or_else a None = a
@@ -33,10 +35,12 @@ array_of_items None = refl
 array_of_items (Some p) = outside array p.1 (of_items p.0)
 
 -- behind the bracket that opens an array its items are read
-pub value_of_array : (depth : ℕ) (ts behind : List Token) → 0 < depth → ts ≡ Token.begin_array ∷ behind
-    → converted of_json (value depth ts) ≡ parse_map array (converted of_items (items (value (depth - 1)) (length behind) behind))
-value_of_array depth ts behind some opens =
-    ap (converted of_json) (ap (value depth) opens ∙ value-begin_array depth behind some) ∙ array_of_items (items (value (depth - 1)) (length behind) behind)
+pub value_of_array : (depth inside : ℕ) (ts behind : List Token) → depth ≡ inside + 1 → ts ≡ Token.begin_array ∷ behind
+    → converted of_json (value depth ts) ≡ parse_map array (converted of_items (items (value inside) (length behind) behind))
+value_of_array depth inside ts behind one opens =
+    let below : depth - 1 ≡ inside = omega arith in
+    ap (converted of_json) (ap (value depth) opens ∙ value-begin_array depth behind (omega arith)) ∙ array_of_items (items (value (depth - 1)) (length behind) behind)
+    ∙ ap (λ d. parse_map array (converted of_items (items (value d) (length behind) behind))) below
 
 first_of_items : (j : json.Json) (d : Data) → of_json j ≡ Some d → (o : Option (json.Items × List Token)) → converted of_items (parse_map (json.item j) o) ≡ parse_map (item d) (converted of_items o)
 first_of_items j d e None = refl
@@ -102,10 +106,30 @@ object_of_members None = refl
 object_of_members (Some p) = outside object p.1 (of_members p.0 no_members)
 
 -- behind the brace that opens an object its members are read
-pub value_of_object : (depth : ℕ) (ts behind : List Token) → 0 < depth → ts ≡ Token.begin_object ∷ behind
-    → converted of_json (value depth ts) ≡ parse_map object (converted (λ ms. of_members ms no_members) (members (value (depth - 1)) (length behind) behind))
-value_of_object depth ts behind some opens =
-    ap (converted of_json) (ap (value depth) opens ∙ value-begin_object depth behind some) ∙ object_of_members (members (value (depth - 1)) (length behind) behind)
+pub value_of_object : (depth inside : ℕ) (ts behind : List Token) → depth ≡ inside + 1 → ts ≡ Token.begin_object ∷ behind
+    → converted of_json (value depth ts) ≡ parse_map object (converted (λ ms. of_members ms no_members) (members (value inside) (length behind) behind))
+value_of_object depth inside ts behind one opens =
+    let below : depth - 1 ≡ inside = omega arith in
+    ap (converted of_json) (ap (value depth) opens ∙ value-begin_object depth behind (omega arith)) ∙ object_of_members (members (value (depth - 1)) (length behind) behind)
+    ∙ ap (λ d. parse_map object (converted (λ ms. of_members ms no_members) (members (value d) (length behind) behind))) below
+
+-- a token that opens nothing is a value by itself, or none
+pub single_read : (depth : ℕ) (k : reader.Token) (ts behind : List Token) → (k ≡ reader.Token.BeginArray → ⊥) → (k ≡ reader.Token.BeginObject → ⊥) → ts ≡ token_of k ∷ behind
+    → converted of_json (value depth ts) ≡ option_map (λ d. (d, behind)) (single_data (token_of k))
+single_read depth k ts behind no_array no_object first = ap (converted of_json) (ap (value depth) first ∙ value_is depth (token_of k ∷ behind)) ∙ go _ _ k no_array no_object
+  where
+    go : (of_array : Parse json.Items) (of_object : Parse json.Members) (k : reader.Token) → (k ≡ reader.Token.BeginArray → ⊥) → (k ≡ reader.Token.BeginObject → ⊥)
+        → converted of_json (value_with of_array of_object (token_of k ∷ behind)) ≡ option_map (λ d. (d, behind)) (single_data (token_of k))
+    go of_array of_object reader.Token.BeginObject no_array no_object = absurd (no_object refl)
+    go of_array of_object reader.Token.EndObject no_array no_object = refl
+    go of_array of_object reader.Token.BeginArray no_array no_object = absurd (no_array refl)
+    go of_array of_object reader.Token.EndArray no_array no_object = refl
+    go of_array of_object (reader.Token.Key s) no_array no_object = refl
+    go of_array of_object (reader.Token.String s) no_array no_object = refl
+    go of_array of_object (reader.Token.Number s) no_array no_object = refl
+    go of_array of_object (reader.Token.Bool b) no_array no_object = refl
+    go of_array of_object reader.Token.Null no_array no_object = refl
+    go of_array of_object reader.Token.Bad no_array no_object = refl
 
 -- where nothing may nest, neither an array nor an object is a value
 pub too_deep : (depth : ℕ) (behind : List Token) → depth ≡ 0 → (value depth (Token.begin_array ∷ behind) ≡ None) × (value depth (Token.begin_object ∷ behind) ≡ None)

@@ -33,7 +33,7 @@ array_of_word word behind =
     let inside = Token.string word ∷ behind in
     let first : converted of_json (p inside) ≡ Some (string word, behind) = ap (converted of_json) (value_is 126 inside) in
     let after : length inside - 1 ≡ length behind = omega arith in
-    value_of_array 127 _ inside (omega arith) refl
+    value_of_array 127 126 _ inside refl refl
     ∙ ap (parse_map array) (one_item p (length inside) inside behind (string word) (omega arith) refl first ∙ ap (λ most. parse_map (item (string word)) (converted of_items (items p most behind))) after)
 
 -- the request of an array is that of its word and the items after it

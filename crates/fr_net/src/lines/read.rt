@@ -1,10 +1,10 @@
 //! Reading a line as a request. `specs/Requests.antt` says which line is which.
 
-ghost use Rattle.std.specs.Prelude.{◌≡◌, ◌≢◌, Ok, Err, Some, IfOk, IfErr, map, ok_or};
+ghost use Rattle.std.specs.Prelude.{◌≡◌, ◌≢◌, Ok, Err, Some, None, IfOk, IfErr, OnOk, map, ok_or, option_map};
 ghost use Rattle.serde_json.specs.View.{view};
 ghost use Rattle.fr_net.specs.declared.lines.requests.LineFault.TheVariants.{NotRequest, Memory};
-ghost use Rattle.fr_net.specs.LineTokens.{Tells};
-ghost use Rattle.fr_net.specs.Requests.{plain, reading, request_of, request_of_word, cut_link, add_link, join_nodes, move_dest, walk_from, network_request, pair_request, batch_request, node_request, ask_request, links_in, link_in, edits_in, edit_in, edit_of_word, number_pair, single_number, number_in};
+ghost use Rattle.fr_net.specs.LineTokens.{IsReadNext, Tells};
+ghost use Rattle.fr_net.specs.Requests.{plain, reading, request_of, request_of_word, cut_link, add_link, join_nodes, move_dest, walk_from, network_request, pair_request, batch_request, node_request, ask_request, items_in, links_in, link_in, edits_in, edit_in, edit_of_word, number_pair, single_number, number_in};
 
 use crate::edit::Edit;
 use crate::lines::requests::{LineFault, Question, Request};
@@ -28,10 +28,7 @@ pub fn read_line(alloc: Global, line: &[u8]) -> Result<Request, LineFault>
 pub(crate) fn request_in(alloc: Global, value: &Value) -> Result<Request, LineFault>
     ensures { Tells (ok_or (request_of (view value.now)) NotRequest) result }
 {
-    let Some(items) = value.as_array() else {
-        return Err(LineFault::NotRequest);
-    };
-    let [first, rest @ ..] = items.as_slice() else {
+    let Some([first, rest @ ..]) = items_of(value) else {
         return Err(LineFault::NotRequest);
     };
     let Some(word) = first.as_str() else {
@@ -138,8 +135,9 @@ fn network(alloc: Global, rest: &[Value]) -> Result<Request, LineFault>
     let [nodes, dest, links] = rest else {
         return Err(LineFault::NotRequest);
     };
-    let nodes = number(nodes).ok_or(LineFault::NotRequest)?;
-    let dest = number(dest).ok_or(LineFault::NotRequest)?;
+    let (Some(nodes), Some(dest)) = (number(nodes), number(dest)) else {
+        return Err(LineFault::NotRequest);
+    };
     let links = link_list(alloc, links)?;
     Ok(Request::Network { nodes, dest, links })
 }
@@ -147,53 +145,69 @@ fn network(alloc: Global, rest: &[Value]) -> Result<Request, LineFault>
 /// The links that an array lists.
 fn link_list(alloc: Global, value: &Value) -> Result<Vec<(u32, u32)>, LineFault>
     ensures ok { IfOk result (λ links. links_in (view value.now) ≡ Some links.items) }
-    ensures refused { IfErr result (λ fault. fault ≢ Memory
-        → ok_or (links_in (view value.now)) NotRequest ≡ Err fault) }
+    ensures refused { IfErr result (λ fault. fault ≢ Memory → (fault ≡ NotRequest) × (links_in (view value.now) ≡ None)) }
 {
-    let Some(items) = value.as_array() else {
+    let Some(items) = items_of(value) else {
         return Err(LineFault::NotRequest);
     };
     let mut links = Vec::new(alloc);
     for item in items {
-        let Some(link) = link(item) else {
-            return Err(LineFault::NotRequest);
-        };
-        links.push(link)?;
+        push_link(&mut links, item)?;
     }
     Ok(links)
+}
+
+/// Puts the link that an item is behind those of the items before it.
+fn push_link(links: &mut Vec<(u32, u32)>, item: &Value) -> Result<(), LineFault>
+    ensures ok { OnOk result (IsReadNext link_in links.old.items (view item.now) links.new.items) }
+    ensures refused { IfErr result (λ fault. fault ≢ Memory → (fault ≡ NotRequest) × (link_in (view item.now) ≡ None)) }
+{
+    let Some(link) = link(item) else {
+        return Err(LineFault::NotRequest);
+    };
+    links.push(link)?;
+    Ok(())
 }
 
 /// A link: an array of its tail and its head.
 fn link(value: &Value) -> Option<(u32, u32)>
     ensures { result ≡ link_in (view value.now) }
 {
-    two_numbers(value.as_array()?)
+    two_numbers(items_of(value)?)
 }
 
 /// The edits that an array lists.
 fn edit_list(alloc: Global, value: &Value) -> Result<Vec<Edit>, LineFault>
     ensures ok { IfOk result (λ edits. edits_in (view value.now) ≡ Some edits.items) }
-    ensures refused { IfErr result (λ fault. fault ≢ Memory
-        → ok_or (edits_in (view value.now)) NotRequest ≡ Err fault) }
+    ensures refused { IfErr result (λ fault. fault ≢ Memory → (fault ≡ NotRequest) × (edits_in (view value.now) ≡ None)) }
 {
-    let Some(items) = value.as_array() else {
+    let Some(items) = items_of(value) else {
         return Err(LineFault::NotRequest);
     };
     let mut edits = Vec::new(alloc);
     for item in items {
-        let Some(edit) = edit(item) else {
-            return Err(LineFault::NotRequest);
-        };
-        edits.push(edit)?;
+        push_edit(&mut edits, item)?;
     }
     Ok(edits)
+}
+
+/// Puts the edit that an item is behind those of the items before it.
+fn push_edit(edits: &mut Vec<Edit>, item: &Value) -> Result<(), LineFault>
+    ensures ok { OnOk result (IsReadNext edit_in edits.old.items (view item.now) edits.new.items) }
+    ensures refused { IfErr result (λ fault. fault ≢ Memory → (fault ≡ NotRequest) × (edit_in (view item.now) ≡ None)) }
+{
+    let Some(edit) = edit(item) else {
+        return Err(LineFault::NotRequest);
+    };
+    edits.push(edit)?;
+    Ok(())
 }
 
 /// An edit: an array of its word and two nodes.
 fn edit(value: &Value) -> Option<Edit>
     ensures { result ≡ edit_in (view value.now) }
 {
-    let [first, rest @ ..] = value.as_array()?.as_slice() else {
+    let [first, rest @ ..] = items_of(value)? else {
         return None;
     };
     edit_by_word(first.as_str()?, rest)
@@ -204,21 +218,20 @@ fn edit(value: &Value) -> Option<Edit>
 fn edit_by_word(word: &str, rest: &[Value]) -> Option<Edit>
     ensures { result ≡ edit_of_word word.now (map view rest.now) }
 {
+    let (u, v) = two_numbers(rest)?;
     match word {
-        "cut" => {
-            let (u, v) = two_numbers(rest)?;
-            Some(Edit::Cut { u, v })
-        }
-        "add" => {
-            let (u, v) = two_numbers(rest)?;
-            Some(Edit::Add { u, v })
-        }
-        "join" => {
-            let (u, v) = two_numbers(rest)?;
-            Some(Edit::Join { u, v })
-        }
+        "cut" => Some(Edit::Cut { u, v }),
+        "add" => Some(Edit::Add { u, v }),
+        "join" => Some(Edit::Join { u, v }),
         _ => None,
     }
+}
+
+/// The items of an array.
+fn items_of(value: &Value) -> Option<&[Value]>
+    ensures { option_map (λ items. map view items.now) result ≡ items_in (view value.now) }
+{
+    Some(value.as_array()?.as_slice())
 }
 
 /// Just one item, a number.

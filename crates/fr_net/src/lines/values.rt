@@ -1,11 +1,13 @@
 //! Values of JSON from tokens, as `serde_json` has them, which makes a table of its own for each text.
 
-ghost use Rattle.std.specs.Prelude.{◌≡◌, ◌≢◌, ◌<◌, length, false, true, Some, None, option_map, IfOk, IfErr, OnOk};
+ghost use Rattle.std.specs.Prelude.{◌≡◌, ◌≢◌, ◌<◌, ◌+◌, [], ◌∷◌, length, false, true, Some, None, option_map, IfOk, IfErr, OnOk};
 ghost use Rattle.fast_float.specs.Text.{scan};
-ghost use Rattle.json.specs.Json.{value as json_value, items as json_items, members as json_members};
-ghost use Rattle.serde_json.specs.Data.{no_members};
+ghost use Rattle.json.specs.Json.{value as json_value, items as json_items, members as json_members, read_key};
+ghost use Rattle.json.specs.Reads.{token_of};
+ghost use Rattle.serde_json.specs.Data.{no_members, put};
 ghost use Rattle.serde_json.specs.Read.{of_json, of_items, of_members, converted, number_of, number_from, float_of};
 ghost use Rattle.serde_json.specs.View.{view, items_view, members_view, number_view};
+ghost use Rattle.fr_net.specs.LineTokens.{single_data};
 ghost use Rattle.fr_net.specs.declared.lines.requests.LineFault.TheVariants.{NotJson, Memory};
 
 use crate::lines::requests::LineFault;
@@ -27,28 +29,11 @@ pub(crate) fn value(
         → (fault ≡ NotJson) × (converted of_json (json_value depth reader.old) ≡ None)) }
     ensures shorter { OnOk result (length reader.new < length reader.old) }
 {
-    let token = reader.next().ok_or(LineFault::NotJson)?;
+    let token = next_token(reader)?;
     match token {
-        Token::String(text) => Ok(Value::String(String::from_str(alloc, text)?)),
-        Token::Number(text) => match number(text) {
-            Some(number) => Ok(Value::Number(number)),
-            None => Err(LineFault::NotJson),
-        },
-        Token::Bool(b) => Ok(Value::Bool(b)),
-        Token::Null => Ok(Value::Null),
-        Token::BeginArray => {
-            if depth == 0 {
-                return Err(LineFault::NotJson);
-            }
-            Ok(Value::Array(items(alloc, reader, depth - 1)?))
-        }
-        Token::BeginObject => {
-            if depth == 0 {
-                return Err(LineFault::NotJson);
-            }
-            Ok(Value::Object(members(alloc, reader, depth - 1)?))
-        }
-        Token::EndObject | Token::EndArray | Token::Key(_) | Token::Bad => Err(LineFault::NotJson),
+        Token::BeginArray => Ok(Value::Array(items(alloc, reader, depth_inside(depth)?)?)),
+        Token::BeginObject => Ok(Value::Object(members(alloc, reader, depth_inside(depth)?)?)),
+        _ => single_value(alloc, token),
     }
 }
 
@@ -89,12 +74,69 @@ fn members(
     ensures shorter { OnOk result (length reader.new < length reader.old) }
 {
     let mut found = Map::new(alloc);
-    'members: while let Some(name) = reader.next_key().or(Err(LineFault::NotJson))? {
-        let key = String::from_str(alloc, name)?;
+    'members: while let Some(name) = next_name(reader)? {
         let member = value(alloc, reader, depth)?;
-        drop(found.insert(key, member)?);
+        put_member(alloc, &mut found, name, member)?;
     }
     Ok(found)
+}
+
+/// The next token.
+#[inline(always)]
+fn next_token<'a>(reader: &mut Reader<'a>) -> Result<Token<'a>, LineFault>
+    ensures ok { IfOk result (λ token. reader.old ≡ token_of token ∷ reader.new) }
+    ensures refused { IfErr result (λ fault. (fault ≡ NotJson) × (reader.old ≡ [])) }
+{
+    reader.next().ok_or(LineFault::NotJson)
+}
+
+/// How deep the values inside one may nest that itself stands `depth` levels above the deepest.
+#[inline(always)]
+fn depth_inside(depth: usize) -> Result<usize, LineFault>
+    ensures ok { IfOk result (λ inside. depth ≡ inside + 1) }
+    ensures refused { IfErr result (λ fault. (fault ≡ NotJson) × (depth ≡ 0)) }
+{
+    depth.checked_sub(1).ok_or(LineFault::NotJson)
+}
+
+/// The value that a token is by itself.
+#[inline(always)]
+fn single_value(alloc: Global, token: Token<'_>) -> Result<Value, LineFault>
+    ensures ok { IfOk result (λ v. single_data (token_of token.entry) ≡ Some (view v)) }
+    ensures refused { IfErr result (λ fault. fault ≢ Memory → (fault ≡ NotJson) × (single_data (token_of token.entry) ≡ None)) }
+{
+    match token {
+        Token::String(text) => Ok(Value::String(String::from_str(alloc, text)?)),
+        Token::Number(text) => Ok(Value::Number(number(text).ok_or(LineFault::NotJson)?)),
+        Token::Bool(b) => Ok(Value::Bool(b)),
+        Token::Null => Ok(Value::Null),
+        _ => Err(LineFault::NotJson),
+    }
+}
+
+/// The name of the next member, or `None` at the end of its object.
+#[inline(always)]
+fn next_name<'a>(reader: &mut Reader<'a>) -> Result<Option<&'a str>, LineFault>
+    ensures ok { IfOk result (λ name. read_key reader.old ≡ Some (option_map (λ n. n.now) name, reader.new)) }
+    ensures refused { IfErr result (λ fault. (fault ≡ NotJson) × (read_key reader.old ≡ None)) }
+{
+    reader.next_key().or(Err(LineFault::NotJson))
+}
+
+/// Puts a member among those of an object. Of members with one name the last one stays.
+#[inline(always)]
+fn put_member(
+    alloc: Global,
+    found: &mut Map<String, Value>,
+    name: &str,
+    member: Value,
+) -> Result<(), LineFault>
+    ensures ok { OnOk result (members_view found.new.entries ≡ put name.now (view member) (members_view found.old.entries)) }
+    ensures refused { IfErr result (λ fault. fault ≡ Memory) }
+{
+    let key = String::from_str(alloc, name)?;
+    drop(found.insert(key, member)?);
+    Ok(())
 }
 
 /// The number that a token writes, where it is in range.

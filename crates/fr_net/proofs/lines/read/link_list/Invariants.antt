@@ -5,4 +5,4 @@ use Rattle.fr_net.proofs.lines.read.link_list.Given as goal
 
 -- the links so far, and those of the items ahead, are the links of all items
 abbrev pub invariant-loop-item : goal.invariant-loop-item
-invariant-loop-item l = read_all link_in (map view l.item-items) ≡ option_map (λ links. l.links.items ++ links) (read_all link_in (map view (drop l.item-index l.item-items)))
+invariant-loop-item l = read_all link_in (map view l.items) ≡ option_map (λ links. l.links.items ++ links) (read_all link_in (map view (drop l.item-index l.items)))
