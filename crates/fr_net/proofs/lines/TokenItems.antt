@@ -1,6 +1,6 @@
 -- The items of an array, token by token, as values that are put one behind the other, and the members of an object.
 use Rattle.std.proofs.Common.{List, None, Option, Some, [], ap, arith, length, option_and_then, option_map, refl, suc, zero, ℕ, ◌+◌, ◌++◌, ◌-◌, ◌<◌, ◌∙◌, ◌∷◌, ◌≡◌, ◌≤◌}
-use Rattle.json.proofs.Grammar.{items_end, items_more, members_end, members_more, members_no_key, value-begin_array, value-begin_object, value_is}
+use Rattle.json.proofs.Grammar.{items_end, items_more, left, members_end, members_more, members_no_key, skip_value-shorter, value-begin_array, value-begin_object, value_is}
 use Rattle.json.specs.Json as json
 use Rattle.json.specs.Json.{Parse, after_end_array, items, items_step, members, parse_map, read_key, value, value_with}
 use Rattle.json.specs.Reads.{token_of}
@@ -24,6 +24,10 @@ paired r s (Some c) b e = let same = ap (or_else (c, r)) e in (ap (λ p. p.1) sa
 pub read_first : {A B : Type 0} (f : A → Option B) (o : Option (A × List Token)) (b : B) (rest : List Token) → converted f o ≡ Some (b, rest) → (a : A) × (o ≡ Some (a, rest)) × (f a ≡ Some b)
 read_first f None b rest e = absurd (cc)
 read_first f (Some p) b rest e = let both = paired p.1 rest (f p.0) b e in (p.0, ap (λ s. Some (p.0, s)) both.0, both.1)
+
+-- a value takes tokens
+pub value_takes : (depth : ℕ) (ts rest : List Token) (d : Data) → converted of_json (value depth ts) ≡ Some (d, rest) → length rest < length ts
+value_takes depth ts rest d e = skip_value-shorter depth ts rest (ap left (read_first of_json (value depth ts) d rest e).1)
 
 outside : {A B : Type 0} (g : A → B) (rest : List Token) (o : Option A) → option_map (λ b. (b, rest)) (option_map g o) ≡ parse_map g (option_map (λ a. (a, rest)) o)
 outside g rest None = refl

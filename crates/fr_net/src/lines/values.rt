@@ -1,6 +1,6 @@
 //! Values of JSON from tokens, as `serde_json` has them, which makes a table of its own for each text.
 
-ghost use Rattle.std.specs.Prelude.{◌≡◌, ◌≢◌, ◌<◌, ◌+◌, [], ◌∷◌, length, false, true, Some, None, option_map, IfOk, IfErr, OnOk};
+ghost use Rattle.std.specs.Prelude.{◌≡◌, ◌≢◌, ◌+◌, [], ◌∷◌, length, false, true, Some, None, option_map, IfOk, IfErr, OnOk};
 ghost use Rattle.fast_float.specs.Text.{scan};
 ghost use Rattle.json.specs.Json.{value as json_value, items as json_items, members as json_members, read_key};
 ghost use Rattle.json.specs.Reads.{token_of};
@@ -27,7 +27,6 @@ pub(crate) fn value(
     ensures ok { IfOk result (λ v. converted of_json (json_value depth reader.old) ≡ Some (view v, reader.new)) }
     ensures refused { IfErr result (λ fault. fault ≢ Memory
         → (fault ≡ NotJson) × (converted of_json (json_value depth reader.old) ≡ None)) }
-    ensures shorter { OnOk result (length reader.new < length reader.old) }
 {
     let token = next_token(reader)?;
     match token {
@@ -49,7 +48,6 @@ pub(crate) fn items(
         ≡ Some (items_view found.items, reader.new)) }
     ensures refused { IfErr result (λ fault. fault ≢ Memory → (fault ≡ NotJson)
         × (converted of_items (json_items (json_value depth) (length reader.old) reader.old) ≡ None)) }
-    ensures shorter { OnOk result (length reader.new < length reader.old) }
 {
     let mut found = Vec::new(alloc);
     'items: while !reader.take_end_array() {
@@ -71,7 +69,6 @@ fn members(
         (json_members (json_value depth) (length reader.old) reader.old) ≡ Some (members_view found.entries, reader.new)) }
     ensures refused { IfErr result (λ fault. fault ≢ Memory → (fault ≡ NotJson)
         × (converted (λ ms. of_members ms no_members) (json_members (json_value depth) (length reader.old) reader.old) ≡ None)) }
-    ensures shorter { OnOk result (length reader.new < length reader.old) }
 {
     let mut found = Map::new(alloc);
     'members: while let Some(name) = next_name(reader)? {
