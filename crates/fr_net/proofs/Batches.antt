@@ -10,8 +10,8 @@ use Rattle.fr_net.specs.Network.{Network}
 use Rattle.fr_net.specs.declared.fault.EditFault.{EditFault}
 use Rattle.fr_net.specs.declared.fault.NetFault.{NetFault}
 use Rattle.fr_net.specs.declared.fault.NetFault.TheVariants.{Cycle, Memory, NoLink, Range, SelfLink, TooMany, Twice}
-use Rattle.fr_net.specs.declared.requests.Edit.{Edit}
-use Rattle.fr_net.specs.declared.requests.Edit.TheVariants.{Add, Cut, Join}
+use Rattle.fr_net.specs.declared.edit.Edit.{Edit}
+use Rattle.fr_net.specs.declared.edit.Edit.TheVariants.{Add, Cut, Join}
 
 -- one edit more
 pub made_next : (net : Network) (edits : List Edit) (k : ℕ) (mid next : Network) (d : Edit) → k < length edits → AreMade net (take k edits) mid → IsMade mid (get_or edits k d) next → AreMade net (take (suc k) edits) next

@@ -31,15 +31,9 @@ pub mod Cycles
 pub mod LeavingOrder
 pub mod ClosingWalks
 pub mod TwoEnds
-pub mod Items
-pub mod LineValues
-pub mod TokenItems
-pub mod WordLines
 pub mod Reordering
 pub mod Outward
 pub mod Undoing
-pub mod ShortLineTexts
-pub mod ShortLineValues
 pub mod RowPlaces
 pub mod RowTables
 pub mod LaidOut

@@ -11,8 +11,8 @@ use Rattle.fr_net.specs.declared.fault.NetFault.{NetFault}
 use Rattle.fr_net.specs.declared.fault.NetFault.TheVariants.{Memory, TooMany}
 use Rattle.fr_net.specs.declared.fault.NotEdited.{NotEdited}
 use Rattle.fr_net.specs.declared.fault.NotEdited.TheVariants.{Refused, Fault}
-use Rattle.fr_net.specs.declared.requests.Edit.{Edit}
-use Rattle.fr_net.specs.declared.requests.Edit.TheVariants.{Cut, Add, Join}
+use Rattle.fr_net.specs.declared.edit.Edit.{Edit}
+use Rattle.fr_net.specs.declared.edit.Edit.TheVariants.{Cut, Add, Join}
 
 -- the edit makes the one network into the other
 abbrev pub IsMade : Network → Edit → Network → Type 0

@@ -14,7 +14,7 @@ use Rattle.fr_net.specs.Tables.{KeepsRooms, room_of}
 use Rattle.fr_net.specs.declared.graph.Done.{Done}
 use Rattle.fr_net.specs.declared.graph.Done.TheVariants.{Taken, Put}
 use Rattle.fr_net.specs.declared.graph.Graph.{Graph}
-use Rattle.fr_net.specs.declared.requests.Edit.{Edit}
+use Rattle.fr_net.specs.declared.edit.Edit.{Edit}
 
 -- the network that a graph shows: the links are those of its rows
 abbrev pub shown : Graph → Network

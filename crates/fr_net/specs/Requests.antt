@@ -15,14 +15,14 @@ use Rattle.std.specs.Str.{bytes_eq, is_utf8}
 use Rattle.serde_json.specs.Data.{Data, Items, no_items, item}
 use Rattle.serde_json.specs.Find.{as_number, as_str, as_array, as_u64}
 use Rattle.serde_json.specs.Read.{read}
-use Rattle.fr_net.specs.declared.requests.LineFault.{LineFault}
-use Rattle.fr_net.specs.declared.requests.LineFault.TheVariants.{NotJson, NotRequest}
-use Rattle.fr_net.specs.declared.requests.Question.{Question}
-use Rattle.fr_net.specs.declared.requests.Question.TheVariants.{Links, Counts, Hops}
-use Rattle.fr_net.specs.declared.requests.Edit.{Edit}
-use Rattle.fr_net.specs.declared.requests.Edit.TheVariants as edit
-use Rattle.fr_net.specs.declared.requests.Request.{Request}
-use Rattle.fr_net.specs.declared.requests.Request.TheVariants.{Network, Cut, Add, Join, Batch, Destination, Walk, Ask}
+use Rattle.fr_net.specs.declared.lines.requests.LineFault.{LineFault}
+use Rattle.fr_net.specs.declared.lines.requests.LineFault.TheVariants.{NotJson, NotRequest}
+use Rattle.fr_net.specs.declared.lines.requests.Question.{Question}
+use Rattle.fr_net.specs.declared.lines.requests.Question.TheVariants.{Links, Counts, Hops}
+use Rattle.fr_net.specs.declared.edit.Edit.{Edit}
+use Rattle.fr_net.specs.declared.edit.Edit.TheVariants as edit
+use Rattle.fr_net.specs.declared.lines.requests.Request.{Request}
+use Rattle.fr_net.specs.declared.lines.requests.Request.TheVariants.{Network, Cut, Add, Join, Batch, Destination, Walk, Ask}
 
 -- a request, with its links or edits as a list
 pub data PlainRequest : Type 0 where

@@ -17,11 +17,11 @@ ghost use Rattle.fr_net.specs.Limits.{most_edits};
 
 use crate::checks::{first_outside, first_self_link};
 use crate::cycle::{Found, find_cycle};
+use crate::edit::Edit;
 use crate::fault::{EditFault, NetFault, NotEdited};
 use crate::graph::Graph;
 use crate::heights::Heights;
 use crate::limits::{MAX_EDITS, MAX_LINKS, MAX_NODES};
-use crate::requests::Edit;
 use crate::row_table::RowTable;
 use crate::rows::{First, entries_of, first_twice, outward_links, sorted_halves};
 use crate::turned::{links_of_rows, turn_rows};

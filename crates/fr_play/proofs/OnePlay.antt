@@ -4,8 +4,8 @@ use Rattle.std.specs.Prelude.{option_map}
 use Rattle.fr_net.specs.Faults.{IsFaultless}
 use Rattle.fr_net.specs.Order.{in_order}
 use Rattle.fr_net.specs.Requests.{PlainRequest, new_network, reading}
-use Rattle.fr_net.specs.declared.requests.LineFault.{LineFault}
-use Rattle.fr_net.specs.declared.requests.LineFault.TheVariants.{NotJson, NotRequest, Memory}
+use Rattle.fr_net.specs.declared.lines.requests.LineFault.{LineFault}
+use Rattle.fr_net.specs.declared.lines.requests.LineFault.TheVariants.{NotJson, NotRequest, Memory}
 use Rattle.fr_net.proofs.Refusing.{no_first_fault}
 use Rattle.fr_core.specs.History.{Moment}
 use Rattle.fr_core.specs.Runs.{IsRunTo}

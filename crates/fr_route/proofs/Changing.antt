@@ -8,8 +8,8 @@ use Rattle.fr_net.specs.declared.fault.EditFault.{EditFault}
 use Rattle.fr_net.specs.declared.fault.NetFault.{NetFault}
 use Rattle.fr_net.specs.declared.fault.NetFault.TheVariants as net
 use Rattle.fr_net.specs.Network.{Network}
-use Rattle.fr_net.specs.declared.requests.Edit.{Edit}
-use Rattle.fr_net.specs.declared.requests.Edit.TheVariants as edit
+use Rattle.fr_net.specs.declared.edit.Edit.{Edit}
+use Rattle.fr_net.specs.declared.edit.Edit.TheVariants as edit
 use Rattle.fr_route.specs.Answers.{IsAnswer, fault_number}
 use Rattle.fr_route.specs.Changes.{IsChanged, IsOpenFault, IsRouteFault}
 use Rattle.fr_route.specs.Faults.{of_net_fault}

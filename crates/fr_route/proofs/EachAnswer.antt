@@ -22,12 +22,12 @@ use Rattle.fr_net.specs.Requests.{PlainRequest, new_network, cut_link, add_link,
 use Rattle.fr_net.specs.declared.fault.EditFault.{EditFault}
 use Rattle.fr_net.specs.declared.fault.NetFault.{NetFault}
 use Rattle.fr_net.specs.declared.fault.NetFault.TheVariants.{Cycle, Memory, NoLink, Range, SelfLink, TooMany, Twice}
-use Rattle.fr_net.specs.declared.requests.Edit.{Edit}
-use Rattle.fr_net.specs.declared.requests.Edit.TheVariants.{Cut, Add, Join}
-use Rattle.fr_net.specs.declared.requests.LineFault.{LineFault}
-use Rattle.fr_net.specs.declared.requests.LineFault.TheVariants.{NotRequest}
-use Rattle.fr_net.specs.declared.requests.Question.{Question}
-use Rattle.fr_net.specs.declared.requests.Question.TheVariants.{Links, Counts, Hops}
+use Rattle.fr_net.specs.declared.edit.Edit.{Edit}
+use Rattle.fr_net.specs.declared.edit.Edit.TheVariants.{Cut, Add, Join}
+use Rattle.fr_net.specs.declared.lines.requests.LineFault.{LineFault}
+use Rattle.fr_net.specs.declared.lines.requests.LineFault.TheVariants.{NotRequest}
+use Rattle.fr_net.specs.declared.lines.requests.Question.{Question}
+use Rattle.fr_net.specs.declared.lines.requests.Question.TheVariants.{Links, Counts, Hops}
 use Rattle.fr_core.proofs.Finishing.{settled_exists}
 use Rattle.fr_core.proofs.Searching.{cases_below}
 use Rattle.fr_core.proofs.Unique.{settled_lawful}

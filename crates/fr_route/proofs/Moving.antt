@@ -8,7 +8,7 @@ use Rattle.fr_net.specs.Batches.{AreMade}
 use Rattle.fr_net.specs.Links.{IsNet, Joins, Points}
 use Rattle.fr_net.specs.Network.{Network}
 use Rattle.fr_net.specs.Turn.{IsSink}
-use Rattle.fr_net.specs.declared.requests.Edit.{Edit}
+use Rattle.fr_net.specs.declared.edit.Edit.{Edit}
 use Rattle.fr_net.proofs.Giving.{Points-links_at_from, Points-links_at_same}
 use Rattle.fr_net.proofs.Members.{Contains-head, Contains-tail, cases_some}
 use Rattle.fr_net.specs.Counts.{links_at}

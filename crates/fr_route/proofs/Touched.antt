@@ -11,8 +11,8 @@ use Rattle.fr_net.specs.Faults.{IsNetworkOf}
 use Rattle.fr_net.specs.Links.{HaveSameLinks, IsNet, Points, is_between}
 use Rattle.fr_net.specs.Network.{Network}
 use Rattle.fr_net.specs.Order.{AreInOrder}
-use Rattle.fr_net.specs.declared.requests.Edit.{Edit}
-use Rattle.fr_net.specs.declared.requests.Edit.TheVariants.{Add, Cut, Join}
+use Rattle.fr_net.specs.declared.edit.Edit.{Edit}
+use Rattle.fr_net.specs.declared.edit.Edit.TheVariants.{Add, Cut, Join}
 use Rattle.fr_net.proofs.Building.{permuted_net}
 use Rattle.fr_net.proofs.Editing.{from_filter}
 use Rattle.fr_net.proofs.Linking.{joined_below, joined_from, link_below}

@@ -8,7 +8,7 @@ use Rattle.fr_net.specs.Links.{Joins}
 use Rattle.fr_net.specs.Network.{Network}
 use Rattle.fr_net.specs.declared.fault.EditFault.{EditFault}
 use Rattle.fr_net.specs.declared.fault.NetFault.{NetFault}
-use Rattle.fr_net.specs.declared.requests.Edit.{Edit}
+use Rattle.fr_net.specs.declared.edit.Edit.{Edit}
 use Rattle.fr_route.specs.States.{State, IsRound, net_at}
 use Rattle.fr_route.specs.declared.change.Change.{Change}
 use Rattle.fr_route.specs.declared.change.Change.TheVariants.{Cut, Add, Join, Batch, Destination}

@@ -3,7 +3,7 @@ use Rattle.std.specs.Prelude.{◌≡◌, ℕ, ◌<◌, ◌↔◌, List, ◌∷�
 use Rattle.std.specs.List.{IsDistinct}
 use Rattle.fr_net.specs.Links.{IsAcyclic, IsNet, IsPath, end_of}
 use Rattle.fr_net.specs.Requests.{PlainRequest}
-use Rattle.fr_net.specs.declared.requests.LineFault.{LineFault}
+use Rattle.fr_net.specs.declared.lines.requests.LineFault.{LineFault}
 use Rattle.fr_core.specs.Walks.{IsJoined}
 use Rattle.fr_route.specs.States.{State, IsRound, IsReport}
 use Rattle.fr_route.specs.Routes.{IsRoute, IsHop}

@@ -9,8 +9,8 @@ use Rattle.fr_net.specs.Links.{Joins}
 use Rattle.fr_net.specs.Rows.{has_no_neighbour}
 use Rattle.fr_net.specs.Turn.{IsSink}
 use Rattle.fr_net.specs.declared.fault.EditFault.{EditFault}
-use Rattle.fr_net.specs.declared.requests.Edit.{Edit}
-use Rattle.fr_net.specs.declared.requests.Edit.TheVariants.{Cut, Add, Join}
+use Rattle.fr_net.specs.declared.edit.Edit.{Edit}
+use Rattle.fr_net.specs.declared.edit.Edit.TheVariants.{Cut, Add, Join}
 use Rattle.fr_crew.specs.Settlements.{IsCounted}
 use Rattle.fr_route.specs.Routes.{IsHop}
 use Rattle.fr_route.specs.States.{State, IsReport, IsRound, net_at, state_with}

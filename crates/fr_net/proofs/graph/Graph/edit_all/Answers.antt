@@ -7,7 +7,7 @@ use Rattle.fr_net.specs.Batches.{IsEditFault}
 use Rattle.fr_net.specs.Graph.{AreDone, CanUndo, shown}
 use Rattle.fr_net.specs.Network.{Network}
 use Rattle.fr_net.specs.declared.graph.Done.{Done}
-use Rattle.fr_net.specs.declared.requests.Edit.{Edit}
+use Rattle.fr_net.specs.declared.edit.Edit.{Edit}
 use Rattle.fr_net.proofs.graph.Graph.edit_all.Goals as goal
 use Rattle.fr_net.proofs.graph.Graph.edit_all.Goals.{In-Err}
 

@@ -1,6 +1,6 @@
 use Rattle.std.proofs.Common.{◌≡◌, ◌∷◌, IfErr, IfOk, [], ap, subst, sym, ℕ}
 use Rattle.std.proofs.lemmas.Result.{IfErr-weaker, IfOk-weaker}
-use Rattle.fr_net.specs.declared.requests.Edit.TheVariants as edit
+use Rattle.fr_net.specs.declared.edit.Edit.TheVariants as edit
 use Rattle.fr_route.specs.Changes.{IsChanged, IsRouteFault}
 use Rattle.fr_route.specs.Outcomes.{IsEdited}
 use Rattle.fr_route.specs.States.{State}
