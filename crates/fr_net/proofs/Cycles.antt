@@ -5,11 +5,21 @@ use Rattle.std.proofs.lemmas.List.{get_or-drop, get_or-set_other, get_or-set_sam
 use Rattle.std.proofs.lemmas.List.Elements.{Contains-append_left, Contains-push}
 use Rattle.std.proofs.lemmas.List.Sums.{sum_by-set}
 use Rattle.std.specs.List.{count_by}
-use Rattle.fr_net.specs.CycleSearch.{AreTailStarts, HasRisingTails, IsCycleSearch, IsPassed, IsStart, LeadsTo, LeadsToDone, fresh_count, is_fresh, mark_of}
-use Rattle.fr_net.specs.Links.{IsClosedWalk, IsCycle, IsPath, Points, end_of}
+use Rattle.fr_net.specs.CycleSearch.{AreTailStarts, HasRisingTails, IsCycleSearch, IsOrder, IsPassed, IsSearch, IsStart, LeadsTo, LeadsToDone, fresh_count, is_fresh, mark_of}
+use Rattle.fr_net.specs.Links.{AreBelow, IsClosedWalk, IsCycle, IsPath, Points, end_of}
 use Rattle.fr_net.specs.Rows.{has_link}
 use Rattle.fr_net.specs.declared.cycle.Mark.{Mark}
 use Rattle.fr_net.specs.declared.cycle.Mark.TheVariants.{Done, Fresh, Open}
+use Rattle.fr_net.specs.declared.cycle.Search.{Search}
+
+-- what has as many marks as there are nodes
+pub searched : (n : ℕ) (links : List (ℕ × ℕ)) (search : Search) → HasRisingTails links → AreBelow n links → IsCycleSearch n links search.marks.items search.places.items search.path.items → IsOrder links search.marks.items search.order.items → IsSearch links search
+searched n links search rising below steps order = record {
+  rising = rising;
+  below = rw steps.marks_length below;
+  steps = rw steps.marks_length steps;
+  order = order;
+}
 
 -- a mark after one mark was set
 pub mark_set : (marks : List Mark) (x y : ℕ) (m : Mark) → x < length marks → ((y ≡ x) × (mark_of (set marks x m) y ≡ m)) ⊎ ((y ≢ x) × (mark_of (set marks x m) y ≡ mark_of marks y))
@@ -31,15 +41,18 @@ node_cases path x k h =
       | inr g ↦ let q : length path ≡ k = omega (arith, e) in inr (sym q, get_or_push path x 0 k q)
     ]
 
-pub opened : (n : ℕ) (links : List (ℕ × ℕ)) (marks : List Mark) (places path : List ℕ) (x p : ℕ) → IsCycleSearch n links marks places path → x < n → mark_of marks x ≡ Fresh → LeadsTo links path x → p ≤ length links → IsStart links x p → IsCycleSearch n links (set marks x Open) (set places x p) (path ++ x ∷ [])
-opened n links marks places path x p s below fresh leads inside_p start =
+pub opened : (n : ℕ) (links : List (ℕ × ℕ)) (marks : List Mark) (places path : List ℕ) (x : ℕ) → IsCycleSearch n links marks places path → x < n → mark_of marks x ≡ Fresh → LeadsTo links path x → IsCycleSearch n links (set marks x Open) places (path ++ x ∷ [])
+opened n links marks places path x s below fresh leads =
     let lm : x < length marks = omega (arith, s.marks_length) in
-    let lp : x < length places = omega (arith, s.places_length) in
     let len = length_push path x in
+    let done_stays : (y : ℕ) → mark_of marks y ≡ Done → mark_of (set marks x Open) y ≡ Done =
+    λ y was. elim (mark_set marks x y Open lm) [ inl u ↦ cc (u.0, was, fresh) | inr u ↦ u.1 ∙ was ] in
+    let was_done : (y : ℕ) → mark_of (set marks x Open) y ≡ Done → mark_of marks y ≡ Done =
+    λ y done. elim (mark_set marks x y Open lm) [ inl w ↦ cc (w.1, done) | inr w ↦ sym w.1 ∙ done ] in
     record {
       marks_length = length-set marks x Open ∙ s.marks_length;
-      places_length = length-set places x p ∙ s.places_length;
-      places_inside = λ y. elim (place_set places x y p lp) [ inl w ↦ rw w.1 inside_p | inr w ↦ rw w.1 (s.places_inside y) ];
+      places_length = s.places_length;
+      places_inside = s.places_inside;
       path_below = λ k h. elim (node_cases path x k h) [ inl w ↦ rw w.1 (s.path_below k w.0) | inr w ↦ rw w.1 below ];
       path_follows = λ k h.
           let l : k < length path = omega (arith, len) in
@@ -62,33 +75,10 @@ opened n links marks places path x p s below fresh leads inside_p start =
         | inl w ↦ rw w.0 (Contains-push path x)
         | inr w ↦ Contains-append_left path (x ∷ []) y (s.open_on_path y (sym w.1 ∙ o))
       ];
-      passed = λ y i d seen before inside tail.
-          let kept = mark_set marks x (get_or links i d).1 Open lm in
-          elim (place_set places x y p lp) [
-            | inl w ↦ absurd (omega (arith, (start i d inside).0 (omega (arith, before, w.1)), w.0, tail))
-            | inr w ↦ elim (mark_set marks x y Open lm) [
-              | inl v ↦ absurd (w.0 v.0)
-              | inr v ↦ let was = s.passed y i d (λ f. seen (v.1 ∙ f)) (omega (arith, w.1)) inside tail in
-                  elim kept [ inl u ↦ cc (u.0, was, fresh) | inr u ↦ u.1 ∙ was ]
-            ]
-          ];
-      ahead = λ y i d seen from inside.
-          elim (place_set places x y p lp) [
-            | inl w ↦ omega (arith, (start i d inside).1 (omega (arith, from, w.1)), w.0)
-            | inr w ↦ elim (mark_set marks x y Open lm) [
-              | inl v ↦ absurd (w.0 v.0)
-              | inr v ↦ s.ahead y i d (λ f. seen (v.1 ∙ f)) (omega (arith, w.1)) inside
-            ]
-          ];
-      done_closed = λ u v done has_link. elim (mark_set marks x u Open lm) [
-        | inl w ↦ cc (w.1, done)
-        | inr w ↦ let was = s.done_closed u v (sym w.1 ∙ done) has_link in
-            elim (mark_set marks x v Open lm) [ inl t ↦ cc (t.0, was, fresh) | inr t ↦ t.1 ∙ was ]
-      ];
-      done_safe = λ u vs done. elim (mark_set marks x u Open lm) [
-        | inl w ↦ cc (w.1, done)
-        | inr w ↦ s.done_safe u vs (sym w.1 ∙ done)
-      ];
+      passed = λ y i d before inside tail. done_stays _ (s.passed y i d before inside tail);
+      ahead = s.ahead;
+      done_closed = λ u v done has_link. done_stays v (s.done_closed u v (was_done u done) has_link);
+      done_safe = λ u vs done. s.done_safe u vs (was_done u done);
     }
 
 pub advanced : (n : ℕ) (links : List (ℕ × ℕ)) (marks : List Mark) (places path : List ℕ) (x p : ℕ) → IsCycleSearch n links marks places path → x < n → get_or places x 0 ≤ p → p ≤ length links → ((i : ℕ) → get_or places x 0 ≤ i → i < p → IsPassed links marks x i) → IsCycleSearch n links marks (set places x p) path
@@ -103,18 +93,18 @@ advanced n links marks places path x p s below up inside_p passes =
       path_open = s.path_open;
       path_once = s.path_once;
       open_on_path = s.open_on_path;
-      passed = λ y i d seen before inside tail.
+      passed = λ y i d before inside tail.
           elim (place_set places x y p lp) [
             | inl w ↦ elim (cases_lt i (get_or places x 0)) [
-              | inl l ↦ s.passed y i d seen (rw w.0 l) inside tail
+              | inl l ↦ s.passed y i d (rw w.0 l) inside tail
               | inr g ↦ (passes i g (omega (arith, before, w.1)) d).1
             ]
-            | inr w ↦ s.passed y i d seen (omega (arith, w.1)) inside tail
+            | inr w ↦ s.passed y i d (omega (arith, w.1)) inside tail
           ];
-      ahead = λ y i d seen from inside.
+      ahead = λ y i d node from inside.
           elim (place_set places x y p lp) [
-            | inl w ↦ s.ahead y i d seen (rw w.0 (omega (arith, from, w.1, up))) inside
-            | inr w ↦ s.ahead y i d seen (omega (arith, w.1)) inside
+            | inl w ↦ s.ahead y i d node (rw w.0 (omega (arith, from, w.1, up))) inside
+            | inr w ↦ s.ahead y i d node (omega (arith, w.1)) inside
           ];
       done_closed = s.done_closed;
       done_safe = s.done_safe;
@@ -145,9 +135,6 @@ left n links marks places path x last s full top leads =
     let lm : x < length marks = omega (arith, s.marks_length) in
     let len = length-take-le last path (omega arith) in
     let on_top : mark_of marks x ≡ Open = rw top (s.path_open last (omega arith)) in
-    let seen_top : mark_of marks x ≢ Fresh = λ f. cc (on_top, f) in
-    let stays_seen : (y : ℕ) → mark_of (set marks x Done) y ≢ Fresh → mark_of marks y ≢ Fresh =
-    λ y h. elim (mark_set marks x y Done lm) [ inl w ↦ rw w.0 seen_top | inr w ↦ λ f. h (w.1 ∙ f) ] in
     let done_stays : (y : ℕ) → mark_of marks y ≡ Done → mark_of (set marks x Done) y ≡ Done =
     λ y h. elim (mark_set marks x y Done lm) [ inl w ↦ w.1 | inr w ↦ w.1 ∙ h ] in
     record {
@@ -171,8 +158,8 @@ left n links marks places path x last s full top leads =
                   absurd (w.0 (sym was.2 ∙ get_or_default path was.0 y 0 was.1 ∙ ap (λ (k : ℕ). get_or path k 0) i ∙ sym top))
             ]
       ];
-      passed = λ y i d seen before inside tail. done_stays _ (s.passed y i d (stays_seen y seen) before inside tail);
-      ahead = λ y i d seen from inside. s.ahead y i d (stays_seen y seen) from inside;
+      passed = λ y i d before inside tail. done_stays _ (s.passed y i d before inside tail);
+      ahead = s.ahead;
       done_closed = λ u v done has_link. elim (mark_set marks x u Done lm) [
         | inl w ↦ done_stays v (points_to_done links marks u v (rw w.0 leads) has_link)
         | inr w ↦ done_stays v (s.done_closed u v (sym w.1 ∙ done) has_link)
@@ -221,16 +208,22 @@ starts_more links starts x p are inside here = record {
 }
 
 -- once the place of x is past its links, each of them leads to a done node
-pub all_done : (n : ℕ) (links : List (ℕ × ℕ)) (marks : List Mark) (places path : List ℕ) (x place : ℕ) → IsCycleSearch n links marks places path → HasRisingTails links → mark_of marks x ≢ Fresh → place ≡ get_or places x 0 → ((d : ℕ × ℕ) → place < length links → (get_or links place d).0 ≢ x) → LeadsToDone links marks x
-all_done n links marks places path x place s rising seen at past i d inside tail =
+pub all_done : (n : ℕ) (links : List (ℕ × ℕ)) (marks : List Mark) (places path : List ℕ) (x place : ℕ) → IsCycleSearch n links marks places path → HasRisingTails links → x < n → place ≡ get_or places x 0 → ((d : ℕ × ℕ) → place < length links → (get_or links place d).0 ≢ x) → LeadsToDone links marks x
+all_done n links marks places path x place s rising node at past i d inside tail =
     elim (cases_lt i place) [
-      | inl l ↦ s.passed x i d seen (omega (arith, at)) inside tail
+      | inl l ↦ s.passed x i d (omega (arith, at)) inside tail
       | inr g ↦
           let within : place < length links = omega arith in
-          let ahead = s.ahead x place d seen (omega (arith, at)) within in
+          let ahead = s.ahead x place d node (omega (arith, at)) within in
           let up = rising place i d g inside in
           absurd (past d within (omega (arith, ahead, up, tail)))
     ]
+
+-- a link of the last node of the path
+pub leads_from_top : (links : List (ℕ × ℕ)) (path same_path : List ℕ) (last top x : ℕ) → same_path ≡ path → last + 1 ≡ length path → top ≡ get_or path last 0 → Points links top x → LeadsTo links same_path x
+leads_from_top links path same_path last top x same full is points k l =
+    let at : k ≡ last = omega (arith, ap length same) in
+    rw (same, at, ← is) points
 
 shifted : (u : ℕ) (xs : List ℕ) (k : ℕ) → get_or (u ∷ xs) (k + 1) 0 ≡ get_or xs k 0
 shifted u xs k = rw add-one refl

@@ -1,5 +1,5 @@
 -- The order in which the search leaves nodes.
-use Rattle.std.proofs.Common.{List, [], arith, cond, get_or, inl, inr, length, refl, replicate, set, sym, ℕ, ◌⊎◌, ◌++◌, ◌<◌, ◌∙◌, ◌∷◌, ◌≡◌, ◌≢◌}
+use Rattle.std.proofs.Common.{List, [], arith, cond, get_or, inl, inr, length, refl, replicate, set, sym, ℕ, ◌⊎◌, ◌++◌, ◌<◌, ◌∙◌, ◌∷◌, ◌≡◌, ◌≢◌, ◌≤◌}
 use Rattle.std.proofs.lemmas.Bool.{cases_lt}
 use Rattle.std.proofs.lemmas.List.{get_or-replicate, get_or_past, length-replicate, length_push}
 use Rattle.std.proofs.lemmas.List.Elements.{All-contains, All-from_get_or, All-get_or, All-nil, All-push, Contains-append_left, Contains-push}
@@ -7,7 +7,7 @@ use Rattle.std.proofs.lemmas.List.Folds.{sum_by-replicate}
 use Rattle.std.proofs.lemmas.List.Sums.{count_by-le-length}
 use Rattle.std.specs.List.{All, count_by}
 use Rattle.fr_net.proofs.Cycles.{count_by-set, mark_set, node_cases, points_to_done}
-use Rattle.fr_net.specs.CycleSearch.{IsCycleSearch, IsOrder, LeadsToDone, is_done, mark_of}
+use Rattle.fr_net.specs.CycleSearch.{AreTailStarts, IsCycleSearch, IsOrder, LeadsToDone, is_done, mark_of}
 use Rattle.fr_net.specs.Heights.{HasHeadsFirst}
 use Rattle.fr_net.specs.Links.{AreBelow, IsAcyclic, IsClosedWalk}
 use Rattle.fr_net.specs.declared.cycle.Mark.{Mark}
@@ -34,6 +34,28 @@ mark_cases : (m : Mark) → (m ≡ Fresh) ⊎ ((m ≡ Open) ⊎ (m ≡ Done))
 mark_cases Fresh = inl refl
 mark_cases Open = inr (inl refl)
 mark_cases Done = inr (inr refl)
+
+-- no node is met at first
+pub search_begins : (n : ℕ) (links : List (ℕ × ℕ)) (starts : List ℕ) → AreTailStarts n links starts → IsCycleSearch n links (replicate n Fresh) starts []
+search_begins n links starts are =
+    let past : (x : ℕ) → n ≤ x → get_or starts x 0 ≡ 0 = λ x g. get_or_past starts x 0 (omega (arith, g, are.one_each)) in
+    record {
+      marks_length = length-replicate n Fresh;
+      places_length = are.one_each;
+      places_inside = λ x. elim (cases_lt x n) [ inl l ↦ are.inside x l | inr g ↦ omega (arith, past x g) ];
+      path_below = λ k l. absurd (omega (arith, l));
+      path_follows = λ k l. absurd (omega (arith, l));
+      path_open = λ k l. absurd (omega (arith, l));
+      path_once = λ i j lt l. absurd (omega (arith, l));
+      open_on_path = λ x is. cc (mark_unmet n x, is);
+      passed = λ x i d before inside tail. absurd (elim (cases_lt x n) [
+        | inl l ↦ omega (arith, (are.start x l i d inside).0 before, tail)
+        | inr g ↦ omega (arith, before, past x g)
+      ]);
+      ahead = λ x i d node from inside. (are.start x node i d inside).1 from;
+      done_closed = λ u v done. cc (mark_unmet n u, done);
+      done_safe = λ u vs done. cc (mark_unmet n u, done);
+    }
 
 -- no node is left at first
 pub unmet_order : (links : List (ℕ × ℕ)) (n : ℕ) → IsOrder links (replicate n Fresh) []

@@ -1,9 +1,10 @@
 //! The search for a closed walk along links: depth first, with the path as a stack, so that each link is passed once and
 //! the evidence is at hand. Where there is none, each link leads to a node that the search left before the tail.
 
-ghost use Rattle.std.specs.Prelude.{◌≡◌, ◌≢◌, ℕ, List, ◌<◌, ◌≤◌, ◌+◌, ◌++◌, [], ◌∷◌, length, drop, vec_len, slice_index, slice_index_or, IfOk, IfSome, IfNone, OnOk, Contains, ◌-◌, ◌*◌, take};
-ghost use Rattle.fr_net.specs.Links.{AreBelow, IsCycle, Points};
-ghost use Rattle.fr_net.specs.CycleSearch.{AreTailStarts, HasRisingTails, IsStart, mark_of, IsPassed, IsCycleSearch, KeepsSeen, LeadsTo, LeadsToDone, fresh_count, IsOrder, IsFound};
+ghost use Rattle.std.specs.Prelude.{◌≡◌, ◌≢◌, ℕ, List, ◌<◌, ◌≤◌, ◌++◌, [], ◌∷◌, length, drop, vec_len, slice_index, slice_index_or, IfOk, IfSome, IfNone, OnOk, IsTrue, Contains, ◌-◌};
+ghost use Rattle.fr_net.specs.Heights.{HasHeadsFirst};
+ghost use Rattle.fr_net.specs.Links.{AreBelow, IsAcyclic, Points};
+ghost use Rattle.fr_net.specs.CycleSearch.{AreTailStarts, HasRisingTails, IsStart, mark_of, IsPassed, IsSearch, KeepsSeen, LeadsBack, LeadsTo, LeadsToDone, left_count, IsFound};
 
 use std::alloc::{AllocError, Global};
 
@@ -90,153 +91,175 @@ fn tail_starts(alloc: Global, nodes: u32, links: &[(u32, u32)]) -> Result<Vec<us
     Ok(starts)
 }
 
-/// Puts `node` at the end of the path.
-fn open(
-    links: &[(u32, u32)],
-    starts: &[usize],
-    marks: &mut [Mark],
-    places: &mut [usize],
-    path: &mut Vec<u32>,
-    node: u32,
-) -> Result<(), AllocError>
-    requires search { IsCycleSearch (length marks.old) links.now marks.old places.old path.old.items }
-    requires starts { AreTailStarts (length marks.old) links.now starts.now }
-    requires below { node < length marks.old }
-    requires fresh { mark_of marks.old node ≡ Mark.Fresh }
-    requires leads { LeadsTo links.now path.old.items node }
-    ensures search { OnOk result (IsCycleSearch (length marks.old) links.now marks.new places.new path.new.items) }
-    ensures path { OnOk result (path.new.items ≡ path.old.items ++ node ∷ []) }
-    ensures order { OnOk result ((order : List ℕ) → IsOrder links.now marks.old order → IsOrder links.now marks.new order) }
-    ensures seen { OnOk result (mark_of marks.new node ≢ Mark.Fresh) }
-    ensures kept { OnOk result (KeepsSeen marks.old marks.new) }
-    ensures fewer { OnOk result (fresh_count marks.new + 1 ≡ fresh_count marks.old) }
-{
-    path.push(node)?;
-    marks[node as usize] = Mark::Open;
-    places[node as usize] = starts[node as usize];
-    Ok(())
+/// The state of the search.
+#[derive(Drop)]
+struct Search {
+    marks: Vec<Mark>,
+    // For each node the place of the first of its links that may lead to a node that is not done.
+    places: Vec<usize>,
+    path: Vec<u32>,
+    // The nodes that it has left, in the order in which it left them.
+    order: Vec<u32>,
 }
 
-/// Moves the place of `top` on, past its links that lead to done nodes.
-fn advance(
-    links: &[(u32, u32)],
-    marks: &[Mark],
-    places: &mut [usize],
-    path: &Vec<u32>,
-    top: u32,
-) -> usize
-    requires search { IsCycleSearch (length marks.now) links.now marks.now places.old path.now.items }
-    requires below { AreBelow (length marks.now) links.now }
-    requires top { top < length marks.now }
-    ensures search { IsCycleSearch (length marks.now) links.now marks.now places.new path.now.items }
-    ensures place { result ≡ slice_index places.new top }
-    ensures high { result ≤ length links.now }
-    ensures stops { (d : ℕ × ℕ) → result < length links.now → (slice_index_or links.now result d).0 ≡ top → mark_of marks.now (slice_index_or links.now result d).1 ≢ Mark.Done }
-{
-    let place = first_not_passed(links, marks, top, places[top as usize]);
-    places[top as usize] = place;
-    place
-}
-
-/// Takes the last node off the path, once all its links lead to done nodes.
-fn leave(links: &[(u32, u32)], marks: &mut [Mark], places: &[usize], path: &mut Vec<u32>, top: u32)
-    requires search { IsCycleSearch (length marks.old) links.now marks.old places.now path.old.items }
-    requires full { 0 < vec_len path.old }
-    requires top { top ≡ slice_index path.old.items (vec_len path.old - 1) }
-    requires done { LeadsToDone links.now marks.old top }
-    ensures search { IsCycleSearch (length marks.old) links.now marks.new places.now path.new.items }
-    ensures shorter { vec_len path.new + 1 ≡ vec_len path.old }
-    ensures order { (order : List ℕ) → IsOrder links.now marks.old order → IsOrder links.now marks.new (order ++ top ∷ []) }
-    ensures kept { KeepsSeen marks.old marks.new }
-    ensures fewer { fresh_count marks.new ≤ fresh_count marks.old }
-{
-    let _last = path.pop();
-    marks[top as usize] = Mark::Done;
-}
-
-/// Searches from `root` for a closed walk, unless the search has met it, and puts the nodes that it leaves behind the others.
-fn visit(
-    alloc: Global,
-    links: &[(u32, u32)],
-    starts: &[usize],
-    marks: &mut [Mark],
-    places: &mut [usize],
-    order: &mut Vec<u32>,
-    root: u32,
-) -> Result<Option<Vec<u32>>, AllocError>
-    requires search { IsCycleSearch (length marks.old) links.now marks.old places.old [] }
-    requires tails { HasRisingTails links.now }
-    requires starts { AreTailStarts (length marks.old) links.now starts.now }
-    requires below { AreBelow (length marks.old) links.now }
-    requires root { root < length marks.old }
-    requires order { IsOrder links.now marks.old order.old.items }
-    ensures found { IfOk result (λ found. IfSome found (λ walk. IsCycle links.now walk.items)) }
-    ensures search { IfOk result (λ found. IfNone found (IsCycleSearch (length marks.old) links.now marks.new places.new [])) }
-    ensures seen { IfOk result (λ found. IfNone found (mark_of marks.new root ≢ Mark.Fresh)) }
-    ensures kept { IfOk result (λ found. IfNone found (KeepsSeen marks.old marks.new)) }
-    ensures order { IfOk result (λ found. IfNone found (IsOrder links.now marks.new order.new.items)) }
-{
-    if !matches!(&marks[root as usize], Mark::Fresh) {
-        return Ok(None);
+impl Search {
+    /// A search that has met no node.
+    fn begun(alloc: Global, nodes: u32, links: &[(u32, u32)]) -> Result<Search, AllocError>
+        requires tails { HasRisingTails links.now }
+        requires below { AreBelow nodes links.now }
+        ensures search { IfOk result (IsSearch links.now) }
+        ensures empty { IfOk result (λ search. search.path.items ≡ []) }
+        ensures one_each { IfOk result (λ search. length search.marks.items ≡ nodes) }
+    {
+        Ok(Search {
+            marks: vec![in alloc; Mark::Fresh; nodes as usize]?,
+            places: tail_starts(alloc, nodes, links)?,
+            path: Vec::new(alloc),
+            order: Vec::with_capacity(alloc, nodes as usize)?,
+        })
     }
-    let mut path = Vec::new(alloc);
-    open(links, starts, marks, places, &mut path, root)?;
-    'walk: while !path.is_empty() {
-        let top = path[path.len() - 1];
-        let place = advance(links, marks, places, &path, top);
+
+    /// Whether it has met this node.
+    fn has_met(&self, node: u32) -> bool
+        requires { node < length self.now.marks.items }
+        ensures met { IsTrue result → mark_of self.now.marks.items node ≢ Mark.Fresh }
+        ensures fresh { ¬ IsTrue result → mark_of self.now.marks.items node ≡ Mark.Fresh }
+    {
+        !matches!(&self.marks[node as usize], Mark::Fresh)
+    }
+
+    /// Puts `node` at the end of the path.
+    fn open(&mut self, node: u32) -> Result<(), AllocError>
+        requires below { node < length self.old.marks.items }
+        requires fresh { mark_of self.old.marks.items node ≡ Mark.Fresh }
+        ensures search { OnOk result ((links : List (ℕ × ℕ)) → IsSearch links self.old → LeadsTo links self.old.path.items node → IsSearch links self.new) }
+        ensures seen { OnOk result (mark_of self.new.marks.items node ≢ Mark.Fresh) }
+        ensures kept { OnOk result (KeepsSeen self.old.marks.items self.new.marks.items) }
+        ensures one_each { OnOk result (length self.new.marks.items ≡ length self.old.marks.items) }
+        ensures fewer { OnOk result (left_count self.new < left_count self.old) }
+    {
+        self.path.push(node)?;
+        self.marks[node as usize] = Mark::Open;
+        Ok(())
+    }
+
+    /// Moves the place of `top` on, past its links that lead to done nodes.
+    fn advance(&mut self, links: &[(u32, u32)], top: u32) -> usize
+        requires search { IsSearch links.now self.old }
+        requires top { top < length self.old.marks.items }
+        ensures search { IsSearch links.now self.new }
+        ensures marks { self.new.marks ≡ self.old.marks }
+        ensures path { self.new.path ≡ self.old.path }
+        ensures place { result ≡ slice_index self.new.places.items top }
+        ensures stops { (d : ℕ × ℕ) → result < length links.now → (slice_index_or links.now result d).0 ≡ top → mark_of self.new.marks.items (slice_index_or links.now result d).1 ≢ Mark.Done }
+    {
+        let place = first_not_passed(links, &self.marks, top, self.places[top as usize]);
+        self.places[top as usize] = place;
+        place
+    }
+
+    /// The head of the next link of `top` that leads to a node that is not done, if there is one.
+    fn next_head(&mut self, links: &[(u32, u32)], top: u32) -> Option<u32>
+        requires search { IsSearch links.now self.old }
+        requires top { top < length self.old.marks.items }
+        ensures search { IsSearch links.now self.new }
+        ensures marks { self.new.marks ≡ self.old.marks }
+        ensures path { self.new.path ≡ self.old.path }
+        ensures points { IfSome result (Points links.now top) }
+        ensures stops { IfSome result (λ head. mark_of self.new.marks.items head ≢ Mark.Done) }
+        ensures done { IfNone result (LeadsToDone links.now self.new.marks.items top) }
+    {
+        let place = self.advance(links, top);
         if place < links.len() && links[place].0 == top {
-            let next = links[place].1;
-            match marks[next as usize] {
-                Mark::Open => return Ok(Some(closed_at(alloc, &path, next)?)),
-                _ => open(links, starts, marks, places, &mut path, next)?,
-            }
+            Some(links[place].1)
         } else {
-            leave(links, marks, places, &mut path, top);
-            order.push(top)?;
+            None
         }
     }
-    Ok(None)
-}
 
-/// The marks and the places of a search that has met no node.
-fn fresh_search(alloc: Global, nodes: u32) -> Result<(Vec<Mark>, Vec<usize>), AllocError>
-    ensures search { IfOk result (λ search. (links : List (ℕ × ℕ)) → IsCycleSearch nodes links search.0.items search.1.items []) }
-    ensures order { IfOk result (λ search. (links : List (ℕ × ℕ)) → IsOrder links search.0.items []) }
-{
-    let marks = vec![in alloc; Mark::Fresh; nodes as usize]?;
-    let places = vec![in alloc; 0usize; nodes as usize]?;
-    Ok((marks, places))
-}
-
-/// Searches from each node.
-fn visit_all(
-    alloc: Global,
-    nodes: u32,
-    links: &[(u32, u32)],
-    starts: &[usize],
-) -> Result<Found, AllocError>
-    requires tails { HasRisingTails links.now }
-    requires starts { AreTailStarts nodes links.now starts.now }
-    requires below { AreBelow nodes links.now }
-    ensures { IfOk result (IsFound nodes links.now) }
-{
-    let (mut marks, mut places) = fresh_search(alloc, nodes)?;
-    let mut order = Vec::with_capacity(alloc, nodes as usize)?;
-    for root in 0..nodes {
-        let found = visit(
-            alloc,
-            links,
-            starts,
-            &mut marks,
-            &mut places,
-            &mut order,
-            root,
-        )?;
-        if let Some(walk) = found {
-            return Ok(Found::Walk(walk));
-        }
+    /// Takes the last node off the path, once all its links lead to done nodes.
+    fn leave(&mut self, top: u32) -> Result<(), AllocError>
+        requires full { 0 < vec_len self.old.path }
+        requires top { top ≡ slice_index self.old.path.items (vec_len self.old.path - 1) }
+        requires below { top < length self.old.marks.items }
+        ensures search { OnOk result ((links : List (ℕ × ℕ)) → IsSearch links self.old → LeadsToDone links self.old.marks.items top → IsSearch links self.new) }
+        ensures kept { OnOk result (KeepsSeen self.old.marks.items self.new.marks.items) }
+        ensures one_each { OnOk result (length self.new.marks.items ≡ length self.old.marks.items) }
+        ensures fewer { OnOk result (left_count self.new < left_count self.old) }
+    {
+        let _last = self.path.pop();
+        self.marks[top as usize] = Mark::Done;
+        self.order.push(top)?;
+        Ok(())
     }
-    Ok(Found::Order(order))
+
+    /// A step from the last node of the path: on to a node that was not met, or back where there is none. Where a link leads back to a node of the
+    /// path instead, it answers that node.
+    fn step(&mut self, links: &[(u32, u32)]) -> Result<Option<u32>, AllocError>
+        requires search { IsSearch links.now self.old }
+        requires full { 0 < vec_len self.old.path }
+        ensures back { IfOk result (λ back. IfSome back (LeadsBack links.now self.new.path.items)) }
+        ensures search { OnOk result (IsSearch links.now self.new) }
+        ensures kept { OnOk result (KeepsSeen self.old.marks.items self.new.marks.items) }
+        ensures one_each { OnOk result (length self.new.marks.items ≡ length self.old.marks.items) }
+        ensures fewer { IfOk result (λ back. IfNone back (left_count self.new < left_count self.old)) }
+    {
+        let top = self.path[self.path.len() - 1];
+        let Some(head) = self.next_head(links, top) else {
+            self.leave(top)?;
+            return Ok(None);
+        };
+        match self.marks[head as usize] {
+            Mark::Open => return Ok(Some(head)),
+            _ => self.open(head)?,
+        }
+        Ok(None)
+    }
+
+    /// Searches from `root`, unless the search has met it. Where a link closes a walk with the path, it answers the node of the path that
+    /// the link leads back to.
+    fn visit(&mut self, links: &[(u32, u32)], root: u32) -> Result<Option<u32>, AllocError>
+        requires search { IsSearch links.now self.old }
+        requires empty { self.old.path.items ≡ [] }
+        requires root { root < length self.old.marks.items }
+        ensures back { IfOk result (λ back. IfSome back (LeadsBack links.now self.new.path.items)) }
+        ensures search { OnOk result (IsSearch links.now self.new) }
+        ensures empty { IfOk result (λ back. IfNone back (self.new.path.items ≡ [])) }
+        ensures seen { OnOk result (mark_of self.new.marks.items root ≢ Mark.Fresh) }
+        ensures kept { OnOk result (KeepsSeen self.old.marks.items self.new.marks.items) }
+        ensures one_each { OnOk result (length self.new.marks.items ≡ length self.old.marks.items) }
+    {
+        if self.has_met(root) {
+            return Ok(None);
+        }
+        self.open(root)?;
+        'walk: while !self.path.is_empty() {
+            let back = self.step(links)?;
+            if back.is_some() {
+                return Ok(back);
+            }
+        }
+        Ok(None)
+    }
+
+    /// Searches from each node, up to where a link closes a walk with the path.
+    fn visit_all(&mut self, nodes: u32, links: &[(u32, u32)]) -> Result<Option<u32>, AllocError>
+        requires search { IsSearch links.now self.old }
+        requires empty { self.old.path.items ≡ [] }
+        requires one_each { length self.old.marks.items ≡ nodes }
+        ensures search { OnOk result (IsSearch links.now self.new) }
+        ensures back { IfOk result (λ back. IfSome back (LeadsBack links.now self.new.path.items)) }
+        ensures acyclic { IfOk result (λ back. IfNone back (IsAcyclic links.now)) }
+        ensures order { IfOk result (λ back. IfNone back (HasHeadsFirst nodes links.now self.new.order.items)) }
+    {
+        for root in 0..nodes {
+            let back = self.visit(links, root)?;
+            if back.is_some() {
+                return Ok(back);
+            }
+        }
+        Ok(None)
+    }
 }
 
 /// A closed walk along the links, which are in rising order of their tails; or, where there is none, an order of the nodes along which
@@ -250,6 +273,9 @@ pub(crate) fn find_cycle(
     requires below { AreBelow nodes links.now }
     ensures { IfOk result (IsFound nodes links.now) }
 {
-    let starts = tail_starts(alloc, nodes, links)?;
-    visit_all(alloc, nodes, links, &starts)
+    let mut search = Search::begun(alloc, nodes, links)?;
+    match search.visit_all(nodes, links)? {
+        Some(node) => Ok(Found::Walk(closed_at(alloc, &search.path, node)?)),
+        None => Ok(Found::Order(search.order)),
+    }
 }
