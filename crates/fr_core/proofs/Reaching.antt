@@ -11,16 +11,6 @@ use Rattle.fr_net.specs.declared.rows.First.TheVariants.{Outward}
 pub queued_more : (q r : List ℕ) (x : ℕ) → length q ≤ length r → ((i : ℕ) → i < length q → slice_index r i ≡ slice_index q i) → IsQueued q x → IsQueued r x
 queued_more q r x longer kept h = (h.0, omega (arith, h.1), kept h.0 h.1 ∙ h.2)
 
-pub reaches_none : (n : ℕ) (P : ℕ → Type 0) (level : ℕ) (c q : List ℕ) → ReachesOnly n P level c q c q
-reaches_none n P level c q = record {
-  longer = omega arith;
-  kept = λ i l. refl;
-  added = λ i l h. absurd (omega arith);
-  same = λ x e. refl;
-  rest = λ x e. inl e;
-  balance = refl;
-}
-
 pub reaches_more : (n : ℕ) (P Q : ℕ → Type 0) (level : ℕ) (c q d r e s : List ℕ)
     → ReachesOnly n P level c q d r → ReachesOnly n Q level d r e s → ((x : ℕ) → Q x → P x) → ReachesOnly n P level c q e s
 reaches_more n P Q level c q d r e s g h within = record {

@@ -1,12 +1,13 @@
 -- A machine that is stepped by hand: where its steps have brought it, and what they decided.
-use Rattle.std.proofs.Common.{List, [], ap, arith, length, refl, subst, sym, ℕ, ◌++◌, ◌<◌, ◌∙◌, ◌∷◌, ◌≡◌}
-use Rattle.std.proofs.lemmas.List.{append-nil, append_assoc, length-map, length-set}
+use Rattle.std.proofs.Common.{List, [], ap, arith, drop, get_or, length, refl, subst, sym, ℕ, ◌+◌, ◌++◌, ◌<◌, ◌∙◌, ◌∷◌, ◌≡◌}
+use Rattle.std.proofs.lemmas.List.{append-nil, append_assoc, drop_more, length-map, length-set}
 use Rattle.std.proofs.lemmas.List.Elements.{All-nil, All-push}
 use Rattle.fr_net.specs.Links.{IsNet}
 use Rattle.fr_core.proofs.MachineParts.{played}
 use Rattle.fr_core.specs.Machine.{MachineState, entries_of, entry_of, fresh, outcome_of, start, state_after, step}
 use Rattle.fr_core.specs.Played.{HasCome, MachineView, started}
 use Rattle.fr_core.specs.Runs.{IsRunTo}
+use Rattle.fr_core.specs.Sound.{IsOnTheWay}
 use Rattle.fr_core.specs.Targets.{AreAllAccepted}
 use Rattle.fr_core.specs.declared.entry.Entry.{Entry}
 use Rattle.fr_core.specs.declared.targets.Target.{Target}
@@ -66,3 +67,18 @@ come_on m now targets entries decided k net inside is by come =
 -- and the entries are a run to its counts
 pub come_run : (m : MachineView) (targets : List (List Target)) (entries : List Entry) → HasCome m targets entries → IsRunTo m.nodes m.dest m.links entries m.state.counts
 come_run m targets entries come = subst (λ (s : MachineState). IsRunTo m.nodes m.dest m.links entries s.counts) (sym come.state) come.play.run
+
+-- on the way through a schedule, a step of the worker whose turn it is
+pub on_the_way : (begun now : MachineView) (entries some : List Entry) (schedule : List ℕ) (i : ℕ) → i < length schedule → IsOnTheWay begun now entries (drop i schedule) schedule
+    → some ≡ entry_of (get_or schedule i 0) (outcome_of now.nodes now.links now.state (get_or schedule i 0)).decided
+    → IsOnTheWay begun (record now { state = step now.nodes now.links now.state (get_or schedule i 0) }) (entries ++ some) (drop (i + 1) schedule) schedule
+on_the_way begun now entries some schedule i l way decided =
+    let k : ℕ = get_or schedule i 0 in
+    let rest : List Entry = entries_of now.nodes now.links (step now.nodes now.links now.state k) (drop (i + 1) schedule) in record {
+      nodes = way.nodes;
+      dest = way.dest;
+      links = way.links;
+      workers = length-set now.state.workers k (outcome_of now.nodes now.links now.state k).worker ∙ way.workers;
+      come = append_assoc entries some rest ∙ ap (λ (es : List Entry). entries ++ (es ++ rest)) decided
+          ∙ ap (λ (ks : List ℕ). entries ++ entries_of now.nodes now.links now.state ks) (sym (drop_more schedule i 0 l)) ∙ way.come;
+    }

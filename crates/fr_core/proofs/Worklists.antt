@@ -11,7 +11,7 @@ use Rattle.fr_core.proofs.Turning.{raised, raised-here, raised-other, turn_lawfu
 use Rattle.fr_core.specs.Bounds.{MeetsBounds}
 use Rattle.fr_core.specs.Finish.{HoldsAllThatCanTurn}
 use Rattle.fr_core.specs.History.{moment_of}
-use Rattle.fr_core.specs.Legal.{CanTurn, NoneCanTurn}
+use Rattle.fr_core.specs.Legal.{CanTurn}
 use Rattle.fr_core.specs.Reaching.{IsQueued}
 use Rattle.fr_core.specs.Worklist.{AreNodes, Carries, HoldsAll}
 use Rattle.fr_net.proofs.Linking.{link_below}
@@ -40,10 +40,6 @@ queued_last work x = (length work, omega (arith, length_push work x), get_or_pus
 pub can_turn_below : (n d : ℕ) (first : List (ℕ × ℕ)) (c : List ℕ) → IsNet n first → AreLawful n d first c → (x : ℕ) → CanTurn n d (moment_of first c) x → x < n
 can_turn_below n d first c net lawful x can = (link_below n (links_at first c) can.sink.0.0 x (net_turned n first c lawful.kept net) can.sink.0.1).1
 
--- once all have been taken from the worklist, none can turn
-pub none_behind : (n d : ℕ) (first : List (ℕ × ℕ)) (c work : List ℕ) (at : ℕ) → length work ≤ at → HoldsAll n d first c work at → NoneCanTurn n d (moment_of first c)
-none_behind n d first c work at l holds x can = let h = holds x can in omega (arith, l, h.1, h.2)
-
 abbrev pub neighbours : ℕ → List (ℕ × ℕ) → ℕ → List ℕ
 neighbours n first x = map (λ (e : ℕ × First). e.0) (row n first x)
 
@@ -56,15 +52,6 @@ nodes_neighbours n first x work all i m =
           let e : i ≡ length work + k = omega (arith, ge) in
           let inside : k < length (row n first x) = omega (arith, m, e, length-append work (neighbours n first x), length-map (row n first x) (λ (e : ℕ × First). e.0)) in
           rw (e, get_or-append-add work (neighbours n first x) k 0, get_or-map (λ (e : ℕ × First). e.0) (row n first x) k (0, Outward) 0 inside) (row_below n first x k (0, Outward) inside)
-    ]
-
--- a node that cannot turn is left behind
-pub skip_carries : (n d : ℕ) (first : List (ℕ × ℕ)) (c work : List ℕ) (x : ℕ) → ¬ CanTurn n d (moment_of first c) x → Carries n d first c work x c work
-skip_carries n d first c work x cannot at l here holds y can =
-    let h = holds y can in
-    elim (cases_eq h.0 at) [
-      | inl e ↦ absurd (cannot (subst (CanTurn n d (moment_of first c)) (sym h.3 ∙ ap (slice_index work) e ∙ here) can))
-      | inr ne ↦ (h.0, omega (arith, h.1, ne), h.2, h.3)
     ]
 
 joins_or_not : (first : List (ℕ × ℕ)) (x y : ℕ) → Joins first x y ⊎ ¬ Joins first x y

@@ -1,24 +1,73 @@
-use Rattle.std.proofs.Common.{All, Global, Vec, ap, arith, get_or, length, sym, ℕ, ⊎_elim, ◌<◌, ◌∙◌}
+use Rattle.std.proofs.Common.{All, Any, Bool, Err, Global, List, Ok, Result, Vec, ap, arith, false, get_or, inl, inr, length, map, refl, subst, sym, true, ℕ, ⊎_elim, ◌<◌, ◌∙◌, ◌≡◌, ◌≢◌, ◌≤◌}
+use Rattle.std.specs.Result.{IfErr, IsErrAnd}
 use Rattle.std.proofs.lemmas.Bool.{cases_lt, false≢true}
 use Rattle.std.proofs.lemmas.List.{get_or_default, length-map}
 use Rattle.fr_core.proofs.MachineParts.{played}
-use Rattle.fr_core.specs.Machine.{entries_of}
+use Rattle.fr_core.specs.Machine.{entries_of, fresh}
 use Rattle.fr_core.specs.Played.{MachineView}
-use Rattle.fr_core.specs.Targets.{lists_of}
+use Rattle.fr_core.specs.Targets.{IsMachineFault, IsPlayFault, IsPlayInRange, lists_of}
+use Rattle.fr_core.specs.declared.play_fault.PlayFault.{PlayFault}
+use Rattle.fr_core.specs.declared.play_fault.PlayFault.TheVariants.{BadTarget, Memory, Range}
 use Rattle.fr_core.specs.declared.targets.Target.{Target}
 use Rattle.fr_core.proofs.schedules.play.Goals as goal
+use Rattle.fr_core.proofs.schedules.play.Goals.{then-dest-nodes-via-then-dest-nodes, then-dest-nodes-via-else-dest-nodes+then-names_no_worker}
+
+-- where no number is found that names no worker, each names one
+all_named : (targets : List (Vec Target Global)) (schedule : List ℕ) (workers : ℕ) (found : Bool) → workers ≡ length targets → found ≡ false → (Any (λ k. workers ≤ k) schedule → found ≡ true)
+    → All (λ k. k < length (lists_of targets)) schedule
+all_named targets schedule workers found each none named i d l =
+    let k : ℕ = get_or schedule i d in
+    let long = length-map targets (λ (v : Vec Target Global). v.items) in
+    ⊎_elim (λ inside. inside)
+    (λ past. absurd (false≢true (sym none ∙ named (i, k, l, get_or_default schedule i k d l, omega (arith, past, long)))))
+    (cases_lt k (length (lists_of targets)))
+
+-- in range, the fault of a machine is that of a play
+fault_of_play : (n d : ℕ) (links : List (ℕ × ℕ)) (targets : List (List Target)) (schedule : List ℕ) (fault : PlayFault) → IsPlayInRange n d targets schedule → IsMachineFault n d links targets fault
+    → IsPlayFault n d links targets schedule fault
+fault_of_play n d links targets schedule Range range h = inl h
+fault_of_play n d links targets schedule (BadTarget worker at) range h = (range, h.1)
+fault_of_play n d links targets schedule Memory range h = absurd h
+
+-- what a `?` hands on is the fault of a play
+handed_on : {T : Type 0} (P : PlayFault → Type 0) (r : Result T PlayFault) (f : PlayFault) → IsErrAnd r (λ fault. fault ≡ f) → (f ≢ Memory → P f) → IfErr r (λ fault. fault ≢ Memory → P fault)
+handed_on P (Ok x) f is told = tt
+handed_on P (Err fault) f is told = subst (λ (e : PlayFault). e ≢ Memory → P e) (sym is) told
+
+pub returns-then-dest-nodes-clause-refused : goal.returns-then-dest-nodes-clause-refused
+returns-then-dest-nodes-clause-refused c _ = elim c.then-dest-nodes.branch [
+  | then-dest-nodes-via-then-dest-nodes w ↦ inl (omega (arith, w.if-dest-nodes.true, c.nodes.ensures.value))
+  | then-dest-nodes-via-else-dest-nodes+then-names_no_worker w ↦
+      let each : w.len.result ≡ length (lists_of c.args.targets.items) = omega (arith, w.len.ensures, length-map c.args.targets.items (λ (v : Vec Target Global). v.items)) in
+      inr (subst (λ (workers : ℕ). Any (λ k. workers ≤ k) c.args.schedule.now) each (w.names_no_worker.ensures.0 w.if-names_no_worker.true))
+]
+
+pub follow-requires : goal.follow-requires
+follow-requires c i d l =
+    let lists = lists_of c.args.targets.items in
+    let named = all_named c.args.targets.items c.args.schedule.now c.len.result c.names_no_worker.result (omega arith) c.if-names_no_worker.false c.names_no_worker.ensures.1 in
+    let workers : length c.in_ok-machine.machine.state.workers ≡ length (map fresh lists) = ap (λ (m : MachineView). length m.state.workers) c.in_ok-machine.ensures.ok in
+    omega (arith, named i d l, workers, length-map lists fresh)
+
+pub returns-in_err-machine-clause-refused : goal.returns-in_err-machine-clause-refused
+returns-in_err-machine-clause-refused c =
+    let net = c.args.net.now in
+    let lists = lists_of c.args.targets.items in
+    let named = all_named c.args.targets.items c.args.schedule.now c.len.result c.names_no_worker.result (omega arith) c.if-names_no_worker.false c.names_no_worker.ensures.1 in
+    let range : IsPlayInRange net.nodes c.args.dest lists c.args.schedule.now = record { destination = omega (arith, c.if-dest-nodes.false, c.nodes.ensures.value); workers = named } in
+    handed_on (IsPlayFault net.nodes c.args.dest net.links lists c.args.schedule.now) _ _ c.from_residual.ensures.1
+    (λ other. fault_of_play net.nodes c.args.dest net.links lists c.args.schedule.now _ range (c.in_err-machine.ensures.refused other))
+
+pub returns-in_err-follow-clause-refused : goal.returns-in_err-follow-clause-refused
+returns-in_err-follow-clause-refused c =
+    let net = c.args.net.now in
+    handed_on (IsPlayFault net.nodes c.args.dest net.links (lists_of c.args.targets.items) c.args.schedule.now) _ Memory c.from_residual-in_err-follow.ensures.1 (λ other. absurd (other refl))
 
 pub returns-clause-ok : goal.returns-clause-ok
 returns-clause-ok c =
     let net = c.args.net.now in
-    played net.nodes c.args.dest net.links (lists_of c.args.targets.items) c.args.schedule.now c.in_ok-follow.field-0.items c.nodes.ensures.faultless.is_net
-    (record { in_range = record { destination = c.in_ok-machine.ensures.destination; workers = workers }; accepted = c.in_ok-machine.ensures.accepted })
+    let lists = lists_of c.args.targets.items in
+    let named = all_named c.args.targets.items c.args.schedule.now c.len.result c.names_no_worker.result (omega arith) c.if-names_no_worker.false c.names_no_worker.ensures.1 in
+    played net.nodes c.args.dest net.links lists c.args.schedule.now c.in_ok-follow.field-0.items c.nodes.ensures.faultless.is_net
+    (record { in_range = record { destination = c.in_ok-machine.ensures.destination; workers = named }; accepted = c.in_ok-machine.ensures.accepted })
     (c.in_ok-follow.ensures ∙ ap (λ (m : MachineView). entries_of m.nodes m.links m.state c.args.schedule.now) c.in_ok-machine.ensures.ok)
-  where
-    workers : All (λ k. k < length (lists_of c.args.targets.items)) c.args.schedule.now
-    workers i d l =
-        let k : ℕ = get_or c.args.schedule.now i d in
-        let long = length-map c.args.targets.items (λ (v : Vec Target Global). v.items) in
-        ⊎_elim (λ inside. inside)
-        (λ past. absurd (false≢true (sym c.if-names_no_worker.false ∙ c.names_no_worker.ensures.1 (i, k, l, get_or_default c.args.schedule.now i k d l, omega (arith, past, long)))))
-        (cases_lt k (length (lists_of c.args.targets.items)))
