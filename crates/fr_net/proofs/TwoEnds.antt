@@ -361,6 +361,23 @@ met_below {net} {heights} {f} {start} {limit} {met} {side} x s h =
       | inr g ↦ absurd (never_apart f (sym h ∙ get_or_past met x Never (omega (arith, s.one_each))))
     ]
 
+-- the node whose row is read next
+pub next_below : {net : Network} {heights : List ℕ} {f : First} {start limit : ℕ} {met : List Met} {side : Side} (x : ℕ) → IsSide net heights f start limit met side → side.read < length side.nodes.items → x ≡ get_or side.nodes.items side.read x → x < net.nodes
+next_below {side = side} x is unread at = met_below x is (listed_met x is (side.read, unread, sym at))
+
+-- the side has read a row more, and its edge may have come nearer
+pub more_read : {before after : Side} {old new : List Met} {edge read : ℕ} → ((height : ℕ) → IsPast before.first after.edge height → IsPast before.first edge height) → HasMetMore before after old new → HasMetMore before (record after { edge = edge; read = read }) old new
+more_read nearer more = record {
+  same_first = more.same_first;
+  same_limit = more.same_limit;
+  nearer = λ height past. nearer height (more.nearer height past);
+  longer = more.longer;
+  stands = more.stands;
+  met = more.met;
+  one_each = more.one_each;
+  counted = more.counted;
+}
+
 -- where a side has read all rows of its nodes, links lead on to nodes that it has met or that lie past its edge
 side_closed : {net : Network} {heights : List ℕ} {f : First} {start limit : ℕ} {met : List Met} {side : Side} (x w : ℕ) → IsSide net heights f start limit met side → length side.nodes.items ≤ side.read → HasMet f met x → LeadsOn f net.links x w → HasMet f met w ⊎ (IsBeyond f limit (slice_index heights w) × IsPast f side.edge (slice_index heights w))
 side_closed {net} {heights} {f} {start} {limit} {met} {side} x w s all h step =

@@ -12,7 +12,7 @@ ghost use Rattle.fr_net.specs.Rows.{alone_count, row};
 ghost use Rattle.fr_net.specs.declared.fault.NetFault.TheVariants.{Memory, TooMany};
 ghost use Rattle.fr_net.specs.Faults.{IsFaultless, IsFirstFault, IsNetworkOf};
 ghost use Rattle.fr_net.specs.Edits.{IsCutFault, IsJoined, IsJoinFault, without};
-ghost use Rattle.fr_net.specs.Batches.{AreMade, IsBatchFault, IsNotEdited};
+ghost use Rattle.fr_net.specs.Batches.{AreMade, IsBatchFault, IsEditFault, IsMade, IsNotEdited};
 ghost use Rattle.fr_net.specs.Limits.{most_edits};
 
 use crate::checks::{first_outside, first_self_link};
@@ -190,6 +190,16 @@ impl Net {
         Ok(Net { graph })
     }
 
+    /// The network after this edit, made on a copy.
+    fn with_edit(&self, alloc: Global, edit: Edit) -> Result<Net, NetFault>
+        ensures ok { IfOk result (IsMade self.now edit) }
+        ensures refused { IfErr result (λ fault. fault ≢ Memory → IsEditFault self.now edit fault) }
+    {
+        let mut graph = self.graph.copied(alloc)?;
+        graph.edit(alloc, edit)?;
+        Ok(Net { graph })
+    }
+
     /// The network without the link between `u` and `v`, whichever way it points. `NoLink` exactly where there is none, as
     /// where one of them is no node or both are the same; `Memory` where no room could be had. Time and memory are
     /// linear in nodes and links, since the network is copied.
@@ -198,9 +208,7 @@ impl Net {
         ensures ok { IfOk result (IsNetworkOf self.now.nodes (without u v self.now.links)) }
         ensures refused { IfErr result (λ fault. fault ≢ Memory → IsCutFault self.now.links u v fault) }
     {
-        let mut graph = self.graph.copied(alloc)?;
-        graph.cut(u, v)?;
-        Ok(Net { graph })
+        self.with_edit(alloc, Edit::Cut { u, v })
     }
 
     /// The network with the link from `u` to `v` as well; or the first fault that then stands, in the order of
@@ -211,9 +219,7 @@ impl Net {
         ensures refused { IfErr result (λ fault. fault ≢ Memory
             → IsFirstFault self.now.nodes (self.now.links ++ (u, v) ∷ []) fault) }
     {
-        let mut graph = self.graph.copied(alloc)?;
-        graph.add(alloc, u, v)?;
-        Ok(Net { graph })
+        self.with_edit(alloc, Edit::Add { u, v })
     }
 
     /// The network with `u` and `v` joined: by a link from `u` to `v`, or from `v` to `u` where a closed walk would follow the
@@ -223,9 +229,7 @@ impl Net {
         ensures ok { IfOk result (IsJoined self.now.nodes self.now.links u v) }
         ensures refused { IfErr result (λ fault. fault ≢ Memory → IsJoinFault self.now.nodes self.now.links u v fault) }
     {
-        let mut graph = self.graph.copied(alloc)?;
-        graph.join(alloc, u, v)?;
-        Ok(Net { graph })
+        self.with_edit(alloc, Edit::Join { u, v })
     }
 
     /// The network after these edits, each made on the links that those before it left; or the first edit that is refused, with
