@@ -9,7 +9,7 @@ use Rattle.fr_net.proofs.Acyclic.{path_falls}
 use Rattle.fr_net.proofs.AddedLinks.{added, path_joins}
 use Rattle.fr_net.proofs.ClosingWalks.{path_step}
 use Rattle.fr_net.proofs.Counting.{weigh}
-use Rattle.fr_net.proofs.Neighbours.{in_of_row, out_of_row, row_holds, row_of_in, row_of_out}
+use Rattle.fr_net.proofs.Neighbours.{entry_is, in_of_row, out_of_row, row_holds, row_of_in, row_of_out}
 use Rattle.fr_net.specs.Faults.{IsFaultless}
 use Rattle.fr_net.specs.Graph.{IsGraph, shown}
 use Rattle.fr_net.specs.Heights.{AreFalling, FitBetween}
@@ -273,10 +273,6 @@ other_stays {net} {heights} {start} {limit} {old} {new} {before} {after} {other}
       leads_on = λ k w l step. elim (s.leads_on k w l step) [ inl h ↦ inl (stays w h) | inr aside ↦ inr aside ];
       room = omega (arith, more.counted, more.longer, s.room);
     }
-
--- the node of an entry of a row, whose link has this direction
-entry_is : (e : ℕ × First) (f : First) → e.1 ≡ f → e ≡ (e.0, f)
-entry_is (w, g) f e = cc
 
 pub entry_leads : (f : First) (n : ℕ) (links : List (ℕ × ℕ)) (x : ℕ) (entries : List (ℕ × First)) (k : ℕ) (d : ℕ × First) → entries ≡ row n links x → k < length entries → (get_or entries k d).1 ≡ f → LeadsOn f links x (get_or entries k d).0
 entry_leads f n links x entries k d is l same =

@@ -1,4 +1,3 @@
-use Rattle.std.proofs.Common.{List, ℕ, ◌≡◌}
 use Rattle.std.proofs.lemmas.Result.{IfOk-weaker}
 use Rattle.fr_net.proofs.Building.{below_sorted}
 use Rattle.fr_net.proofs.Ordering.{in_order_order, in_order_permutes, tails_rise}

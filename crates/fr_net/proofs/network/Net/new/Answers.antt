@@ -1,7 +1,6 @@
-use Rattle.std.proofs.Common.{count_by, ℕ, ◌≤◌}
+use Rattle.std.proofs.Common.{count_by, ◌≤◌}
 use Rattle.fr_net.proofs.Building.{cycle_stands, faultless_listed, single_from_rising, twice_stands}
 use Rattle.fr_net.proofs.Ordering.{in_order_permutes}
-use Rattle.fr_net.specs.Faults.{IsFaultless}
 use Rattle.fr_net.specs.Halves.{AreHalvesRising, is_at}
 use Rattle.fr_net.specs.Heights.{HasHeadsFirst}
 use Rattle.fr_net.specs.Links.{IsAcyclic, IsCycle}
