@@ -1,10 +1,9 @@
 -- Pigeonhole: a list of different numbers below n, and counts that take each value up to n.
 use Rattle.std.proofs.Common.{Contains, List, [], ap, arith, eqb, eqb-true, false, length, ne_eqb, refl, subst, suc, sym, true, zero, ℕ, ⊎_elim, ◌<◌, ◌∷◌, ◌≡◌, ◌≤◌}
-use Rattle.std.proofs.lemmas.Bool.{false≢true}
+use Rattle.std.proofs.lemmas.Bool.{false≢true, or_cases}
 use Rattle.std.proofs.lemmas.Map.Keys.{IsDistinct-cons}
 use Rattle.std.proofs.lemmas.Map.Steps.{length-le_from_distinct_below}
 use Rattle.std.specs.List.{AllByRecursion, IsDistinct, list_any}
-use Rattle.fr_net.proofs.Booleans.{or_cases}
 use Rattle.fr_net.proofs.Members.{Contains-cases, Contains-head, Contains-none, Contains-tail}
 
 any-Contains : (q : ℕ) (xs : List ℕ) → list_any (eqb q) xs ≡ true → Contains xs q

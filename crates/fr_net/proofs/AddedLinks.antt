@@ -1,6 +1,6 @@
 -- The links of a network with one added.
-use Rattle.std.proofs.Common.{List, [], ap, arith, count_by, drop, eq-eqb, false, get_or, inl, inr, length, ne_eqb, refl, subst, suc, sym, take, true, zero, ℕ, ⊎_elim, ◌++◌, ◌+◌, ◌<◌, ◌∙◌, ◌∷◌, ◌≡◌, ◌≢◌, ◌≤◌, ◌⊎◌}
-use Rattle.std.proofs.lemmas.Bool.{and_from, and_left, and_right, cases_Bool, cases_lt, le-leb, le-ltb, lt-leb, lt-ltb, or_from, or_left, or_right}
+use Rattle.std.proofs.Common.{List, [], ap, arith, count_by, get_or, inl, inr, length, refl, subst, sym, true, ℕ, ⊎_elim, ◌++◌, ◌+◌, ◌<◌, ◌∙◌, ◌∷◌, ◌≡◌, ◌≢◌, ◌≤◌, ◌⊎◌}
+use Rattle.std.proofs.lemmas.Bool.{cases_Bool, cases_lt}
 use Rattle.std.proofs.lemmas.List.{get_or_push, length_push}
 use Rattle.std.proofs.lemmas.List.Elements.{All-push, Contains-push_cases}
 use Rattle.std.proofs.lemmas.List.Sums.{sum_by_push}
@@ -12,7 +12,7 @@ use Rattle.fr_net.specs.Faults.{IsFaultless, IsInRange, IsOutOfRange}
 use Rattle.fr_net.specs.Halves.{AreUnjoined}
 use Rattle.fr_net.specs.Limits.{IsWithinLimits, most_links}
 use Rattle.fr_net.specs.Links.{AreBelow, AreSingle, HasNoSelfLink, HasPath, IsAcyclic, IsClosedWalk, IsPath, Joins, end_of, is_between}
-use Rattle.fr_net.specs.Order.{AreInOrder, IsBefore, IsNotAfter, in_order, is_not_after, with_in_order}
+use Rattle.fr_net.specs.Order.{AreInOrder, in_order, with_in_order}
 
 abbrev pub added : List (ℕ × ℕ) → ℕ → ℕ → List (ℕ × ℕ)
 added links u v = links ++ (u, v) ∷ []
@@ -24,21 +24,6 @@ added_in_order links u v order =
     (λ x.
     let weight : ℕ × ℕ → ℕ = λ l. weigh (is_pair x.0 x.1 l) in
     omega (arith, times-insert (u, v) links x, times-in_order (added links u v) x, sum_by_push weight links (u, v)))
-
-comes_first : (p q : ℕ × ℕ) → IsNotAfter p q → is_not_after p q ≡ true
-comes_first p q (inl a) = or_left _ _ (lt-ltb p.0 q.0 a)
-comes_first p q (inr a) = or_right _ _ (and_from _ _ (eq-eqb p.0 q.0 a.0) (le-leb p.1 q.1 a.1))
-
-comes_later : (p q : ℕ × ℕ) → IsBefore q p → is_not_after p q ≡ false
-comes_later p q (inl a) = or_from _ _ (le-ltb p.0 q.0 (omega arith)) (and_left _ _ (ne_eqb p.0 q.0 (λ e. omega (arith, a, e))))
-comes_later p q (inr a) = or_from _ _ (le-ltb p.0 q.0 (omega (arith, a.0))) (and_right _ _ (lt-leb p.1 q.1 a.1))
-
-pub put_at_place : (p : ℕ × ℕ) (links : List (ℕ × ℕ)) (k : ℕ) → k ≤ length links → ((i : ℕ) (d : ℕ × ℕ) → i < k → IsBefore (get_or links i d) p) → ((d : ℕ × ℕ) → k < length links → IsNotAfter p (get_or links k d)) → with_in_order p links ≡ take k links ++ p ∷ drop k links
-put_at_place p [] zero le before stops = refl
-put_at_place p [] (suc k) le before stops = absurd (omega arith)
-put_at_place p (l ∷ ls) zero le before stops = rw (comes_first p l (stops l (omega arith))) refl
-put_at_place p (l ∷ ls) (suc k) le before stops =
-    rw (comes_later p l (before 0 l (omega arith)), put_at_place p ls k (omega arith) (λ i d lt. before (suc i) d (omega arith)) (λ d lt. stops d (omega arith))) refl
 
 -- the faults of an added link
 pub within_limits : (n : ℕ) (links : List (ℕ × ℕ)) (u v : ℕ) → IsWithinLimits n links → length links < most_links → IsWithinLimits n (added links u v)

@@ -1,28 +1,9 @@
 -- Tests put together.
 use Rattle.std.proofs.Common.{Bool, false, inl, inr, refl, true, ◌&&◌, ◌||◌, ◌≡◌, ◌⊎◌}
 
-pub and_cases : (a b : Bool) → (a && b) ≡ true → (a ≡ true) × (b ≡ true)
-and_cases true true e = (refl, refl)
-and_cases true false e = cc
-and_cases false b e = cc
-
--- the definition puts links in order, and keeps how often each stands
-pub or_cases : (a b : Bool) → (a || b) ≡ true → (a ≡ true) ⊎ (b ≡ true)
-or_cases true b e = inl refl
-or_cases false b e = inr e
-
-pub or_false : (a b : Bool) → (a || b) ≡ false → (a ≡ false) × (b ≡ false)
-or_false false false e = (refl, refl)
-or_false false true e = cc
-or_false true b e = cc
-
 pub and_false : (a b : Bool) → (a && b) ≡ false → a ≡ true → b ≡ false
 and_false true b e t = e
 and_false false b e t = cc
-
-pub or_true : (a : Bool) → (a || true) ≡ true
-or_true true = refl
-or_true false = refl
 
 -- two joined nodes are joined in either order
 pub or_both : (a b c d : Bool) → (a && b) || (c && d) ≡ true → ((a ≡ true) × (b ≡ true)) ⊎ ((c ≡ true) × (d ≡ true))

@@ -1,8 +1,8 @@
 -- From the sorted halves of links to the network that they make, or to the fault that stands.
 use Rattle.std.proofs.Common.{Bool, IsPermutation, List, [], ap, arith, count_by, eqb, eqb-true, false, get_or, inl, inr, map, refl, suc, sym, true, ℕ, ◌&&◌, ◌+◌, ◌<◌, ◌||◌, ◌∙◌, ◌∷◌, ◌≡◌, ◌≤◌}
+use Rattle.std.proofs.lemmas.Bool.{and_parts}
 use Rattle.std.proofs.lemmas.List.Sorted.{All-permutation, Contains-permutation, IsPermutation-sym, length_permutation, sum_by-IsPermutation}
 use Rattle.std.proofs.lemmas.List.Sums.{sum_by-cons}
-use Rattle.fr_net.proofs.Booleans.{and_cases}
 use Rattle.fr_net.proofs.Counting.{at_most_one, one_passes, weigh}
 use Rattle.fr_net.proofs.HalfLinks.{rising_pair, shows_row}
 use Rattle.fr_net.proofs.Linking.{is_between_itself, one_way, walk_carries}
@@ -44,7 +44,7 @@ count_halves (l ∷ ls) u v bar =
     omega (arith, first, second, whole, rest, here)
 
 at_place : (u v : ℕ) (h : HalfLink) → is_at u v h ≡ true → (h.node ≡ u) × (h.neighbour ≡ v)
-at_place u v h e = let t = and_cases _ _ e in (eqb-true _ _ t.0, eqb-true _ _ t.1)
+at_place u v h e = let t = and_parts _ _ e in (eqb-true _ _ t.0, eqb-true _ _ t.1)
 
 not_below_itself : {p q : ℕ × ℕ} → IsBefore p q → p.0 ≡ q.0 → p.1 ≡ q.1 → ⊥
 not_below_itself (inl a) e f = omega arith

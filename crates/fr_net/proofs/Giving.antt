@@ -1,6 +1,7 @@
 -- Where the links that counts give come from.
 use Rattle.std.proofs.Common.{Contains, List, None, Option, Some, [], ap, arith, eq-eqb, inl, inr, ne_eqb, slice_index, subst, sym, ℕ, ⊎_elim, ◌+◌, ◌∙◌, ◌∷◌, ◌≡◌, ◌⊎◌}
 use Rattle.std.proofs.lemmas.Bool.{cases_eq, cond-false, cond-true}
+use Rattle.std.proofs.lemmas.Option.{none-some, same_Some}
 use Rattle.std.specs.List.{cons_option, filter_map}
 use Rattle.fr_net.proofs.Members.{Contains-cases, Contains-head, Contains-none, Contains-tail}
 use Rattle.fr_net.specs.Counts.{IsKept, link_at, links_at}
@@ -11,12 +12,6 @@ abbrev pub ComesFrom : List (ℕ × ℕ) → List ℕ → ℕ → ℕ → Type 0
 ComesFrom first c u v =
     (Points first u v × (slice_index c v ≡ slice_index c u))
     ⊎ (Points first v u × (slice_index c u ≡ slice_index c v + 1))
-
-some_inj : {X : Type 0} (x y : X) → Some x ≡ Some y → x ≡ y
-some_inj x y e = cc
-
-none_some : {X : Type 0} {x : X} → None ≡ Some x → ⊥
-none_some e = cc
 
 pub link_at-same : (c : List ℕ) (l : ℕ × ℕ) → slice_index c l.1 ≡ slice_index c l.0 → link_at c l ≡ Some l
 link_at-same c l e = cond-true _ _ _ (eq-eqb (slice_index c l.1) (slice_index c l.0) e)
@@ -42,11 +37,11 @@ link_at-from c l u v e = first_case (cases_eq (slice_index c l.1) (slice_index c
     turned_case s p = let q : l ≡ (v, u) = ap (λ (z : ℕ × ℕ). (z.1, z.0)) p in (q, subst (λ (z : ℕ × ℕ). slice_index c z.1 ≡ slice_index c z.0 + 1) q s)
 
     second_case : ¬ (slice_index c l.1 ≡ slice_index c l.0) → (slice_index c l.1 ≡ slice_index c l.0 + 1) ⊎ ¬ (slice_index c l.1 ≡ slice_index c l.0 + 1) → ((l ≡ (u, v)) × (slice_index c v ≡ slice_index c u)) ⊎ ((l ≡ (v, u)) × (slice_index c u ≡ slice_index c v + 1))
-    second_case n (inl s) = inr (turned_case s (some_inj _ _ (sym (link_at-turned c l s) ∙ e)))
-    second_case n (inr m) = absurd (none_some (sym (link_at-lost c l n m) ∙ e))
+    second_case n (inl s) = inr (turned_case s (same_Some _ _ (sym (link_at-turned c l s) ∙ e)))
+    second_case n (inr m) = absurd (none-some _ (sym (link_at-lost c l n m) ∙ e))
 
     first_case : (slice_index c l.1 ≡ slice_index c l.0) ⊎ ¬ (slice_index c l.1 ≡ slice_index c l.0) → ((l ≡ (u, v)) × (slice_index c v ≡ slice_index c u)) ⊎ ((l ≡ (v, u)) × (slice_index c u ≡ slice_index c v + 1))
-    first_case (inl s) = inl (same_case s (some_inj _ _ (sym (link_at-same c l s) ∙ e)))
+    first_case (inl s) = inl (same_case s (same_Some _ _ (sym (link_at-same c l s) ∙ e)))
     first_case (inr n) = second_case n (cases_eq (slice_index c l.1) (slice_index c l.0 + 1))
 
 Contains-cons_option : {X : Type 0} (o : Option X) (x : X) (xs : List X) → Contains (cons_option o xs) x → (o ≡ Some x) ⊎ Contains xs x
@@ -79,7 +74,7 @@ pub Points-links_at_turned : (first : List (ℕ × ℕ)) (c : List ℕ) (u v : �
 Points-links_at_turned first c u v h e = filter_map-Contains (link_at c) first (v, u) (u, v) h (link_at-turned c (v, u) e)
 
 pub link_at-kept : (c : List ℕ) (l m : ℕ × ℕ) → link_at c l ≡ Some m → IsKept c l
-link_at-kept c l m e = ⊎_elim inl (λ n. ⊎_elim inr (λ t. absurd (none_some (sym (link_at-lost c l n t) ∙ e))) (cases_eq (slice_index c l.1) (slice_index c l.0 + 1))) (cases_eq (slice_index c l.1) (slice_index c l.0))
+link_at-kept c l m e = ⊎_elim inl (λ n. ⊎_elim inr (λ t. absurd (none-some _ (sym (link_at-lost c l n t) ∙ e))) (cases_eq (slice_index c l.1) (slice_index c l.0 + 1))) (cases_eq (slice_index c l.1) (slice_index c l.0))
 
 pub Points-links_at_back : (first : List (ℕ × ℕ)) (c : List ℕ) (u v : ℕ) → ComesFrom first c u v → Points (links_at first c) u v
 Points-links_at_back first c u v (inl h) = Points-links_at_same first c u v h.0 h.1

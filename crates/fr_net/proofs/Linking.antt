@@ -1,9 +1,10 @@
 -- Which nodes a link joins, and walks along some links that are walks along others.
 use Rattle.std.proofs.Common.{List, [], ap, arith, count_by, eq-eqb, eqb, eqb-true, get_or, inl, inr, length, refl, subst, suc, sym, true, ℕ, ◌&&◌, ◌<◌, ◌∙◌, ◌∷◌, ◌≡◌, ◌≤◌, ◌⊎◌}
+use Rattle.std.proofs.Math.Bool.{or-true}
 use Rattle.std.proofs.lemmas.Bool.{cases_Bool, cases_eq, cases_lt}
 use Rattle.std.proofs.lemmas.List.{get_or_default}
 use Rattle.std.proofs.lemmas.List.Sums.{sum_by-cons}
-use Rattle.fr_net.proofs.Booleans.{flip, or_both, or_comm, or_true}
+use Rattle.fr_net.proofs.Booleans.{flip, or_both, or_comm}
 use Rattle.fr_net.proofs.Counting.{cases_le_one, count_agrees, two_pass, weigh}
 use Rattle.fr_net.specs.Links.{AreSingle, HasNoSelfLink, IsClosedWalk, IsNet, IsPath, Joins, Points, is_between}
 
@@ -21,7 +22,7 @@ pub is_between_itself : (l : ℕ × ℕ) → is_between l.0 l.1 l ≡ true
 is_between_itself l = rw (eq-eqb l.0 l.0 refl, eq-eqb l.1 l.1 refl) refl
 
 pub is_between_back : (u v : ℕ) → is_between u v (v, u) ≡ true
-is_between_back u v = rw (eq-eqb v v refl, eq-eqb u u refl) (or_true _)
+is_between_back u v = rw (eq-eqb v v refl, eq-eqb u u refl) (or-true _)
 
 pub is_between_turned : (a b u v : ℕ) → is_between a b (u, v) ≡ is_between a b (v, u)
 is_between_turned a b u v = flip (eqb v a) (eqb u b) (eqb v b) (eqb u a)

@@ -1,11 +1,10 @@
 -- What the row of a node says of the links.
 use Rattle.std.proofs.Common.{Bool, Contains, List, None, Option, Some, [], ap, arith, cond, eq-eqb, eqb, eqb-true, false, get_or, inl, inr, length, map, option_to_list, refl, subst, suc, sym, true, zero, ℕ, ◌&&◌, ◌++◌, ◌+◌, ◌<◌, ◌∙◌, ◌∷◌, ◌≡◌, ◌≤◌, ◌⊎◌}
-use Rattle.std.proofs.lemmas.Bool.{cases_Bool, cases_lt}
+use Rattle.std.proofs.lemmas.Bool.{and_parts, cases_Bool, cases_lt}
 use Rattle.std.specs.List.Sorted.{IsStrictlyIncreasing}
 use Rattle.std.proofs.lemmas.List.{append-nil, get_or_append_left, get_or_default, get_or_push, get_or-map, length-append, length-map, length_push}
 use Rattle.std.proofs.lemmas.List.Elements.{Contains-append_cases, Contains-append_left, Contains-append_right, Contains-get_or}
 use Rattle.std.proofs.lemmas.List.Folds.{Any-from_list_any, list_any_at}
-use Rattle.fr_net.proofs.Booleans.{and_cases}
 use Rattle.fr_net.proofs.Linking.{IsOneWay, link_below, one_way}
 use Rattle.fr_net.proofs.Members.{Contains-cases, Contains-head, Contains-tail}
 use Rattle.fr_net.specs.Links.{IsAlone, IsNet, Joins, Points}
@@ -62,7 +61,7 @@ link_found links k (a, b) u v inside at e f = (k, inside, get_or_default links k
 pub Points-has_link : (links : List (ℕ × ℕ)) (u v : ℕ) → has_link links u v ≡ true → Points links u v
 Points-has_link links u v e =
     let h = Any-from_list_any (λ (l : ℕ × ℕ). (eqb l.0 u) && (eqb l.1 v)) links e in
-    let t = and_cases _ _ h.4 in
+    let t = and_parts _ _ h.4 in
     link_found links h.0 h.1 u v h.2 h.3 (eqb-true _ _ t.0) (eqb-true _ _ t.1)
 
 -- w as a neighbour: what the entry says
@@ -185,3 +184,7 @@ neighbours_rise n links x k l =
     let long : length (map node xs) ≡ length xs = length-map xs node in
     let d : ℕ × First = (0, Outward) in
     rw (get_or-map node xs k d 0 (omega (arith, l, long)), get_or-map node xs (k + 1) d 0 (omega (arith, l, long))) (row_rises n links x k (k + 1) d (omega arith) (omega (arith, l, long)))
+
+-- the node of an entry of a row, whose link has this direction
+pub entry_is : (e : ℕ × First) (f : First) → e.1 ≡ f → e ≡ (e.0, f)
+entry_is (w, g) f e = cc

@@ -1,9 +1,9 @@
 -- A list of links in rising order is determined by how often it has each link.
 use Rattle.std.proofs.Common.{Bool, Contains, IsPermutation, List, [], add-one, ap, arith, cond, count_by, eq-eqb, eqb, eqb-true, false, get_or, inl, inr, leb, ltb, refl, subst, suc, sym, true, zero, ℕ, ◌&&◌, ◌+◌, ◌∙◌, ◌∷◌, ◌≡◌, ◌≤◌}
-use Rattle.std.proofs.lemmas.Bool.{cases_Bool, cases_eq, leb-false, leb-true, ltb-false, ltb-true}
+use Rattle.std.proofs.lemmas.Bool.{and_parts, cases_Bool, cases_eq, leb-false, leb-true, ltb-false, ltb-true, or_cases, or_parts}
 use Rattle.std.proofs.lemmas.List.Sorted.{IsNonDecreasingBy-from_all_adjacent, IsPermutation-cons, IsPermutation-middle, IsPermutation-refl, IsPermutation-sym, IsPermutation-trans, sum_by-IsPermutation}
 use Rattle.std.proofs.lemmas.List.Sums.{sum_by-cons}
-use Rattle.fr_net.proofs.Booleans.{and_cases, and_false, or_cases, or_false}
+use Rattle.fr_net.proofs.Booleans.{and_false}
 use Rattle.fr_net.proofs.Counting.{weigh}
 use Rattle.fr_net.proofs.Members.{Contains-cases, Contains-head, Contains-tail}
 use Rattle.fr_net.specs.CycleSearch.{HasRisingTails}
@@ -75,7 +75,7 @@ pub itself : (x : ℕ × ℕ) → is_pair x.0 x.1 x ≡ true
 itself x = rw (eq-eqb x.0 x.0 refl, eq-eqb x.1 x.1 refl) refl
 
 pub pair_from : (x y : ℕ × ℕ) → is_pair x.0 x.1 y ≡ true → y ≡ x
-pair_from (a, b) (c, d) e = let t = and_cases _ _ e in let f : c ≡ a = eqb-true _ _ t.0 in let g : d ≡ b = eqb-true _ _ t.1 in cc
+pair_from (a, b) (c, d) e = let t = and_parts _ _ e in let f : c ≡ a = eqb-true _ _ t.0 in let g : d ≡ b = eqb-true _ _ t.1 in cc
 
 pub times-cons : (y : ℕ × ℕ) (ys : List (ℕ × ℕ)) (x : ℕ × ℕ) → times (y ∷ ys) x ≡ weigh (is_pair x.0 x.1 y) + times ys x
 times-cons y ys x = let weight : ℕ × ℕ → ℕ = λ l. weigh (is_pair x.0 x.1 l) in sum_by-cons weight y ys
@@ -115,12 +115,12 @@ up_from_first : (p q : ℕ × ℕ) → is_not_after p q ≡ true → IsNotAfter 
 up_from_first p q e =
     elim (or_cases (ltb p.0 q.0) ((eqb p.0 q.0) && (leb p.1 q.1)) e) [
       | inl a ↦ inl (ltb-true _ _ a)
-      | inr b ↦ let t = and_cases _ _ b in inr (eqb-true _ _ t.0, leb-true _ _ t.1)
+      | inr b ↦ let t = and_parts _ _ b in inr (eqb-true _ _ t.0, leb-true _ _ t.1)
     ]
 
 up_from_not_first : (p q : ℕ × ℕ) → is_not_after p q ≡ false → IsNotAfter q p
 up_from_not_first p q e =
-    let t = or_false (ltb p.0 q.0) ((eqb p.0 q.0) && (leb p.1 q.1)) e in
+    let t = or_parts (ltb p.0 q.0) ((eqb p.0 q.0) && (leb p.1 q.1)) e in
     let le = ltb-false _ _ t.0 in
     elim (cases_eq p.0 q.0) [
       | inl same ↦

@@ -1,5 +1,5 @@
 -- The steps by which the rows of a network turn where they stand.
-use Rattle.std.proofs.Common.{All, Bool, Contains, List, Some, [], ap, arith, cond, eq-eqb, eqb, false, get_or, inl, inr, length, ltb, map, ne_eqb, refl, set, suc, sym, true, zero, ℕ, ◌&&◌, ◌+◌, ◌<◌, ◌||◌, ◌∙◌, ◌∷◌, ◌≡◌, ◌≢◌, ◌≤◌}
+use Rattle.std.proofs.Common.{All, Bool, Contains, List, [], ap, arith, cond, eq-eqb, eqb, false, get_or, inl, inr, length, ltb, map, ne_eqb, refl, set, suc, sym, true, zero, ℕ, ◌&&◌, ◌+◌, ◌<◌, ◌||◌, ◌∙◌, ◌∷◌, ◌≡◌, ◌≢◌, ◌≤◌}
 use Rattle.std.proofs.lemmas.Bool.{cases_Bool, cases_eq, cases_lt, cond-false, cond-true}
 use Rattle.std.proofs.lemmas.Bool.Decides.{nat_tests}
 use Rattle.std.proofs.lemmas.List.{get_or-map, get_or_default, length-map, map-id}
@@ -11,7 +11,7 @@ use Rattle.fr_net.proofs.KeptRows.{length-rows, rows_with_row}
 use Rattle.fr_net.proofs.Members.{Contains-head, Contains-tail}
 use Rattle.fr_net.proofs.Neighbours.{Rises, in_of_row, out_of_row, row_holds, row_of_in, row_of_out, row_rises}
 use Rattle.fr_net.proofs.TurnedRows.{row_turned}
-use Rattle.fr_net.specs.Counts.{IsKept, link_at, links_at}
+use Rattle.fr_net.specs.Counts.{IsKept, links_at}
 use Rattle.fr_net.specs.Halves.{IsPlaceIn}
 use Rattle.fr_net.specs.KeptRows.{AreRows}
 use Rattle.fr_net.specs.Links.{IsNet}
@@ -364,10 +364,3 @@ shown_below net counts done y k d l =
     let e = get_or entries k d in
     let at : get_or (rows_done net counts done y) k d ≡ entry_done done counts y e = get_or-map (entry_done done counts y) entries k d d inside in
     rw (at, entry_done_node counts done y e) (row_holds net.nodes net.links y e (Contains-get_or entries k d inside)).0
-
--- where no node has turned the links are what they were
-pub links_stay : (links : List (ℕ × ℕ)) (counts : List ℕ) → ((x : ℕ) → get_or counts x 0 ≡ 0) → links_at links counts ≡ links
-links_stay [] counts none = refl
-links_stay (l ∷ ls) counts none =
-    let stays : link_at counts l ≡ Some l = cond-true _ _ _ (eq-eqb _ _ (none l.1 ∙ sym (none l.0))) in
-    rw (stays, links_stay ls counts none) refl

@@ -9,7 +9,7 @@ use Rattle.fr_net.proofs.Acyclic.{path_falls}
 use Rattle.fr_net.proofs.AddedLinks.{added, path_joins}
 use Rattle.fr_net.proofs.ClosingWalks.{path_step}
 use Rattle.fr_net.proofs.Counting.{weigh}
-use Rattle.fr_net.proofs.Neighbours.{in_of_row, out_of_row, row_holds, row_of_in, row_of_out}
+use Rattle.fr_net.proofs.Neighbours.{entry_is, in_of_row, out_of_row, row_holds, row_of_in, row_of_out}
 use Rattle.fr_net.specs.Faults.{IsFaultless}
 use Rattle.fr_net.specs.Graph.{IsGraph, shown}
 use Rattle.fr_net.specs.Heights.{AreFalling, FitBetween}
@@ -274,10 +274,6 @@ other_stays {net} {heights} {start} {limit} {old} {new} {before} {after} {other}
       room = omega (arith, more.counted, more.longer, s.room);
     }
 
--- the node of an entry of a row, whose link has this direction
-entry_is : (e : ℕ × First) (f : First) → e.1 ≡ f → e ≡ (e.0, f)
-entry_is (w, g) f e = cc
-
 pub entry_leads : (f : First) (n : ℕ) (links : List (ℕ × ℕ)) (x : ℕ) (entries : List (ℕ × First)) (k : ℕ) (d : ℕ × First) → entries ≡ row n links x → k < length entries → (get_or entries k d).1 ≡ f → LeadsOn f links x (get_or entries k d).0
 entry_leads f n links x entries k d is l same =
     let w = (get_or entries k d).0 in
@@ -360,6 +356,23 @@ met_below {net} {heights} {f} {start} {limit} {met} {side} x s h =
       | inl l ↦ l
       | inr g ↦ absurd (never_apart f (sym h ∙ get_or_past met x Never (omega (arith, s.one_each))))
     ]
+
+-- the node whose row is read next
+pub next_below : {net : Network} {heights : List ℕ} {f : First} {start limit : ℕ} {met : List Met} {side : Side} (x : ℕ) → IsSide net heights f start limit met side → side.read < length side.nodes.items → x ≡ get_or side.nodes.items side.read x → x < net.nodes
+next_below {side = side} x is unread at = met_below x is (listed_met x is (side.read, unread, sym at))
+
+-- the side has read a row more, and its edge may have come nearer
+pub more_read : {before after : Side} {old new : List Met} {edge read : ℕ} → ((height : ℕ) → IsPast before.first after.edge height → IsPast before.first edge height) → HasMetMore before after old new → HasMetMore before (record after { edge = edge; read = read }) old new
+more_read nearer more = record {
+  same_first = more.same_first;
+  same_limit = more.same_limit;
+  nearer = λ height past. nearer height (more.nearer height past);
+  longer = more.longer;
+  stands = more.stands;
+  met = more.met;
+  one_each = more.one_each;
+  counted = more.counted;
+}
 
 -- where a side has read all rows of its nodes, links lead on to nodes that it has met or that lie past its edge
 side_closed : {net : Network} {heights : List ℕ} {f : First} {start limit : ℕ} {met : List Met} {side : Side} (x w : ℕ) → IsSide net heights f start limit met side → length side.nodes.items ≤ side.read → HasMet f met x → LeadsOn f net.links x w → HasMet f met w ⊎ (IsBeyond f limit (slice_index heights w) × IsPast f side.edge (slice_index heights w))

@@ -216,6 +216,23 @@ impl Search {
         Ok(None)
     }
 
+    /// Goes on until the path is empty, or a link closes a walk with it: then it answers the node of the path that the link leads back to.
+    fn go_on(&mut self, links: &[(u32, u32)]) -> Result<Option<u32>, AllocError>
+        requires { IsSearch links.now self.old }
+        ensures back { IfOk result (λ back. IfSome back (LeadsBack links.now self.new.path.items)) }
+        ensures search { OnOk result (IsSearch links.now self.new) }
+        ensures empty { IfOk result (λ back. IfNone back (self.new.path.items ≡ [])) }
+        ensures kept { OnOk result (KeepsSeen self.old.marks.items self.new.marks.items) }
+        ensures one_each { OnOk result (length self.new.marks.items ≡ length self.old.marks.items) }
+    {
+        'walk: while !self.path.is_empty() {
+            if let Some(node) = self.step(links)? {
+                return Ok(Some(node));
+            }
+        }
+        Ok(None)
+    }
+
     /// Searches from `root`, unless the search has met it. Where a link closes a walk with the path, it answers the node of the path that
     /// the link leads back to.
     fn visit(&mut self, links: &[(u32, u32)], root: u32) -> Result<Option<u32>, AllocError>
@@ -233,13 +250,7 @@ impl Search {
             return Ok(None);
         }
         self.open(root)?;
-        'walk: while !self.path.is_empty() {
-            let back = self.step(links)?;
-            if back.is_some() {
-                return Ok(back);
-            }
-        }
-        Ok(None)
+        self.go_on(links)
     }
 
     /// Searches from each node, up to where a link closes a walk with the path.
@@ -253,9 +264,8 @@ impl Search {
         ensures order { IfOk result (λ back. IfNone back (HasHeadsFirst nodes links.now self.new.order.items)) }
     {
         for root in 0..nodes {
-            let back = self.visit(links, root)?;
-            if back.is_some() {
-                return Ok(back);
+            if let Some(node) = self.visit(links, root)? {
+                return Ok(Some(node));
             }
         }
         Ok(None)

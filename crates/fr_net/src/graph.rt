@@ -203,7 +203,7 @@ impl Graph {
     }
 
     /// Takes out the link between `u` and `v`, whichever way it points.
-    pub(crate) fn cut(&mut self, u: u32, v: u32) -> Result<Done, NetFault>
+    fn cut(&mut self, u: u32, v: u32) -> Result<Done, NetFault>
         requires graph { IsGraph self.old }
         ensures ok { IfOk result (IsEdited self.old (Cut u v) self.new) }
         ensures refused { IfErr result (IsEditFault (shown self.old) (Cut u v)) }
@@ -218,7 +218,7 @@ impl Graph {
     }
 
     /// Puts in the link from `u` to `v`.
-    pub(crate) fn add(&mut self, alloc: Global, u: u32, v: u32) -> Result<Done, NetFault>
+    fn add(&mut self, alloc: Global, u: u32, v: u32) -> Result<Done, NetFault>
         requires { IsGraph self.old }
         ensures ok { IfOk result (IsEdited self.old (Add u v) self.new) }
         ensures refused { IfErr result (λ fault. fault ≢ Memory → IsEditFault (shown self.old) (Add u v) fault) }
@@ -239,7 +239,7 @@ impl Graph {
     }
 
     /// Joins `u` and `v`: by a link from `u` to `v`, or from `v` to `u` where a closed walk would follow the other.
-    pub(crate) fn join(&mut self, alloc: Global, u: u32, v: u32) -> Result<Done, NetFault>
+    fn join(&mut self, alloc: Global, u: u32, v: u32) -> Result<Done, NetFault>
         requires { IsGraph self.old }
         ensures ok { IfOk result (IsEdited self.old (Join u v) self.new) }
         ensures refused { IfErr result (λ fault. fault ≢ Memory → IsEditFault (shown self.old) (Join u v) fault) }
@@ -258,7 +258,7 @@ impl Graph {
     }
 
     /// Makes an edit. Where it is refused, or no room could be had, the network is as it was.
-    fn edit(&mut self, alloc: Global, edit: Edit) -> Result<Done, NetFault>
+    pub(crate) fn edit(&mut self, alloc: Global, edit: Edit) -> Result<Done, NetFault>
         requires { IsGraph self.old }
         ensures ok { IfOk result (IsEdited self.old edit self.new) }
         ensures refused { IfErr result (λ fault. fault ≢ Memory → IsEditFault (shown self.old) edit fault) }

@@ -1,19 +1,23 @@
 //! A network: how it is made of links, read by nodes and rows, and made into another by edits and by counts.
 
-ghost use Rattle.std.specs.Prelude.{◌≡◌, ◌≢◌, ℕ, ◌<◌, ◌≤◌, ◌+◌, ◌++◌, [], ◌∷◌, length, slice_get, slice_index, Some, Ok, IfOk, IfErr, IfSome, IfNone, MatchOption, OnOk, OnErr, All, ◌⊎◌};
+ghost use Rattle.std.specs.Prelude.{◌≡◌, ◌≢◌, ℕ, ◌<◌, ◌≤◌, ◌+◌, ◌++◌, List, [], ◌∷◌, length, slice_get, slice_index, Some, Ok, IfOk, IfErr, IfSome, IfNone, MatchOption, OnOk, OnErr, All, IsPermutation, ◌⊎◌};
 ghost use Rattle.std.specs.List.{HoldsAt};
 ghost use Rattle.std.specs.Borrow.{Bor};
 ghost use Rattle.std.specs.Fn.{FnOnceReturnsAt};
 ghost use Rattle.fr_net.specs.Network.{Network};
-ghost use Rattle.fr_net.specs.Links.{Joins};
-ghost use Rattle.fr_net.specs.Order.{AreRising};
+ghost use Rattle.fr_net.specs.CycleSearch.{IsFound};
+ghost use Rattle.fr_net.specs.Graph.{IsGraph, shown};
+ghost use Rattle.fr_net.specs.Halves.{AreHalvesRising, AreStarts, halves_of};
+ghost use Rattle.fr_net.specs.Heights.{HasHeadsFirst};
+ghost use Rattle.fr_net.specs.Links.{AreBelow, HasNoSelfLink, Joins};
+ghost use Rattle.fr_net.specs.Order.{AreRising, in_order};
 ghost use Rattle.fr_net.specs.Counts.{IsKept, links_at};
 ghost use Rattle.fr_net.specs.Rows.{alone_count, row};
 ghost use Rattle.fr_net.specs.declared.fault.NetFault.TheVariants.{Memory, TooMany};
-ghost use Rattle.fr_net.specs.Faults.{IsFaultless, IsFirstFault, IsNetworkOf};
+ghost use Rattle.fr_net.specs.Faults.{IsFaultless, IsFirstFault, IsInRange, IsNetworkOf};
 ghost use Rattle.fr_net.specs.Edits.{IsCutFault, IsJoined, IsJoinFault, without};
-ghost use Rattle.fr_net.specs.Batches.{AreMade, IsBatchFault, IsNotEdited};
-ghost use Rattle.fr_net.specs.Limits.{most_edits};
+ghost use Rattle.fr_net.specs.Batches.{AreMade, IsBatchFault, IsEditFault, IsMade, IsNotEdited};
+ghost use Rattle.fr_net.specs.Limits.{IsWithinLimits, most_edits};
 
 use crate::checks::{first_outside, first_self_link};
 use crate::cycle::{Found, find_cycle};
@@ -23,11 +27,69 @@ use crate::graph::Graph;
 use crate::heights::Heights;
 use crate::limits::{MAX_EDITS, MAX_LINKS, MAX_NODES};
 use crate::row_table::RowTable;
-use crate::rows::{First, entries_of, first_twice, outward_links, sorted_halves};
+use crate::rows::{First, HalfLink, entries_of, first_twice, outward_links, sorted_halves};
 use crate::turned::{links_of_rows, turn_rows};
 use crate::turns::Turns;
 use std::alloc::{AllocError, Global};
 use std::marker::Model;
+
+/// Whether nodes and links are within the limits, and each link joins two nodes, which are not the same: Ok, or the first fault that stands.
+fn test_ends(nodes: u32, links: &[(u32, u32)]) -> Result<(), NetFault>
+    ensures limits { OnOk result (IsWithinLimits nodes links.now) }
+    ensures range { OnOk result (IsInRange nodes links.now) }
+    ensures clear { OnOk result (HasNoSelfLink links.now) }
+    ensures refused { IfErr result (IsFirstFault nodes links.now) }
+{
+    if nodes > MAX_NODES || links.len() > MAX_LINKS {
+        return Err(NetFault::TooMany);
+    }
+    if let Some(x) = first_outside(nodes, links) {
+        return Err(NetFault::Range(x));
+    }
+    if let Some(node) = first_self_link(links) {
+        return Err(NetFault::SelfLink(node));
+    }
+    Ok(())
+}
+
+/// What `find_cycle` finds among the links whose halves these are.
+fn search_halves(alloc: Global, nodes: u32, halves: &[HalfLink]) -> Result<Found, AllocError>
+    requires rising { AreHalvesRising halves.now }
+    requires below { (links : List (ℕ × ℕ)) × IsPermutation (halves_of links) halves.now × AreBelow nodes links }
+    ensures { IfOk result (λ found. (links : List (ℕ × ℕ)) → IsPermutation (halves_of links) halves.now → IsFound nodes (in_order links) found) }
+{
+    let sorted = outward_links(alloc, halves)?;
+    find_cycle(alloc, nodes, &sorted)
+}
+
+/// The graph of links without a fault, of their halves, which are in order, with where those of each node start, and of an order of the
+/// nodes along which the links lead back.
+fn graph_of(
+    alloc: Global,
+    nodes: u32,
+    links: &[(u32, u32)],
+    halves: &[HalfLink],
+    starts: Vec<usize>,
+    order: &[u32],
+) -> Result<Graph, AllocError>
+    requires faultless { IsFaultless nodes links.now }
+    requires same { IsPermutation (halves_of links.now) halves.now }
+    requires rising { AreHalvesRising halves.now }
+    requires starts { AreStarts nodes halves.now starts.items }
+    requires order { HasHeadsFirst nodes (in_order links.now) order.now }
+    ensures graph { IfOk result IsGraph }
+    ensures shown { IfOk result (λ graph. IsNetworkOf nodes links.now (shown graph)) }
+{
+    let entries = entries_of(alloc, halves)?;
+    let mut heights = Heights::unknown(alloc, nodes)?;
+    heights.put_in_order(order);
+    Ok(Graph {
+        nodes,
+        link_count: links.len(),
+        rows: RowTable::packed(alloc, starts, entries)?,
+        heights,
+    })
+}
 
 /// Whether these are no more edits than there may be.
 fn test_few(edits: &[Edit]) -> Result<(), EditFault>
@@ -70,34 +132,17 @@ impl Net {
         ensures ok { IfOk result (IsNetworkOf nodes links.now) }
         ensures refused { IfErr result (λ fault. fault ≢ Memory → IsFirstFault nodes links.now fault) }
     {
-        if nodes > MAX_NODES || links.len() > MAX_LINKS {
-            return Err(NetFault::TooMany);
-        }
-        if let Some(x) = first_outside(nodes, links) {
-            return Err(NetFault::Range(x));
-        }
-        if let Some(node) = first_self_link(links) {
-            return Err(NetFault::SelfLink(node));
-        }
+        test_ends(nodes, links)?;
         let (halves, starts) = sorted_halves(alloc, nodes, links)?;
         if let Some((u, v)) = first_twice(&halves) {
             return Err(NetFault::Twice(u, v));
         }
-        let sorted = outward_links(alloc, &halves)?;
-        let order = match find_cycle(alloc, nodes, &sorted)? {
-            Found::Walk(walk) => return Err(NetFault::Cycle(walk)),
-            Found::Order(order) => order,
-        };
-        let entries = entries_of(alloc, &halves)?;
-        let mut heights = Heights::unknown(alloc, nodes)?;
-        heights.put_in_order(&order);
-        let graph = Graph {
-            nodes,
-            link_count: links.len(),
-            rows: RowTable::packed(alloc, starts, entries)?,
-            heights,
-        };
-        Ok(Net { graph })
+        match search_halves(alloc, nodes, &halves)? {
+            Found::Walk(walk) => Err(NetFault::Cycle(walk)),
+            Found::Order(order) => Ok(Net {
+                graph: graph_of(alloc, nodes, links, &halves, starts, &order)?,
+            }),
+        }
     }
 
     /// How many nodes there are, 1 or more.
@@ -190,6 +235,16 @@ impl Net {
         Ok(Net { graph })
     }
 
+    /// The network after this edit, made on a copy.
+    fn with_edit(&self, alloc: Global, edit: Edit) -> Result<Net, NetFault>
+        ensures ok { IfOk result (IsMade self.now edit) }
+        ensures refused { IfErr result (λ fault. fault ≢ Memory → IsEditFault self.now edit fault) }
+    {
+        let mut graph = self.graph.copied(alloc)?;
+        graph.edit(alloc, edit)?;
+        Ok(Net { graph })
+    }
+
     /// The network without the link between `u` and `v`, whichever way it points. `NoLink` exactly where there is none, as
     /// where one of them is no node or both are the same; `Memory` where no room could be had. Time and memory are
     /// linear in nodes and links, since the network is copied.
@@ -198,9 +253,7 @@ impl Net {
         ensures ok { IfOk result (IsNetworkOf self.now.nodes (without u v self.now.links)) }
         ensures refused { IfErr result (λ fault. fault ≢ Memory → IsCutFault self.now.links u v fault) }
     {
-        let mut graph = self.graph.copied(alloc)?;
-        graph.cut(u, v)?;
-        Ok(Net { graph })
+        self.with_edit(alloc, Edit::Cut { u, v })
     }
 
     /// The network with the link from `u` to `v` as well; or the first fault that then stands, in the order of
@@ -211,9 +264,7 @@ impl Net {
         ensures refused { IfErr result (λ fault. fault ≢ Memory
             → IsFirstFault self.now.nodes (self.now.links ++ (u, v) ∷ []) fault) }
     {
-        let mut graph = self.graph.copied(alloc)?;
-        graph.add(alloc, u, v)?;
-        Ok(Net { graph })
+        self.with_edit(alloc, Edit::Add { u, v })
     }
 
     /// The network with `u` and `v` joined: by a link from `u` to `v`, or from `v` to `u` where a closed walk would follow the
@@ -223,9 +274,7 @@ impl Net {
         ensures ok { IfOk result (IsJoined self.now.nodes self.now.links u v) }
         ensures refused { IfErr result (λ fault. fault ≢ Memory → IsJoinFault self.now.nodes self.now.links u v fault) }
     {
-        let mut graph = self.graph.copied(alloc)?;
-        graph.join(alloc, u, v)?;
-        Ok(Net { graph })
+        self.with_edit(alloc, Edit::Join { u, v })
     }
 
     /// The network after these edits, each made on the links that those before it left; or the first edit that is refused, with

@@ -2,7 +2,7 @@ use Rattle.std.proofs.Common.{Bool, Contains, List, Some, [], ap, arith, false, 
 use Rattle.std.proofs.lemmas.List.{get_or_default, get_or_push, length_push, nil_from_length}
 use Rattle.std.proofs.lemmas.List.Elements.{All-pop, Contains-get_or}
 use Rattle.fr_net.proofs.ClosingWalks.{fewer_unmet, met_below, nodes_more, search_begins, search_ends, search_goes_back, search_goes_on, way_closes}
-use Rattle.fr_net.proofs.Neighbours.{length-row-le, out_of_row, row_holds}
+use Rattle.fr_net.proofs.Neighbours.{entry_is, length-row-le, out_of_row, row_holds}
 use Rattle.fr_net.specs.Graph.{shown}
 use Rattle.fr_net.specs.ClosingSearch.{IsMet, IsRead, IsSearch, nodes_of}
 use Rattle.fr_net.specs.Limits.{most_nodes}
@@ -23,9 +23,6 @@ reads c = (All-pop (IsRead (shown c.args.graph.now) c.loop-step.met.items) (c.po
 -- the entry that leads to a node that was not met
 abbrev head : (c : Then-place-row) → ℕ
 head c = (get_or c.row-row.result.now c.first_unmet-place.result (0, Outward)).0
-
-entry_is : (e : ℕ × First) (f : First) → e.1 ≡ f → e ≡ (e.0, f)
-entry_is (w, g) f e = cc
 
 inside : (c : Then-place-row) → c.first_unmet-place.result < length (row c.args.graph.now.nodes (shown c.args.graph.now).links c.in-Some.step.node)
 inside c = omega (arith, ap length c.row-row.ensures, c.if-place-row.true)

@@ -1,4 +1,4 @@
-use Rattle.std.proofs.Common.{arith, length, ◌+◌, ◌-◌, ◌≡◌}
+use Rattle.std.proofs.Common.{arith, ◌-◌, ◌≡◌}
 use Rattle.std.proofs.lemmas.List.{length-set, length-take-le}
 use Rattle.fr_net.proofs.Cycles.{left, no_more_fresh, searched}
 use Rattle.fr_net.proofs.LeavingOrder.{left_order}

@@ -1,7 +1,7 @@
-use Rattle.std.proofs.Common.{ap, arith, get_or, length, refl, ◌+◌, ◌-◌, ◌∙◌, ◌≡◌}
+use Rattle.std.proofs.Common.{ap, arith, get_or, length, ◌+◌, ◌-◌, ◌∙◌, ◌≡◌}
 use Rattle.std.proofs.lemmas.List.{get_or_read}
 use Rattle.fr_net.proofs.Cycles.{leads_from_top}
-use Rattle.fr_net.specs.CycleSearch.{LeadsTo, left_count}
+use Rattle.fr_net.specs.CycleSearch.{LeadsTo}
 use Rattle.fr_net.proofs.cycle.Search.step.Goals as goal
 use Rattle.fr_net.proofs.cycle.Search.step.Goals.{In-Some}
 

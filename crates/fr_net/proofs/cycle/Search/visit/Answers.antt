@@ -1,12 +1,13 @@
 use Rattle.std.proofs.Common.{ap, arith, length}
+use Rattle.std.proofs.lemmas.Result.{IfOk-weaker}
 use Rattle.fr_net.proofs.cycle.Search.visit.Goals as goal
 
-pub walk-init : goal.walk-init
-walk-init c =
-    let opened = c.in_ok-open.ensures in
-    record {
-      search = opened.search c.args.links.now c.requires.search (λ k full. absurd (omega (arith, full, ap length c.requires.empty)));
-      seen = opened.seen;
-      kept = opened.kept;
-      one_each = opened.one_each;
-    }
+pub go_on-requires : goal.go_on-requires
+go_on-requires c =
+    c.in_ok-open.ensures.search c.args.links.now c.requires.search (λ k full. absurd (omega (arith, full, ap length c.requires.empty)))
+
+pub returns-clause-seen : goal.returns-clause-seen
+returns-clause-seen c = IfOk-weaker c.go_on.result _ _ (λ back kept. kept c.args.root c.in_ok-open.ensures.seen) c.go_on.ensures.kept
+
+pub returns-clause-kept : goal.returns-clause-kept
+returns-clause-kept c = IfOk-weaker c.go_on.result _ _ (λ back kept x seen. kept x (c.in_ok-open.ensures.kept x seen)) c.go_on.ensures.kept

@@ -1,14 +1,35 @@
-use Rattle.std.proofs.Common.{arith}
+use Rattle.std.proofs.Common.{arith, inr}
 use Rattle.std.proofs.lemmas.List.{length_push}
-use Rattle.fr_net.proofs.AddedLinks.{added, out_of_range_added}
+use Rattle.std.proofs.lemmas.List.Elements.{Contains-push}
+use Rattle.fr_net.proofs.AddedLinks.{added, in_range, out_of_range_added, within_limits}
+use Rattle.fr_net.specs.Faults.{IsInRange}
 use Rattle.fr_net.specs.Graph.{shown}
 use Rattle.fr_net.specs.Limits.{IsWithinLimits}
 use Rattle.fr_net.proofs.graph.Graph.test_join.Goals as goal
-use Rattle.fr_net.proofs.graph.Graph.test_join.Goals.{Else-self-ge-MAX_LINKS}
+use Rattle.fr_net.proofs.graph.Graph.test_join.Goals.{Else-self-ge-MAX_LINKS, In_default}
+
+-- the links with the one between them are no more than there may be, and none of them leaves the nodes
+limits : (c : Else-self-ge-MAX_LINKS) → IsWithinLimits c.args.self.now.nodes (added (shown c.args.self.now).links c.args.u c.args.v)
+limits c =
+    let g = shown c.args.self.now in
+    within_limits g.nodes g.links c.args.u c.args.v c.requires.faultless.limits (omega (arith, c.requires.counted, c.if-self-ge-MAX_LINKS.false))
+
+range : (c : In_default) → IsInRange c.args.self.now.nodes (added (shown c.args.self.now).links c.args.u c.args.v)
+range c =
+    let g = shown c.args.self.now in
+    let ends = c.in_default.ensures.none.below 0 (0, 0) (omega arith) in
+    in_range g.nodes g.links c.args.u c.args.v c.requires.faultless.is_net.in_range ends.0 ends.1
+
+pub returns-then-self-ge-MAX_LINKS-clause-refused : goal.returns-then-self-ge-MAX_LINKS-clause-refused
+returns-then-self-ge-MAX_LINKS-clause-refused c =
+    inr (omega (arith, length_push (shown c.args.self.now).links (c.args.u, c.args.v), c.requires.counted, c.if-self-ge-MAX_LINKS.true))
 
 pub returns-in-Some-clause-refused : goal.returns-in-Some-clause-refused
 returns-in-Some-clause-refused c =
     let g = shown c.args.self.now in
-    let limits : IsWithinLimits g.nodes (added g.links c.args.u c.args.v) =
-    record { nodes_few = c.requires.faultless.limits.nodes_few; links_few = omega (arith, length_push g.links (c.args.u, c.args.v), c.requires.counted, c.if-self-ge-MAX_LINKS.false) } in
-    (limits, out_of_range_added g.nodes g.links c.args.u c.args.v c.in-Some.x (rw c.in-Some.is at c.first_outside.ensures.found))
+    (limits (goal.at.returns-in-Some-clause-refused c).Else-self-ge-MAX_LINKS, out_of_range_added g.nodes g.links c.args.u c.args.v c.in-Some.x (rw c.in-Some.is at c.first_outside.ensures.found))
+
+pub returns-then-u-v-clause-refused : goal.returns-then-u-v-clause-refused
+returns-then-u-v-clause-refused c =
+    let at = goal.at.returns-then-u-v-clause-refused c in
+    (limits at.Else-self-ge-MAX_LINKS, range at.In_default, rw c.if-u-v.true (Contains-push (shown c.args.self.now).links _))

@@ -1,6 +1,6 @@
-use Rattle.std.proofs.Common.{arith, get_or, inl, inr, length, refl, slice_index, sym, true, ℕ, ◌<◌, ◌∙◌, ◌≡◌}
+use Rattle.std.proofs.Common.{ap, arith, get_or, inl, inr, length, refl, slice_index, sym, true, ℕ, ◌+◌, ◌<◌, ◌∙◌, ◌≡◌}
 use Rattle.std.proofs.lemmas.List.{get_or_default}
-use Rattle.fr_net.proofs.TwoEnds.{entry_below, entry_leads, entry_leads_by_height, graph_faultless, leads_lies, more_after, more_by_edges, other_was, passed_more, passed_stays, same_more, side_goes_on, side_moves, side_reads, way_on, with_edge_nearer}
+use Rattle.fr_net.proofs.TwoEnds.{entry_below, entry_leads, entry_leads_by_height, graph_faultless, leads_lies, more_after, more_by_edges, more_read, next_below, other_was, passed_more, passed_stays, same_more, side_goes_on, side_moves, side_reads, way_on, with_edge_nearer}
 use Rattle.fr_net.specs.Graph.{shown}
 use Rattle.fr_net.specs.PathSearch.{HasMet, HasPassed, HasWay, IsBeyond, IsMetOrAside, IsPast, LiesOn, start_of}
 use Rattle.fr_net.specs.RowLists.{opposite}
@@ -10,6 +10,21 @@ use Rattle.fr_net.specs.declared.rows.First.{First}
 use Rattle.fr_net.specs.declared.rows.First.TheVariants.{Outward}
 use Rattle.fr_net.proofs.path_search.Side.read_next.Goals as goal
 use Rattle.fr_net.proofs.path_search.Side.read_next.Goals.{After-goes_on, else-goes_on-via-then-goes_on+else-meet, else-goes_on-via-else-goes_on}
+
+pub height-own-requires : goal.height-own-requires
+height-own-requires c = omega (arith, next_below c.index-node.result.now c.requires.side c.requires.unread c.index-node.ensures, c.requires.graph.height_each)
+
+pub row-row-requires-clause-node : goal.row-row-requires-clause-node
+row-row-requires-clause-node c = next_below c.index-node.result.now c.requires.side c.requires.unread c.index-node.ensures
+
+pub loop-neighbour-init : goal.loop-neighbour-init
+loop-neighbour-init c = record {
+  side = c.requires.side;
+  more = same_more c.args.self.now c.args.met.now;
+  same_read = refl;
+  nearer = λ height past. past;
+  passed = λ k d before. absurd (omega (arith, before));
+}
 
 pub height-height-requires : goal.height-height-requires
 height-height-requires c =
@@ -57,6 +72,21 @@ aside c other same =
 
 pub meet-requires-clause-node : goal.meet-requires-clause-node
 meet-requires-clause-node c = omega (arith, below (goal.at.meet-requires-clause-node c).After-goes_on, c.loop-neighbour.invariant.side.one_each)
+
+pub meet-requires-clause-room : goal.meet-requires-clause-room
+meet-requires-clause-room c = c.loop-neighbour.invariant.side.room
+
+pub returns-then-meet-clause-more : goal.returns-then-meet-clause-more
+returns-then-meet-clause-more c =
+    let at = (goal.at.returns-then-meet-clause-more c).After-goes_on in
+    let inv = c.loop-neighbour.invariant in
+    more_after inv.more (side_goes_on (entry at).0 (below at) (way at c.if-goes_on.true) (near at c.if-goes_on.true) c.meet.ensures.change inv.side).1
+
+pub returns-then-meet-clause-side : goal.returns-then-meet-clause-side
+returns-then-meet-clause-side c = λ other. absurd (other refl)
+
+pub returns-then-meet-clause-read : goal.returns-then-meet-clause-read
+returns-then-meet-clause-read c = λ other. absurd (other refl)
 
 pub returns-then-meet-clause-found : goal.returns-then-meet-clause-found
 returns-then-meet-clause-found c =
@@ -106,3 +136,9 @@ returns-clause-side c =
     let all : c.loop-neighbour.neighbour-index ≡ length c.row-row.result.now = omega arith in
     let passed : HasPassed c.args.graph.now.heights.heights c.args.self.now.first read c.loop-neighbour.met (row net.nodes net.links x) (length (row net.nodes net.links x)) = rw (all, c.row-row.ensures) at inv.passed in
     λ _. side_reads x (graph_faultless c.args.graph.now c.requires.graph).is_net (omega (arith, inv.same_read, inv.more.longer, c.requires.unread)) at_read passed (side_moves (with_edge_nearer inv.side.first_is inv.nearer) inv.side)
+
+pub returns-clause-read : goal.returns-clause-read
+returns-clause-read c = λ _. ap (λ (k : ℕ). k + 1) c.loop-neighbour.invariant.same_read
+
+pub returns-clause-more : goal.returns-clause-more
+returns-clause-more c = more_read c.loop-neighbour.invariant.nearer c.loop-neighbour.invariant.more

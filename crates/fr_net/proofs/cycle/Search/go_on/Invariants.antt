@@ -1,12 +1,10 @@
-use Rattle.std.proofs.Common.{length, ◌≡◌, ◌≢◌}
-use Rattle.fr_net.specs.CycleSearch.{IsSearch, KeepsSeen, left_count, mark_of}
-use Rattle.fr_net.specs.declared.cycle.Mark.TheVariants.{Fresh}
-use Rattle.fr_net.proofs.cycle.Search.visit.Given as goal
+use Rattle.std.proofs.Common.{length, ◌≡◌}
+use Rattle.fr_net.specs.CycleSearch.{IsSearch, KeepsSeen, left_count}
+use Rattle.fr_net.proofs.cycle.Search.go_on.Given as goal
 
 abbrev pub invariant-walk : goal.invariant-walk
 invariant-walk l = record {
   search : IsSearch l.links l.self;
-  seen : mark_of l.self.marks.items l.root ≢ Fresh;
   kept : KeepsSeen l.fn.self.marks.items l.self.marks.items;
   one_each : length l.self.marks.items ≡ length l.fn.self.marks.items;
 }
