@@ -1,7 +1,8 @@
 -- The workers of a crew are those of its round.
-use Rattle.std.proofs.Common.{◌≡◌, ◌∙◌, ◌++◌, ◌<◌, ◌≤◌, ℕ, zero, suc, ◌∷◌, [], List, length, slice_index_or, slice_set, ap, refl, arith, length-append}
+use Rattle.std.proofs.Common.{◌≡◌, ◌∙◌, ◌++◌, ◌<◌, ◌≤◌, ℕ, zero, suc, ◌∷◌, [], List, length, ap, refl, arith, length-append}
 use Rattle.std.specs.List.{AllByRecursion as Each}
 use Rattle.fr_round.specs.Knowledge.{Knowledge, OpenRound, IsOwn, new_worker, new_workers}
+use Rattle.fr_round.specs.declared.view.Setup.{Setup}
 use Rattle.fr_round.proofs.Keeping.{each_snoc}
 use Rattle.fr_crew.specs.Crews.{IsSameWorker}
 
@@ -29,18 +30,6 @@ pub some_worker : (round : OpenRound) (k : ℕ) (workers : List Knowledge) → 1
 some_worker round k workers some are_new = omega (arith, some, ap length are_new, new_workers_length round k)
 
 -- as many came back as there were opened
-pub all_came_back : (opened closing : OpenRound) (k : ℕ) (workers back : List Knowledge) → opened.setup.workers ≡ k → workers ≡ new_workers opened.table opened.setup k → closing ≡ opened → length back ≡ length workers → length back ≡ closing.setup.workers
-all_came_back opened closing k workers back asked are_new same all =
-    omega (arith, asked, all, ap length are_new, new_workers_length opened k, ap (λ (r : OpenRound). r.setup.workers) same)
-
--- what holds of each holds of the one at a place
-pub each_at : {X : Type 0} (P : X → Type 0) (xs : List X) (i : ℕ) (d : X) → Each P xs → i < length xs → P (slice_index_or xs i d)
-each_at P [] i d each below = absurd (omega arith)
-each_at P (x ∷ xs) zero d each below = each.0
-each_at P (x ∷ xs) (suc i) d each below = each_at P xs i d each.1 (omega arith)
-
--- and it still holds of each where it holds of one that is put in place of another
-pub each_set : {X : Type 0} (P : X → Type 0) (xs : List X) (i : ℕ) (x : X) → Each P xs → P x → Each P (slice_set xs i x)
-each_set P [] i x each here = tt
-each_set P (y ∷ ys) zero x each here = (here, each.1)
-each_set P (y ∷ ys) (suc i) x each here = (each.0, each_set P ys i x each.1 here)
+pub all_came_back : (opened closing : OpenRound) (n d k : ℕ) (links : List (ℕ × ℕ)) (workers back : List Knowledge) → opened.setup ≡ record { nodes = n; dest = d; links = links; workers = k } → workers ≡ new_workers opened.table opened.setup k → closing ≡ opened → length back ≡ length workers → length back ≡ closing.setup.workers
+all_came_back opened closing n d k links workers back asked are_new same all =
+    omega (arith, ap (λ (b : Setup). b.workers) asked, all, ap length are_new, new_workers_length opened k, ap (λ (r : OpenRound). r.setup.workers) same)

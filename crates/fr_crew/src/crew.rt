@@ -14,7 +14,7 @@ use crate::naming::Naming;
 use crate::plan::Plan;
 use fr_core::Reply;
 use fr_round::{Round, Worker};
-use std::alloc::Global;
+use std::alloc::{AllocError, Global};
 use std::snapshot::Snapshot;
 use std::sync::Wait;
 use std::thread;
@@ -40,6 +40,12 @@ impl Promise<Worker> for GivesBack {
 }
 
 type Thread = PromisedHandle<Worker, GivesBack>;
+
+/// The room that is taken before the first thread is started.
+struct Rooms {
+    back: Vec<Worker>,
+    threads: Vec<Thread>,
+}
 
 /// The threads that were started, and whether these are all.
 struct Started {
@@ -125,6 +131,17 @@ fn join_each<R: Threads>(rt: &R, threads: Vec<Thread>, mut workers: Vec<Worker>)
     workers
 }
 
+/// Room for so many workers that come back, and for their threads.
+fn make_room(alloc: Global, members: usize) -> Result<Rooms, AllocError>
+    ensures back { IfOk result (λ rooms. (vec_len rooms.back ≡ 0) × (members ≤ vec_capacity rooms.back)) }
+    ensures threads { IfOk result (λ rooms. (vec_len rooms.threads ≡ 0) × (members ≤ vec_capacity rooms.threads)) }
+{
+    Ok(Rooms {
+        back: Vec::with_capacity(alloc, members)?,
+        threads: Vec::with_capacity(alloc, members)?,
+    })
+}
+
 /// The whole life of the threads. The room for all of them is taken before the first is started. The last member works on
 /// the thread that called, which would only wait for the others.
 fn run_each<'s, 'e, J: Naming + Send + Sync, R: Threads, G: Gate + Sync>(
@@ -141,8 +158,7 @@ fn run_each<'s, 'e, J: Naming + Send + Sync, R: Threads, G: Gate + Sync>(
     ensures len { IfOk result (λ back. vec_len back ≡ vec_len members) }
     ensures fault { IfErr result (λ fault. fault ≢ Range) }
 {
-    let back = Vec::with_capacity(alloc, members.len())?;
-    let threads = Vec::with_capacity(alloc, members.len())?;
+    let Rooms { back, threads } = make_room(alloc, members.len())?;
     let Some(last) = members.pop() else {
         return Ok(back);
     };

@@ -61,19 +61,11 @@ pub fn settle<R: Threads + Wait + Sync, G: Gate + Sync>(
     ensures no_start { plan.now.budget ≡ 0 → IfErr result (λ fault. fault ≢ Start) }
     ensures still { AreSettled net.nodes dest net.links (replicate net.nodes 0) → IfErr result (λ fault. fault ≢ Start) }
 {
-    let mut turns = none_yet(alloc, &net, dest)?;
+    let turns = none_yet(alloc, &net, dest)?;
     if plan.budget() == 0 || are_settled(&net, dest, turns.counts()) {
         return Ok(finished(net, dest, turns, 0));
     }
-    let Closed {
-        net,
-        counts,
-        turned,
-    } = turned_by_crew(rt, alloc, net, dest, None, plan, gate)?;
-    net.network_law();
-    let by_workers = turns_of(&turned);
-    turns.copy_from(&counts);
-    Ok(finished(net, dest, turns, by_workers))
+    settled_by_crew(rt, alloc, net, dest, turns, plan, gate)
 }
 
 /// Turns a network until no node can turn, on the thread that calls: by [`finish`](fr_core::finish) alone. The answer is that
@@ -129,18 +121,7 @@ pub fn settled_counts<R: Threads + Wait + Sync, G: Gate + Sync>(
     if turn_few(net, dest, from, &mut turns) {
         return Ok(turns);
     }
-    let plan = match from {
-        Some(_) => plan.with_at_most(u64::from(net.nodes())),
-        None => *plan,
-    };
-    let copy = net.copied(alloc)?;
-    let Closed {
-        net,
-        counts,
-        turned: _,
-    } = turned_by_crew(rt, alloc, copy, dest, from, &plan, gate)?;
-    turns.copy_from(&counts);
-    Ok(finished_counts(&net, dest, turns, None))
+    counts_by_crew(rt, alloc, net, dest, from, plan, gate, turns)
 }
 
 /// The settled counts of a network, which stays as it is, on the thread that calls: by [`finish`](fr_core::finish) alone, or
@@ -200,6 +181,78 @@ fn turn_few(net: &Net, dest: u32, from: Option<&[u32]>, turns: &mut Turns) -> bo
         Some(from) => finish_soon(net, dest, turns, from),
         None => are_settled(net, dest, turns.counts()),
     }
+}
+
+/// Settles a network by a crew, and what that leaves on the thread that calls. The table has a count for each node.
+fn settled_by_crew<R: Threads + Wait, G: Gate + Sync>(
+    rt: &R,
+    alloc: Global,
+    net: Net,
+    dest: u32,
+    mut turns: Turns,
+    plan: &Plan,
+    gate: &G,
+) -> Result<Settled, CrewFault>
+    requires node { dest < net.nodes }
+    requires one_each { length turns ≡ net.nodes }
+    ensures settled { IfOk result (IsSettlement net.nodes dest net.links) }
+    ensures fault { IfErr result (λ fault. fault ≢ Range) }
+{
+    let Closed {
+        net,
+        counts,
+        turned,
+    } = turned_by_crew(rt, alloc, net, dest, None, plan, gate)?;
+    net.network_law();
+    let by_workers = turns_of(&turned);
+    turns.copy_from(&counts);
+    Ok(finished(net, dest, turns, by_workers))
+}
+
+/// The settled counts of a network by a crew on a copy of it, and what that leaves on the thread that calls. The table has a count for
+/// each node.
+fn counts_by_crew<R: Threads + Wait, G: Gate + Sync>(
+    rt: &R,
+    alloc: Global,
+    net: &Net,
+    dest: u32,
+    from: Option<&[u32]>,
+    plan: &Plan,
+    gate: &G,
+    mut turns: Turns,
+) -> Result<Turns, CrewFault>
+    requires node { dest < net.now.nodes }
+    requires one_each { length turns ≡ net.now.nodes }
+    ensures settled { IfOk result (IsCounted net.now.nodes dest net.now.links) }
+    ensures fault { IfErr result (λ fault. fault ≢ Range) }
+{
+    let counts = counts_of_crew(rt, alloc, net, dest, from, plan, gate)?;
+    turns.copy_from(&counts);
+    Ok(finished_counts(net, dest, turns, None))
+}
+
+/// The counts that a crew leaves on a copy of a network. Where it is known which nodes can turn, each worker makes no more calls than
+/// there are nodes: more would take longer than to search.
+fn counts_of_crew<R: Threads + Wait, G: Gate + Sync>(
+    rt: &R,
+    alloc: Global,
+    net: &Net,
+    dest: u32,
+    from: Option<&[u32]>,
+    plan: &Plan,
+    gate: &G,
+) -> Result<Vec<u64>, CrewFault>
+    requires { dest < net.now.nodes }
+    ensures lawful { IfOk result (λ counts. AreLawful net.now.nodes dest net.now.links counts.items) }
+    ensures fault { IfErr result (λ fault. fault ≢ Range) }
+{
+    let plan = match from {
+        Some(_) => plan.with_at_most(u64::from(net.nodes())),
+        None => *plan,
+    };
+    let copy = net.copied(alloc)?;
+    let closed = turned_by_crew(rt, alloc, copy, dest, from, &plan, gate)?;
+    Ok(closed.counts)
 }
 
 /// Opens a round, lets a crew of threads turn its nodes, and closes it. Its workers try the nodes of `from` first, where it is

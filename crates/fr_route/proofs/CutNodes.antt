@@ -1,12 +1,11 @@
 -- How many nodes are cut off, by their hops, and by the counts of the round and the rows before it.
-use Rattle.std.proofs.Common.{Bool, Contains, List, [], ◌∷◌, add-one, ap, append_assoc, arith, cond, eq-eqb, eqb-true, false, get_or, inl, inr, length, map, mul-zero, ne_eqb, refl, replicate, slice_index, subst, sym, suc, true, zero, zero-add, ℕ, ⊎_elim, ◌*◌, ◌+◌, ◌++◌, ◌<◌, ◌≤◌, ◌↔◌, ◌∙◌, ◌≡◌, ◌⊎◌, ◌==◌, IsTrue}
+use Rattle.std.proofs.Common.{Bool, Contains, List, [], ◌∷◌, add-one, ap, append_assoc, arith, cond, eq-eqb, eqb-true, false, get_or, inl, inr, length, map, ne_eqb, refl, slice_index, subst, sym, suc, true, zero, zero-add, ℕ, ⊎_elim, ◌*◌, ◌+◌, ◌++◌, ◌<◌, ◌≤◌, ◌↔◌, ◌∙◌, ◌≡◌, ◌⊎◌, ◌==◌, IsTrue}
 use Rattle.std.specs.List.{All, count_by, filter, range_with_len}
 use Rattle.std.specs.Prelude.{not, ◌&&◌, ◌||◌}
 use Rattle.std.proofs.lemmas.Bool.{cases_eq, cases_lt, false≢true}
 use Rattle.std.proofs.lemmas.Bool.Decides.{Decides-and, Decides-eqb, Decides-not, Decides-or}
 use Rattle.std.proofs.lemmas.List.{get_or_past, map-id}
 use Rattle.std.proofs.lemmas.List.Elements.{All-filter}
-use Rattle.std.proofs.lemmas.List.Folds.{sum_by-replicate}
 use Rattle.std.proofs.lemmas.List.FromFn.{fill_by_all, filter_of_map_range_with_len_more, get_or-range_with_len, length-range_with_len}
 use Rattle.std.proofs.lemmas.List.Sums.{length-filter}
 use Rattle.std.proofs.lemmas.Option.{slice_get-get_or}
@@ -14,19 +13,15 @@ use Rattle.fr_net.specs.Links.{IsAlone, IsNet}
 use Rattle.fr_net.specs.Network.{Network, net_of}
 use Rattle.fr_net.specs.Counts.{links_at}
 use Rattle.fr_net.specs.Rows.{alone_count, has_no_neighbour, row}
-use Rattle.fr_net.specs.Turn.{IsSink}
 use Rattle.fr_net.proofs.Booleans.{and_cases}
 use Rattle.fr_net.proofs.Counting.{count-range_agree, count-range_more, count_by-map}
 use Rattle.fr_net.proofs.Neighbours.{row_alone, row_linked}
-use Rattle.fr_core.proofs.Finishing.{links_at-zeros, zeros_lawful}
-use Rattle.fr_core.proofs.Settling.{settled_from_none}
 use Rattle.fr_core.specs.Settled.{IsSettledCount}
-use Rattle.fr_crew.proofs.Beginning.{zeros_sum}
 use Rattle.fr_crew.specs.Settlements.{IsCounted}
 use Rattle.fr_route.proofs.RoundEnds.{alone_cut_off, capped_cut_off, lawful, round_end, round_joined, round_joins, round_net}
 use Rattle.fr_route.proofs.Routing.{route_joined}
 use Rattle.fr_route.proofs.Touched.{into_filter}
-use Rattle.fr_route.specs.Outcomes.{HasNoSink, cut_off_nodes, lone_count, state_after, still_state}
+use Rattle.fr_route.specs.Outcomes.{cut_off_nodes, lone_count, state_after}
 use Rattle.fr_route.specs.Routes.{IsHop, AreHops, is_cut_off}
 use Rattle.fr_route.specs.States.{State, IsCutOff, IsAfterRound, IsCutCount, IsReport, IsRound}
 use Rattle.fr_route.specs.declared.hops.Hop.{Hop}
@@ -198,28 +193,6 @@ module _ (net : Network) (d : ℕ) (counts : List ℕ) (is : IsNet net.nodes net
   -- by the rows before the round
   pub cut_by_rows : IsCutCount net.nodes d (state_after net d counts).links (lone_count net.nodes net.links d + count_by (λ count. count == net.nodes) counts)
   cut_by_rows = cut_count net.nodes d net.links (state_after net d counts) is counted.destination ended (has_no_neighbour net.nodes net.links) (λ x low. alone_just net.nodes net.links is x)
-
--- where no node is a sink, but for the destination, none turns
-pub still_counted : (net : Network) (d : ℕ) → IsNet net.nodes net.links → d < net.nodes → HasNoSink net.links d → IsCounted net.nodes d net.links (replicate net.nodes 0)
-still_counted net d is below none = record {
-  destination = below;
-  settled = settled_from_none net.nodes d net.links is below (replicate net.nodes 0) (zeros_lawful net.nodes d net.links)
-      (λ x can. none x can.not_destination (subst (λ (links : List (ℕ × ℕ)). IsSink links x) (links_at-zeros net.nodes net.links) can.sink));
-  most = omega (arith, zeros_sum net.nodes);
-}
-
-none_capped : (n : ℕ) → 0 < n → count_by (λ count. count == n) (replicate n 0) ≡ 0
-none_capped n some =
-    let weight : ℕ → ℕ = λ count. cond (count == n) 1 0 in
-    let nothing : weight 0 ≡ 0 = rw (ne_eqb 0 n (λ e. omega arith)) refl in
-    sum_by-replicate weight n 0 ∙ (ap (λ (k : ℕ). n * k) nothing ∙ mul-zero n)
-
--- and then just the nodes without a link are cut off
-pub still_cut : (net : Network) (d : ℕ) → IsNet net.nodes net.links → d < net.nodes → HasNoSink net.links d → IsCutCount net.nodes d (still_state net d).links (lone_count net.nodes net.links d)
-still_cut net d is below none =
-    let lone : ℕ = lone_count net.nodes net.links d in
-    let same : lone + count_by (λ count. count == net.nodes) (replicate net.nodes 0) ≡ lone = omega (arith, none_capped net.nodes (omega arith)) in
-    subst (IsCutCount net.nodes d (still_state net d).links) same (cut_by_rows net d (replicate net.nodes 0) is (still_counted net d is below none))
 
 module _ (s : State) (after : IsAfterRound s) where
   -- the nodes with a link that the round cut off are those that have turned as often as there are nodes

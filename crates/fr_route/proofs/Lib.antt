@@ -4,6 +4,7 @@ pub mod OutByRow
 pub mod CutNodes
 pub mod Walking
 pub mod Changing
+pub mod Opening
 pub mod Determined
 pub mod FirstFaults
 pub mod EachAnswer

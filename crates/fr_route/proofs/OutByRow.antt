@@ -1,14 +1,11 @@
 -- The links that point from a node, by its row.
-use Rattle.std.proofs.Common.{Bool, Contains, IsTrue, List, MatchOption, None, Option, Some, ap, arith, false, get_or, length, refl, subst, sym, true, ℕ, ⊎_elim, ◌<◌, ◌↔◌, ◌∙◌, ◌≡◌, ◌≤◌}
-use Rattle.std.specs.Option.{is_some}
-use Rattle.std.specs.Prelude.{not}
-use Rattle.std.proofs.lemmas.Bool.{cases_eq, cases_lt, false≢true}
+use Rattle.std.proofs.Common.{Contains, List, ap, arith, get_or, length, subst, sym, ℕ, ⊎_elim, ◌<◌, ◌∙◌, ◌≡◌, ◌≤◌}
+use Rattle.std.proofs.lemmas.Bool.{cases_eq, cases_lt}
 use Rattle.std.proofs.lemmas.List.{get_or_default}
 use Rattle.std.proofs.lemmas.List.Elements.{Contains-get_or}
-use Rattle.fr_net.proofs.Neighbours.{differ, out_of_row, row_linked, row_of_in, row_of_out, row_rises}
+use Rattle.fr_net.proofs.Neighbours.{differ, out_of_row, row_of_out, row_rises}
 use Rattle.fr_net.specs.Links.{IsNet, Points}
 use Rattle.fr_net.specs.Rows.{row}
-use Rattle.fr_net.specs.Turn.{IsSink}
 use Rattle.fr_net.specs.declared.rows.First.{First}
 use Rattle.fr_net.specs.declared.rows.First.TheVariants.{Inward, Outward}
 use Rattle.fr_route.specs.Routes.{IsNextHop}
@@ -55,19 +52,3 @@ module _ (n : ℕ) (links : List (ℕ × ℕ)) (x : ℕ) (net : IsNet n links) w
   -- where all links of a row point to x, none points away
   pub none_out : (entries : List (ℕ × First)) → entries ≡ row n links x → (k : ℕ) → length entries ≤ k → AreInward entries k → (w : ℕ) → ¬ Points links x w
   none_out entries is = subst (λ (es : List (ℕ × First)). (k : ℕ) → length es ≤ k → AreInward es k → (w : ℕ) → ¬ Points links x w) (sym is) none_in_row
-
--- a node with a link, from which none points away, is a sink
-pub sink_by_row : (n : ℕ) (links : List (ℕ × ℕ)) (x : ℕ) → 0 < length (row n links x) → ((w : ℕ) → ¬ Points links x w) → IsSink links x
-sink_by_row n links x some none =
-    let link = row_linked n links x some in
-    (⊎_elim (λ h. absurd (none link.0 h)) (λ h. (link.0, h)) link.1, none)
-
-pub sink_has_row : (n : ℕ) (links : List (ℕ × ℕ)) (x : ℕ) → IsNet n links → IsSink links x → 0 < length (row n links x)
-sink_has_row n links x net sink = omega (arith, (row_of_in n links x sink.0.0 net sink.0.1).1)
-
--- and so one from which no least node away is found
-pub sink_by_least : (n : ℕ) (links : List (ℕ × ℕ)) (x : ℕ) (least : Option ℕ) (none : Bool) → is_some least ≡ not none → 0 < length (row n links x) → MatchOption least ((w : ℕ) → ¬ Points links x w) (IsNextHop links x) → IsTrue none ↔ IsSink links x
-sink_by_least n links x None true e some h = ((λ t. sink_by_row n links x some h), (λ sink. refl))
-sink_by_least n links x None false e some h = absurd (false≢true e)
-sink_by_least n links x (Some y) true e some h = absurd (false≢true (sym e))
-sink_by_least n links x (Some y) false e some h = ((λ t. absurd (false≢true t)), (λ sink. absurd (sink.1 y h.link)))

@@ -1,5 +1,5 @@
 -- What a round on a network comes to, and the nodes at which edits change links.
-use Rattle.std.specs.Prelude.{◌≡◌, ℕ, ◌<◌, ◌≤◌, ◌⊎◌, not, ◌==◌, ◌&&◌, List, [], ◌∷◌, ◌++◌, count_by, length, replicate, slice_get, slice_index, Some}
+use Rattle.std.specs.Prelude.{◌≡◌, ℕ, ◌<◌, ◌≤◌, ◌⊎◌, not, ◌==◌, ◌&&◌, List, [], ◌∷◌, ◌++◌, count_by, length, slice_get, slice_index, Some}
 use Rattle.std.specs.List.{All, Contains, filter, range_with_len}
 use Rattle.fr_net.specs.Batches.{AreMade, IsBatchFault}
 use Rattle.fr_net.specs.Counts.{links_at}
@@ -7,7 +7,6 @@ use Rattle.fr_net.specs.Limits.{most_edits}
 use Rattle.fr_net.specs.Network.{Network, net_of}
 use Rattle.fr_net.specs.Links.{Joins}
 use Rattle.fr_net.specs.Rows.{has_no_neighbour}
-use Rattle.fr_net.specs.Turn.{IsSink}
 use Rattle.fr_net.specs.declared.fault.EditFault.{EditFault}
 use Rattle.fr_net.specs.declared.edit.Edit.{Edit}
 use Rattle.fr_net.specs.declared.edit.Edit.TheVariants.{Cut, Add, Join}
@@ -24,22 +23,10 @@ use Rattle.fr_route.specs.declared.outcome.Outcome.{Outcome}
 abbrev pub state_after : Network → ℕ → List ℕ → State
 state_after net d counts = state_with (net_of net.nodes (links_at net.links counts)) d counts
 
--- the state after a round in which no node turns
-abbrev pub still_state : Network → ℕ → State
-still_state net d = state_after net d (replicate net.nodes 0)
-
 -- the settled counts of a network, and the report of the round on it
 pub record IsOutcome (net : Network) (d : ℕ) (outcome : Outcome) : Type 0 where
   pub counts : IsCounted net.nodes d net.links outcome.turns
   pub report : IsReport (state_after net d outcome.turns) outcome.report.turned outcome.report.cut
-
--- some node of the list is a sink, and not the destination
-abbrev pub HasSink : List (ℕ × ℕ) → ℕ → List ℕ → Type 0
-HasSink links d among = (x : ℕ) × (Contains among x × (¬ (x ≡ d) × IsSink links x))
-
--- no node is a sink, but for the destination
-abbrev pub HasNoSink : List (ℕ × ℕ) → ℕ → Type 0
-HasNoSink links d = (x : ℕ) → ¬ (x ≡ d) → ¬ IsSink links x
 
 -- how many of n nodes other than d have no neighbour
 abbrev pub lone_count : ℕ → List (ℕ × ℕ) → ℕ → ℕ

@@ -1,5 +1,6 @@
--- Changes as requests, and refusals by the faults of a router.
-use Rattle.std.specs.Prelude.{◌≡◌, ℕ, List}
+-- The numbers of refusals, changes as requests, and refusals by the faults of a router.
+use Rattle.std.specs.Prelude.{◌≡◌, ◌≤◌, ℕ, List}
+use Rattle.fr_net.specs.Faults.{IsFaultless, IsFirstFault}
 use Rattle.fr_net.specs.Requests.{PlainRequest, cut_link, add_link, join_nodes, make_edits, move_dest}
 use Rattle.fr_route.specs.Answers.{fault_number}
 use Rattle.fr_route.specs.Texts.{refusal_text}
@@ -7,6 +8,20 @@ use Rattle.fr_route.specs.declared.change.Change.{Change}
 use Rattle.fr_route.specs.declared.change.Change.TheVariants.{Cut, Add, Join, Batch, Destination}
 use Rattle.fr_route.specs.declared.fault.RouteFault.{RouteFault}
 use Rattle.fr_route.specs.declared.fault.RouteFault.TheVariants.{Net, Range, Start, Memory}
+use Rattle.fr_route.specs.declared.refusals.Refusal.{Refusal}
+use Rattle.fr_route.specs.declared.refusals.Refusal.TheVariants.{NotJson, NotRequest, NoNetwork, NoNode, SelfLink, Twice, Cycle, NoLink, TooMany}
+
+-- the number by which an answer names a refusal
+abbrev pub number_of : Refusal → ℕ
+number_of NotJson = 1
+number_of NotRequest = 2
+number_of NoNetwork = 3
+number_of NoNode = 4
+number_of SelfLink = 5
+number_of Twice = 6
+number_of Cycle = 7
+number_of NoLink = 8
+number_of TooMany = 9
 
 -- the request for a change
 abbrev pub request_of_change : Change → PlainRequest
@@ -15,6 +30,13 @@ request_of_change (Add u v) = add_link u v
 request_of_change (Join u v) = join_nodes u v
 request_of_change (Batch edits) = make_edits edits.items
 request_of_change (Destination d) = move_dest d
+
+-- why no network is taken: its links have this first fault, or else the destination is no node, or there was no thread or no memory
+abbrev pub IsNewFault : ℕ → ℕ → List (ℕ × ℕ) → RouteFault → Type 0
+IsNewFault n d links (Net fault) = IsFirstFault n links fault
+IsNewFault n d links Range = IsFaultless n links × (n ≤ d)
+IsNewFault n d links Start = Unit {0}
+IsNewFault n d links Memory = Unit {0}
 
 -- the text that refuses a request for this fault; want of a thread or of memory is no refusal
 abbrev pub IsRefusalOf : RouteFault → List ℕ → Type 0

@@ -5,18 +5,16 @@ ghost use Rattle.std.specs.List.{filter, range_with_len};
 ghost use Rattle.fr_crew.specs.Settlements.{HoldsSinks, IsCounted};
 ghost use Rattle.fr_crew.specs.Ways.{Settles, NeverStarts};
 ghost use Rattle.fr_net.specs.Counts.{links_at};
-ghost use Rattle.fr_net.specs.Limits.{most_edits};
 ghost use Rattle.fr_net.specs.Network.{net_of};
-ghost use Rattle.fr_net.specs.Turn.{IsSink};
 ghost use Rattle.fr_route.specs.Routes.{AreHops};
 ghost use Rattle.fr_route.specs.States.{IsReport};
 ghost use Rattle.fr_route.specs.Changes.{IsOpenFault};
-ghost use Rattle.fr_route.specs.Outcomes.{HoldsMoved, IsOutcome, HasSink, HasNoSink, ends_of, lone_count, still_state, state_after};
+ghost use Rattle.fr_route.specs.Outcomes.{HoldsMoved, IsOutcome, ends_of, lone_count, state_after};
 ghost use Rattle.fr_route.specs.declared.fault.RouteFault.TheVariants.{Start};
 
 use crate::change::Report;
 use crate::fault::RouteFault;
-use crate::hops::{Hop, least_out, renew_hops};
+use crate::hops::{Hop, renew_hops};
 use fr_crew::{CrewFault, settled_counts_by};
 use fr_net::{Edit, Net, Turns};
 use std::alloc::{AllocError, Global};
@@ -31,7 +29,7 @@ pub(crate) struct Outcome {
 }
 
 /// What a round on a network comes to, settled in a way that is passed in, and told in a table in which no node has turned yet. Each
-/// node that can turn at first is among `from`; where none of these can turn, nothing is settled.
+/// node that can turn at first is among `from`.
 pub(crate) fn outcome_of<F: Fn(&Net, u32, Option<&[u32]>, Turns) -> Result<Turns, CrewFault>>(
     net: &Net,
     dest: u32,
@@ -46,51 +44,9 @@ pub(crate) fn outcome_of<F: Fn(&Net, u32, Option<&[u32]>, Turns) -> Result<Turns
     ensures fault { IfErr result (IsOpenFault net.now.nodes dest) }
     ensures no_start { NeverStarts F.post way.now → IfErr result (λ fault. fault ≢ Start) }
 {
-    net.network_law();
-    if !has_sink(net, dest, from) {
-        let report = still_report(net, dest);
-        return Ok(Outcome { turns, report });
-    }
     let turns = settled_counts_by(way, net, dest, Some(from), turns)?;
     let report = report_of(net, dest, &turns);
     Ok(Outcome { turns, report })
-}
-
-/// Whether a node other than the destination is a sink, among these nodes.
-fn has_sink(net: &Net, dest: u32, among: &[u32]) -> bool
-    requires { All (λ (x : ℕ). x < net.now.nodes) among.now }
-    ensures { IsTrue result ↔ HasSink net.now.links dest among.now }
-{
-    for x in among {
-        if *x != dest && is_sink(net, *x) {
-            return true;
-        }
-    }
-    false
-}
-
-/// Whether a node is a sink of the network: it has a link, and none of its links points away.
-fn is_sink(net: &Net, x: u32) -> bool
-    requires { x < net.now.nodes }
-    ensures { IsTrue result ↔ IsSink net.now.links x }
-{
-    // By the law the row has each link of `x`.
-    net.network_law();
-    net.degree(x) > 0 && least_out(net, x).is_none()
-}
-
-/// What a round reports in which no node turns: without a link a node is cut off, and there is no other.
-fn still_report(net: &Net, dest: u32) -> Report
-    requires dest { dest < net.now.nodes }
-    requires still { HasNoSink net.now.links dest }
-    ensures { IsReport (still_state net.now dest) result.turned result.cut }
-{
-    // The counts 0 are the settled ones, by the law.
-    net.network_law();
-    Report {
-        turned: 0,
-        cut: alone_nodes(net, dest),
-    }
 }
 
 /// What the round with these settled counts reports: cut off are the nodes without a link, and those that have turned as often as
@@ -154,10 +110,10 @@ pub(crate) fn touched_nodes(
     next_dest: u32,
     edits: &[Edit],
 ) -> Result<Vec<u32>, AllocError>
-    requires { length edits.now ≤ most_edits }
     ensures { IfOk result (λ nodes. nodes.items ≡ dest ∷ (next_dest ∷ ends_of edits.now)) }
 {
-    let mut nodes = Vec::with_capacity(alloc, 2 * edits.len() + 2)?;
+    let room = edits.len().saturating_mul(2).saturating_add(2);
+    let mut nodes = Vec::with_capacity(alloc, room)?;
     nodes.push(dest)?;
     nodes.push(next_dest)?;
     for edit in edits {

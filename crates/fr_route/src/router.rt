@@ -1,9 +1,8 @@
 //! A router: a settled network with its next hops and routes, and the changes after which it is settled anew.
 
 ghost use Rattle.std.specs.Prelude.{◌≡◌, ◌≢◌, ◌<◌, ◌≤◌, length, replicate, Ok, IfOk, IfErr, IfSome, OnErr};
-ghost use Rattle.fr_crew.specs.Settlements.{HoldsSinks};
+ghost use Rattle.fr_crew.specs.Settlements.{HoldsSinks, IsCounted};
 ghost use Rattle.fr_crew.specs.Ways.{Settles, NeverStarts};
-ghost use Rattle.fr_net.specs.Limits.{most_edits};
 ghost use Rattle.fr_route.specs.declared.change.Report.{Report};
 ghost use Rattle.fr_route.specs.declared.fault.RouteFault.TheVariants.{Start, Memory};
 ghost use Rattle.fr_route.specs.States.{IsRound, IsReport};
@@ -18,7 +17,7 @@ use crate::outcome::{
     Outcome, alone_nodes, outcome_of, push_capped, put_in_place, report_of, touched_nodes,
 };
 use fr_crew::{CrewFault, Gate, Plan, settled_counts, settled_counts_alone, settled_counts_by};
-use fr_net::{Edit, MAX_EDITS, Net, NetFault, Turns};
+use fr_net::{Edit, Net, Turns};
 use std::alloc::{AllocError, Global};
 use std::marker::Model;
 use std::mem;
@@ -48,6 +47,26 @@ impl Model for Router {
     ghost view = { state_of };
 
     ghost invariant = { IsSoundRouter };
+}
+
+/// The settled counts of a network, in a way that is passed in. `Range` where the destination is no node, which is tested first.
+fn first_counts<F: Fn(&Net, u32, Option<&[u32]>, Turns) -> Result<Turns, CrewFault>>(
+    alloc: Global,
+    net: &Net,
+    dest: u32,
+    way: &F,
+) -> Result<Turns, RouteFault>
+    requires { Settles F.pre F.post way.now }
+    ensures counted { IfOk result (IsCounted net.now.nodes dest net.now.links) }
+    ensures fault { IfErr result (IsOpenFault net.now.nodes dest) }
+    ensures no_start { NeverStarts F.post way.now → IfErr result (λ fault. fault ≢ Start) }
+{
+    if dest >= net.nodes() {
+        return Err(RouteFault::Range);
+    }
+    net.network_law();
+    let turns = Turns::none(alloc, net.nodes())?;
+    Ok(settled_counts_by(way, net, dest, None, turns)?)
 }
 
 impl Router {
@@ -94,7 +113,7 @@ impl Router {
     /// Settles a network in a way that is passed in.
     pub(crate) fn open_by<F: Fn(&Net, u32, Option<&[u32]>, Turns) -> Result<Turns, CrewFault>>(
         alloc: Global,
-        mut net: Net,
+        net: Net,
         dest: u32,
         way: &F,
     ) -> Result<Router, RouteFault>
@@ -103,12 +122,18 @@ impl Router {
         ensures fault { IfErr result (IsOpenFault net.nodes dest) }
         ensures no_start { NeverStarts F.post way.now → IfErr result (λ fault. fault ≢ Start) }
     {
-        if dest >= net.nodes() {
-            return Err(RouteFault::Range);
-        }
+        let turns = first_counts(alloc, &net, dest, way)?;
+        Router::settled(alloc, net, dest, turns)
+    }
+
+    /// The router of a network whose settled counts are these.
+    fn settled(alloc: Global, mut net: Net, dest: u32, turns: Turns) -> Result<Router, RouteFault>
+        requires { IsCounted net.nodes dest net.links turns }
+        ensures opened { IfOk result (λ router. (dest < net.nodes) × IsRound net.nodes dest net.links router) }
+        ensures fault { IfErr result (IsOpenFault net.nodes dest) }
+        ensures no_start { IfErr result (λ fault. fault ≢ Start) }
+    {
         net.network_law();
-        let turns = Turns::none(alloc, net.nodes())?;
-        let turns = settled_counts_by(way, &net, dest, None, turns)?;
         let report = report_of(&net, dest, &turns);
         net.turn(&turns);
         let hops = hop_table(alloc, &net, dest, turns.counts())?;
@@ -130,7 +155,7 @@ impl Router {
     ///
     /// The change is made where the network stands, and all that can fail is done before any of it stays. Only the ends of the
     /// links, the two destinations, and the nodes with a link that the last round cut off are looked at for what can turn; where none
-    /// can, nothing is settled, and only their hops are made anew. Where nodes turn, the hops of these are made anew as well, and of
+    /// can, that look is all, and only their hops are made anew. Where nodes turn, the hops of these are made anew as well, and of
     /// the neighbours that sent on to them: that costs a step for each of them and their links. The parts with a link that stay cut off turn anew in
     /// each round, each of their nodes as often as there are nodes.
     pub fn change<R: Threads + Wait + Sync, G: Gate + Sync>(
@@ -231,10 +256,6 @@ impl Router {
         ensures unchanged { OnErr result (self.new ≡ self.old) }
         ensures no_start { NeverStarts F.post way.now → IfErr result (λ fault. fault ≢ Start) }
     {
-        // As the network would, but before their ends are listed.
-        if edits.len() > MAX_EDITS {
-            return Err(RouteFault::Net(NetFault::TooMany));
-        }
         let movable = self.movable(alloc, edits, dest)?;
         let from = movable.as_slice();
         let turns = self.spare_turns(alloc)?;
@@ -282,7 +303,6 @@ impl Router {
     /// node turns: those that the edits and the new destination touch, and those with a link that the last round cut off. Each other
     /// node with a link has a way on that the edits leave.
     fn movable(&self, alloc: Global, edits: &[Edit], dest: u32) -> Result<Vec<u32>, AllocError>
-        requires { length edits.now ≤ most_edits }
         ensures { IfOk result (λ nodes. nodes.items ≡ movable self.now dest edits.now) }
     {
         let mut nodes = touched_nodes(alloc, self.dest, dest, edits)?;

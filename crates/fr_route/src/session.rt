@@ -6,9 +6,9 @@ ghost use Rattle.fr_net.specs.Requests.{ask, new_network, walk_from, plain, read
 ghost use Rattle.fr_crew.specs.Settlements.{HoldsSinks};
 ghost use Rattle.fr_crew.specs.Ways.{Settles, NeverStarts};
 ghost use Rattle.fr_route.specs.Blank.{is_blank as is_blank_line};
-ghost use Rattle.fr_route.specs.Answers.{IsAnswer, IsLineAnswer, IsReportLine, fault_number as fault_number_of};
-ghost use Rattle.fr_route.specs.Texts.{longest_report};
-ghost use Rattle.fr_route.specs.Refusals.{request_of_change, IsRefusalOf};
+ghost use Rattle.fr_route.specs.Answers.{IsAccepted, IsAnswer, IsLineAnswer, IsReportLine};
+ghost use Rattle.fr_route.specs.Texts.{longest_report, refusal_text};
+ghost use Rattle.fr_route.specs.Refusals.{number_of, request_of_change, IsNewFault, IsRefusalOf};
 ghost use Rattle.fr_route.specs.declared.fault.AnswerFault.TheVariants.{Start, Memory};
 ghost use Rattle.fr_route.specs.declared.fault.RouteFault.TheVariants.{Start as RouteStart};
 
@@ -16,12 +16,13 @@ use crate::blank::is_blank;
 use crate::change::Change;
 use crate::fault::{AnswerFault, RouteFault};
 use crate::hops::Walked;
+use crate::refusals::Refusal;
 use crate::router::Router;
 use crate::texts::{
     counts_line, hops_line, links_line, no_walk_line, refusal_line, report_line, walk_line,
 };
 use fr_crew::{CrewFault, Gate, Plan, settled_counts, settled_counts_alone};
-use fr_net::{LineFault, LineReader, Net, NetFault, Question, Request, Turns};
+use fr_net::{LineFault, LineReader, Net, Question, Request, Turns};
 use std::alloc::Global;
 use std::marker::Model;
 use std::sync::Wait;
@@ -128,10 +129,26 @@ impl Session {
         if is_blank(line) {
             return Ok(None);
         }
+        Ok(Some(self.answer_words_by(alloc, line, way)?))
+    }
+
+    /// The answer to a line that is not blank.
+    fn answer_words_by<F: Fn(&Net, u32, Option<&[u32]>, Turns) -> Result<Turns, CrewFault>>(
+        &mut self,
+        alloc: Global,
+        line: &[u8],
+        way: &F,
+    ) -> Result<String, AnswerFault>
+        requires { Settles F.pre F.post way.now }
+        ensures text { IfOk result (λ text. IsLineAnswer self.old (reading line.now) (string_bytes text) self.new) }
+        ensures unchanged { OnErr result (self.new ≡ self.old) }
+        ensures short { IfOk result (λ text. (self.new ≡ self.old) ⊎ (length (string_bytes text) ≤ longest_report)) }
+        ensures no_start { NeverStarts F.post way.now → IfErr result (λ fault. fault ≢ Start) }
+    {
         match self.reader.read(alloc, line) {
-            Ok(request) => Ok(Some(self.answer_by(alloc, &request, way)?)),
-            Err(LineFault::NotJson) => Ok(Some(refusal_line(alloc, 1)?)),
-            Err(LineFault::NotRequest) => Ok(Some(refusal_line(alloc, 2)?)),
+            Ok(request) => self.answer_by(alloc, &request, way),
+            Err(LineFault::NotJson) => refuse(alloc, Refusal::NotJson),
+            Err(LineFault::NotRequest) => refuse(alloc, Refusal::NotRequest),
             Err(LineFault::Memory) => Err(AnswerFault::Memory),
         }
     }
@@ -218,11 +235,7 @@ impl Session {
         ensures short { IfOk result (λ text. (self.new ≡ self.old) ⊎ (length (string_bytes text) ≤ longest_report)) }
         ensures no_start { NeverStarts F.post way.now → IfErr result (λ fault. fault ≢ Start) }
     {
-        let net = match Net::new(alloc, nodes, links) {
-            Ok(net) => net,
-            Err(fault) => return refusal(alloc, &RouteFault::from(fault)),
-        };
-        match Router::open_by(alloc, net, dest, way) {
+        match opened(alloc, nodes, dest, links, way) {
             Ok(router) => self.put(alloc, router),
             Err(fault) => refusal(alloc, &fault),
         }
@@ -242,7 +255,7 @@ impl Session {
         ensures no_start { NeverStarts F.post way.now → IfErr result (λ fault. fault ≢ Start) }
     {
         let Some(router) = &mut self.router else {
-            return Ok(refusal_line(alloc, 3)?);
+            return refuse(alloc, Refusal::NoNetwork);
         };
         match router.change_by(alloc, &change, way, &|report| report_line(alloc, report)) {
             Ok(text) => Ok(text),
@@ -268,10 +281,10 @@ impl Session {
         ensures memory { IfErr result (λ fault. fault ≡ Memory) }
     {
         let Some(router) = &self.router else {
-            return Ok(refusal_line(alloc, 3)?);
+            return refuse(alloc, Refusal::NoNetwork);
         };
         if x >= router.net().nodes() {
-            return Ok(refusal_line(alloc, 4)?);
+            return refuse(alloc, Refusal::NoNode);
         }
         match router.walk(alloc, x) {
             Ok(Walked::Route(nodes)) => Ok(walk_line(alloc, &nodes)?),
@@ -286,7 +299,7 @@ impl Session {
         ensures memory { IfErr result (λ fault. fault ≡ Memory) }
     {
         let Some(router) = &self.router else {
-            return Ok(refusal_line(alloc, 3)?);
+            return refuse(alloc, Refusal::NoNetwork);
         };
         match question {
             Question::Links => Ok(links_line(alloc, &router.net().links(alloc)?)?),
@@ -296,30 +309,43 @@ impl Session {
     }
 }
 
+/// The answer to a line that is refused.
+fn refuse(alloc: Global, refusal: Refusal) -> Result<String, AnswerFault>
+    ensures text { IfOk result (λ text. string_bytes text ≡ refusal_text (number_of refusal)) }
+    ensures memory { IfErr result (λ fault. fault ≡ Memory) }
+{
+    Ok(refusal_line(alloc, refusal)?)
+}
+
 /// The answer to a request that is refused for this fault; a fault that is no refusal is handed on.
 fn refusal(alloc: Global, fault: &RouteFault) -> Result<String, AnswerFault>
     ensures text { IfOk result (λ text. IsRefusalOf fault.now (string_bytes text)) }
     ensures start { IfErr result (λ why. why ≡ Start → fault.now ≡ RouteStart) }
 {
     match fault {
-        RouteFault::Net(fault) => Ok(refusal_line(alloc, fault_number(fault))?),
-        RouteFault::Range => Ok(refusal_line(alloc, 4)?),
+        RouteFault::Net(fault) => match Refusal::of(fault) {
+            Some(refusal) => refuse(alloc, refusal),
+            None => Err(AnswerFault::Memory),
+        },
+        RouteFault::Range => refuse(alloc, Refusal::NoNode),
         RouteFault::Start => Err(AnswerFault::Start),
         RouteFault::Memory => Err(AnswerFault::Memory),
     }
 }
 
-/// The number by which an answer names a fault of links or of an edit, from 4 to 9. Want of memory has none, and is 0.
-pub fn fault_number(fault: &NetFault) -> u32
-    ensures { result ≡ fault_number_of fault.now }
+/// The router of a network of these links, settled in a way that is passed in.
+fn opened<F: Fn(&Net, u32, Option<&[u32]>, Turns) -> Result<Turns, CrewFault>>(
+    alloc: Global,
+    nodes: u32,
+    dest: u32,
+    links: &[(u32, u32)],
+    way: &F,
+) -> Result<Router, RouteFault>
+    requires { Settles F.pre F.post way.now }
+    ensures accepted { IfOk result (IsAccepted None (new_network nodes dest links.now)) }
+    ensures refused { IfErr result (IsNewFault nodes dest links.now) }
+    ensures no_start { NeverStarts F.post way.now → IfErr result (λ fault. fault ≢ RouteStart) }
 {
-    match fault {
-        NetFault::TooMany => 9,
-        NetFault::Range(_) => 4,
-        NetFault::SelfLink(_) => 5,
-        NetFault::Twice(_, _) => 6,
-        NetFault::Cycle(_) => 7,
-        NetFault::NoLink => 8,
-        NetFault::Memory => 0,
-    }
+    let net = Net::new(alloc, nodes, links)?;
+    Router::open_by(alloc, net, dest, way)
 }

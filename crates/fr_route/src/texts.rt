@@ -1,14 +1,15 @@
 //! The texts of answers.
 
 ghost use Rattle.std.specs.Prelude.{◌≡◌, ◌≤◌, ◌++◌, length, IfOk, OnOk, codes, decimal, string_bytes};
+ghost use Rattle.fr_route.specs.Refusals.{number_of};
 ghost use Rattle.fr_route.specs.Texts.{counts_text, links_text, hops_text, hop_word, walk_text, no_walk_text, report_text, longest_report, refusal_text};
 
 use crate::change::Report;
 use crate::hops::Hop;
+use crate::refusals::Refusal;
 use fr_net::MAX_NODES;
 use itoa::Buffer;
 use std::alloc::{AllocError, Global};
-use std::fmt::Write;
 
 /// The bytes of a space and a number below 10,000, as nodes and counts are: no node counts more turns than there are nodes.
 const NUMBER_ROOM: usize = 5;
@@ -110,17 +111,23 @@ pub(crate) fn report_line(alloc: Global, report: Report) -> Result<String, Alloc
     ensures text { IfOk result (λ line. string_bytes line ≡ report_text report.turned report.cut) }
     ensures short { IfOk result (λ line. length (string_bytes line) ≤ longest_report) }
 {
-    let Report { turned, cut } = report;
-    let mut line = begun(alloc, "turned ", 4)?;
-    write!(line, "{turned} cut {cut}")?;
+    let mut line = begun(alloc, "turned", 4)?;
+    let mut buffer = Buffer::new();
+    push_number(&mut line, " ", report.turned, &mut buffer)?;
+    push_number(&mut line, " cut ", report.cut, &mut buffer)?;
     Ok(line)
 }
 
-/// The answer to a line that is refused by this number.
-pub(crate) fn refusal_line(alloc: Global, number: u32) -> Result<String, AllocError>
-    ensures { IfOk result (λ line. string_bytes line ≡ refusal_text number) }
+/// The answer to a line that is refused.
+pub(crate) fn refusal_line(alloc: Global, refusal: Refusal) -> Result<String, AllocError>
+    ensures { IfOk result (λ line. string_bytes line ≡ refusal_text (number_of refusal)) }
 {
-    let mut line = begun(alloc, "refused ", 1)?;
-    write!(line, "{number}")?;
+    let mut line = begun(alloc, "refused", 1)?;
+    push_number(
+        &mut line,
+        " ",
+        u64::from(refusal.number()),
+        &mut Buffer::new(),
+    )?;
     Ok(line)
 }

@@ -1,12 +1,10 @@
-use Rattle.std.proofs.Common.{◌≡◌, ◌∙◌, ◌<◌, List, Some, ap, arith, inl, length, refl, replicate, subst, sym, vec_len, ℕ}
+use Rattle.std.proofs.Common.{◌≡◌, ◌∙◌, ◌<◌, List, Some, ap, arith, length, refl, replicate, subst, sym, vec_len, ℕ}
 use Rattle.std.proofs.lemmas.List.{with_items_is}
 use Rattle.std.proofs.lemmas.Result.{err_from_is_err_and}
 use Rattle.std.specs.Vec.{with_items}
 use Rattle.fr_net.specs.Batches.{AreMade}
-use Rattle.fr_net.specs.Limits.{most_edits}
 use Rattle.fr_net.specs.Network.{Network}
 use Rattle.fr_crew.specs.Settlements.{HoldsSinks}
-use Rattle.fr_net.specs.declared.fault.NetFault.TheVariants.{TooMany}
 use Rattle.fr_net.specs.declared.fault.NotEdited.{NotEdited}
 use Rattle.fr_net.specs.declared.fault.NotEdited.TheVariants.{Fault, Refused}
 use Rattle.fr_route.specs.Changes.{IsOpenFault}
@@ -62,10 +60,6 @@ edit_if-requires g c = record {
     ),
   );
 }
-
-pub returns-then-edits-gt-MAX_EDITS-clause-fault : goal.returns-then-edits-gt-MAX_EDITS-clause-fault
-returns-then-edits-gt-MAX_EDITS-clause-fault g c =
-    (record { at = most_edits; fault = TooMany }, (inl (omega (arith, c.if-edits-gt-MAX_EDITS.true), refl, refl), refl))
 
 pub returns-in_err-outcome-clause-fault : goal.returns-in_err-outcome-clause-fault
 returns-in_err-outcome-clause-fault g c =

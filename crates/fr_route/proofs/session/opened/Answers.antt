@@ -1,0 +1,27 @@
+use Rattle.std.proofs.Common.{◌<◌, ◌≡◌, ℕ, ap, subst}
+use Rattle.fr_net.specs.Network.{Network}
+use Rattle.std.proofs.lemmas.Result.{IfErr-weaker, IfOk-weaker, err_from_is_err_and}
+use Rattle.fr_route.proofs.Opening.{new_fault, open_fault}
+use Rattle.fr_route.proofs.RoundEnds.{round_listed}
+use Rattle.fr_route.proofs.session.opened.Goals as goal
+
+pub returns-in_err-net-clause-refused : goal.returns-in_err-net-clause-refused
+returns-in_err-net-clause-refused g c =
+    let p = err_from_is_err_and c.from_residual.result c.from_residual.ensures.1 in
+    rw (p.1, p.2) (new_fault c.args.nodes c.args.dest c.args.links.now c.in_err-net.field-0.0 c.in_err-net.ensures.refused)
+
+pub returns-clause-accepted : goal.returns-clause-accepted
+returns-clause-accepted g c =
+    let made = c.in_ok-net.ensures.ok in
+    let net : Network = c.in_ok-net.net in
+    IfOk-weaker c.open_by.result _ _
+    (λ router opened.
+    let below : c.args.dest < c.args.nodes = subst (λ (n : ℕ). c.args.dest < n) (ap (λ (m : Network). m.nodes) made.is) opened.0 in
+    (made.faultless, below, round_listed c.args.nodes c.args.dest c.args.links.now net router made opened.1))
+    c.open_by.ensures.opened
+
+pub returns-clause-refused : goal.returns-clause-refused
+returns-clause-refused g c =
+    let made = c.in_ok-net.ensures.ok in
+    let nodes : c.in_ok-net.net.nodes ≡ c.args.nodes = ap (λ (m : Network). m.nodes) made.is in
+    IfErr-weaker c.open_by.result _ _ (λ fault why. open_fault c.args.nodes c.in_ok-net.net.nodes c.args.dest c.args.links.now fault nodes made.faultless why) c.open_by.ensures.fault
