@@ -1,2 +1,0 @@
-pub mod SmallChains
-pub mod SmallFans

@@ -1,13 +1,21 @@
 //! Gates that hold workers: two threads really run, the gate is called, and no answer depends on who is slow.
 
-use crate::crews::long_chain;
-use fr_crew::{Gate, Plan, settle};
+use crate::crews::{long_chain, plan, put_total};
+use crate::fault::Fault;
+use crate::values::{put, small_number};
+use fr_crew::{Gate, Settled, settle};
 use fr_net::Net;
-use std::sync::atomic::{AtomicBool, AtomicU64, Ordering};
-use std::test::*;
+use serde_json::Value;
+use std::alloc::Global;
+use std::sync::Wait;
+use std::sync::atomic::{AtomicU64, Ordering};
+use std::thread::Threads;
 
 /// The longest that a gate holds a worker, in turns of a loop.
 const LIMIT: u64 = 1_000_000_000;
+
+/// Two ways from node 0 to node 3.
+const SQUARE: [(u32, u32); 4] = [(0, 1), (0, 2), (1, 3), (2, 3)];
 
 /// Which workers a gate holds before their first call.
 #[derive(Drop, Clone, Copy)]
@@ -16,13 +24,14 @@ enum Held {
     Odd,
 }
 
-/// A gate that holds workers until a call of another worker is answered, and counts the calls.
+/// A gate that holds workers until a call of another worker is answered. It counts how often that was, how often a worker was held
+/// to the limit, and the calls.
 #[derive(Drop)]
 struct HoldingGate {
     held: Held,
     until: (u32, u64),
-    answered: AtomicBool,
-    reached: AtomicBool,
+    answered: AtomicU64,
+    reached: AtomicU64,
     before: AtomicU64,
     after: AtomicU64,
 }
@@ -32,8 +41,8 @@ impl HoldingGate {
         HoldingGate {
             held,
             until,
-            answered: AtomicBool::new(false),
-            reached: AtomicBool::new(false),
+            answered: AtomicU64::new(0),
+            reached: AtomicU64::new(0),
             before: AtomicU64::new(0),
             after: AtomicU64::new(0),
         }
@@ -48,16 +57,16 @@ impl HoldingGate {
 
     fn wait(&self) {
         for _ in 0..LIMIT {
-            if self.answered.load(Ordering::SeqCst) {
+            if self.answered.load(Ordering::SeqCst) > 0 {
                 return;
             }
         }
-        self.reached.store(true, Ordering::SeqCst);
+        self.reached.fetch_add(1, Ordering::SeqCst);
     }
 
     /// Whether the limit was never reached, and at least four calls passed on both sides.
     fn was_passed(&self) -> bool {
-        !self.reached.load(Ordering::SeqCst)
+        self.reached.load(Ordering::SeqCst) == 0
             && self.before.load(Ordering::SeqCst) >= 4
             && self.after.load(Ordering::SeqCst) >= 4
     }
@@ -74,7 +83,7 @@ impl Gate for HoldingGate {
     fn after(&self, worker: u32, call: u64) {
         self.after.fetch_add(1, Ordering::SeqCst);
         if (worker, call) == self.until {
-            self.answered.store(true, Ordering::SeqCst);
+            self.answered.fetch_add(1, Ordering::SeqCst);
         }
     }
 }
@@ -95,32 +104,49 @@ impl Gate for SlowGate {
     fn after(&self, _worker: u32, _call: u64) {}
 }
 
-#[test]
-fn two_threads_run(rt: HostRuntime) -> Result<(), Fail> {
-    for (held, until) in [(0, 1), (1, 0)] {
-        let gate = HoldingGate::new(Held::One(held), (until, 1));
-        let net = Net::new(rt.alloc(), 4, &[(0, 1), (0, 2), (1, 3), (2, 3)])?;
-        let plan = Plan::new(2, 0, 1000).ok_or("no such plan")?;
-        let it = settle(&rt, rt.alloc(), net, 0, &plan, &gate)?;
-        assert!(rt; gate.was_passed() && it.counts.as_slice() == [0, 1, 1, 2].as_slice());
-    }
+/// Two workers settle the square beside this gate.
+fn settled_square<R: Threads + Wait + Sync + Alloc<A = Global>>(
+    rt: &R,
+    gate: &HoldingGate,
+) -> Result<Settled, Fault> {
+    let plan = plan(2, 1000)?;
+    let net = Net::new(rt.alloc(), 4, &SQUARE)?;
+    Ok(settle(rt, rt.alloc(), net, 0, &plan, gate)?)
+}
+
+/// `["held", worker, other]`: one of two workers is held until the first call of the other is answered. Whether the gate was passed,
+/// and the counts of the square.
+pub fn one_held<R: Threads + Wait + Sync + Alloc<A = Global>>(
+    rt: &R,
+    text: &mut String,
+    asked: &[Value],
+) -> Result<(), Fault> {
+    let [held, until] = asked else {
+        return Err(Fault::NoCase);
+    };
+    let gate = HoldingGate::new(Held::One(small_number(held)?), (small_number(until)?, 1));
+    let it = settled_square(rt, &gate)?;
+    put(text, "counts ", &it.counts)?;
+    put(text, ", passed ", &gate.was_passed())?;
     Ok(())
 }
 
-#[test]
-fn slow_workers_change_no_answer(rt: HostRuntime) -> Result<(), Fail> {
-    let plan = Plan::new(8, 0, 1_000_000).ok_or("no such plan")?;
-    let slow = SlowGate(AtomicU64::new(0));
-    let it = settle(&rt, rt.alloc(), long_chain(rt.alloc(), 0)?, 0, &plan, &slow)?;
-    assert!(rt; it.by_workers.saturating_add(it.by_finisher) == 523_776);
-    Ok(())
+/// The long chain, where the odd of eight workers are held until the tenth call of worker 0 is answered.
+pub fn odd_held<R: Threads + Wait + Sync + Alloc<A = Global>>(
+    rt: &R,
+    text: &mut String,
+) -> Result<(), Fault> {
+    let plan = plan(8, 1_000_000)?;
+    let gate = HoldingGate::new(Held::Odd, (0, 10));
+    put_total(rt, text, long_chain(rt.alloc(), 1024, 0)?, &plan, &gate)
 }
 
-#[test]
-fn held_workers_change_no_answer(rt: HostRuntime) -> Result<(), Fail> {
-    let plan = Plan::new(8, 0, 1_000_000).ok_or("no such plan")?;
-    let odd = HoldingGate::new(Held::Odd, (0, 10));
-    let it = settle(&rt, rt.alloc(), long_chain(rt.alloc(), 0)?, 0, &plan, &odd)?;
-    assert!(rt; it.by_workers.saturating_add(it.by_finisher) == 523_776);
-    Ok(())
+/// The long chain, where one of eight workers is slow.
+pub fn slow<R: Threads + Wait + Sync + Alloc<A = Global>>(
+    rt: &R,
+    text: &mut String,
+) -> Result<(), Fault> {
+    let plan = plan(8, 1_000_000)?;
+    let gate = SlowGate(AtomicU64::new(0));
+    put_total(rt, text, long_chain(rt.alloc(), 1024, 0)?, &plan, &gate)
 }

@@ -1,15 +1,16 @@
-//! Each public call of a round on its happy path, the refusals, workers that do not come back, and threads that really run.
+//! Rounds of two workers, whose calls stand in the case.
 
-ghost use Rattle.std.specs.Prelude.{IfOk};
+ghost use Rattle.std.specs.Prelude.{◌≡◌, ◌≤◌, ◌<◌, length, IfOk, IfSome};
+ghost use Rattle.std.specs.List.{AllByRecursion as Each};
 ghost use Rattle.fr_round.specs.Knowledge.{IsOwn};
 
-use fr_core::Target::{Look, Turn};
+use crate::fault::Fault;
+use crate::values::{items, named, network, number, put, put_links, small_number, word};
 use fr_core::{Reply, Target};
 use fr_net::Net;
-use fr_round::{Round, Worker};
-use std::alloc::Global;
-use std::test::*;
-use std::thread::{Threads, join};
+use fr_round::{Closed, OpenFault, OpenWhy, Refusal, Round, Worker};
+use serde_json::Value;
+use std::alloc::{AllocError, Global};
 
 /// An open round is shared by threads, and a worker goes to one.
 fn is_shared<T: Sync>(_value: &T) {}
@@ -25,371 +26,225 @@ enum Back {
     None,
 }
 
-/// Nodes and links with destination 0, worker and target of each call, who comes back, the replies, and what the round closes with.
-type Calls = (
-    u32,
-    &'static [(u32, u32)],
-    &'static [(u32, Target)],
-    Back,
-    &'static str,
-    &'static str,
-);
-
-const CALLS: &[Calls] = &[
-    // Two workers at one node. The second exchanges without a load, and comes too late.
-    (
-        2,
-        &[(0, 1)],
-        &[
-            (0, Turn(1)),
-            (1, Turn(1)),
-            (1, Turn(1)),
-            (1, Turn(0)),
-            (1, Turn(2)),
-        ],
-        Back::Both,
-        "Turned { count: 1 }, Moved { had: 0, count: 1 }, Held { by: 0 }, Destination, NoNode, ",
-        "[0, 1] [(0, 1), (1, 0)]",
-    ),
-    // No count is loaded where what was seen meets all bounds: a load would have shown that the node is held.
-    (
-        4,
-        &[(0, 1), (0, 2), (1, 3), (2, 3)],
-        &[
-            (0, Turn(3)),
-            (1, Turn(3)),
-            (0, Turn(1)),
-            (1, Turn(1)),
-            (1, Turn(2)),
-            (0, Turn(3)),
-        ],
-        Back::Both,
-        "Turned { count: 1 }, Moved { had: 0, count: 1 }, Turned { count: 1 }, Moved { had: 0, count: 1 }, \
-            Turned { count: 1 }, Turned { count: 2 }, ",
-        "[0, 1, 1, 2] [(0, 3), (1, 1)]",
-    ),
-    // Of two neighbours that miss their bounds the lower one is named.
-    (
-        3,
-        &[(1, 0), (1, 2)],
-        &[(0, Turn(1))],
-        Back::Both,
-        "Held { by: 0 }, ",
-        "[0, 0, 0] [(0, 0), (1, 0)]",
-    ),
-    // Node 3 has no link.
-    (
-        4,
-        &[(0, 1), (1, 2)],
-        &[
-            (0, Turn(1)),
-            (0, Turn(2)),
-            (1, Turn(1)),
-            (0, Turn(4)),
-            (0, Turn(0)),
-            (0, Turn(3)),
-        ],
-        Back::Both,
-        "Held { by: 2 }, Turned { count: 1 }, Turned { count: 1 }, NoNode, Destination, Alone, ",
-        "[0, 1, 1, 0] [(0, 1), (1, 1)]",
-    ),
-    // A chain settles.
-    (
-        4,
-        &[(0, 1), (1, 2), (2, 3)],
-        &[
-            (0, Turn(3)),
-            (0, Turn(2)),
-            (0, Turn(1)),
-            (0, Turn(3)),
-            (0, Turn(2)),
-            (0, Turn(3)),
-            (0, Turn(1)),
-            (0, Turn(2)),
-            (0, Turn(3)),
-        ],
-        Back::Both,
-        "Turned { count: 1 }, Turned { count: 1 }, Turned { count: 1 }, Turned { count: 2 }, Turned { count: 2 }, \
-            Turned { count: 3 }, Held { by: 0 }, Held { by: 1 }, Held { by: 2 }, ",
-        "[0, 1, 2, 3] [(0, 6), (1, 0)]",
-    ),
-    // What is not joined with the destination turns to the cap.
-    (
-        3,
-        &[(1, 2)],
-        &[
-            (0, Turn(2)),
-            (0, Turn(1)),
-            (0, Turn(2)),
-            (0, Turn(1)),
-            (0, Turn(2)),
-            (0, Turn(1)),
-            (0, Turn(2)),
-            (0, Turn(1)),
-        ],
-        Back::Both,
-        "Turned { count: 1 }, Turned { count: 1 }, Turned { count: 2 }, Turned { count: 2 }, Turned { count: 3 }, \
-            Turned { count: 3 }, Cut, Cut, ",
-        "[0, 3, 3] [(0, 6), (1, 0)]",
-    ),
-    // Workers come back in any order, or not at all.
-    (
-        2,
-        &[(0, 1)],
-        &[(0, Turn(1))],
-        Back::Swapped,
-        "Turned { count: 1 }, ",
-        "[0, 1] [(1, 0), (0, 1)]",
-    ),
-    (
-        2,
-        &[(0, 1)],
-        &[(0, Turn(1))],
-        Back::Second,
-        "Turned { count: 1 }, ",
-        "[0, 1] [(1, 0)]",
-    ),
-    (
-        2,
-        &[(0, 1)],
-        &[(0, Turn(1))],
-        Back::None,
-        "Turned { count: 1 }, ",
-        "[0, 1] []",
-    ),
-    // Looks beside a turn, also at the destination.
-    (
-        2,
-        &[(0, 1)],
-        &[
-            (0, Look(1)),
-            (0, Look(0)),
-            (1, Turn(1)),
-            (0, Look(1)),
-            (0, Look(0)),
-            (0, Look(2)),
-            (0, Look(u32::MAX)),
-        ],
-        Back::Both,
-        "Sink, Held { by: 1 }, Turned { count: 1 }, Held { by: 0 }, Sink, NoNode, NoNode, ",
-        "[0, 1] [(0, 0), (1, 1)]",
-    ),
-    // Node 3 has no link.
-    (
-        4,
-        &[(1, 0)],
-        &[(0, Look(3)), (0, Look(0)), (0, Look(1))],
-        Back::None,
-        "Alone, Sink, Held { by: 0 }, ",
-        "[0, 0, 0, 0] []",
-    ),
-    // A node at the cap is looked at.
-    (
-        3,
-        &[(1, 2)],
-        &[
-            (0, Turn(2)),
-            (0, Turn(1)),
-            (0, Turn(2)),
-            (0, Turn(1)),
-            (0, Turn(2)),
-            (0, Turn(1)),
-            (0, Look(2)),
-            (0, Look(1)),
-        ],
-        Back::None,
-        "Turned { count: 1 }, Turned { count: 1 }, Turned { count: 2 }, Turned { count: 2 }, Turned { count: 3 }, \
-            Turned { count: 3 }, Sink, Held { by: 2 }, ",
-        "[0, 3, 3] []",
-    ),
-    // A look loads its own count first, whatever was seen before: the other worker's turns show in it at once.
-    (
-        4,
-        &[(0, 1), (0, 2), (1, 3), (2, 3)],
-        &[
-            (1, Look(3)),
-            (0, Turn(3)),
-            (1, Look(3)),
-            (1, Look(1)),
-            (0, Turn(2)),
-            (0, Turn(1)),
-            (1, Look(1)),
-            (1, Look(2)),
-            (1, Look(3)),
-            (1, Turn(3)),
-            (0, Turn(3)),
-        ],
-        Back::Both,
-        "Sink, Turned { count: 1 }, Held { by: 1 }, Sink, Turned { count: 1 }, Turned { count: 1 }, Held { by: 0 }, \
-            Held { by: 0 }, Sink, Turned { count: 2 }, Moved { had: 1, count: 2 }, ",
-        "[0, 1, 1, 2] [(0, 3), (1, 1)]",
-    ),
-];
-
-/// A round of two with destination 0, and its workers by number.
-pub fn opened(
-    alloc: Global,
-    nodes: u32,
-    links: &[(u32, u32)],
-) -> Result<(Round, Worker, Worker), Fail>
-    ensures { IfOk result (λ r. IsOwn r.0 r.1 × IsOwn r.0 r.2) }
+/// A round and its workers.
+fn opened(alloc: Global, net: Net, dest: u32, count: u32) -> Result<(Round, Vec<Worker>), OpenFault>
+    ensures own { IfOk result (λ r. Each (IsOwn r.0) r.1.items) }
+    ensures workers { IfOk result (λ r. r.0.setup.workers ≡ count) }
 {
-    let net = Net::new(alloc, nodes, links)?;
-    let (round, mut workers) = Round::open(alloc, net, 0, 2)?;
-    let (Some(b), Some(a)) = (workers.pop(), workers.pop()) else {
-        return Err(Fail::from("there are not two workers"));
-    };
+    match Round::open(alloc, net, dest, count) {
+        Ok(opened) => Ok(opened),
+        Err(fault) => Err(fault),
+    }
+}
+
+/// The last of some workers of a round.
+fn last_of(round: &Round, workers: &mut Vec<Worker>) -> Result<Worker, Fault>
+    requires { Each (IsOwn round.now) workers.old.items }
+    ensures own { IfOk result (IsOwn round.now) }
+    ensures others { Each (IsOwn round.now) workers.new.items }
+{
+    match workers.pop() {
+        Some(worker) => Ok(worker),
+        None => Err(Fault::Memory),
+    }
+}
+
+/// The last two of some workers of a round.
+fn two_of(round: &Round, workers: &mut Vec<Worker>) -> Result<(Worker, Worker), Fault>
+    requires { Each (IsOwn round.now) workers.old.items }
+    ensures { IfOk result (λ two. IsOwn round.now two.0 × IsOwn round.now two.1) }
+{
+    let b = last_of(round, workers)?;
+    let a = last_of(round, workers)?;
+    Ok((a, b))
+}
+
+/// A round with destination 0, and its two workers by number.
+pub fn opened_by_two(alloc: Global, net: Net) -> Result<(Round, Worker, Worker), Fault>
+    ensures own { IfOk result (λ r. IsOwn r.0 r.1 × IsOwn r.0 r.2) }
+    ensures workers { IfOk result (λ r. r.0.setup.workers ≡ 2) }
+{
+    let (round, mut workers) = opened(alloc, net, 0, 2)?;
+    let (a, b) = two_of(&round, &mut workers)?;
     Ok((round, a, b))
 }
 
-/// The reply to a call, or why it was refused.
-fn reply_text(
-    alloc: Global,
-    round: &Round,
-    worker: &mut Worker,
-    target: Target,
-) -> Result<String, Fail>
-    requires { IsOwn round.now worker.old }
-    ensures { IsOwn round.now worker.new }
+/// A round with destination 0, and its three workers by number.
+pub fn opened_by_three(alloc: Global, net: Net) -> Result<(Round, (Worker, Worker), Worker), Fault>
+    ensures two { IfOk result (λ r. IsOwn r.0 r.1.0 × IsOwn r.0 r.1.1) }
+    ensures third { IfOk result (λ r. IsOwn r.0 r.2) }
+    ensures workers { IfOk result (λ r. r.0.setup.workers ≡ 3) }
 {
-    let replied = match target {
-        Target::Turn(x) => round.try_turn(worker, x),
-        Target::Look(x) => round.look(worker, x),
-    };
-    match replied {
-        Ok(reply) => Ok(format!(in alloc; "{reply:?}, ")?),
-        Err(refusal) => Ok(format!(in alloc; "{refusal:?}, ")?),
-    }
+    let (round, mut workers) = opened(alloc, net, 0, 3)?;
+    let third = last_of(&round, &mut workers)?;
+    let two = two_of(&round, &mut workers)?;
+    Ok((round, two, third))
 }
 
-/// The replies to the calls, each of a worker and a target.
-fn replies(
-    alloc: Global,
+/// `["open", nodes, links, destination, workers]`: what an open round tells, or why it is not opened and which links are handed back.
+pub fn open(alloc: Global, text: &mut String, asked: &[Value]) -> Result<(), Fault> {
+    let [nodes, links, dest, workers] = asked else {
+        return Err(Fault::NoCase);
+    };
+    let (dest, count) = (small_number(dest)?, small_number(workers)?);
+    let net = network(alloc, nodes, links)?;
+    match opened(alloc, net, dest, count) {
+        Ok((round, workers)) => put_round(text, &round, &workers)?,
+        Err(fault) => put_fault(alloc, text, &fault)?,
+    }
+    Ok(())
+}
+
+fn put_fault(alloc: Global, text: &mut String, fault: &OpenFault) -> Result<(), AllocError> {
+    put(text, "", &fault.why)?;
+    text.push_str(", ")?;
+    put_links(alloc, text, &fault.net)
+}
+
+/// Puts what an open round tells, and each of its workers.
+fn put_round(text: &mut String, round: &Round, workers: &[Worker]) -> Result<(), AllocError>
+    requires { Each (IsOwn round.now) workers.now }
+{
+    is_shared(round);
+    put(text, "destination ", &round.dest())?;
+    put(text, ", nodes ", &round.net().nodes())?;
+    put(text, ", workers ", &round.workers())?;
+    for worker in workers {
+        put_worker(text, round, worker)?;
+    }
+    Ok(())
+}
+
+/// Puts the number of a worker, its turns, and the count of each node that it has seen.
+fn put_worker(text: &mut String, round: &Round, worker: &Worker) -> Result<(), AllocError>
+    requires { IsOwn round.now worker.now }
+{
+    is_sent(worker);
+    put(text, "; worker ", &worker.number())?;
+    put(text, " turned ", &worker.turned())?;
+    text.push_str(" and saw")?;
+    for x in 0..round.net().nodes() {
+        put(text, " ", &worker.seen(x))?;
+    }
+    Ok(())
+}
+
+/// The workers that a case has come back.
+fn who_comes(value: &Value) -> Result<Back, Fault> {
+    let table = [
+        ("both", Back::Both),
+        ("swapped", Back::Swapped),
+        ("second", Back::Second),
+        ("none", Back::None),
+    ];
+    named(word(value)?, &table)
+}
+
+/// `["calls", nodes, links, [[worker, "turn" or "look", node], ..], back]`: the replies, and what the round closes with.
+pub fn calls(alloc: Global, text: &mut String, asked: &[Value]) -> Result<(), Fault> {
+    let [nodes, links, calls, handed] = asked else {
+        return Err(Fault::NoCase);
+    };
+    let (calls, handed) = (items(calls)?, who_comes(handed)?);
+    let (round, mut a, mut b) = opened_by_two(alloc, network(alloc, nodes, links)?)?;
+    put_replies(text, &round, &mut a, &mut b, calls)?;
+    put_closed(text, &closed(alloc, round, a, b, handed)?)
+}
+
+/// Makes the calls, and puts each reply.
+fn put_replies(
+    text: &mut String,
     round: &Round,
     a: &mut Worker,
     b: &mut Worker,
-    calls: &[(u32, Target)],
-) -> Result<String, Fail>
+    calls: &[Value],
+) -> Result<(), Fault>
     requires { IsOwn round.now a.old × IsOwn round.now b.old }
     ensures { IsOwn round.now a.new × IsOwn round.now b.new }
 {
-    let mut text = String::new(alloc);
-    for (worker, target) in calls {
-        let reply = if *worker == 0 {
-            reply_text(alloc, round, a, *target)?
+    for value in calls {
+        let (worker, target) = call(value)?;
+        let replied = if worker == 0 {
+            reply(round, a, target)
         } else {
-            reply_text(alloc, round, b, *target)?
+            reply(round, b, target)
         };
-        text.push_str(&reply)?;
+        put_reply(text, replied)?;
     }
-    Ok(text)
+    Ok(())
 }
 
-/// The counts and turns that a round closes with where these workers come back.
-fn closed(alloc: Global, round: Round, a: Worker, b: Worker, back: Back) -> Result<String, Fail>
-    requires { IsOwn round a × IsOwn round b }
+/// The worker and the target of a call.
+fn call(value: &Value) -> Result<(u64, Target), Fault> {
+    match items(value)? {
+        [worker, way, node] => Ok((number(worker)?, target(word(way)?, small_number(node)?)?)),
+        _ => Err(Fault::NoCase),
+    }
+}
+
+fn target(way: &str, node: u32) -> Result<Target, Fault> {
+    named(
+        way,
+        &[("turn", Target::Turn(node)), ("look", Target::Look(node))],
+    )
+}
+
+fn reply(round: &Round, worker: &mut Worker, target: Target) -> Result<Reply, Refusal>
+    requires { IsOwn round.now worker.old }
+    ensures { IsOwn round.now worker.new }
 {
-    let workers = match back {
+    match target {
+        Target::Turn(x) => round.try_turn(worker, x),
+        Target::Look(x) => round.look(worker, x),
+    }
+}
+
+/// Puts the reply to a call, or why it was refused.
+fn put_reply(text: &mut String, replied: Result<Reply, Refusal>) -> Result<(), AllocError> {
+    match replied {
+        Ok(reply) => put(text, "", &reply)?,
+        Err(refusal) => put(text, "", &refusal)?,
+    }
+    text.push_str("; ")
+}
+
+/// Ends a round where these workers come back.
+fn closed(alloc: Global, round: Round, a: Worker, b: Worker, back: Back) -> Result<Closed, Fault>
+    requires { IsOwn round a × IsOwn round b × (round.setup.workers ≡ 2) }
+{
+    let workers = handed_back(alloc, &round, a, b, back)?;
+    Ok(round.close(workers))
+}
+
+/// The workers that come back to their round.
+fn handed_back(
+    alloc: Global,
+    round: &Round,
+    a: Worker,
+    b: Worker,
+    back: Back,
+) -> Result<Vec<Worker>, AllocError>
+    requires { IsOwn round.now a × IsOwn round.now b }
+    ensures { IfOk result (λ workers. Each (IsOwn round.now) workers.items × (length workers.items ≤ 2)) }
+{
+    Ok(match back {
         Back::Both => vec![in alloc; a, b]?,
         Back::Swapped => vec![in alloc; b, a]?,
         Back::Second => vec![in alloc; b]?,
         Back::None => Vec::new(alloc),
-    };
-    if workers.len() > round.workers() as usize {
-        return Err(Fail::from("too many workers"));
-    }
-    let closed = round.close(workers);
-    Ok(format!(in alloc; "{:?} {:?}", closed.counts, closed.turned)?)
+    })
 }
 
-#[test]
-fn calls_of_one_thread(rt: HostRuntime) -> Result<(), Fail> {
-    for (nodes, links, calls, back, wanted, end) in CALLS {
-        let (round, mut a, mut b) = opened(rt.alloc(), *nodes, links)?;
-        let text = replies(rt.alloc(), &round, &mut a, &mut b, calls)?;
-        let after = closed(rt.alloc(), round, a, b, *back)?;
-        assert!(rt;
-            text.as_str() == *wanted && after.as_str() == *end,
-            "{text} {after}"
-        );
-    }
+/// Puts what a round has closed with.
+pub fn put_closed(text: &mut String, closed: &Closed) -> Result<(), Fault> {
+    put(text, "counts ", &closed.counts)?;
+    put(text, ", turned ", &closed.turned)?;
     Ok(())
 }
 
-#[test]
-fn tells_what_was_opened(rt: HostRuntime) -> Result<(), Fail> {
-    let (round, a, b) = opened(rt.alloc(), 2, &[(0, 1)])?;
-    is_shared(&round);
-    is_sent(&a);
-    let numbers = (
-        round.workers(),
-        round.dest(),
-        a.number(),
-        b.number(),
-        a.turned(),
-    );
-    assert!(rt; numbers == (2, 0, 0, 1, 0));
-    assert!(rt; round.net().nodes() == 2 && a.seen(1) == 0);
-    Ok(())
-}
-
-#[test]
-fn rounds_that_do_not_open(rt: HostRuntime) -> Result<(), Fail> {
-    for (dest, workers) in [(2, 1), (0, 0), (0, 17)] {
-        let net = Net::new(rt.alloc(), 2, &[(0, 1)])?;
-        let Err(fault) = Round::open(rt.alloc(), net, dest, workers) else {
-            return Err(Fail::from("a round was opened"));
-        };
-        let links = fault.net.links(rt.alloc())?;
-        let text = format!(in rt.alloc(); "{:?} {links:?}", fault.why)?;
-        assert!(rt; text.as_str() == "Range [(0, 1)]", "{text}");
-    }
-    Ok(())
-}
-
-/// Calls on the node until a call turns it, and answers its count.
-fn turn_until(round: &Round, mut worker: Worker, x: u32) -> (Worker, u64)
-    requires { IsOwn round.now worker }
-    ensures { IsOwn round.now result.0 }
+/// Ends a round where both workers come back.
+pub fn closed_by_both(alloc: Global, round: Round, a: Worker, b: Worker) -> Result<Closed, Fault>
+    requires { IsOwn round a × IsOwn round b × (round.setup.workers ≡ 2) }
 {
-    for _ in 0..1_000_000_000u64 {
-        if let Ok(Reply::Turned { count }) = round.try_turn(&mut worker, x) {
-            return (worker, count);
-        }
-    }
-    (worker, 0)
-}
-
-fn two_threads<R: Threads + Sync>(
-    rt: &R,
-    round: &Round,
-    a: Worker,
-    b: Worker,
-) -> ((Worker, u64), (Worker, u64))
-    requires { IsOwn round.now a × IsOwn round.now b }
-    ensures { IsOwn round.now result.0.0 × IsOwn round.now result.1.0 }
-{
-    join(
-        rt,
-        move || -> (Worker, u64)
-            requires { IsOwn round.now a }
-            ensures { IsOwn round.entry.now result.0 }
-        { turn_until(round, a, 1) },
-        move || -> (Worker, u64)
-            requires { IsOwn round.now b }
-            ensures { IsOwn round.entry.now result.0 }
-        { turn_until(round, b, 2) },
-    )
-}
-
-#[test]
-fn two_threads_turn(rt: HostRuntime) -> Result<(), Fail> {
-    let (round, a, b) = opened(rt.alloc(), 3, &[(0, 1), (1, 2)])?;
-    let ((a, first), (b, second)) = two_threads(&rt, &round, a, b);
-    let text = closed(rt.alloc(), round, a, b, Back::Both)?;
-    assert!(rt;
-        (first, second) == (1, 1) && text.as_str() == "[0, 1, 1] [(0, 1), (1, 1)]",
-        "{text}"
-    );
-    Ok(())
+    closed(alloc, round, a, b, Back::Both)
 }

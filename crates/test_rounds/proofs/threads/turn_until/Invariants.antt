@@ -1,5 +1,5 @@
 use Rattle.fr_round.specs.Knowledge.{IsOwn}
-use Rattle.test_rounds.proofs.rounds.turn_until.Given as goal
+use Rattle.test_rounds.proofs.threads.turn_until.Given as goal
 
 abbrev pub invariant-loop : goal.invariant-loop
 invariant-loop l = IsOwn l.round l.worker

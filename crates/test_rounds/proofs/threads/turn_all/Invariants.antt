@@ -1,5 +1,5 @@
 use Rattle.fr_round.specs.Knowledge.{IsOwn}
-use Rattle.test_rounds.proofs.live_walks.turn_all.Given as goal
+use Rattle.test_rounds.proofs.threads.turn_all.Given as goal
 
 abbrev pub invariant-loop-pass : goal.invariant-loop-pass
 invariant-loop-pass l = IsOwn l.round l.worker

@@ -1,0 +1,98 @@
+//! Which word of a case asks for what.
+
+use crate::fault::Fault;
+use crate::values::{items, named, word};
+use crate::{counts, crews, gates, live_walks, rounds, threads};
+use serde_json::Value;
+use std::alloc::Global;
+use std::sync::Wait;
+use std::thread::Threads;
+
+/// What a case can ask for. The last five are threads and gates, which are no data.
+#[derive(Clone, Copy)]
+enum Asked {
+    Open,
+    Calls,
+    Walk,
+    Plan,
+    SamePlans,
+    Settle,
+    End,
+    LongChain,
+    Counts,
+    CountsAlone,
+    CallsOfOne,
+    TwoThreadsTurn,
+    WalksBesideTwoThreads,
+    Held,
+    OddHeld,
+    Slow,
+}
+
+/// The words that ask.
+const WORDS: [(&str, Asked); 16] = [
+    ("open", Asked::Open),
+    ("calls", Asked::Calls),
+    ("walk", Asked::Walk),
+    ("plan", Asked::Plan),
+    ("same plans", Asked::SamePlans),
+    ("settle", Asked::Settle),
+    ("end", Asked::End),
+    ("long chain", Asked::LongChain),
+    ("counts", Asked::Counts),
+    ("counts alone", Asked::CountsAlone),
+    ("calls of one", Asked::CallsOfOne),
+    ("two threads turn", Asked::TwoThreadsTurn),
+    ("walks beside two threads", Asked::WalksBesideTwoThreads),
+    ("held", Asked::Held),
+    ("odd held", Asked::OddHeld),
+    ("slow", Asked::Slow),
+];
+
+/// What comes of the case of a line.
+pub fn answer<R: Threads + Wait + Sync + Alloc<A = Global>>(
+    rt: &R,
+    line: &str,
+) -> Result<String, Fault> {
+    let case = read(rt.alloc(), line)?;
+    let mut text = String::new(rt.alloc());
+    put_answer(rt, &mut text, items(&case)?)?;
+    Ok(text)
+}
+
+/// The value of a line.
+fn read(alloc: Global, line: &str) -> Result<Value, Fault> {
+    match Value::from_str(alloc, line) {
+        Ok(value) => Ok(value),
+        Err(_) => Err(Fault::NoCase),
+    }
+}
+
+/// Puts what comes of a case.
+fn put_answer<R: Threads + Wait + Sync + Alloc<A = Global>>(
+    rt: &R,
+    text: &mut String,
+    case: &[Value],
+) -> Result<(), Fault> {
+    let [first, case @ ..] = case else {
+        return Err(Fault::NoCase);
+    };
+    match named(word(first)?, &WORDS)? {
+        Asked::Open => rounds::open(rt.alloc(), text, case),
+        Asked::Calls => rounds::calls(rt.alloc(), text, case),
+        Asked::Walk => live_walks::walk(rt.alloc(), text, case),
+        Asked::Plan => crews::plan_of(text, case),
+        Asked::SamePlans => crews::same_plans(text, case),
+        Asked::Settle => crews::settle_all(rt, text, case),
+        Asked::End => crews::settle_to_end(rt, text, case),
+        Asked::LongChain => crews::settle_chain(rt, text, case),
+        Asked::Counts => counts::counts(rt, text, case),
+        Asked::CountsAlone => counts::counts_alone(rt.alloc(), text, case),
+        Asked::CallsOfOne => counts::calls_of_one(rt, text, case),
+        Asked::TwoThreadsTurn => threads::two_turn(rt, text),
+        Asked::WalksBesideTwoThreads => threads::walk_beside_two(rt, text),
+        Asked::Held => gates::one_held(rt, text, case),
+        Asked::OddHeld => gates::odd_held(rt, text),
+        Asked::Slow => gates::slow(rt, text),
+    }
+}

@@ -1,0 +1,45 @@
+//! What rounds and crews (fr_round, fr_crew) answer, by their public calls alone. Each line of standard input is a title, which begins
+//! with `#`, or a case: a list in JSON whose first item says what is asked. Each line is printed as it stands, and below a case
+//! what came of it, behind two blanks. The answers that are wanted come from outside, and so does the order in which threads
+//! run: what depends on it is not printed.
+#![tactic(auto)]
+
+mod asked;
+mod counts;
+mod crews;
+mod fault;
+mod gates;
+mod live_walks;
+mod rounds;
+mod threads;
+mod values;
+
+use asked::answer;
+use std::alloc::Global;
+use std::io;
+use std::rt::HostRuntime;
+use std::sync::Wait;
+use std::thread::Threads;
+
+fn main(rt: HostRuntime) -> io::Result<()> {
+    for line in rt.lines(rt.alloc()) {
+        tell(&rt, line?.as_str())?;
+    }
+    Ok(())
+}
+
+/// Prints a line, and what comes of it, unless it is a title.
+fn tell<R: Threads + Wait + Sync + Alloc<A = Global> + Print>(
+    rt: &R,
+    line: &str,
+) -> io::Result<()> {
+    rt.println(line)?;
+    if line.starts_with('#') {
+        return Ok(());
+    }
+    rt.print("  ")?;
+    match answer(rt, line) {
+        Ok(text) => rt.println(text),
+        Err(fault) => rt.println(fault),
+    }
+}
