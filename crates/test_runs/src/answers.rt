@@ -1,0 +1,150 @@
+//! Which word asks for what.
+
+use crate::cases::Case;
+use crate::gates::tell_held;
+use crate::inputs::{MadeReader, by_turns, long_chain};
+use crate::runs::{FEW_PLANS, PLANS, run_of, run_text, tell_plans};
+use crate::streams::{tell_narrow_writes, tell_slow_reads};
+use crate::tasks::{draw_at, task_at, task_text};
+use crate::telling::{tell, tell_lines};
+use crate::words::{tell_faults, tell_words};
+use crate::{changes, plays};
+use fr_command::Task;
+use fr_crew::OpenGate;
+use serde_json::Value;
+use std::sync::Wait;
+use std::thread::Threads;
+
+/// Tells what came of a case. `None` where there is no such case.
+pub fn tell_answer<R: Threads + Wait + Sync + AllocGlobal + Print>(
+    rt: &R,
+    word: &str,
+    case: &Case<'_>,
+) -> Option<()> {
+    match word {
+        "run" => tell_run(rt, case),
+        "made" => tell_made(rt, case),
+        "gate" => tell_gate(rt, case),
+        "batch" => tell_batch(rt, case),
+        "chain" => tell_chain(rt, case),
+        "play" => tell_play(rt, case),
+        "drawn play" => tell_drawn_play(rt, case),
+        "drawn changes" => tell_drawn_changes(rt, case),
+        "reads fail" => tell_reads(rt, case),
+        "writes fail" => tell_writes(rt, case),
+        "words" => tell_words(rt, case),
+        "faults" => Some(tell_faults(rt)),
+        _ => None,
+    }
+}
+
+/// `["run"]`: a run of the lines under each of the plans.
+fn tell_run<R: Threads + Wait + Sync + AllocGlobal + Print>(rt: &R, case: &Case<'_>) -> Option<()> {
+    let input = case.input(rt.alloc());
+    let text = run_of(rt, &input, (1, 0));
+    tell_lines(rt, &text);
+    tell_plans(rt, &input, PLANS, &text);
+    Some(())
+}
+
+/// `["made", [byte, count], [byte, count]]`: a run of an input of one byte so often, and then of another.
+fn tell_made<R: Threads + Wait + Sync + AllocGlobal + Print>(
+    rt: &R,
+    case: &Case<'_>,
+) -> Option<()> {
+    let mut reader = MadeReader {
+        first: bytes_in(case.value(1)?)?,
+        second: bytes_in(case.value(2)?)?,
+    };
+    tell_lines(rt, &run_text(rt, &mut reader, (1, 0), &OpenGate));
+    Some(())
+}
+
+/// A byte, and how often it comes.
+fn bytes_in(value: &Value) -> Option<(u8, usize)> {
+    let byte = u8::try_from(value.get(0)?.as_u64()?).ok()?;
+    let count = usize::try_from(value.get(1)?.as_u64()?).ok()?;
+    Some((byte, count))
+}
+
+/// `["gate", held, until]`: a run of the lines under a gate that holds a worker until another is answered.
+fn tell_gate<R: Threads + Wait + Sync + AllocGlobal + Print>(
+    rt: &R,
+    case: &Case<'_>,
+) -> Option<()> {
+    let (held, until) = (case.small(1)?, case.small(2)?);
+    tell_held(rt, &case.input(rt.alloc()), held, until);
+    Some(())
+}
+
+/// `["batch", count]`: a run of a batch of so many edits.
+fn tell_batch<R: Threads + Wait + Sync + AllocGlobal + Print>(
+    rt: &R,
+    case: &Case<'_>,
+) -> Option<()> {
+    let input = by_turns(rt.alloc(), case.small(1)?);
+    tell_lines(rt, &run_of(rt, &input, (1, 0)));
+    Some(())
+}
+
+/// `["chain", nodes, first]`: the first line of a run of a chain from a node on, and whether runs under other plans write the same.
+fn tell_chain<R: Threads + Wait + Sync + AllocGlobal + Print>(
+    rt: &R,
+    case: &Case<'_>,
+) -> Option<()> {
+    let (nodes, first) = (case.small(1)?, case.small(2)?);
+    let input = long_chain(rt.alloc(), nodes, first);
+    let text = run_of(rt, &input, (1, 0));
+    tell(rt, str::from_utf8(&text).ok()?.lines().next()?);
+    tell_plans(rt, &input, FEW_PLANS, &text);
+    Some(())
+}
+
+/// `["play", workers, seed, steps]`: a play on the network of the lines.
+fn tell_play<R: Threads + Wait + Sync + AllocGlobal + Print>(
+    rt: &R,
+    case: &Case<'_>,
+) -> Option<()> {
+    let task = task_at(case, 0)?;
+    let input = case.input(rt.alloc());
+    tell_lines(rt, &task_text(rt, task, &mut input.as_bytes()));
+    Some(())
+}
+
+/// `["drawn play", workers, seed, steps]`: whether a play makes the schedule that is drawn.
+fn tell_drawn_play<R: Threads + Wait + Sync + AllocGlobal + Print>(
+    rt: &R,
+    case: &Case<'_>,
+) -> Option<()> {
+    let (draw, seed) = (draw_at(case, 0)?, case.number(2)?);
+    plays::tell_drawn(rt, draw, seed, &case.input(rt.alloc()))
+}
+
+/// `["drawn changes", seed, steps]`: whether drawn changes of a router come to what they have to.
+fn tell_drawn_changes<R: Threads + Wait + Sync + AllocGlobal + Print>(
+    rt: &R,
+    case: &Case<'_>,
+) -> Option<()> {
+    let (seed, steps) = (case.number(1)?, case.small(2)?);
+    changes::tell_drawn(rt, seed, steps, &case.input(rt.alloc()))
+}
+
+/// `["reads fail", most, task..]`: a task on the lines, with readers of which so many reads go well.
+fn tell_reads<R: Threads + Wait + Sync + AllocGlobal + Print>(
+    rt: &R,
+    case: &Case<'_>,
+) -> Option<()> {
+    let (most, task) = (case.small(1)?, task_at(case, 2)?);
+    tell_slow_reads(rt, task, &case.input(rt.alloc()), most);
+    Some(())
+}
+
+/// `["writes fail", most, enough, task..]`: the same with writers.
+fn tell_writes<R: Threads + Wait + Sync + AllocGlobal + Print>(
+    rt: &R,
+    case: &Case<'_>,
+) -> Option<()> {
+    let (most, enough, task) = (case.small(1)?, case.small(2)?, task_at(case, 3)?);
+    tell_narrow_writes(rt, task, &case.input(rt.alloc()), most, enough);
+    Some(())
+}

@@ -1,0 +1,118 @@
+//! Whether a play makes the schedule that is drawn.
+
+use crate::tasks::task_text;
+use crate::telling::{put, put_word, tell, tell_lines};
+use fr_command::Task;
+use fr_core::{Entry, Reply, Target, play};
+use fr_net::{Net, Request, read_line};
+use fr_play::Draw;
+use rand_core::SeedableRng;
+use rand_core::utils::NextWord;
+use rand_pcg::Lcg64Xsh32;
+use std::alloc::{AllocError, Global};
+use std::sync::Wait;
+use std::thread::Threads;
+
+/// Tells whether a play on the network of a line begins with the entries of the schedule that is drawn here from the same seed. Node
+/// 0 is the destination, and all other nodes have links.
+pub fn tell_drawn<R: Threads + Wait + Sync + AllocGlobal + Print>(
+    rt: &R,
+    draw: Draw,
+    seed: u64,
+    line: &str,
+) -> Option<()> {
+    let begin = begin_of_play(rt.alloc(), draw, seed, line)?;
+    let text = task_text(rt, Task::Play(draw), &mut line.as_bytes());
+    if text.starts_with(begin.as_bytes()) {
+        tell(rt, "as drawn");
+    } else {
+        tell_lines(rt, &text);
+    }
+    Some(())
+}
+
+/// How the text of a play has to begin: up to the links.
+fn begin_of_play(alloc: Global, draw: Draw, seed: u64, line: &str) -> Option<String> {
+    let entries = entries_on_line(alloc, draw, seed, line)?;
+    let mut text = String::new(alloc);
+    for entry in entries.iter() {
+        put_word(&mut text, &entry_text(alloc, *entry));
+    }
+    put_word(&mut text, "links ");
+    Some(text)
+}
+
+/// The entries of a play on the network of a line.
+fn entries_on_line(alloc: Global, draw: Draw, seed: u64, line: &str) -> Option<Vec<Entry>> {
+    match read_line(alloc, line.as_bytes()) {
+        Ok(Request::Network { nodes, links, .. }) => {
+            let net = Net::new(alloc, nodes, &links).ok()?;
+            entries_on(alloc, draw, seed, &net)
+        }
+        _ => None,
+    }
+}
+
+/// The entries of a play on a network.
+fn entries_on(alloc: Global, draw: Draw, seed: u64, net: &Net) -> Option<Vec<Entry>> {
+    let schedule = schedule(alloc, draw, seed).ok()?;
+    let targets = targets(alloc, draw, net.nodes()).ok()?;
+    play(alloc, net, 0, targets, &schedule).ok()
+}
+
+/// The schedule that is drawn here.
+fn schedule(alloc: Global, draw: Draw, seed: u64) -> Result<Vec<u32>, AllocError> {
+    let mut generator = Lcg64Xsh32::seed_from_u64(seed);
+    let mut schedule = Vec::new(alloc);
+    for _step in 0..draw.steps() {
+        schedule.push(generator.next_word() % draw.workers())?;
+    }
+    Ok(schedule)
+}
+
+/// The targets of the workers.
+fn targets(alloc: Global, draw: Draw, nodes: u32) -> Result<Vec<Vec<Target>>, AllocError> {
+    let mut targets = Vec::new(alloc);
+    for _worker in 0..draw.workers() {
+        targets.push(turns(alloc, draw.steps(), nodes)?)?;
+    }
+    Ok(targets)
+}
+
+/// So many turns: of the nodes 1, 2 and so on, and again from the first.
+fn turns(alloc: Global, steps: u32, nodes: u32) -> Result<Vec<Target>, AllocError> {
+    let mut turns = Vec::new(alloc);
+    let others = nodes.saturating_sub(1).max(1);
+    for place in 0..steps {
+        turns.push(Target::Turn(place % others + 1))?;
+    }
+    Ok(turns)
+}
+
+/// The line of an entry.
+fn entry_text(alloc: Global, entry: Entry) -> String {
+    let mut text = String::new(alloc);
+    put(&mut text, &entry.worker);
+    put(&mut text, &entry.node);
+    put_reply(&mut text, entry.reply);
+    put_word(&mut text, "\n");
+    text
+}
+
+fn put_reply(text: &mut String, reply: Reply) {
+    match reply {
+        Reply::Turned { count } => put_number(text, " turned", count),
+        Reply::Held { by } => put_number(text, " held", u64::from(by)),
+        Reply::Moved { had, count } => {
+            put_number(text, " moved", had);
+            put(text, &count);
+        }
+        Reply::Cut => put_word(text, " cut"),
+        Reply::Sink => put_word(text, " sink"),
+    }
+}
+
+fn put_number(text: &mut String, word: &str, number: u64) {
+    put_word(text, word);
+    put(text, &number);
+}

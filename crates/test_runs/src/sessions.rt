@@ -1,0 +1,52 @@
+//! A session that is asked lines, and one beside it that is asked the requests that are read from them.
+
+use crate::inputs::unescaped;
+use crate::telling::{echo, tell, tell_value};
+use fr_crew::{OpenGate, Plan};
+use fr_net::read_line;
+use fr_route::{AnswerFault, Session};
+use std::sync::Wait;
+use std::thread::Threads;
+
+/// Tells each line with its answer.
+pub fn tell_session<R: Threads + Wait + Sync + AllocGlobal + Print>(rt: &R, lines: &str) {
+    let mut by_line = Session::new();
+    let mut by_request = Session::new();
+    for line in lines.lines() {
+        echo(rt, line);
+        tell_line(rt, &mut by_line, &mut by_request, line);
+    }
+}
+
+/// Tells the answer to a line, and the one to its request where that is another.
+fn tell_line<R: Threads + Wait + Sync + AllocGlobal + Print>(
+    rt: &R,
+    by_line: &mut Session,
+    by_request: &mut Session,
+    line: &str,
+) {
+    let Some(plan) = Plan::new(2, 0, 1_000) else {
+        return;
+    };
+    let asked = unescaped(rt.alloc(), line);
+    let answer = by_line.answer_line(rt, rt.alloc(), asked.as_bytes(), &plan, &OpenGate);
+    tell_value(rt, &answer);
+    let other = answer_request(rt, by_request, asked.as_bytes(), &plan);
+    if other != answer {
+        tell(rt, "and to its request:");
+        tell_value(rt, &other);
+    }
+}
+
+/// The answer to the request that is read from a line, or none where it is no request.
+fn answer_request<R: Threads + Wait + Sync + AllocGlobal>(
+    rt: &R,
+    session: &mut Session,
+    line: &[u8],
+    plan: &Plan,
+) -> Result<Option<String>, AnswerFault> {
+    match read_line(rt.alloc(), line) {
+        Ok(request) => Ok(Some(session.answer(rt, rt.alloc(), &request, plan, &OpenGate)?)),
+        Err(_) => Ok(None),
+    }
+}

@@ -1,0 +1,56 @@
+//! Runs and plays by any reader and writer.
+
+use crate::cases::Case;
+use fr_command::Task;
+use fr_crew::{OpenGate, Plan};
+use fr_play::{Draw, play_drawn};
+use fr_run::{RunFault, run};
+use std::io::{Read, Write};
+use std::sync::Wait;
+use std::thread::Threads;
+
+/// The task that a case says from a place on: a run on one thread, or a play by the numbers of a draw.
+pub fn task_at(case: &Case<'_>, place: usize) -> Option<Task> {
+    match case.text(place)? {
+        "run" => Some(Task::Run(Plan::new(1, 0, 0)?)),
+        "play" => Some(Task::Play(draw_at(case, place)?)),
+        _ => None,
+    }
+}
+
+/// The draw whose numbers stand behind a place: of workers, the seed, and of steps.
+pub fn draw_at(case: &Case<'_>, place: usize) -> Option<Draw> {
+    if place > 1_000 {
+        return None;
+    }
+    Draw::new(
+        case.small(place + 1)?,
+        case.number(place + 2)?,
+        case.small(place + 3)?,
+    )
+}
+
+/// Does a task, with the gate open.
+pub fn perform<T: Threads + Wait + Sync + AllocGlobal, R: Read, W: Write>(
+    rt: &T,
+    task: Task,
+    reader: &mut R,
+    writer: &mut W,
+) -> Result<u64, RunFault> {
+    match task {
+        Task::Run(plan) => run(rt, rt.alloc(), reader, writer, &plan, &OpenGate),
+        Task::Play(draw) => play_drawn(rt.alloc(), reader, writer, draw),
+    }
+}
+
+/// What a task writes, and behind it what it answers.
+pub fn task_text<T: Threads + Wait + Sync + AllocGlobal, R: Read>(
+    rt: &T,
+    task: Task,
+    reader: &mut R,
+) -> Vec<u8> {
+    let mut out = Vec::new(rt.alloc());
+    let end = perform(rt, task, reader, &mut out);
+    let _ = writeln!(out, "{end:?}");
+    out
+}

@@ -1,0 +1,64 @@
+//! What the words of a command line come to, and what faults are told as.
+
+use crate::cases::Case;
+use crate::telling::{tell, tell_lines, tell_value};
+use fr_command::{TaskFault, task_end, task_of};
+use fr_route::{AnswerFault, RouteFault};
+use fr_run::{RunFault, run_end};
+use std::fmt::Display;
+
+/// Tells the task that the words of a case ask for, or the status and of the text how it begins, what it holds, and how it ends, where
+/// the case says that.
+pub fn tell_words<R: AllocGlobal + Print>(rt: &R, case: &Case<'_>) -> Option<()> {
+    let mut words = Vec::new(rt.alloc());
+    for word in case.value(1)?.as_array()? {
+        words.push(word.as_str()?).ok()?;
+    }
+    match task_of(rt.alloc(), &words) {
+        Ok(task) => tell_value(rt, &task),
+        Err(fault) => tell_end(rt, &fault, case),
+    }
+    Some(())
+}
+
+/// Tells how the program ends for a fault.
+fn tell_end<R: Print>(rt: &R, fault: &TaskFault, case: &Case<'_>) {
+    let (status, text) = task_end(fault);
+    tell_value(rt, &status);
+    let text = text.trim_end();
+    match (case.text(2), case.text(3), case.text(4)) {
+        (Some(begin), Some(middle), Some(end)) => {
+            tell_part(rt, "begins", begin, text.starts_with(begin));
+            tell_part(rt, "holds", middle, text.contains(middle));
+            tell_part(rt, "ends", end, text.ends_with(end));
+        }
+        _ => tell_lines(rt, text.as_bytes()),
+    }
+}
+
+/// Tells whether a part of a text stands where it is wanted, if one is.
+fn tell_part<R: Print>(rt: &R, what: &str, part: &str, stands: bool) {
+    if !part.is_empty() {
+        let not = if stands { "" } else { "not " };
+        let _ = println!(rt; "  {not}{what}: {part}");
+    }
+}
+
+/// Tells how runs end, and then faults of routers, of sessions and of command lines.
+pub fn tell_faults<R: Print>(rt: &R) {
+    tell_value(rt, &run_end(&RunFault::Read));
+    tell_value(rt, &run_end(&RunFault::Write));
+    tell_value(rt, &run_end(&RunFault::TooLong));
+    tell_value(rt, &run_end(&RunFault::Start));
+    tell_value(rt, &run_end(&RunFault::Memory));
+    tell_shown(rt, &RouteFault::Range);
+    tell_shown(rt, &RouteFault::Start);
+    tell_shown(rt, &RouteFault::Memory);
+    tell_shown(rt, &AnswerFault::Start);
+    tell_shown(rt, &AnswerFault::Memory);
+    tell_value(rt, &task_end(&TaskFault::Memory));
+}
+
+fn tell_shown<R: Print, T: Display>(rt: &R, value: &T) {
+    let _ = println!(rt; "  {value}");
+}
