@@ -14,7 +14,7 @@ use Rattle.fr_net.specs.Faults.{IsFaultless}
 use Rattle.fr_net.specs.Graph.{IsGraph, shown}
 use Rattle.fr_net.specs.Heights.{AreFalling, FitBetween}
 use Rattle.fr_net.specs.Links.{HasPath, IsNet, IsPath, Points, end_of}
-use Rattle.fr_net.specs.PathSearch.{HasBegun, HasMet, HasMetMore, HasMovedEdge, HasPassed, HasWay, IsBeyond, IsPast, IsMetOrAside, IsSide, IsWay, LeadsOn, LiesOn, MeetsNew, is_never, met_by, met_of, never_count, way_of_ended}
+use Rattle.fr_net.specs.PathSearch.{HasBegun, HasMet, HasMetMore, HasMovedEdge, HasPassed, HasWay, IsBeyond, IsPast, IsMetOrAside, IsSide, IsWay, LeadsOn, LiesOn, MeetsNew, is_never, met_by, met_of, never_count, way_of_ended, start_of}
 use Rattle.fr_net.specs.Network.{Network}
 use Rattle.fr_net.specs.RowLists.{opposite}
 use Rattle.fr_net.specs.Rows.{row}
@@ -356,6 +356,12 @@ met_below {net} {heights} {f} {start} {limit} {met} {side} x s h =
       | inl l ↦ l
       | inr g ↦ absurd (never_apart f (sym h ∙ get_or_past met x Never (omega (arith, s.one_each))))
     ]
+
+-- a side as it says itself where it goes
+pub own_side : {net : Network} {heights : List ℕ} {f : First} {start limit : ℕ} {met : List Met} {side : Side} → IsSide net heights f start limit met side → IsSide net heights side.first (start_of side) side.limit met side
+own_side {net} {heights} {f} {start} {limit} {met} {side} is =
+    subst (λ (g : First). IsSide net heights g (start_of side) side.limit met side) (sym is.first_is)
+    (subst (λ (a : ℕ). IsSide net heights f a side.limit met side) (sym is.start_is) (subst (λ (l : ℕ). IsSide net heights f start l met side) (sym is.limit_is) is))
 
 -- the node whose row is read next
 pub next_below : {net : Network} {heights : List ℕ} {f : First} {start limit : ℕ} {met : List Met} {side : Side} (x : ℕ) → IsSide net heights f start limit met side → side.read < length side.nodes.items → x ≡ get_or side.nodes.items side.read x → x < net.nodes

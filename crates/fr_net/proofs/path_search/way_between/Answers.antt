@@ -1,6 +1,6 @@
 use Rattle.std.proofs.Common.{Bool, IsTrue, List, arith, false, inl, inr, length, refl, replicate, set, ℕ, ◌<◌, ◌∙◌, ◌≡◌, ◌≤◌, ◌↔◌}
 use Rattle.std.proofs.lemmas.Bool.{cases_lt}
-use Rattle.fr_net.proofs.TwoEnds.{ended_ahead, ended_behind, other_stays, sides_begin, way_to_met, ways_meet}
+use Rattle.fr_net.proofs.TwoEnds.{ended_ahead, ended_behind, other_stays, own_side, sides_begin, way_to_met, ways_meet}
 use Rattle.fr_net.specs.Graph.{shown}
 use Rattle.fr_net.specs.declared.path_search.Met.{Met}
 use Rattle.fr_net.specs.declared.path_search.Met.TheVariants.{Backward, Forward, Never}
@@ -18,6 +18,24 @@ loop-behind-init c =
     let met : List Met = set (set c.as_mut_slice-met.result.now c.args.from Forward) c.args.to Backward in
     let begun = sides_begin (shown c.args.graph.now) c.args.graph.now.heights.heights c.args.from c.args.to met c.in_ok-ahead.ahead c.in_ok-behind.behind c.requires.from c.requires.to c.requires.apart c.requires.no_higher (rw fresh refl) (rw c.height-low.ensures at c.in_ok-ahead.ensures) (rw c.height-high.ensures at c.in_ok-behind.ensures) in
     record { ahead = begun.0; behind = begun.1 }
+
+pub read_next-leads-requires-clause-side : goal.read_next-leads-requires-clause-side
+read_next-leads-requires-clause-side c = own_side c.loop-behind.invariant.ahead
+
+pub read_next-leads-requires-else-goes_next-clause-side : goal.read_next-leads-requires-else-goes_next-clause-side
+read_next-leads-requires-else-goes_next-clause-side c = own_side c.loop-behind.invariant.behind
+
+pub loop-behind-smaller : goal.loop-behind-smaller
+loop-behind-smaller c = elim c.if-goes_next.branch [
+  | then-goes_next w ↦
+      let read = w.read_next-leads.ensures in
+      let one_more = read.read (λ is. cc (is, w.leads-is, c.if-leads.false)) in
+      rw (w.met-is, w.ahead-is, w.behind-is) (omega (arith, read.more.counted, read.more.longer, one_more, c.has_unread.ensures.0 c.loop-behind-test.true))
+  | else-goes_next w ↦
+      let read = w.read_next-leads-else-goes_next.ensures in
+      let one_more = read.read (λ is. cc (is, w.leads-is, c.if-leads.false)) in
+      rw (w.met-is, w.ahead-is, w.behind-is) (omega (arith, read.more.counted, read.more.longer, one_more, c.has_unread-in-loop-behind.ensures.0 c.if-has_unread.true))
+]
 
 pub returns-then-leads : goal.returns-then-leads
 returns-then-leads c =
