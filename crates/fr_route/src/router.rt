@@ -1,6 +1,6 @@
 //! A router: a settled network with its next hops and routes, and the changes after which it is settled anew.
 
-ghost use Rattle.std.specs.Prelude.{◌≡◌, ◌≢◌, ◌<◌, ◌≤◌, length, replicate, Ok, IfOk, IfErr, IfSome, OnErr};
+ghost use Rattle.std.specs.Prelude.{◌≡◌, ◌≢◌, ◌<◌, ◌≤◌, length, replicate, Ok, Some, IfOk, IfErr, IfSome, OnErr};
 ghost use Rattle.fr_crew.specs.Settlements.{HoldsSinks, IsCounted};
 ghost use Rattle.fr_crew.specs.Ways.{Settles, NeverStarts};
 ghost use Rattle.fr_route.specs.declared.change.Report.{Report};
@@ -67,6 +67,16 @@ fn first_counts<F: Fn(&Net, u32, Option<&[u32]>, Turns) -> Result<Turns, CrewFau
     net.network_law();
     let turns = Turns::none(alloc, net.nodes())?;
     Ok(settled_counts_by(way, net, dest, None, turns)?)
+}
+
+/// Puts these turns in place of the last ones, whose table is cleared and kept for the next round.
+fn keep_turns(last: &mut Turns, spare: &mut Option<Turns>, turns: Turns)
+    ensures last { last.new ≡ turns }
+    ensures spare { spare.new ≡ Some (replicate (length last.old) 0) }
+{
+    let mut table = mem::replace(last, turns);
+    table.clear();
+    *spare = Some(table);
 }
 
 impl Router {
@@ -235,7 +245,7 @@ impl Router {
     }
 
     /// Makes these edits where the network stands, and settles it anew toward `dest`.
-    fn edit_by<
+    pub(crate) fn edit_by<
         T,
         F: Fn(&Net, u32, Option<&[u32]>, Turns) -> Result<Turns, CrewFault>,
         K: Fn(Report) -> Result<T, AllocError>,
@@ -256,9 +266,8 @@ impl Router {
         ensures unchanged { OnErr result (self.new ≡ self.old) }
         ensures no_start { NeverStarts F.post way.now → IfErr result (λ fault. fault ≢ Start) }
     {
-        let movable = self.movable(alloc, edits, dest)?;
+        let (movable, turns) = self.before_edits(alloc, edits, dest)?;
         let from = movable.as_slice();
-        let turns = self.spare_turns(alloc)?;
         let (outcome, told) = self.net.edit_if(
             alloc,
             edits,
@@ -279,12 +288,26 @@ impl Router {
         )?;
         let Outcome { turns, report } = outcome;
         put_in_place(&mut self.net, &mut self.hops, dest, &turns, from);
-        let mut last = mem::replace(&mut self.turns, turns);
-        last.clear();
-        self.spare = Some(last);
+        keep_turns(&mut self.turns, &mut self.spare, turns);
         self.dest = dest;
         self.report = report;
         Ok(told)
+    }
+
+    /// What a change needs before its edits are made: the nodes that can be sinks after it, and a table in which no node has turned.
+    fn before_edits(
+        &mut self,
+        alloc: Global,
+        edits: &[Edit],
+        dest: u32,
+    ) -> Result<(Vec<u32>, Turns), AllocError>
+        ensures same { self.new ≡ self.old }
+        ensures movable { IfOk result (λ made. made.0.items ≡ movable self.old dest edits.now) }
+        ensures none { IfOk result (λ made. made.1 ≡ replicate self.old.nodes 0) }
+    {
+        let movable = self.movable(alloc, edits, dest)?;
+        let turns = self.spare_turns(alloc)?;
+        Ok((movable, turns))
     }
 
     /// A table in which no node has turned: the spare one, or else a new one.

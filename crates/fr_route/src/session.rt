@@ -2,7 +2,7 @@
 
 ghost use Rattle.std.specs.Prelude.{◌≡◌, ◌≢◌, ℕ, ◌<◌, ◌≤◌, ◌⊎◌, length, replicate, true, false, Some, None, IfOk, IfErr, OnErr, IfSome, IfNone, string_bytes};
 ghost use Rattle.std.specs.Option.{option_copied};
-ghost use Rattle.fr_net.specs.Requests.{ask, new_network, walk_from, plain, reading};
+ghost use Rattle.fr_net.specs.Requests.{ask, make_edits, new_network, walk_from, plain, reading};
 ghost use Rattle.fr_crew.specs.Settlements.{HoldsSinks};
 ghost use Rattle.fr_crew.specs.Ways.{Settles, NeverStarts};
 ghost use Rattle.fr_route.specs.Blank.{is_blank as is_blank_line};
@@ -22,7 +22,7 @@ use crate::texts::{
     counts_line, hops_line, links_line, no_walk_line, refusal_line, report_line, walk_line,
 };
 use fr_crew::{CrewFault, Gate, Plan, settled_counts, settled_counts_alone};
-use fr_net::{LineFault, LineReader, Net, Question, Request, Turns};
+use fr_net::{Edit, LineFault, LineReader, Net, Question, Request, Turns};
 use std::alloc::Global;
 use std::marker::Model;
 use std::sync::Wait;
@@ -208,10 +208,7 @@ impl Session {
             Request::Cut { u, v } => self.change(alloc, Change::Cut { u: *u, v: *v }, way),
             Request::Add { u, v } => self.change(alloc, Change::Add { u: *u, v: *v }, way),
             Request::Join { u, v } => self.change(alloc, Change::Join { u: *u, v: *v }, way),
-            Request::Batch { edits } => {
-                let edits = edits.to_vec(alloc)?;
-                self.change(alloc, Change::Batch(edits), way)
-            }
+            Request::Batch { edits } => self.edit(alloc, edits, way),
             Request::Destination { dest } => {
                 self.change(alloc, Change::Destination { dest: *dest }, way)
             }
@@ -258,6 +255,35 @@ impl Session {
             return refuse(alloc, Refusal::NoNetwork);
         };
         match router.change_by(alloc, &change, way, &|report| report_line(alloc, report)) {
+            Ok(text) => Ok(text),
+            Err(fault) => refusal(alloc, &fault),
+        }
+    }
+
+    /// Makes these edits, or says for which fault one is refused.
+    fn edit<F: Fn(&Net, u32, Option<&[u32]>, Turns) -> Result<Turns, CrewFault>>(
+        &mut self,
+        alloc: Global,
+        edits: &[Edit],
+        way: &F,
+    ) -> Result<String, AnswerFault>
+        requires { Settles F.pre F.post way.now }
+        ensures text { IfOk result (λ text. IsAnswer self.old (make_edits edits.now) (string_bytes text) self.new) }
+        ensures unchanged { OnErr result (self.new ≡ self.old) }
+        ensures short { IfOk result (λ text. (self.new ≡ self.old) ⊎ (length (string_bytes text) ≤ longest_report)) }
+        ensures no_start { NeverStarts F.post way.now → IfErr result (λ fault. fault ≢ Start) }
+    {
+        let Some(router) = &mut self.router else {
+            return refuse(alloc, Refusal::NoNetwork);
+        };
+        let dest = router.dest();
+        match router.edit_by(
+            alloc,
+            edits,
+            dest,
+            way,
+            &|report| report_line(alloc, report),
+        ) {
             Ok(text) => Ok(text),
             Err(fault) => refusal(alloc, &fault),
         }

@@ -1,4 +1,4 @@
-use Rattle.std.proofs.Common.{◌≡◌, ◌∙◌, ◌<◌, List, Some, ap, arith, length, refl, replicate, subst, sym, vec_len, ℕ}
+use Rattle.std.proofs.Common.{◌≡◌, ◌∙◌, ◌<◌, IfSome, List, ap, arith, length, refl, replicate, rules, subst, sym, vec_len, ℕ}
 use Rattle.std.proofs.lemmas.List.{with_items_is}
 use Rattle.std.proofs.lemmas.Result.{err_from_is_err_and}
 use Rattle.std.specs.Vec.{with_items}
@@ -12,8 +12,9 @@ use Rattle.fr_route.specs.Faults.{of_not_edited}
 use Rattle.fr_route.specs.Outcomes.{HoldsMoved, IsEditingFault, IsOutcome, movable, state_after}
 use Rattle.fr_route.specs.Routes.{AreHops}
 use Rattle.fr_route.specs.RouterInside.{state_of}
-use Rattle.fr_route.specs.States.{State}
+use Rattle.fr_route.specs.States.{State, net_at}
 use Rattle.fr_route.specs.declared.fault.RouteFault.{RouteFault}
+use Rattle.fr_route.proofs.CutNodes.{ended}
 use Rattle.fr_route.proofs.Changing.{made_nodes, refused_fault, round_fault}
 use Rattle.fr_route.proofs.Inside.{sound_after}
 use Rattle.fr_route.proofs.Moving.{made_net, movable_sinks, unmoved_hops}
@@ -23,11 +24,11 @@ use Rattle.fr_route.proofs.router.Router.edit_by.Goals.{After-self, In_ok-outcom
 
 -- the router is as it was when its network is edited
 now_is : (g : Over) (c : After-self g) → state_of c.self.inside ≡ c.args.self.now
-now_is g c = c.self.view_is ∙ c.spare_turns.ensures.same
+now_is g c = c.self.view_is ∙ c.before_edits.ensures.same
 
 -- the nodes from which the round begins are those that can move
 from_movable : (g : Over) (c : After-self g) → c.as_slice-from.result.now ≡ movable (state_of c.self.inside) c.args.dest c.args.edits.now
-from_movable g c = c.as_slice-from.ensures.value ∙ subst (λ (now : State). c.in_ok-movable.movable.items ≡ movable now c.args.dest c.args.edits.now) (sym (now_is g c)) c.in_ok-movable.ensures
+from_movable g c = c.as_slice-from.ensures.value ∙ subst (λ (now : State). c.in_ok-movable.movable.items ≡ movable now c.args.dest c.args.edits.now) (sym (now_is g c)) c.in_ok-movable.ensures.movable
 
 in_range : (g : Over) (c : After-self g) → c.args.dest < (state_of c.self.inside).nodes
 in_range g c = subst (λ (now : State). c.args.dest < now.nodes) (sym (now_is g c)) c.requires.node
@@ -55,7 +56,7 @@ edit_if-requires g c = record {
               omega (arith, below, nodes),
               subst (HoldsSinks made.now c.args.dest) (sym (from_movable g at)) (movable_sinks s c.self.invariant.round c.args.edits.now made.now c.args.dest below is),
             ),
-            c.in_ok-turns.ensures.none ∙ ap (λ (n : ℕ). replicate n 0) (ap (λ (now : State). now.nodes) (sym (now_is g at)) ∙ sym nodes),
+            c.in_ok-movable.ensures.none ∙ ap (λ (n : ℕ). replicate n 0) (ap (λ (now : State). now.nodes) (sym (now_is g at)) ∙ sym nodes),
           ),
     ),
   );
@@ -109,10 +110,25 @@ invariant_of-self-2 g c =
     let same : length c.put_in_place.new.hops ≡ vec_len c.self.inside.hops =
     omega (arith, c.put_in_place.ensures.hops.one_each, nodes, c.self.invariant.hops.one_each, c.self.inside.hops.ok.0) in
     let items : (with_items c.self.inside.hops c.put_in_place.new.hops).items ≡ c.put_in_place.new.hops = with_items_is c.self.inside.hops c.put_in_place.new.hops same in
-    let spare : c.clear.new.self ≡ replicate net.nodes 0 =
-    c.clear.ensures ∙ ap (λ (n : ℕ). replicate n 0) (ap length c.replace-last.ensures.value ∙ c.self.invariant.one_each ∙ sym nodes) in
-    rw c.replace-last.ensures.after
-    (sound_after c.args.dest counts (Some c.clear.new.self) (with_items c.self.inside.hops c.put_in_place.new.hops) c.in_ok-outcome.outcome.report net c.put_in_place.new.net
+    let spare : IfSome c.keep_turns.new.spare (λ turns. turns ≡ replicate net.nodes 0) =
+    rw c.keep_turns.ensures.spare (ap (λ (n : ℕ). replicate n 0) (c.self.invariant.one_each ∙ sym nodes)) in
+    rw c.keep_turns.ensures.last
+    (sound_after c.args.dest counts c.keep_turns.new.spare (with_items c.self.inside.hops c.put_in_place.new.hops) c.in_ok-outcome.outcome.report net c.put_in_place.new.net
     (made_net s c.args.edits.now net c.self.invariant.round made)
     outcome.counts outcome.report c.put_in_place.ensures.net
     (subst (AreHops (state_after net c.args.dest counts) net.nodes) (sym items) c.put_in_place.ensures.hops) spare)
+
+pub returns-clause-edited : goal.returns-clause-edited
+returns-clause-edited g c =
+    let at = goal.at.returns-clause-edited g c in
+    let s : State = state_of c.self.inside in
+    let net : Network = c.edit_if.new.self in
+    let made = edits_made g at.In_ok-outcome in
+    let is = made_net s c.args.edits.now net c.self.invariant.round made in
+    let here : AreMade (net_at c.args.self.now) c.args.edits.now net = subst (λ (now : State). AreMade (net_at now) c.args.edits.now net) (now_is g at.After-self) made in
+    (c.in_ok-outcome.ensures.few, (net, (here, rw (c.keep_turns.ensures.last, c.put_in_place.ensures.net) (ended net c.args.dest c.in_ok-outcome.outcome.turns is (outcome_is g at.In_ok-outcome).counts))))
+
+pub returns-clause-told : goal.returns-clause-told
+returns-clause-told g c =
+    let at = goal.at.returns-clause-told g c in
+    (c.in_ok-outcome.outcome.report, rw (c.keep_turns.ensures.last, c.put_in_place.ensures.net) (outcome_is g at.In_ok-outcome).report, search rules)
