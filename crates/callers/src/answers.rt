@@ -1,10 +1,10 @@
 //! Answers to a text, in memory.
 
 ghost use Rattle.std.specs.Prelude.{IfOk};
-ghost use Rattle.fr_run.specs.Answers.{IsOutput};
+ghost use Rattle.fr_command.specs.Answers.{IsOutput};
 
+use fr_command::{RunFault, run};
 use fr_crew::{OpenGate, Plan};
-use fr_run::{RunFault, run};
 use std::alloc::Global;
 use std::sync::Wait;
 use std::thread::Threads;

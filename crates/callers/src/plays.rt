@@ -1,10 +1,9 @@
 //! Plays of a text, in memory.
 
 ghost use Rattle.std.specs.Prelude.{IfOk, ℕ};
-ghost use Rattle.fr_play.specs.Plays.{IsPlayOutput};
+ghost use Rattle.fr_command.specs.Plays.{IsPlayOutput};
 
-use fr_play::{Draw, play_drawn};
-use fr_run::RunFault;
+use fr_command::{Draw, RunFault, play_drawn};
 use std::alloc::Global;
 
 /// What the play of a text prints.

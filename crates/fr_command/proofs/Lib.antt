@@ -1,2 +1,12 @@
+pub mod Pieces
+pub mod Cutting
+pub mod Determined
+pub mod EachOutput
+pub mod Asking
+pub mod Progress
+pub mod DrawnSteps
+pub mod PlayTargets
+pub mod OnePlay
+pub mod PlayEnds
 pub mod OptionNumbers
 pub mod Faulting

@@ -8,7 +8,7 @@ use Rattle.clap.specs.Simple.{App, Shape, new_app, new_rule, on_top, with_rule, 
 use Rattle.clap.specs.declared.builder.value_parser.ValueParser.{ValueParser}
 use Rattle.clap.specs.declared.builder.value_parser.ValueParser.TheVariants.{Signed, Unsigned}
 use Rattle.fr_core.specs.Limits.{most_workers}
-use Rattle.fr_play.specs.Draws.{most_steps}
+use Rattle.fr_command.specs.Draws.{most_steps}
 
 -- an option of this name with one number of these, and the text that stands for it where it is not given
 abbrev pub option : Text → Text → ValueParser → Rule

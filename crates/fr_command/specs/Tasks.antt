@@ -7,7 +7,7 @@ use Rattle.clap.specs.Kinds.{IsAmong}
 use Rattle.clap.specs.declared.error.kind.ErrorKind.{ErrorKind}
 use Rattle.clap.specs.declared.error.kind.ErrorKind.TheVariants.{DisplayHelp, DisplayVersion, OutOfMemory}
 use Rattle.fr_core.specs.Limits.{most_workers}
-use Rattle.fr_play.specs.Draws.{most_steps}
+use Rattle.fr_command.specs.Draws.{most_steps}
 use Rattle.fr_command.specs.Commands.{command, most_budget, number_of}
 use Rattle.fr_command.specs.declared.task.Task.{Task}
 use Rattle.fr_command.specs.declared.task.Task.TheVariants.{Run, Play}

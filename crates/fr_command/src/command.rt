@@ -5,13 +5,13 @@ ghost use Rattle.clap.specs.Simple.{on_top};
 ghost use Rattle.clap.specs.Words.{HasKind, app_of, fault_of, new_app, rule_of, subcommand_of, subcommand_rows_of};
 ghost use Rattle.clap.specs.declared.builder.command.Command.TheViews.{out-Command};
 ghost use Rattle.fr_core.specs.Limits.{most_workers};
-ghost use Rattle.fr_play.specs.Draws.{most_steps};
+ghost use Rattle.fr_command.specs.Draws.{most_steps};
 ghost use Rattle.fr_command.specs.Commands.{command, most_budget, program, run_command as run_command_of, play_command as play_command_of, option as option_of};
 
+use crate::draws::MAX_STEPS;
 use clap::builder::ValueParser;
 use clap::{Arg, ArgMatches, Command, Error, value_parser};
 use fr_core::MAX_WORKERS;
-use fr_play::MAX_STEPS;
 use fr_route::VERSION;
 use std::alloc::{AllocError, Global};
 
@@ -62,14 +62,20 @@ pub(crate) fn matches_of<'a>(alloc: Global, words: &'a [&'a str]) -> Result<ArgM
     ensures ok { IfOk result (λ m. subcommand_rows_of m ≡ subcommand_of command (map (λ s. s.now) words.entry.now)) }
     ensures err { IfErr result (HasKind (fault_of command (map (λ s. s.now) words.entry.now))) }
 {
+    whole_command(alloc)?.try_get_matches_from(words)
+}
+
+/// The program with its subcommands.
+fn whole_command<'a>(alloc: Global) -> Result<Command<'a>, AllocError>
+    ensures { IfOk result (λ c. app_of c ≡ command) }
+{
     let run = run_command(alloc)?;
     let play = play_command(alloc)?;
-    let whole = whole_command(alloc).subcommand(run)?.subcommand(play)?;
-    whole.try_get_matches_from(words)
+    bare_command(alloc).subcommand(run)?.subcommand(play)
 }
 
 /// The program, before its subcommands: one of them has to be given, and it tells its version.
-fn whole_command<'a>(alloc: Global) -> Command<'a>
+fn bare_command<'a>(alloc: Global) -> Command<'a>
     ensures app { app_of result ≡ on_top program (new_app (codes "revroute")) }
     ensures local { (out-Command result).has_globals ≡ false }
 {

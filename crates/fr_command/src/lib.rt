@@ -1,9 +1,28 @@
-//! The command line of the program: what its words are, and the task that they ask for.
+//! What the commands of the program do, over whatever readers and writers a caller has.
 //!
-//! [`task_of`] reads the words, and [`task_end`] says how the program ends where they ask for no task.
+//! [`run`] answers the lines of an input, and [`play_drawn`] plays the schedule of a [`Draw`] on its network. Their parts serve
+//! whoever reads an input to write another text: [`read_input`], [`Lines`], [`first_line`] and [`write_whole`]. [`task_of`] reads the words of
+//! a command line, and [`task_end`] says how the program ends where they ask for no task.
 #![tactic(auto)]
 
+mod answers;
 mod command;
+mod draws;
+mod entries;
+mod fault;
+mod input;
+pub mod laws;
+mod lines;
+mod output;
+mod play;
+mod runs;
 mod task;
 
+pub use draws::{Draw, MAX_STEPS};
+pub use fault::{RunFault, run_end};
+pub use input::{MAX_BYTES, read_input};
+pub use lines::{Lines, first_line};
+pub use output::write_whole;
+pub use play::play_drawn;
+pub use runs::run;
 pub use task::{Task, TaskFault, task_end, task_of};

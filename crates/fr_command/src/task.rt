@@ -7,11 +7,11 @@ ghost use Rattle.fr_command.specs.Commands.{number_of};
 ghost use Rattle.fr_command.specs.Tasks.{IsTaskIn, IsTaskOf, IsUsageOf, IsFaultOf};
 
 use crate::command::{MAX_BUDGET, matches_of};
+use crate::draws::{Draw, MAX_STEPS};
 use clap::error::ErrorKind;
 use clap::{ArgMatches, Error};
 use fr_core::MAX_WORKERS;
 use fr_crew::Plan;
-use fr_play::{Draw, MAX_STEPS};
 use std::alloc::{AllocError, Global};
 use thiserror::Error as FaultError;
 

@@ -7,13 +7,6 @@ ghost use Rattle.revdot.specs.Graphs.{opening, node_look_text, node_line, label_
 use std::alloc::AllocError;
 use std::fmt::Write;
 
-/// The first lines of each graph: what all nodes and all links have.
-const OPENING: &str = "digraph network {
-    graph [ nodesep = 0.4 ranksep = 0.4 fontname = Helvetica ]
-    node [ shape = circle fixedsize = true width = 0.55 fontname = Helvetica style = filled fillcolor = white ]
-    edge [ color = gray50 arrowsize = 0.8 ]
-";
-
 /// How a node is drawn.
 #[derive(Clone, Copy)]
 pub enum NodeLook {
@@ -83,7 +76,7 @@ pub fn push_graph(
 ) -> Result<(), AllocError>
     ensures { OnOk result (string_bytes text.new ≡ string_bytes text.old ++ graph_text title dest nodes.now links.now) }
 {
-    push_opening(text)?;
+    text.push_str(opening_text())?;
     push_title(text, title)?;
     push_nodes(text, nodes)?;
     push_lowest(text, dest)?;
@@ -91,11 +84,15 @@ pub fn push_graph(
     text.push_str("}\n")
 }
 
-#[tactic(auto, unfolding(crate::specs::Graphs::opening))]
-fn push_opening(text: &mut String) -> Result<(), AllocError>
-    ensures { OnOk result (string_bytes text.new ≡ string_bytes text.old ++ opening) }
+/// The first lines of each graph: what all nodes and all links have.
+fn opening_text() -> &'static str
+    ensures { result.now ≡ opening }
 {
-    text.push_str(OPENING)
+    "digraph network {
+    graph [ nodesep = 0.4 ranksep = 0.4 fontname = Helvetica ]
+    node [ shape = circle fixedsize = true width = 0.55 fontname = Helvetica style = filled fillcolor = white ]
+    edge [ color = gray50 arrowsize = 0.8 ]
+"
 }
 
 fn push_title(text: &mut String, title: Option<Title>) -> Result<(), AllocError>

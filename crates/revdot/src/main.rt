@@ -9,7 +9,7 @@ mod strips;
 mod turns;
 
 use drawing::{Picture, draw};
-use fr_run::RunFault;
+use fr_command::RunFault;
 use std::alloc::Global;
 use std::io::{BufWriter, ErrorKind};
 use std::process::ExitCode;

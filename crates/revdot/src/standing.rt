@@ -1,10 +1,10 @@
 //! The session that the lines of an input leave.
 
-ghost use Rattle.std.specs.Prelude.{IfOk};
+ghost use Rattle.std.specs.Prelude.{◌≡◌, IfOk, None, OnOk};
 ghost use Rattle.revdot.specs.Drawings.{IsLeftBy};
 
+use fr_command::Lines;
 use fr_route::Session;
-use fr_run::first_line;
 use std::alloc::{AllocError, Global};
 
 /// A session that was asked each line of the input. Networks are settled on this thread alone.
@@ -12,13 +12,19 @@ pub fn session_after(alloc: Global, input: &[u8]) -> Result<Session, AllocError>
     ensures { IfOk result (IsLeftBy input.now) }
 {
     let mut session = Session::new();
-    let mut rest = Some(input);
-    'lines: while let Some(text) = rest {
-        let (line, after) = first_line(text);
+    ask_each(alloc, &mut session, input)?;
+    Ok(session)
+}
+
+/// Asks a session that was asked nothing yet each line of the input.
+fn ask_each(alloc: Global, session: &mut Session, input: &[u8]) -> Result<(), AllocError>
+    requires { session.old ≡ None }
+    ensures { OnOk result (IsLeftBy input.now session.new) }
+{
+    for line in Lines::new(input) {
         let Ok(_answer) = session.answer_line_alone(alloc, line) else {
             return Err(AllocError);
         };
-        rest = after;
     }
-    Ok(session)
+    Ok(())
 }

@@ -4,7 +4,7 @@ ghost use Rattle.std.specs.Prelude.{◌≡◌, ◌<◌, length, map, IfOk, IfSom
 ghost use Rattle.fr_net.specs.Links.{AreBelow};
 ghost use Rattle.fr_net.specs.Turn.{turn, turned_link};
 ghost use Rattle.fr_core.specs.Legal.{NoneCanTurn};
-ghost use Rattle.revdot.specs.Strips.{first_link, moment, IsNext};
+ghost use Rattle.revdot.specs.Strips.{first_link as first_link_of, moment, IsNext};
 ghost use Rattle.revdot.specs.Ends.{HaveEnds};
 
 use std::alloc::{AllocError, Global};
@@ -16,18 +16,26 @@ pub fn first_links(
     counts: &[u64],
 ) -> Result<Vec<(u32, u32)>, AllocError>
     requires { AreBelow (length counts.now) settled.now }
-    ensures { IfOk result (λ links. links.items ≡ map (first_link counts.now) settled.now) }
+    ensures { IfOk result (λ links. links.items ≡ map (first_link_of counts.now) settled.now) }
 {
     let mut links = Vec::new(alloc);
-    for (tail, head) in settled {
-        let link = if counts[*tail as usize] == counts[*head as usize] {
-            (*tail, *head)
-        } else {
-            (*head, *tail)
-        };
-        links.push(link)?;
+    for link in settled {
+        links.push(first_link(counts, *link))?;
     }
     Ok(links)
+}
+
+/// How a settled link pointed when the round began.
+fn first_link(counts: &[u64], link: (u32, u32)) -> (u32, u32)
+    requires tail { link.0 < length counts.now }
+    requires head { link.1 < length counts.now }
+    ensures { result ≡ first_link_of counts.now link }
+{
+    if counts[link.0 as usize] == counts[link.1 as usize] {
+        link
+    } else {
+        (link.1, link.0)
+    }
 }
 
 /// For each node whether a link points away from it, and whether one points to it.

@@ -1,10 +1,8 @@
 //! The program `revroute`: answers the lines of standard input on standard output, or plays full reversal step by step.
 #![tactic(auto)]
 
-use fr_command::{Task, TaskFault, task_end, task_of};
+use fr_command::{RunFault, Task, TaskFault, play_drawn, run, run_end, task_end, task_of};
 use fr_crew::OpenGate;
-use fr_play::play_drawn;
-use fr_run::{RunFault, run, run_end};
 use std::alloc::Global;
 use std::io::{BufWriter, ErrorKind};
 use std::process::ExitCode;

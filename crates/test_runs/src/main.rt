@@ -24,7 +24,7 @@ mod telling;
 mod words;
 
 use cases::tell_all;
-use fr_run::read_input;
+use fr_command::read_input;
 
 fn main(rt: HostRuntime) {
     match read_input(rt.alloc(), &mut rt.reader()) {

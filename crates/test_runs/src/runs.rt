@@ -2,7 +2,7 @@
 
 use crate::telling::{tell, tell_lines};
 use fr_crew::{Gate, OpenGate, Plan};
-use fr_run::run;
+use fr_command::run;
 use std::alloc::Global;
 use std::io::{Read, Write};
 use std::sync::Wait;

@@ -3,8 +3,7 @@
 use crate::cases::Case;
 use fr_command::Task;
 use fr_crew::{OpenGate, Plan};
-use fr_play::{Draw, play_drawn};
-use fr_run::{RunFault, run};
+use fr_command::{Draw, RunFault, play_drawn, run};
 use std::io::{Read, Write};
 use std::sync::Wait;
 use std::thread::Threads;

@@ -1,0 +1,146 @@
+-- How far the answering of an input has come.
+use Rattle.std.proofs.Common.{◌≡◌, ◌∙◌, ℕ, ◌+◌, ◌≤◌, ◌==◌, Bool, true, false, cond, not, List, [], ◌∷◌, ◌++◌, length, take, Option, Some, None, append_assoc, append-nil, refl, sym, ap, subst, arith, MatchBool}
+use Rattle.std.specs.Prelude.{slice_get}
+use Rattle.std.proofs.lemmas.List.Splits.{length-slice_split}
+use Rattle.std.proofs.lemmas.List.Sums.{count_by-le-length, sum_by-append, sum_by-cons}
+use Rattle.std.proofs.Math.Seq.{take-append_seam}
+use Rattle.std.proofs.KnownBytes.{Appends-nil, Appends-trans, Appends-kept}
+use Rattle.std.specs.Io.KnownBytes.{Appends, Keeps}
+use Rattle.fr_route.specs.Blank.{is_blank}
+use Rattle.fr_route.specs.States.{State}
+use Rattle.fr_command.specs.Lines.{lines_of, asking_count}
+use Rattle.fr_command.specs.Answers.{AreAnswers, IsOutput}
+use Rattle.fr_command.proofs.Asking.{HasAsked, none_asked, asked_more}
+use Rattle.fr_command.proofs.EachOutput.{each_output}
+use Rattle.fr_command.proofs.Determined.{output_unique, output_begins_with, begins-trans}
+use Rattle.fr_command.specs.Outputs.{IsBeginning, WritesOutput, WritesBeginning, StopsAtLine}
+
+-- the lines of the whole input up to those that are left are answered
+pub record HasAnswered (whole : List ℕ) (left : List (List ℕ)) (now : Option State) (old new : Option (List ℕ)) (count : ℕ) : Type 0 where
+  pub out : List ℕ
+  pub asked : HasAsked whole left now out
+  pub writes : Appends old new out
+  pub counted : count ≡ asking_count asked.done
+  pub within : count + length left ≤ length whole + 1
+
+-- there is at most one line more than there are bytes
+few_lines : (whole : List ℕ) → length (lines_of whole) ≤ length whole + 1
+few_lines whole = omega (arith, length-slice_split (λ x. x == 10) whole, count_by-le-length (λ x. x == 10) whole)
+
+pub at_start : (whole : List ℕ) (left : List (List ℕ)) (now : Option State) (old : Option (List ℕ)) → left ≡ lines_of whole → now ≡ None → HasAnswered whole left now old old 0
+unfolding none_asked
+at_start whole left now old all none = rw (all, none) record {
+  out = [];
+  asked = none_asked whole;
+  writes = Appends-nil old;
+  counted = refl;
+  within = omega (arith, few_lines whole);
+}
+
+asking_count-more : (done : List (List ℕ)) (line : List ℕ) → asking_count (done ++ line ∷ []) ≡ asking_count done + cond (not (is_blank line)) 1 0
+asking_count-more done line =
+    let weight : List ℕ → ℕ = λ l. cond (not (is_blank l)) 1 0 in
+    omega (arith, sum_by-append weight done (line ∷ []), sum_by-cons weight line [])
+
+weight-le : (b : Bool) → cond {A = ℕ} b 1 0 ≤ 1
+weight-le true = omega arith
+weight-le false = omega arith
+
+slice_get-at : (xs : List (List ℕ)) (y : List ℕ) (ys : List (List ℕ)) → slice_get (xs ++ y ∷ ys) (length xs) ≡ Some y
+slice_get-at [] y ys = refl
+slice_get-at (x ∷ xs) y ys = slice_get-at xs y ys
+
+module _ (whole line : List ℕ) (left : List (List ℕ)) (now : Option State) (old mid : Option (List ℕ)) (count : ℕ) (h : HasAnswered whole (line ∷ left) now old mid count) where
+  -- one line more is asked
+  one_line_more : (next : Option State) (new : Option (List ℕ)) (out : List ℕ) → AreAnswers now (line ∷ []) out next → Appends mid new out
+      → HasAnswered whole left next old new (count + cond (not (is_blank line)) 1 0)
+  unfolding asked_more
+  one_line_more next new out are more = record {
+    out = h.out ++ out;
+    asked = asked_more whole line left now next h.out out h.asked are;
+    writes = Appends-trans old mid new h.out out h.writes more;
+    counted = ap (λ (k : ℕ). k + cond (not (is_blank line)) 1 0) h.counted ∙ sym (asking_count-more h.asked.done line);
+    within = omega (arith, h.within, weight-le (not (is_blank line)));
+  }
+
+  -- and answered,
+  pub one_answer_more : (next : Option State) (new : Option (List ℕ)) (out : List ℕ) → true ≡ not (is_blank line) → AreAnswers now (line ∷ []) out next → Appends mid new out
+      → HasAnswered whole left next old new (count + 1)
+  one_answer_more next new out asks are more = subst (λ (b : Bool). HasAnswered whole left next old new (count + cond b 1 0)) (sym asks) (one_line_more next new out are more)
+
+  -- or it was blank
+  pub no_answer_more : (next : Option State) (new : Option (List ℕ)) (out : List ℕ) → false ≡ not (is_blank line) → AreAnswers now (line ∷ []) out next → Appends mid new out
+      → HasAnswered whole left next old new count
+  no_answer_more next new out asks are more =
+      let same : count + cond (not (is_blank line)) 1 0 ≡ count = rw (← asks) (omega arith) in
+      subst (λ (k : ℕ). HasAnswered whole left next old new k) same (one_line_more next new out are more)
+
+  -- a write failed within the line's answer
+  pub stops_writing : (last : Option State) (new : Option (List ℕ)) (answer out : List ℕ) → AreAnswers now (line ∷ []) answer last → IsBeginning out answer → Appends mid new out → WritesBeginning whole old new
+  stops_writing last new answer out are begins more =
+      let more_asked = asked_more whole line left now last h.out answer h.asked are in
+      let front : take (length more_asked.done) (lines_of whole) ≡ more_asked.done = rw more_asked.cut (take-append_seam more_asked.done left) in
+      let answers : AreAnswers None (take (length more_asked.done) (lines_of whole)) (h.out ++ answer) last =
+      subst (λ (ls : List (List ℕ)). AreAnswers None ls (h.out ++ answer) last) (sym front) more_asked.are_answers in
+      let part : IsBeginning (h.out ++ out) (h.out ++ answer) = (begins.0, ap (λ (o : List ℕ). h.out ++ o) begins.1 ∙ sym (append_assoc h.out out begins.0)) in
+      let all = each_output whole in
+      record {
+        whole = all.0;
+        out = h.out ++ out;
+        output = all.1;
+        only = λ other is. output_unique whole other all.0 is all.1;
+        begins = begins-trans (h.out ++ out) (h.out ++ answer) all.0 part (output_begins_with whole (h.out ++ answer) all.0 (length more_asked.done) last answers all.1);
+        writes = Appends-trans old mid new h.out out h.writes more;
+      }
+
+  -- the line failed
+  pub stops_at_line : (new : Option (List ℕ)) → is_blank line ≡ false → Keeps mid new → StopsAtLine whole old new
+  stops_at_line new asks kept =
+      let done = h.asked.done in
+      let front : take (length done) (lines_of whole) ≡ done = rw h.asked.cut (take-append_seam done (line ∷ left)) in
+      let answers : AreAnswers None (take (length done) (lines_of whole)) h.out now = subst (λ (ls : List (List ℕ)). AreAnswers None ls h.out now) (sym front) h.asked.are_answers in
+      record {
+        place = length done;
+        line = line;
+        out = h.out;
+        last = now;
+        is_line = ap (λ (ls : List (List ℕ)). slice_get ls (length done)) h.asked.cut ∙ slice_get-at done line left;
+        asks = asks;
+        are_answers = answers;
+        begins = λ all is. output_begins_with whole h.out all (length done) now answers is;
+        writes = Appends-kept old mid new h.out h.writes kept;
+      }
+
+-- no line is left
+pub all_answered : (whole : List ℕ) (now : Option State) (old new : Option (List ℕ)) (count : ℕ) → HasAnswered whole [] now old new count → WritesOutput whole old new count
+all_answered whole now old new count h =
+    let all : h.asked.done ≡ lines_of whole = sym (h.asked.cut ∙ append-nil h.asked.done) in
+    let output : IsOutput whole h.out = (now, subst (λ (ls : List (List ℕ)). AreAnswers None ls h.out now) all h.asked.are_answers) in
+    record {
+      out = h.out;
+      output = output;
+      only = λ other is. output_unique whole other h.out is output;
+      writes = h.writes;
+      counted = h.counted ∙ ap asking_count all;
+    }
+
+-- the whole was answered, and what came then wrote nothing
+pub output_begins : (whole : List ℕ) (old mid new : Option (List ℕ)) (count : ℕ) → WritesOutput whole old mid count → Keeps mid new → WritesBeginning whole old new
+output_begins whole old mid new count w kept = record {
+  whole = w.out;
+  out = w.out;
+  output = w.output;
+  only = w.only;
+  begins = ([], sym (append-nil w.out));
+  writes = Appends-kept old mid new w.out w.writes kept;
+}
+
+-- and it was flushed
+pub flushed : (whole : List ℕ) (old mid new : Option (List ℕ)) (count : ℕ) → WritesOutput whole old mid count → Keeps mid new → WritesOutput whole old new count
+flushed whole old mid new count w kept = record {
+  out = w.out;
+  output = w.output;
+  only = w.only;
+  writes = Appends-kept old mid new w.out w.writes kept;
+  counted = w.counted;
+}

@@ -1,0 +1,124 @@
+//! Answering the lines of an input.
+
+ghost use Rattle.std.specs.Prelude.{◌≡◌, ◌≢◌, [], ◌∷◌, List, ℕ, IfErr, IfNone, IfOk, IfSome, None, Option, false, not, string_bytes, true};
+ghost use Rattle.std.specs.Io.KnownBytes.{Appends, Keeps};
+ghost use Rattle.fr_route.specs.Blank.{is_blank};
+ghost use Rattle.fr_route.specs.States.{State};
+ghost use Rattle.fr_command.specs.Answers.{AreAnswers};
+ghost use Rattle.fr_command.specs.Outputs.{IsBeginning, WritesOutput, WritesBeginning, StopsAtLine};
+
+use crate::fault::RunFault;
+use crate::lines::Lines;
+use crate::output::write_whole;
+use fr_crew::{Gate, Plan};
+use fr_route::{AnswerFault, Session};
+use std::alloc::Global;
+use std::io::Write;
+use std::sync::Wait;
+use std::thread::Threads;
+
+/// Writes the answer to each line of the input that is not blank, and tells how many were answered.
+pub(crate) fn answer_all<T: Threads + Wait + Sync, W: Write, G: Gate + Sync>(
+    rt: &T,
+    alloc: Global,
+    input: &[u8],
+    writer: &mut W,
+    plan: &Plan,
+    gate: &G,
+) -> Result<u64, RunFault>
+    ensures ok { IfOk result (WritesOutput input.now (W.contents writer.old) (W.contents writer.new)) }
+    ensures write { result ≡ Err RunFault.Write → WritesBeginning input.now (W.contents writer.old) (W.contents writer.new) }
+    ensures start { result ≡ Err RunFault.Start → StopsAtLine input.now (W.contents writer.old) (W.contents writer.new) }
+    ensures memory { result ≡ Err RunFault.Memory → StopsAtLine input.now (W.contents writer.old) (W.contents writer.new) }
+    ensures no_read { result ≢ Err RunFault.Read }
+    ensures no_length { result ≢ Err RunFault.TooLong }
+    ensures no_start { plan.now.budget ≡ 0 → result ≢ Err RunFault.Start }
+{
+    let mut session = Session::new();
+    answer_each(rt, alloc, &mut session, input, writer, plan, gate)
+}
+
+/// The same, of a session that was asked nothing yet.
+fn answer_each<T: Threads + Wait + Sync, W: Write, G: Gate + Sync>(
+    rt: &T,
+    alloc: Global,
+    session: &mut Session,
+    input: &[u8],
+    writer: &mut W,
+    plan: &Plan,
+    gate: &G,
+) -> Result<u64, RunFault>
+    requires { session.old ≡ None }
+    ensures ok { IfOk result (WritesOutput input.now (W.contents writer.old) (W.contents writer.new)) }
+    ensures write { result ≡ Err RunFault.Write → WritesBeginning input.now (W.contents writer.old) (W.contents writer.new) }
+    ensures start { result ≡ Err RunFault.Start → StopsAtLine input.now (W.contents writer.old) (W.contents writer.new) }
+    ensures memory { result ≡ Err RunFault.Memory → StopsAtLine input.now (W.contents writer.old) (W.contents writer.new) }
+    ensures no_read { result ≢ Err RunFault.Read }
+    ensures no_length { result ≢ Err RunFault.TooLong }
+    ensures no_start { plan.now.budget ≡ 0 → result ≢ Err RunFault.Start }
+{
+    let mut count = 0;
+    for line in Lines::new(input) {
+        if answer_one(rt, alloc, session, line, writer, plan, gate)? {
+            count += 1;
+        }
+    }
+    Ok(count)
+}
+
+/// Writes the answer to a line, with byte 10 behind it, and tells whether there is one: a blank line has none.
+fn answer_one<T: Threads + Wait + Sync, W: Write, G: Gate + Sync>(
+    rt: &T,
+    alloc: Global,
+    session: &mut Session,
+    line: &[u8],
+    writer: &mut W,
+    plan: &Plan,
+    gate: &G,
+) -> Result<bool, RunFault>
+    ensures asks { IfOk result (λ asks. asks ≡ not (is_blank line.now)) }
+    ensures ok { IfOk result (λ asks. (out : List ℕ) × AreAnswers session.old (line.now ∷ []) out session.new
+        × Appends (W.contents writer.old) (W.contents writer.new) out) }
+    ensures write { result ≡ Err RunFault.Write → (answer : List ℕ) × (last : Option State) × (out : List ℕ)
+        × AreAnswers session.old (line.now ∷ []) answer last × IsBeginning out answer
+        × Appends (W.contents writer.old) (W.contents writer.new) out }
+    ensures start { result ≡ Err RunFault.Start → (is_blank line.now ≡ false) × Keeps (W.contents writer.old) (W.contents writer.new) }
+    ensures memory { result ≡ Err RunFault.Memory → (is_blank line.now ≡ false) × Keeps (W.contents writer.old) (W.contents writer.new) }
+    ensures no_read { result ≢ Err RunFault.Read }
+    ensures no_length { result ≢ Err RunFault.TooLong }
+    ensures no_start { plan.now.budget ≡ 0 → result ≢ Err RunFault.Start }
+{
+    match answer_text(rt, alloc, session, line, plan, gate) {
+        Ok(Some(text)) => {
+            write_whole(writer, text.as_bytes())?;
+            Ok(true)
+        }
+        Ok(None) => Ok(false),
+        Err(AnswerFault::Start) => Err(RunFault::Start),
+        Err(AnswerFault::Memory) => Err(RunFault::Memory),
+    }
+}
+
+/// The answer to a line, with byte 10 behind it, if there is one.
+fn answer_text<T: Threads + Wait + Sync, G: Gate + Sync>(
+    rt: &T,
+    alloc: Global,
+    session: &mut Session,
+    line: &[u8],
+    plan: &Plan,
+    gate: &G,
+) -> Result<Option<String>, AnswerFault>
+    ensures blank { IfOk result (λ answer. IfNone answer ((is_blank line.now ≡ true) × (session.new ≡ session.old))) }
+    ensures text { IfOk result (λ answer. IfSome answer (λ text. (is_blank line.now ≡ false)
+        × AreAnswers session.old (line.now ∷ []) (string_bytes text) session.new)) }
+    ensures asks { IfErr result (λ _. is_blank line.now ≡ false) }
+    ensures no_start { plan.now.budget ≡ 0 → result ≢ Err AnswerFault.Start }
+{
+    let Some(mut text) = session.answer_line(rt, alloc, line, plan, gate)? else {
+        return Ok(None);
+    };
+    match text.push('\n') {
+        Ok(()) => Ok(Some(text)),
+        Err(_) => Err(AnswerFault::Memory),
+    }
+}

@@ -1,0 +1,52 @@
+//! The lines of an input.
+
+ghost use Rattle.std.specs.Prelude.{◌≡◌, ◌+◌, ◌==◌, ◌<◌, ◌∷◌, [], ℕ, List, length, position, IfSome};
+ghost use Rattle.std.specs.Option.{option_copied, option_map_or};
+ghost use Rattle.std.specs.Iterator.{YieldsFirstRef, item_count};
+ghost use Rattle.fr_command.specs.Lines.{lines_of, lines_left};
+
+/// The lines of an input, one after the other. What stands behind the last byte 10 is a line too, empty or not.
+#[derive(Drop)]
+pub struct Lines<'a> {
+    rest: Option<&'a [u8]>,
+}
+
+impl<'a> Lines<'a> {
+    /// The lines of this input.
+    pub fn new(input: &'a [u8]) -> Lines<'a>
+        ensures { lines_left result ≡ lines_of input.now }
+    {
+        Lines { rest: Some(input) }
+    }
+}
+
+impl<'a> Iterator for Lines<'a> {
+    type Item = &'a [u8];
+
+    ghost next_gives = { YieldsFirstRef lines_left };
+
+    ghost remaining = { item_count lines_left };
+
+    fn next(&mut self) -> Option<&'a [u8]> {
+        let (line, rest) = first_line(self.rest?);
+        self.rest = rest;
+        Some(line)
+    }
+}
+
+/// The first line of a text, and what stands behind its byte 10, if it has one.
+pub fn first_line(text: &[u8]) -> (&[u8], Option<&[u8]>)
+    ensures first { lines_of text.now ≡ result.0.now ∷ option_map_or lines_of (option_copied result.1) [] }
+    ensures shorter { IfSome result.1 (λ rest. length rest.now < length text.now) }
+{
+    match line_end(text) {
+        Some(end) => (&text[..end], Some(&text[end + 1..])),
+        None => (text, None),
+    }
+}
+
+fn line_end(text: &[u8]) -> Option<usize>
+    ensures { result ≡ position (λ x. x == 10) text.now }
+{
+    text.iter().position(|byte| *byte == b'\n')
+}

@@ -1,0 +1,142 @@
+//! A play: the network of an input, turned by single steps of workers under a drawn schedule.
+
+ghost use Rattle.std.specs.Prelude.{◌≡◌, ◌≢◌, ◌<◌, List, ℕ, not, replicate, string_bytes, find, IfOk};
+ghost use Rattle.std.specs.Io.KnownBytes.{Keeps};
+ghost use Rattle.std.specs.Option.{option_copied};
+ghost use Rattle.fr_net.specs.Requests.{new_network};
+ghost use Rattle.fr_core.specs.Played.{IsPlay};
+ghost use Rattle.fr_route.specs.Blank.{is_blank as is_blank_line};
+ghost use Rattle.fr_command.specs.Lines.{lines_of};
+ghost use Rattle.fr_command.specs.Outputs.{ReadsInput, ReadsOneTooMany, ReadsAtMostOneTooMany};
+ghost use Rattle.fr_command.specs.Draws.{drawn};
+ghost use Rattle.fr_command.specs.Plays.{targets_for, IsRefusal, IsPlayText, IsPlayOf, IsPlayOutput, WritesPlay, WritesPlayBeginning};
+
+use crate::draws::Draw;
+use crate::entries::{end_text, push_count, targets_of};
+use crate::fault::RunFault;
+use crate::input::read_input;
+use crate::lines::Lines;
+use crate::output::write_whole;
+use fr_core::{Entry, play};
+use fr_net::{LineFault, Net, NetFault, Request, read_line};
+use fr_route::{fault_number, is_blank};
+use std::alloc::{AllocError, Global};
+use std::io::{Read, Write};
+
+/// Reads the whole input, plays the schedule of the draw on the network of the first line that is not blank, writes the
+/// entries, one a line, and then the links and the counts at the end, flushes once, and tells how many entries there are.
+/// Each worker goes through the nodes with links but the destination in rising order, and again from the first, up to as many
+/// as there are steps. Where there is no such line, or it is refused as the first line of a run would be, or is no network,
+/// all that is written is that it is refused. At most one byte past the limit, [`MAX_BYTES`](crate::MAX_BYTES), is read.
+pub fn play_drawn<R: Read, W: Write>(
+    alloc: Global,
+    reader: &mut R,
+    writer: &mut W,
+    draw: Draw,
+) -> Result<u64, RunFault>
+    ensures ok { IfOk result (λ count. (bytes : List ℕ)
+        × ReadsInput (R.remaining reader.old) (R.remaining reader.new) bytes
+        × WritesPlay draw bytes (W.contents writer.old) (W.contents writer.new) count) }
+    ensures limit { ReadsAtMostOneTooMany (R.remaining reader.old) (R.remaining reader.new) }
+    ensures read { result ≡ Err RunFault.Read → Keeps (W.contents writer.old) (W.contents writer.new) }
+    ensures too_long { result ≡ Err RunFault.TooLong → Keeps (W.contents writer.old) (W.contents writer.new)
+        × ReadsOneTooMany (R.remaining reader.old) (R.remaining reader.new) }
+    ensures write { result ≡ Err RunFault.Write → (bytes : List ℕ)
+        × ReadsInput (R.remaining reader.old) (R.remaining reader.new) bytes
+        × WritesPlayBeginning draw bytes (W.contents writer.old) (W.contents writer.new) }
+    ensures no_start { result ≢ Err RunFault.Start }
+    ensures memory { result ≡ Err RunFault.Memory → Keeps (W.contents writer.old) (W.contents writer.new) }
+{
+    let input = read_input(alloc, reader)?;
+    let Ok((text, count)) = play_input(alloc, &input, draw) else {
+        return Err(RunFault::Memory);
+    };
+    write_whole(writer, text.as_bytes())?;
+    match writer.flush() {
+        Ok(()) => Ok(count),
+        Err(_) => Err(RunFault::Write),
+    }
+}
+
+/// What the play of an input prints, and how many entries it has.
+fn play_input(alloc: Global, input: &[u8], draw: Draw) -> Result<(String, u64), AllocError>
+    ensures { IfOk result (λ made. IsPlayOutput draw input.now (string_bytes made.0) made.1) }
+{
+    let Some(line) = first_asking(input) else {
+        return refusal(alloc, 3);
+    };
+    match read_line(alloc, line) {
+        Ok(Request::Network { nodes, dest, links }) => play_links(alloc, nodes, dest, &links, draw),
+        Ok(_) => refusal(alloc, 3),
+        Err(LineFault::NotJson) => refusal(alloc, 1),
+        Err(LineFault::NotRequest) => refusal(alloc, 2),
+        Err(LineFault::Memory) => Err(AllocError),
+    }
+}
+
+/// The first line of an input that is not blank.
+fn first_asking(input: &[u8]) -> Option<&[u8]>
+    ensures { option_copied result ≡ find (λ line. not (is_blank_line line)) (lines_of input.now) }
+{
+    for line in Lines::new(input) {
+        if !is_blank(line) {
+            return Some(line);
+        }
+    }
+    None
+}
+
+/// That the input is refused by this number, with no entry.
+fn refusal(alloc: Global, number: u32) -> Result<(String, u64), AllocError>
+    ensures { IfOk result (λ made. IsRefusal number (string_bytes made.0) made.1) }
+{
+    let mut text = String::new(alloc);
+    push_count(&mut text, "refused ", u64::from(number))?;
+    text.push('\n')?;
+    Ok((text, 0))
+}
+
+/// The play on the network of these links, or for which fault it is refused.
+fn play_links(
+    alloc: Global,
+    nodes: u32,
+    dest: u32,
+    links: &[(u32, u32)],
+    draw: Draw,
+) -> Result<(String, u64), AllocError>
+    ensures { IfOk result (λ made. IsPlayOf draw (new_network nodes dest links.now) (string_bytes made.0) made.1) }
+{
+    let net = match Net::new(alloc, nodes, links) {
+        Ok(net) => net,
+        Err(NetFault::Memory) => return Err(AllocError),
+        Err(fault) => return refusal(alloc, fault_number(&fault)),
+    };
+    if dest >= nodes {
+        return refusal(alloc, 4);
+    }
+    play_net(alloc, &net, dest, draw)
+}
+
+/// The play on a network.
+fn play_net(alloc: Global, net: &Net, dest: u32, draw: Draw) -> Result<(String, u64), AllocError>
+    requires { dest < net.now.nodes }
+    ensures { IfOk result (λ made. IsPlayText draw net.now.nodes dest net.now.links (string_bytes made.0) made.1) }
+{
+    let entries = entries_of(alloc, net, dest, draw)?;
+    let text = end_text(alloc, net, dest, &entries)?;
+    Ok((text, entries.len() as u64))
+}
+
+/// What the calls of a play on a network come to.
+fn entries_of(alloc: Global, net: &Net, dest: u32, draw: Draw) -> Result<Vec<Entry>, AllocError>
+    ensures { IfOk result (λ entries. IsPlay net.now.nodes dest net.now.links
+        (replicate draw.workers (targets_for net.now.nodes dest net.now.links draw.steps)) (drawn draw.seed draw.steps draw.workers) entries.items) }
+{
+    let targets = targets_of(alloc, net, dest, draw)?;
+    let schedule = draw.schedule(alloc)?;
+    // The schedule names workers, and a machine takes these targets, so want of memory is the only fault.
+    match play(alloc, net, dest, targets, &schedule) {
+        Ok(entries) => Ok(entries),
+        Err(_) => Err(AllocError),
+    }
+}

@@ -1,0 +1,57 @@
+//! A run: reads the whole input, and answers its lines one after another.
+
+ghost use Rattle.std.specs.Prelude.{◌≡◌, ◌≢◌, ◌⊎◌, List, ℕ, IfOk};
+ghost use Rattle.std.specs.Io.KnownBytes.{Keeps};
+ghost use Rattle.fr_command.specs.Outputs.{ReadsInput, ReadsOneTooMany, ReadsAtMostOneTooMany, WritesOutput, WritesBeginning, StopsAtLine};
+
+use crate::answers::answer_all;
+use crate::fault::RunFault;
+use crate::input::read_input;
+use fr_crew::{Gate, Plan};
+use std::alloc::Global;
+use std::io::{Read, Write};
+use std::sync::Wait;
+use std::thread::Threads;
+
+/// Reads the whole input, answers each of its lines that is not blank, flushes once at the end, and tells how many lines
+/// were answered. At most one byte past the limit, [`MAX_BYTES`](crate::MAX_BYTES), is read. The input is cut into lines at each
+/// byte 10, and `specs/Answers.antt` of fr_route says what the answer to a line is. Each network is settled by threads, by the
+/// plan and under the gate, on which no answer depends. It waits for these threads, which end where the calls of the gate return; with
+/// the budget 0 there are none, and `Start` never comes.
+pub fn run<T: Threads + Wait + Sync, R: Read, W: Write, G: Gate + Sync>(
+    rt: &T,
+    alloc: Global,
+    reader: &mut R,
+    writer: &mut W,
+    plan: &Plan,
+    gate: &G,
+) -> Result<u64, RunFault>
+    ensures ok { IfOk result (λ count. (bytes : List ℕ)
+        × ReadsInput (R.remaining reader.old) (R.remaining reader.new) bytes
+        × WritesOutput bytes (W.contents writer.old) (W.contents writer.new) count) }
+    ensures limit { ReadsAtMostOneTooMany (R.remaining reader.old) (R.remaining reader.new) }
+    ensures read { result ≡ Err RunFault.Read → Keeps (W.contents writer.old) (W.contents writer.new) }
+    ensures too_long { result ≡ Err RunFault.TooLong → Keeps (W.contents writer.old) (W.contents writer.new)
+        × ReadsOneTooMany (R.remaining reader.old) (R.remaining reader.new) }
+    ensures write { result ≡ Err RunFault.Write → (bytes : List ℕ)
+        × ReadsInput (R.remaining reader.old) (R.remaining reader.new) bytes
+        × WritesBeginning bytes (W.contents writer.old) (W.contents writer.new) }
+
+    // A thread was missing at a line.
+    ensures start { result ≡ Err RunFault.Start → (bytes : List ℕ)
+        × ReadsInput (R.remaining reader.old) (R.remaining reader.new) bytes
+        × StopsAtLine bytes (W.contents writer.old) (W.contents writer.new) }
+    ensures no_start { plan.now.budget ≡ 0 → result ≢ Err RunFault.Start }
+
+    // Memory ran out while reading, or at a line.
+    ensures memory { result ≡ Err RunFault.Memory → Keeps (W.contents writer.old) (W.contents writer.new)
+        ⊎ ((bytes : List ℕ) × ReadsInput (R.remaining reader.old) (R.remaining reader.new) bytes
+        × StopsAtLine bytes (W.contents writer.old) (W.contents writer.new)) }
+{
+    let input = read_input(alloc, reader)?;
+    let count = answer_all(rt, alloc, &input, writer, plan, gate)?;
+    match writer.flush() {
+        Ok(()) => Ok(count),
+        Err(_) => Err(RunFault::Write),
+    }
+}

@@ -1,4 +1,0 @@
-pub mod DrawnSteps
-pub mod PlayTargets
-pub mod OnePlay
-pub mod PlayEnds

@@ -1,7 +1,0 @@
-use Rattle.std.proofs.Common.{◌≡◌}
-use Rattle.fr_play.specs.Plays.{turnable_nodes}
-use Rattle.fr_play.proofs.entries.turnable_nodes.Given as goal
-
--- the nodes below x of those that are wanted
-abbrev pub invariant-loop-x : goal.invariant-loop-x
-invariant-loop-x l = l.nodes.items ≡ turnable_nodes l.x l.dest l.net.links
