@@ -2,10 +2,9 @@
 
 use crate::tasks::task_text;
 use crate::telling::{put, put_word, tell, tell_lines};
-use fr_command::Task;
+use fr_command::{Draw, Task};
 use fr_core::{Entry, Reply, Target, play};
 use fr_net::{Net, Request, read_line};
-use fr_command::Draw;
 use rand_core::SeedableRng;
 use rand_core::utils::NextWord;
 use rand_pcg::Lcg64Xsh32;

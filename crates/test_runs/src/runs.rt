@@ -1,8 +1,8 @@
 //! What a run writes under one plan and under others, on which no answer depends.
 
 use crate::telling::{tell, tell_lines};
-use fr_crew::{Gate, OpenGate, Plan};
 use fr_command::run;
+use fr_crew::{Gate, OpenGate, Plan};
 use std::alloc::Global;
 use std::io::{Read, Write};
 use std::sync::Wait;

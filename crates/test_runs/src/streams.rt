@@ -2,8 +2,7 @@
 
 use crate::tasks::{perform, task_text};
 use crate::telling::{tell, tell_lines, tell_value};
-use fr_command::Task;
-use fr_command::RunFault;
+use fr_command::{RunFault, Task};
 use std::alloc::Global;
 use std::io;
 use std::io::{Read, Write};

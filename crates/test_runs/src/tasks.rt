@@ -1,9 +1,8 @@
 //! Runs and plays by any reader and writer.
 
 use crate::cases::Case;
-use fr_command::Task;
+use fr_command::{Draw, RunFault, Task, play_drawn, run};
 use fr_crew::{OpenGate, Plan};
-use fr_command::{Draw, RunFault, play_drawn, run};
 use std::io::{Read, Write};
 use std::sync::Wait;
 use std::thread::Threads;

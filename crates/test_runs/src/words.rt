@@ -2,9 +2,8 @@
 
 use crate::cases::Case;
 use crate::telling::{tell, tell_lines, tell_value};
-use fr_command::{TaskFault, task_end, task_of};
+use fr_command::{RunFault, TaskFault, run_end, task_end, task_of};
 use fr_route::{AnswerFault, RouteFault};
-use fr_command::{RunFault, run_end};
 use std::fmt::Display;
 
 /// Tells the task that the words of a case ask for, or the status and of the text how it begins, what it holds, and how it ends, where
