@@ -158,6 +158,7 @@ fn link_list(alloc: Global, value: &Value) -> Result<Vec<(u32, u32)>, LineFault>
 }
 
 /// Puts the link that an item is behind those of the items before it.
+#[inline(always)]
 fn push_link(links: &mut Vec<(u32, u32)>, item: &Value) -> Result<(), LineFault>
     ensures ok { OnOk result (IsReadNext link_in links.old.items (view item.now) links.new.items) }
     ensures refused { IfErr result (λ fault. fault ≢ Memory → (fault ≡ NotRequest) × (link_in (view item.now) ≡ None)) }
@@ -192,6 +193,7 @@ fn edit_list(alloc: Global, value: &Value) -> Result<Vec<Edit>, LineFault>
 }
 
 /// Puts the edit that an item is behind those of the items before it.
+#[inline(always)]
 fn push_edit(edits: &mut Vec<Edit>, item: &Value) -> Result<(), LineFault>
     ensures ok { OnOk result (IsReadNext edit_in edits.old.items (view item.now) edits.new.items) }
     ensures refused { IfErr result (λ fault. fault ≢ Memory → (fault ≡ NotRequest) × (edit_in (view item.now) ≡ None)) }
@@ -228,6 +230,7 @@ fn edit_by_word(word: &str, rest: &[Value]) -> Option<Edit>
 }
 
 /// The items of an array.
+#[inline(always)]
 fn items_of(value: &Value) -> Option<&[Value]>
     ensures { option_map (λ items. map view items.now) result ≡ items_in (view value.now) }
 {

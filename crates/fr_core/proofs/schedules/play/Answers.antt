@@ -1,7 +1,7 @@
-use Rattle.std.proofs.Common.{All, Any, Bool, Err, Global, List, Ok, Result, Vec, ap, arith, false, get_or, inl, inr, length, map, refl, subst, sym, true, ℕ, ⊎_elim, ◌<◌, ◌∙◌, ◌≡◌, ◌≢◌, ◌≤◌}
-use Rattle.std.specs.Result.{IfErr, IsErrAnd}
+use Rattle.std.proofs.Common.{All, Any, Bool, Global, List, Vec, ap, arith, false, get_or, inl, inr, length, map, refl, subst, sym, true, ℕ, ⊎_elim, ◌<◌, ◌∙◌, ◌≡◌, ◌≤◌}
 use Rattle.std.proofs.lemmas.Bool.{cases_lt, false≢true}
 use Rattle.std.proofs.lemmas.List.{get_or_default, length-map}
+use Rattle.std.proofs.lemmas.Result.{err_from_is_err_and}
 use Rattle.fr_core.proofs.MachineParts.{played}
 use Rattle.fr_core.specs.Machine.{entries_of, fresh}
 use Rattle.fr_core.specs.Played.{MachineView}
@@ -29,11 +29,6 @@ fault_of_play n d links targets schedule Range range h = inl h
 fault_of_play n d links targets schedule (BadTarget worker at) range h = (range, h.1)
 fault_of_play n d links targets schedule Memory range h = absurd h
 
--- what a `?` hands on is the fault of a play
-handed_on : {T : Type 0} (P : PlayFault → Type 0) (r : Result T PlayFault) (f : PlayFault) → IsErrAnd r (λ fault. fault ≡ f) → (f ≢ Memory → P f) → IfErr r (λ fault. fault ≢ Memory → P fault)
-handed_on P (Ok x) f is told = tt
-handed_on P (Err fault) f is told = subst (λ (e : PlayFault). e ≢ Memory → P e) (sym is) told
-
 pub returns-then-dest-nodes-clause-refused : goal.returns-then-dest-nodes-clause-refused
 returns-then-dest-nodes-clause-refused c _ = elim c.then-dest-nodes.branch [
   | then-dest-nodes-via-then-dest-nodes w ↦ inl (omega (arith, w.if-dest-nodes.true, c.nodes.ensures.value))
@@ -55,13 +50,13 @@ returns-in_err-machine-clause-refused c =
     let lists = lists_of c.args.targets.items in
     let named = all_named c.args.targets.items c.args.schedule.now c.len.result c.names_no_worker.result (omega arith) c.if-names_no_worker.false c.names_no_worker.ensures.1 in
     let range : IsPlayInRange net.nodes c.args.dest lists c.args.schedule.now = record { destination = omega (arith, c.if-dest-nodes.false, c.nodes.ensures.value); workers = named } in
-    handed_on (IsPlayFault net.nodes c.args.dest net.links lists c.args.schedule.now) _ _ c.from_residual.ensures.1
-    (λ other. fault_of_play net.nodes c.args.dest net.links lists c.args.schedule.now _ range (c.in_err-machine.ensures.refused other))
+    let told = err_from_is_err_and c.from_residual.result c.from_residual.ensures.1 in
+    rw (told.1, told.2) (λ other. fault_of_play net.nodes c.args.dest net.links lists c.args.schedule.now _ range (c.in_err-machine.ensures.refused other))
 
 pub returns-in_err-follow-clause-refused : goal.returns-in_err-follow-clause-refused
 returns-in_err-follow-clause-refused c =
-    let net = c.args.net.now in
-    handed_on (IsPlayFault net.nodes c.args.dest net.links (lists_of c.args.targets.items) c.args.schedule.now) _ Memory c.from_residual-in_err-follow.ensures.1 (λ other. absurd (other refl))
+    let told = err_from_is_err_and c.from_residual-in_err-follow.result c.from_residual-in_err-follow.ensures.1 in
+    rw (told.1, told.2) (λ other. absurd (other refl))
 
 pub returns-clause-ok : goal.returns-clause-ok
 returns-clause-ok c =

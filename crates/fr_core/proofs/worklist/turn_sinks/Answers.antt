@@ -13,30 +13,6 @@ loop-at-preserved g c =
     }
 
 -- where it stops before a node, it has changed nothing for it
-pub returns-then-cost-allowance-clause-lawful : goal.returns-then-cost-allowance-clause-lawful
-returns-then-cost-allowance-clause-lawful g c =
-    let turns : c.then-cost-allowance.turns ≡ c.loop-at.turns = elim c.then-cost-allowance.branch [
-      | then-cost-allowance-via-then-cost-allowance w ↦ w.turns-is
-      | then-cost-allowance-via-else-cost-allowance+then-not-visit w ↦ w.turns-is ∙ (w.visit.ensures.unchanged w.if-not-visit.true).0
-    ] in
-    rw turns c.loop-at.invariant.lawful
-
-pub returns-then-cost-allowance-clause-forth : goal.returns-then-cost-allowance-clause-forth
-returns-then-cost-allowance-clause-forth g c =
-    let turns : c.then-cost-allowance.turns ≡ c.loop-at.turns = elim c.then-cost-allowance.branch [
-      | then-cost-allowance-via-then-cost-allowance w ↦ w.turns-is
-      | then-cost-allowance-via-else-cost-allowance+then-not-visit w ↦ w.turns-is ∙ (w.visit.ensures.unchanged w.if-not-visit.true).0
-    ] in
-    rw turns c.loop-at.invariant.forth
-
-pub returns-then-cost-allowance-clause-nodes : goal.returns-then-cost-allowance-clause-nodes
-returns-then-cost-allowance-clause-nodes g c =
-    let work : c.then-cost-allowance.work ≡ c.loop-at.work = elim c.then-cost-allowance.branch [
-      | then-cost-allowance-via-then-cost-allowance w ↦ w.work-is
-      | then-cost-allowance-via-else-cost-allowance+then-not-visit w ↦ w.work-is ∙ (w.visit.ensures.unchanged w.if-not-visit.true).1
-    ] in
-    rw work c.loop-at.invariant.nodes
-
 pub returns-then-cost-allowance-clause-all : goal.returns-then-cost-allowance-clause-all
 returns-then-cost-allowance-clause-all g c =
     let turns : c.then-cost-allowance.turns ≡ c.loop-at.turns = elim c.then-cost-allowance.branch [
