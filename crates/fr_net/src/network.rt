@@ -334,8 +334,9 @@ impl Net {
         ensures memory { IfErr result (λ fault. fault ≡ Memory) }
     {
         self.network_law();
+        let turns = Turns::of(alloc, counts.to_vec(alloc)?)?;
         let mut net = self.copied(alloc)?;
-        net.turn(&Turns::of(alloc, counts.to_vec(alloc)?)?);
+        net.turn(&turns);
         Ok(net)
     }
 

@@ -1,4 +1,4 @@
-use Rattle.std.proofs.Common.{List, ap, arith, subst, suc, sym, ◌+◌, ◌≡◌}
+use Rattle.std.proofs.Common.{List, ap, arith, subst, suc, sym, take_all, ◌+◌, ◌≡◌}
 use Rattle.std.proofs.lemmas.List.{get_or_default}
 use Rattle.fr_net.proofs.Batches.{made_next}
 use Rattle.fr_net.proofs.Remaking.{graph_of_rows, shown_of_rows, with_links}
@@ -63,3 +63,8 @@ loop-at-preserved c =
       one_each = omega (arith, c.push_reserved.ensures.len, inv.one_each);
       all_room = omega (arith, c.push_reserved.ensures.capacity, inv.all_room);
     }
+
+pub returns-clause-ok : goal.returns-clause-ok
+returns-clause-ok c =
+    let inv = c.loop-at.invariant in
+    (rw (take_all c.loop-at.at c.args.edits.now c.loop-at-test.false) at inv.made, inv.undo)
