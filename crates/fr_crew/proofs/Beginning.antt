@@ -1,6 +1,5 @@
 -- Counts as they begin: nobody has turned, and each sink but the destination can. And as they end.
-use Rattle.std.proofs.Common.{List, mul-zero, replicate, subst, sum, ℕ, ◌<◌, ◌∙◌, ◌≡◌}
-use Rattle.std.proofs.lemmas.List.Folds.{sum_by-replicate}
+use Rattle.std.proofs.Common.{List, replicate, subst, ℕ, ◌<◌}
 use Rattle.fr_core.proofs.Finishing.{links_at-zeros}
 use Rattle.fr_core.proofs.Runs.{lawful_sum}
 use Rattle.fr_core.proofs.Unique.{settled_lawful}
@@ -10,9 +9,6 @@ use Rattle.fr_crew.specs.Settlements.{HoldsSinks, IsCounted}
 use Rattle.fr_net.specs.Links.{IsNet}
 use Rattle.fr_net.specs.Network.{Network}
 use Rattle.fr_net.specs.Turn.{IsSink}
-
-pub zeros_sum : (n : ℕ) → sum (replicate n 0) ≡ 0
-zeros_sum n = sum_by-replicate (λ (x : ℕ). x) n 0 ∙ mul-zero n
 
 pub zeros_hold : (net : Network) (d : ℕ) (from : List ℕ) → HoldsSinks net d from → HoldsAllThatCanTurn net.nodes d net.links (replicate net.nodes 0) from
 zeros_hold net d from holds = record {

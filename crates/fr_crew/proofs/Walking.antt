@@ -4,11 +4,11 @@ use Rattle.std.specs.List.{AllByRecursion as Each, flat_map}
 use Rattle.std.specs.Prelude.{Err, IfErr, Ok, Result}
 use Rattle.std.specs.Result.{IsErrAnd}
 use Rattle.std.proofs.lemmas.List.{append-nil, append_assoc}
-use Rattle.std.proofs.lemmas.List.Elements.{All-contains}
 use Rattle.std.proofs.lemmas.Grind.{flat_map-append}
 use Rattle.fr_net.specs.Links.{IsNet, Points}
 use Rattle.fr_net.specs.Rows.{row}
 use Rattle.fr_net.proofs.Giving.{Points-links_at_from}
+use Rattle.fr_net.proofs.Linking.{link_below}
 use Rattle.fr_net.proofs.Neighbours.{row_linked}
 use Rattle.fr_core.specs.History.{part}
 use Rattle.fr_core.specs.Replies.{IsReplyToLook}
@@ -209,9 +209,6 @@ ends_at_sink b old now next d x made limit nodes here w looked other few = recor
 }
 
 -- the neighbour that holds a node has a link, and can be looked at
-below_of : (n : ℕ) (links : List (ℕ × ℕ)) (u v : ℕ) → IsNet n links → Points links u v → (u < n) × (v < n)
-below_of n links u v net h = All-contains (λ (l : ℕ × ℕ). (l.0 < n) × (l.1 < n)) links (u, v) net.in_range h
-
 pub held_lookable : (b : Setup) (k x w : ℕ) (known known' : List Entry) → IsNet b.nodes b.links → Extends b k known (entry k x (Held w)) known' → IsLookable b.nodes b.links w
 held_lookable b k x w known known' net h =
     let before : List Entry = known ++ h.between in
@@ -219,8 +216,8 @@ held_lookable b k x w known known' net h =
     let at = lawful_after b before net parts.0 in
     let points = subst (λ (ls : List (ℕ × ℕ)). Points ls x w) at.links parts.1.0.1 in
     ⊎_elim
-    (λ f. record { inside = (below_of b.nodes b.links x w net f.0).1; linked = (x, inr f.0) })
-    (λ f. record { inside = (below_of b.nodes b.links w x net f.0).0; linked = (x, inl f.0) })
+    (λ f. record { inside = (link_below b.nodes b.links x w net f.0).1; linked = (x, inr f.0) })
+    (λ f. record { inside = (link_below b.nodes b.links w x net f.0).0; linked = (x, inl f.0) })
     (Points-links_at_from b.links (moment b before).counts x w points)
 
 -- no look at such a node is refused

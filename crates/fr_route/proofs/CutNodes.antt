@@ -1,5 +1,5 @@
 -- How many nodes are cut off, by their hops, and by the counts of the round and the rows before it.
-use Rattle.std.proofs.Common.{Bool, Contains, List, [], ◌∷◌, add-one, ap, append_assoc, arith, cond, eq-eqb, eqb-true, false, get_or, inl, inr, length, map, ne_eqb, refl, slice_index, subst, sym, suc, true, zero, zero-add, ℕ, ⊎_elim, ◌*◌, ◌+◌, ◌++◌, ◌<◌, ◌≤◌, ◌↔◌, ◌∙◌, ◌≡◌, ◌⊎◌, ◌==◌, IsTrue}
+use Rattle.std.proofs.Common.{Bool, Contains, List, [], ◌∷◌, add-one, ap, append_assoc, arith, cond, eq-eqb, eqb-true, false, get_or, inl, inr, length, map, ne_eqb, refl, slice_index, sym, suc, true, zero, zero-add, ℕ, ⊎_elim, ◌+◌, ◌++◌, ◌<◌, ◌≤◌, ◌↔◌, ◌∙◌, ◌≡◌, ◌⊎◌, ◌==◌, IsTrue}
 use Rattle.std.specs.List.{All, count_by, filter, range_with_len}
 use Rattle.std.specs.Prelude.{not, ◌&&◌, ◌||◌}
 use Rattle.std.proofs.lemmas.Bool.{cases_eq, cases_lt, false≢true}

@@ -1,5 +1,5 @@
 -- Each line has an answer in each state after a round, and in the state before any.
-use Rattle.std.proofs.Common.{◌≡◌, ℕ, zero, suc, ◌+◌, ◌<◌, ◌++◌, ◌⊎◌, List, [], ◌∷◌, Contains, length, ap, arith, inl, inr, refl, subst, ⊎_elim, Option, Some, None, Result}
+use Rattle.std.proofs.Common.{◌≡◌, ℕ, zero, suc, ◌+◌, ◌<◌, ◌++◌, ◌⊎◌, List, [], ◌∷◌, length, ap, arith, inl, inr, refl, subst, ⊎_elim, Option, Some, None, Result}
 use Rattle.std.specs.Prelude.{slice_get, slice_index, ok_or, sum}
 use Rattle.std.proofs.lemmas.Bool.{cases_eq, cases_lt}
 use Rattle.fr_net.proofs.Building.{faultless_sorted, permuted_net}
@@ -7,7 +7,6 @@ use Rattle.fr_net.proofs.Editing.{faultless_cut}
 use Rattle.fr_net.proofs.Joining.{faultless_turned}
 use Rattle.fr_net.proofs.Refusing.{no_cycle_stands}
 use Rattle.fr_net.proofs.Linking.{link_below}
-use Rattle.fr_net.proofs.Members.{cases_some}
 use Rattle.fr_net.proofs.Ordering.{in_order_permutes}
 use Rattle.fr_net.proofs.TurnedLinks.{turned_faultless}
 use Rattle.fr_net.specs.Counts.{links_at}
@@ -42,6 +41,7 @@ use Rattle.fr_route.proofs.Changing.{joined_nodes, made_nodes}
 use Rattle.fr_route.proofs.CutNodes.{hops_cut_count}
 use Rattle.fr_route.proofs.FirstFaults.{faultless_or_fault}
 use Rattle.fr_route.proofs.RoundEnds.{capped_cut_off, hop_leads_on, still_cut_off}
+use Rattle.fr_route.proofs.Routing.{cases_points}
 
 -- the state after a round on some network, whose links can be changed
 pub record IsSettledState (s : State) : Type 0 where
@@ -73,22 +73,11 @@ settled_state n d first clear below =
     let round : IsRound n d first s = record { nodes = refl; dest = refl; counts = made.1; links = refl } in
     (s, round, record { first = first; net = clear.is_net; dest = below; round = round; faultless = (made_network n listed turned).1 })
 
-points_or_not : (links : List (ℕ × ℕ)) (x y : ℕ) → Points links x y ⊎ ¬ Points links x y
-points_or_not links x y = ⊎_elim
-    (λ s. inl (subst (λ (l : ℕ × ℕ). Contains links l) (λ i. (s.2.0 i, s.2.1 i)) s.1))
-    (λ none. inr (λ h. none (x, y) h (refl, refl)))
-    (cases_some (λ (l : ℕ × ℕ). (l.0 ≡ x) × (l.1 ≡ y)) (λ l. both (l.0 ≡ x) (l.1 ≡ y) (cases_eq l.0 x) (cases_eq l.1 y)) links)
-  where
-    both : (P Q : Type 0) → P ⊎ ¬ P → Q ⊎ ¬ Q → (P × Q) ⊎ ¬ (P × Q)
-    both P Q (inl p) (inl q) = inl (p, q)
-    both P Q (inl p) (inr q) = inr (λ h. q h.1)
-    both P Q (inr p) q = inr (λ h. p h.0)
-
 joins_or_not : (links : List (ℕ × ℕ)) (u v : ℕ) → Joins links u v ⊎ ¬ Joins links u v
 joins_or_not links u v = ⊎_elim
     (λ p. inl (inl p))
-    (λ a. ⊎_elim (λ p. inl (inr p)) (λ b. inr (λ h. ⊎_elim a b h)) (points_or_not links v u))
-    (points_or_not links u v)
+    (λ a. ⊎_elim (λ p. inl (inr p)) (λ b. inr (λ h. ⊎_elim a b h)) (cases_points links v u))
+    (cases_points links u v)
 
 module _ (s : State) (good : IsSettledState s) where
   -- each node has a hop
@@ -100,7 +89,7 @@ module _ (s : State) (good : IsSettledState s) where
       (λ free. ⊎_elim
       (λ f. (To f.0, hop_leads_on s.nodes s.dest good.first s good.net good.dest good.round x f.0 apart free (record { link = f.2; least = f.3 })))
       (λ none. (CutOff, still_cut_off s.nodes s.dest good.first s good.net good.dest good.round x apart (λ w p. none w (link_below s.nodes s.links x w good.faultless.is_net p).1 p)))
-      (cases_below (Points s.links x) (points_or_not s.links x) s.nodes))
+      (cases_below (Points s.links x) (cases_points s.links x) s.nodes))
       (cases_eq (slice_index s.counts x) s.nodes))
       (cases_eq x s.dest)
 

@@ -1,7 +1,6 @@
 -- Links are faultless or have a first fault.
-use Rattle.std.proofs.Common.{All, Any, Contains, List, [], ap, arith, count_by, eqb, get_or, inl, inr, length, length-append, refl, subst, suc, sym, zero, ℕ, ⊎_elim, ◌++◌, ◌<◌, ◌^◌, ◌∙◌, ◌∷◌, ◌≡◌, ◌≤◌, ◌⊎◌}
+use Rattle.std.proofs.Common.{Any, Contains, List, [], ap, arith, count_by, eqb, inl, inr, length, length-append, refl, subst, suc, sym, zero, ℕ, ⊎_elim, ◌++◌, ◌<◌, ◌^◌, ◌∙◌, ◌∷◌, ◌≡◌, ◌≤◌, ◌⊎◌}
 use Rattle.std.proofs.lemmas.Bool.{cases_eq, cases_lt}
-use Rattle.std.proofs.lemmas.List.{get_or_default}
 use Rattle.std.specs.List.{IsDistinct}
 use Rattle.std.specs.declared.vec.Vec.{Vec}
 use Rattle.std.specs.declared.alloc.Global.{Global}
@@ -16,6 +15,7 @@ use Rattle.fr_net.specs.declared.fault.NetFault.{NetFault}
 use Rattle.fr_net.specs.declared.fault.NetFault.TheVariants.{Cycle, Range, SelfLink, TooMany, Twice}
 use Rattle.fr_core.proofs.Pigeons.{IsDistinct-more, IsDistinct-none, distinct_length}
 use Rattle.fr_core.proofs.Searching.{cases_below}
+use Rattle.fr_core.proofs.Turning.{All-from_Contains}
 
 -- a path of k links from x
 abbrev PathOf : List (ℕ × ℕ) → ℕ → ℕ → Type 0
@@ -109,15 +109,11 @@ acyclic_or_cycle n links below = ⊎_elim
     none u (closed_begins n links u vs below closed) (first_part links n u round.0 round.1 round.3)))
     (cases_below (PathOf links n) (path_or_not links n) n)
 
--- what holds of each element holds at each place
-all_from : (P : ℕ × ℕ → Type 0) (links : List (ℕ × ℕ)) → ((l : ℕ × ℕ) → Contains links l → P l) → All P links
-all_from P links each k d lt = each (get_or links k d) (k, lt, get_or_default links k (get_or links k d) d lt)
-
 -- each link is in range, or one is not
 below_or_past : (n : ℕ) (links : List (ℕ × ℕ)) → AreBelow n links ⊎ ((x : ℕ) × (n ≤ x) × Any (λ (l : ℕ × ℕ). (l.0 ≡ x) ⊎ (l.1 ≡ x)) links)
 below_or_past n links = ⊎_elim
     (λ s. let l = s.0 in ⊎_elim (λ a. inr (l.0, a, (s.1.0, l, s.1.1, s.1.2, inl refl))) (λ b. inr (l.1, b, (s.1.0, l, s.1.1, s.1.2, inr refl))) s.2)
-    (λ none. inl (all_from (λ l. (l.0 < n) × (l.1 < n)) links (λ l h. (
+    (λ none. inl (All-from_Contains (λ l. (l.0 < n) × (l.1 < n)) links (λ l h. (
       ⊎_elim (λ a. a) (λ a. absurd (none l h (inl a))) (cases_lt l.0 n),
       ⊎_elim (λ b. b) (λ b. absurd (none l h (inr b))) (cases_lt l.1 n),
     ))))
@@ -133,7 +129,7 @@ below_or_past n links = ⊎_elim
 self_or_none : (links : List (ℕ × ℕ)) → HasNoSelfLink links ⊎ ((u : ℕ) × Contains links (u, u))
 self_or_none links = ⊎_elim
     (λ s. let l = s.0 in inr (l.0, subst (λ (z : ℕ). Contains links (l.0, z)) (sym s.2) s.1))
-    (λ none. inl (all_from (λ l. ¬ (l.0 ≡ l.1)) links none))
+    (λ none. inl (All-from_Contains (λ l. ¬ (l.0 ≡ l.1)) links none))
     (cases_some (λ (l : ℕ × ℕ). l.0 ≡ l.1) (λ l. cases_eq l.0 l.1) links)
 
 at_least_one : (links : List (ℕ × ℕ)) (l : ℕ × ℕ) → Contains links l → 1 ≤ count_by (is_between l.0 l.1) links
@@ -143,7 +139,7 @@ at_least_one links l h = one_passes (is_between l.0 l.1) links h.0 l h.1 (ap (is
 single_or_twice : (links : List (ℕ × ℕ)) → AreSingle links ⊎ ((u : ℕ) × (v : ℕ) × (2 ≤ count_by (is_between u v) links))
 single_or_twice links = ⊎_elim
     (λ s. inr (s.0.0, s.0.1, s.2))
-    (λ none. inl (all_from (λ l. count_by (is_between l.0 l.1) links ≡ 1) links (λ l h.
+    (λ none. inl (All-from_Contains (λ l. count_by (is_between l.0 l.1) links ≡ 1) links (λ l h.
     ⊎_elim (λ few. omega (arith, few, at_least_one links l h)) (λ many. absurd (none l h many)) (cases_lt (count_by (is_between l.0 l.1) links) 2))))
     (cases_some (λ (l : ℕ × ℕ). 2 ≤ count_by (is_between l.0 l.1) links) (λ l. ⊎_elim (λ few. inr (λ many. omega (arith, few, many))) inl (cases_lt (count_by (is_between l.0 l.1) links) 2)) links)
 

@@ -19,7 +19,7 @@ use Rattle.fr_core.specs.Settled.{AreSettled}
 use Rattle.fr_core.specs.Walks.{IsJoined, IsLeastAway}
 use Rattle.fr_route.specs.Routes.{IsNextHop, IsRoute}
 
-cases_points : (links : List (ℕ × ℕ)) (x y : ℕ) → Points links x y ⊎ ¬ Points links x y
+pub cases_points : (links : List (ℕ × ℕ)) (x y : ℕ) → Points links x y ⊎ ¬ Points links x y
 cases_points links x y = ⊎_elim
     (λ e. inl (Points-has_link links x y e))
     (λ e. inr (λ h. false≢true (sym e ∙ has_link_true links x y h)))

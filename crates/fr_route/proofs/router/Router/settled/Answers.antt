@@ -1,4 +1,4 @@
-use Rattle.std.proofs.Common.{List, ap, subst, sym, ℕ}
+use Rattle.std.proofs.Common.{subst, sym}
 use Rattle.fr_core.proofs.Unique.{settled_lawful}
 use Rattle.fr_net.specs.Network.{Network}
 use Rattle.fr_route.specs.States.{IsAfterRound, state_with}
