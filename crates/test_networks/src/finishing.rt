@@ -1,193 +1,220 @@
 //! Counts: which are lawful, where `finish`, `finish_from` and `finish_soon` end, which nodes are sinks, and where a link points.
 
-use fr_core::{Sense, are_settled, finish, finish_from, finish_soon, is_sink, lawful, sense};
+ghost use Rattle.std.specs.Prelude.{◌≡◌, ℕ, ◌<◌, IsTrue, All, false};
+ghost use Rattle.std.specs.List.{Contains};
+ghost use Rattle.fr_net.specs.Counts.{AreLawful};
+ghost use Rattle.fr_core.specs.Finish.{HoldsAllThatCanTurn};
+ghost use Rattle.fr_core.specs.History.{moment_of};
+ghost use Rattle.fr_core.specs.Legal.{CanTurn};
+
+use crate::answers::Answer;
+use crate::cases::{counts, number, numbers};
+use crate::networks::network;
+use crate::tables::none;
+use fr_core::{are_settled, can_turn, finish, finish_from, finish_soon, is_sink, lawful, sense};
 use fr_net::{First, Net, Turns};
-use std::alloc::{AllocError, Global};
-use std::test::Fail;
+use serde_json::Value;
+use std::alloc::Global;
 
-/// The number of turns and the counts at which `finish` ends from the counts 0, with destination 0.
-fn finished(alloc: Global, net: &Net) -> Result<String, AllocError> {
+/// Answers what is asked of counts, if it is that. The destination is node 0, but where steps name another.
+pub fn answer(alloc: Global, answer: &mut Answer, word: &str, given: &[Value]) -> Option<()> {
+    match (word, given) {
+        ("finish", [nodes, links]) => finished(alloc, answer, &network(alloc, nodes, links)?, true),
+        ("turn_count", [nodes, links]) => {
+            finished(alloc, answer, &network(alloc, nodes, links)?, false)
+        }
+        ("finishes", [nodes, links, steps]) => {
+            finishes(alloc, answer, &network(alloc, nodes, links)?, steps)
+        }
+        ("lawful", [nodes, links, given]) => {
+            answer.put(&is_lawful(&network(alloc, nodes, links)?, 0, &counts(alloc, given)?));
+            Some(())
+        }
+        ("sinks", [nodes, links, given]) => {
+            tell_sinks(
+                answer,
+                &network(alloc, nodes, links)?,
+                &counts(alloc, given)?,
+            )
+        }
+        ("sense", [first, x, w]) => {
+            answer.put(&sense(first_of(first.as_str()?)?, x.as_u64()?, w.as_u64()?));
+            Some(())
+        }
+        _ => None,
+    }
+}
+
+/// Whether a destination is a node, and counts are lawful.
+fn is_lawful(net: &Net, dest: u32, counts: &[u64]) -> bool
+    ensures node { IsTrue result → dest < net.now.nodes }
+    ensures lawful { IsTrue result → AreLawful net.now.nodes dest net.now.links counts.now }
+{
+    dest < net.nodes() && lawful(net, dest, counts)
+}
+
+/// How many turns `finish` makes from the counts 0, and the counts, if they are asked for.
+fn finished(alloc: Global, answer: &mut Answer, net: &Net, with_counts: bool) -> Option<()> {
+    let mut turns = none(alloc, net.nodes())?;
+    if !is_lawful(net, 0, turns.counts()) {
+        return None;
+    }
+    answer.put(&finish(net, 0, &mut turns));
+    if with_counts {
+        answer.say(" ");
+        answer.put(&turns.counts());
+    }
+    Some(())
+}
+
+/// Takes steps with a table of the turns of a network, which has none at first.
+fn finishes(alloc: Global, answer: &mut Answer, net: &Net, steps: &Value) -> Option<()> {
+    let mut turns = none(alloc, net.nodes())?;
+    for step in steps.as_array()? {
+        take(alloc, answer, net, &mut turns, step.as_array()?.as_slice())?;
+    }
+    Some(())
+}
+
+/// Takes one step.
+fn take(
+    alloc: Global,
+    answer: &mut Answer,
+    net: &Net,
+    turns: &mut Turns,
+    step: &[Value],
+) -> Option<()> {
+    match step {
+        [word] => tell_or_clear(answer, turns, word.as_str()?),
+        [word, dest, from] => {
+            let from = numbers(alloc, from)?;
+            go_on(answer, net, turns, word.as_str()?, number(dest)?, &from)
+        }
+        _ => None,
+    }
+}
+
+/// Tells the counts or how many turns there are, or takes all turns back.
+fn tell_or_clear(answer: &mut Answer, turns: &mut Turns, word: &str) -> Option<()> {
+    match word {
+        "counts" => {
+            answer.comma();
+            answer.put(&turns.counts());
+        }
+        "total" => {
+            answer.comma();
+            answer.put(&turns.total());
+        }
+        "clear" => turns.clear(),
+        _ => return None,
+    }
+    Some(())
+}
+
+/// Goes on to the settled counts, and tells whether it came there.
+fn go_on(
+    answer: &mut Answer,
+    net: &Net,
+    turns: &mut Turns,
+    word: &str,
+    dest: u32,
+    from: &[u32],
+) -> Option<()> {
+    if !is_lawful(net, dest, turns.counts()) || !hold_all(net, dest, turns.counts(), from) {
+        return None;
+    }
+    answer.comma();
+    match word {
+        "from" => finish_from(net, dest, turns, from),
+        "soon" => answer.say(if finish_soon(net, dest, turns, from) {
+            "all turned, "
+        } else {
+            "gave up, "
+        }),
+        _ => return None,
+    }
+    tell_state(answer, net, dest, turns.counts());
+    Some(())
+}
+
+/// Tells whether counts are lawful, and whether they are the settled ones.
+fn tell_state(answer: &mut Answer, net: &Net, dest: u32, counts: &[u64]) {
+    answer.say(if !is_lawful(net, dest, counts) {
+        "not lawful"
+    } else if are_settled(net, dest, counts) {
+        "settled"
+    } else {
+        "not settled"
+    });
+}
+
+/// Whether these are nodes, and all that can turn are among them, as `finish_from` and `finish_soon` require.
+fn hold_all(net: &Net, dest: u32, counts: &[u64], from: &[u32]) -> bool
+    requires { AreLawful net.now.nodes dest net.now.links counts.now }
+    ensures { IsTrue result → HoldsAllThatCanTurn net.now.nodes dest net.now.links counts.now from.now }
+{
+    // By the law a node that can turn is one of the network.
     net.network_law();
-    let mut turns = Turns::none(alloc, net.nodes())?;
-    if net.nodes() == 0 || !lawful(net, 0, turns.counts()) {
-        return String::from_str(alloc, "not lawful");
+    are_nodes(net, from) && miss_none(net, dest, counts, from)
+}
+
+/// Whether these are nodes.
+fn are_nodes(net: &Net, from: &[u32]) -> bool
+    ensures { IsTrue result → All (λ x. x < net.now.nodes) from.now }
+{
+    let nodes = net.nodes();
+    from.iter().all(|x| *x < nodes)
+}
+
+/// Whether each node that can turn is among these.
+fn miss_none(net: &Net, dest: u32, counts: &[u64], from: &[u32]) -> bool
+    requires { AreLawful net.now.nodes dest net.now.links counts.now }
+    ensures { IsTrue result → (x : ℕ) → x < net.now.nodes
+        → CanTurn net.now.nodes dest (moment_of net.now.links counts.now) x → Contains from.now x }
+{
+    for x in 0..net.nodes() {
+        if misses(net, dest, counts, from, x) {
+            return false;
+        }
     }
-    let made = finish(net, 0, &mut turns);
-    format!(in alloc; "{made} {:?}", turns.counts())
+    true
 }
 
-const SETTLED: &[(u32, &[(u32, u32)], &str)] = &[
-    (4, &[(0, 1), (1, 2), (2, 3)], "6 [0, 1, 2, 3]"),
-    (4, &[(1, 0), (2, 1), (3, 2)], "0 [0, 0, 0, 0]"),
-    (1, &[], "0 [0]"),
-    (4, &[(1, 0), (2, 3)], "8 [0, 0, 4, 4]"),
-    (4, &[(0, 1), (0, 2), (1, 3), (2, 3)], "4 [0, 1, 1, 2]"),
-    (4, &[(0, 1), (2, 1), (2, 3), (3, 0)], "1 [0, 1, 0, 0]"),
-    (
-        5,
-        &[(0, 1), (1, 2), (0, 3), (2, 3), (3, 4)],
-        "5 [0, 1, 1, 1, 2]",
-    ),
-    (4, &[(2, 1), (3, 2)], "12 [0, 4, 4, 4]"),
-    (4, &[(2, 1), (3, 2), (3, 0)], "3 [0, 2, 1, 0]"),
-];
-
-#[test]
-fn settles_small_networks(rt: HostRuntime) -> Result<(), Fail> {
-    for (nodes, links, wanted) in SETTLED {
-        let net = Net::new(rt.alloc(), *nodes, links)?;
-        let text = finished(rt.alloc(), &net)?;
-        assert!(rt; text.as_str() == *wanted, "{links:?}: {text}");
-    }
-    Ok(())
+/// Whether a node can turn, and is not among these.
+fn misses(net: &Net, dest: u32, counts: &[u64], from: &[u32], x: u32) -> bool
+    requires lawful { AreLawful net.now.nodes dest net.now.links counts.now }
+    requires node { x < net.now.nodes }
+    ensures { result ≡ false
+        → CanTurn net.now.nodes dest (moment_of net.now.links counts.now) x → Contains from.now x }
+{
+    can_turn(net, dest, counts, x) && !is_among(from, x)
 }
 
-#[test]
-fn finishes_from_candidates(rt: HostRuntime) -> Result<(), Fail> {
-    let net = Net::new(rt.alloc(), 3, &[(0, 1), (1, 2)])?;
-    let mut turns = Turns::none(rt.alloc(), 3)?;
-    finish_from(&net, 0, &mut turns, &[2]);
-    assert!(rt; turns.counts() == [0, 1, 2].as_slice());
-    // A candidate that stands there twice, and one that cannot turn, change nothing.
-    turns.clear();
-    finish_from(&net, 0, &mut turns, &[2, 1, 2]);
-    assert!(rt; turns.counts() == [0, 1, 2].as_slice());
-    turns.clear();
-    assert!(rt; finish_soon(&net, 0, &mut turns, &[2]) && turns.counts() == [0, 1, 2].as_slice());
-    // Where node 2 is the destination, nothing can turn.
-    turns.clear();
-    assert!(rt; finish_soon(&net, 2, &mut turns, &[2]) && turns.counts() == [0, 0, 0].as_slice());
-    Ok(())
+/// Whether a number stands in a list.
+fn is_among(list: &[u32], x: u32) -> bool
+    ensures { IsTrue result → Contains list.now x }
+{
+    list.contains(&x)
 }
 
-/// The links of a chain of so many nodes, each from `first` on with a link to the next.
-fn long_chain(alloc: Global, nodes: u32, first: u32) -> Result<Vec<(u32, u32)>, AllocError> {
-    let mut links = Vec::new(alloc);
-    for x in first..nodes.saturating_sub(1) {
-        links.push((x, x + 1))?;
-    }
-    Ok(links)
-}
-
-/// A chain of eight nodes takes 28 turns. A few are made while nodes are looked at that have together no more than 8 and then 14
-/// neighbours.
-#[test]
-fn gives_up_where_there_is_much_to_turn(rt: HostRuntime) -> Result<(), Fail> {
-    let net = Net::new(rt.alloc(), 8, &long_chain(rt.alloc(), 8, 0)?)?;
-    let mut turns = Turns::none(rt.alloc(), 8)?;
-    let from = [1, 2, 3, 4, 5, 6, 7];
-    assert!(rt; !finish_soon(&net, 0, &mut turns, &from));
-    assert!(rt; lawful(&net, 0, turns.counts()) && !are_settled(&net, 0, turns.counts()));
-    finish_from(&net, 0, &mut turns, &from);
-    assert!(rt; turns.counts() == [0, 1, 2, 3, 4, 5, 6, 7].as_slice());
-    assert!(rt; lawful(&net, 0, turns.counts()) && are_settled(&net, 0, turns.counts()));
-    Ok(())
-}
-
-/// Nodes 2 and 3 are cut off among 100, so each turns a hundred times: more than nodes are looked at. A few turns show that no link joins
-/// them with others, and then they have their counts at once.
-#[test]
-fn knows_a_part_that_is_cut_off(rt: HostRuntime) -> Result<(), Fail> {
-    let net = Net::new(rt.alloc(), 100, &[(1, 0), (2, 3)])?;
-    let mut turns = Turns::none(rt.alloc(), 100)?;
-    assert!(rt; finish_soon(&net, 0, &mut turns, &[3]) && turns.total() == 200);
-    Ok(())
-}
-
-/// Nodes of chains, the first node that has a link, and the turns.
-const LONG_CHAINS: &[(u32, u32, &str)] = &[
-    (1024, 0, "523776 ["),
-    (1024, 1, "1047552 ["),
-    (4096, 0, "8386560 ["),
-    (4096, 1, "16773120 ["),
-];
-
-#[test]
-fn settles_long_chains(rt: HostRuntime) -> Result<(), Fail> {
-    for (nodes, first, turns) in LONG_CHAINS {
-        let links = long_chain(rt.alloc(), *nodes, *first)?;
-        let net = Net::new(rt.alloc(), *nodes, &links)?;
-        assert!(rt;
-            finished(rt.alloc(), &net)?.starts_with(turns),
-            "{nodes} {first}"
-        );
-    }
-    Ok(())
-}
-
-/// Counts of five nodes, of which node 1 has no link, and whether they are lawful.
-const LAWFUL: &[(&[u64], bool)] = &[
-    (&[0, 0, 0, 0, 0], true),
-    (&[0, 0, 1, 2, 2], true),
-    (&[0, 0, 0, 1, 0], true),
-    // One count too few, and one too many.
-    (&[0, 0, 0, 0], false),
-    (&[0, 0, 0, 0, 0, 0], false),
-    // The destination and a node with no link have turned.
-    (&[1, 0, 1, 1, 1], false),
-    (&[0, 1, 0, 0, 0], false),
-    // A link is lost, and a tail has turned before its head.
-    (&[0, 0, 0, 2, 1], false),
-    (&[0, 0, 1, 0, 0], false),
-];
-
-#[test]
-fn tells_lawful_counts(rt: HostRuntime) -> Result<(), Fail> {
-    let net = Net::new(rt.alloc(), 5, &[(0, 2), (2, 3), (4, 3)])?;
-    for (counts, wanted) in LAWFUL {
-        assert!(rt;
-            net.nodes() > 0 && lawful(&net, 0, counts) == *wanted,
-            "{counts:?}"
-        );
-    }
-    let pair = Net::new(rt.alloc(), 3, &[(1, 2)])?;
-    let cap = pair.nodes() > 0 && lawful(&pair, 0, &[0, 3, 3]) && !lawful(&pair, 0, &[0, 4, 4]);
-    assert!(rt; cap);
-    Ok(())
-}
-
-/// The nodes that are sinks at these counts, with destination 0.
-fn sinks(alloc: Global, net: &Net, counts: &[u64]) -> Result<Vec<u32>, AllocError> {
-    let mut found = Vec::new(alloc);
-    if net.nodes() == 0 || !lawful(net, 0, counts) {
-        return Ok(found);
+/// Tells the nodes that are sinks at these counts, with destination 0.
+fn tell_sinks(answer: &mut Answer, net: &Net, counts: &[u64]) -> Option<()> {
+    if !is_lawful(net, 0, counts) {
+        return None;
     }
     for x in 0..net.nodes() {
         if is_sink(net, counts, x) {
-            found.push(x)?;
+            answer.comma();
+            answer.put(&x);
         }
     }
-    Ok(found)
+    Some(())
 }
 
-#[test]
-fn tells_sinks(rt: HostRuntime) -> Result<(), Fail> {
-    // Node 4 has no link.
-    let net = Net::new(rt.alloc(), 5, &[(0, 1), (2, 1), (2, 3), (3, 0)])?;
-    let first = sinks(rt.alloc(), &net, &[0, 0, 0, 0, 0])?;
-    let then = sinks(rt.alloc(), &net, &[0, 1, 0, 0, 0])?;
-    assert!(rt; first.as_slice() == [1].as_slice() && then.as_slice() == [0].as_slice());
-    Ok(())
-}
-
-const SENSES: &[(First, u64, u64, Option<Sense>)] = &[
-    (First::Outward, 3, 3, Some(Sense::Outward)),
-    (First::Outward, 3, 4, Some(Sense::Inward)),
-    (First::Outward, 3, 5, None),
-    (First::Outward, 4, 3, None),
-    (First::Inward, 3, 3, Some(Sense::Inward)),
-    (First::Inward, 4, 3, Some(Sense::Outward)),
-    (First::Inward, 5, 3, None),
-    (First::Inward, 3, 4, None),
-    (First::Inward, 0, u64::MAX, None),
-];
-
-#[test]
-fn tells_senses(rt: HostRuntime) {
-    for (first, cx, cw, wanted) in SENSES {
-        assert!(rt;
-            sense(*first, *cx, *cw) == *wanted,
-            "{first:?} at {cx} and {cw}"
-        );
+fn first_of(word: &str) -> Option<First> {
+    match word {
+        "outward" => Some(First::Outward),
+        "inward" => Some(First::Inward),
+        _ => None,
     }
 }

@@ -1,264 +1,127 @@
-//! The machine under schedules and stepped by hand, with values from outside.
+//! The machine under schedules and stepped by hand.
 
 ghost use Rattle.std.specs.Prelude.{IfOk};
 ghost use Rattle.fr_core.specs.Runs.{IsRunTo};
 
-use fr_core::Target::{Look, Turn};
-use fr_core::{CheckFault, Entry, Machine, PlayFault, Target, Why, check_run, play};
+use crate::answers::Answer;
+use crate::cases::{list, number, numbers};
+use crate::networks::network;
+use fr_core::{Entry, Machine, PlayFault, Target, check_run, play};
 use fr_net::Net;
-use std::alloc::{AllocError, Global};
-use std::fmt::Write;
-use std::test::Fail;
+use serde_json::Value;
+use std::alloc::Global;
 
-/// Nodes, links, the destination, the targets of each worker, a schedule, and what is played.
-type Play = (
-    u32,
-    &'static [(u32, u32)],
-    u32,
-    &'static [&'static [Target]],
-    &'static [u32],
-    &'static str,
-);
+/// Answers what is asked of a machine, if it is that: a network, its destination, the targets of each worker, and the worker of
+/// each step.
+pub fn answer(alloc: Global, answer: &mut Answer, word: &str, given: &[Value]) -> Option<()> {
+    let [nodes, links, dest, targets, order] = given else {
+        return None;
+    };
+    match word {
+        "play" => played(
+            alloc,
+            answer,
+            &network(alloc, nodes, links)?,
+            dest,
+            targets,
+            order,
+        ),
+        "by_hand" => by_hand(
+            alloc,
+            answer,
+            &network(alloc, nodes, links)?,
+            dest,
+            targets,
+            order,
+        ),
+        "steps" => steps(
+            alloc,
+            answer,
+            &network(alloc, nodes, links)?,
+            dest,
+            targets,
+            order,
+        ),
+        _ => None,
+    }
+}
 
-const PLAYS: &[Play] = &[
-    // The second worker comes too late.
-    (
-        2,
-        &[(0, 1)],
-        0,
-        &[&[Turn(1)], &[Turn(1)]],
-        &[0, 1, 0, 1, 0, 1],
-        "0 1 Turned { count: 1 }, 1 1 Moved { had: 0, count: 1 }, ",
-    ),
-    (
-        2,
-        &[(1, 0)],
-        0,
-        &[&[Turn(1)]],
-        &[0, 0],
-        "0 1 Held { by: 0 }, ",
-    ),
-    (
-        2,
-        &[(0, 1)],
-        0,
-        &[&[Turn(1), Turn(1), Turn(1), Turn(1), Turn(1), Turn(1)]],
-        &[0; 6],
-        "0 1 Turned { count: 1 }, 0 1 Held { by: 0 }, ",
-    ),
-    (
-        3,
-        &[(0, 1), (1, 2)],
-        0,
-        &[&[Turn(1), Turn(2), Turn(1), Turn(2), Turn(1), Turn(2)]],
-        &[0; 6],
-        "0 1 Held { by: 2 }, 0 2 Turned { count: 1 }, ",
-    ),
-    (
-        3,
-        &[(0, 1), (1, 2)],
-        0,
-        &[&[Turn(2)], &[Turn(1)]],
-        &[0, 0, 0, 1, 1, 1, 1],
-        "0 2 Turned { count: 1 }, 1 1 Turned { count: 1 }, ",
-    ),
-    (
-        3,
-        &[(1, 2)],
-        0,
-        &[&[
-            Turn(2),
-            Turn(1),
-            Turn(2),
-            Turn(1),
-            Turn(2),
-            Turn(1),
-            Turn(2),
-            Turn(1),
-        ]],
-        &[0; 24],
-        "0 2 Turned { count: 1 }, 0 1 Turned { count: 1 }, 0 2 Turned { count: 2 }, 0 1 Turned { count: 2 }, \
-            0 2 Turned { count: 3 }, 0 1 Turned { count: 3 }, 0 2 Cut, 0 1 Cut, ",
-    ),
-    (2, &[(0, 1)], 0, &[&[], &[Turn(1)]], &[0, 0, 1, 1, 0], ""),
-    (1, &[], 0, &[], &[], ""),
-    // Targets that cannot be turned: the destination, a node with no link, and no node. The schedule and the destination are
-    // tested before them.
-    (
-        4,
-        &[(0, 1), (1, 2)],
-        0,
-        &[&[Turn(1)], &[Turn(1), Turn(0)]],
-        &[],
-        "BadTarget { worker: 1, at: 1 }",
-    ),
-    (
-        4,
-        &[(0, 1), (1, 2)],
-        0,
-        &[&[Turn(1)], &[Turn(1), Turn(0)]],
-        &[0, 1, 1, 0],
-        "BadTarget { worker: 1, at: 1 }",
-    ),
-    (
-        4,
-        &[(0, 1), (1, 2)],
-        0,
-        &[&[Turn(1), Turn(2), Turn(4)], &[Turn(0)]],
-        &[0],
-        "BadTarget { worker: 0, at: 2 }",
-    ),
-    (
-        4,
-        &[(0, 1), (1, 2)],
-        0,
-        &[&[], &[Turn(3), Turn(0)]],
-        &[0],
-        "BadTarget { worker: 1, at: 0 }",
-    ),
-    (
-        4,
-        &[(0, 1), (1, 2)],
-        2,
-        &[&[Turn(1), Turn(2)]],
-        &[0],
-        "BadTarget { worker: 0, at: 1 }",
-    ),
-    (
-        4,
-        &[(0, 1), (1, 2)],
-        0,
-        &[&[Turn(1)], &[Turn(1), Turn(0)]],
-        &[2],
-        "Range",
-    ),
-    (
-        4,
-        &[(0, 1), (1, 2)],
-        4,
-        &[&[Turn(1)], &[Turn(1), Turn(0)]],
-        &[0],
-        "Range",
-    ),
-    (4, &[(0, 1), (1, 2)], 0, &[], &[0], "Range"),
-    (4, &[(0, 1), (1, 2)], 2, &[&[Turn(1), Turn(0)]], &[0], ""),
-    // Looks. Another worker turns the node before the second load of the look, or nobody does.
-    (
-        2,
-        &[(0, 1)],
-        0,
-        &[&[Look(1)], &[Turn(1)]],
-        &[0, 0, 1, 1, 1, 0],
-        "1 1 Turned { count: 1 }, 0 1 Moved { had: 0, count: 1 }, ",
-    ),
-    (
-        2,
-        &[(0, 1)],
-        0,
-        &[&[Look(1)], &[Turn(1)]],
-        &[0, 0, 0],
-        "0 1 Sink, ",
-    ),
-    // The destination is looked at, and nodes at the cap are.
-    (
-        2,
-        &[(0, 1)],
-        0,
-        &[&[Look(0), Turn(1), Look(0), Look(1)]],
-        &[0; 10],
-        "0 0 Held { by: 1 }, 0 1 Turned { count: 1 }, 0 0 Sink, 0 1 Held { by: 0 }, ",
-    ),
-    (
-        3,
-        &[(1, 2)],
-        0,
-        &[&[
-            Turn(2),
-            Turn(1),
-            Turn(2),
-            Turn(1),
-            Turn(2),
-            Turn(1),
-            Look(2),
-            Look(1),
-        ]],
-        &[0; 23],
-        "0 2 Turned { count: 1 }, 0 1 Turned { count: 1 }, 0 2 Turned { count: 2 }, 0 1 Turned { count: 2 }, \
-            0 2 Turned { count: 3 }, 0 1 Turned { count: 3 }, 0 2 Sink, 0 1 Held { by: 2 }, ",
-    ),
-    // A node with no link and no node are no targets of a look.
-    (
-        4,
-        &[(0, 1), (1, 2)],
-        0,
-        &[&[Look(0), Look(1), Look(2)]],
-        &[],
-        "",
-    ),
-    (
-        4,
-        &[(0, 1), (1, 2)],
-        0,
-        &[&[Look(0)], &[Look(1), Look(3)]],
-        &[],
-        "BadTarget { worker: 1, at: 1 }",
-    ),
-    (
-        4,
-        &[(0, 1), (1, 2)],
-        0,
-        &[&[Look(4)], &[Look(3)]],
-        &[],
-        "BadTarget { worker: 0, at: 0 }",
-    ),
-    (
-        4,
-        &[(0, 1), (1, 2)],
-        0,
-        &[&[Look(0), Turn(0)], &[Look(4)]],
-        &[],
-        "BadTarget { worker: 0, at: 1 }",
-    ),
-];
+/// A target: its word, and a node.
+fn target(value: &Value) -> Option<Target> {
+    match value.as_array()?.as_slice() {
+        [word, x] => target_of(word.as_str()?, number(x)?),
+        _ => None,
+    }
+}
+
+/// The target that a word names.
+fn target_of(word: &str, x: u32) -> Option<Target> {
+    match word {
+        "turn" => Some(Target::Turn(x)),
+        "look" => Some(Target::Look(x)),
+        _ => None,
+    }
+}
 
 /// The targets of each worker.
-fn targets_of(alloc: Global, lists: &[&[Target]]) -> Result<Vec<Vec<Target>>, AllocError> {
-    let mut targets = Vec::new(alloc);
-    for list in lists {
-        targets.push(list.to_vec(alloc)?)?;
-    }
-    Ok(targets)
+fn targets(alloc: Global, value: &Value) -> Option<Vec<Vec<Target>>> {
+    list(alloc, value, |worker| list(alloc, worker, target))
 }
 
 /// The entries of a play, or its fault.
-fn told(alloc: Global, played: &Result<Vec<Entry>, PlayFault>) -> Result<String, AllocError> {
-    let mut text = String::new(alloc);
-    match played {
-        Ok(entries) => {
-            for entry in entries {
-                write!(text, "{} {} {:?}, ", entry.worker, entry.node, entry.reply)?;
-            }
-        }
-        Err(fault) => write!(text, "{fault:?}")?,
+fn played(
+    alloc: Global,
+    answer: &mut Answer,
+    net: &Net,
+    dest: &Value,
+    given: &Value,
+    order: &Value,
+) -> Option<()> {
+    let schedule = numbers(alloc, order)?;
+    let targets = targets(alloc, given)?;
+    match play(alloc, net, number(dest)?, targets, &schedule) {
+        Ok(entries) => tell_entries(answer, &entries),
+        Err(fault) => answer.put(&fault),
     }
-    Ok(text)
+    Some(())
 }
 
-#[test]
-fn plays_schedules(rt: HostRuntime) -> Result<(), Fail> {
-    for (nodes, links, dest, lists, schedule, wanted) in PLAYS {
-        let net = Net::new(rt.alloc(), *nodes, links)?;
-        let targets = targets_of(rt.alloc(), lists)?;
-        let text = told(
-            rt.alloc(),
-            &play(rt.alloc(), &net, *dest, targets, schedule),
-        )?;
-        assert!(rt;
-            text.as_str() == *wanted,
-            "{lists:?} by {schedule:?}: {text}"
-        );
+/// Tells entries, or that there are none.
+fn tell_entries(answer: &mut Answer, entries: &[Entry]) {
+    if entries.is_empty() {
+        answer.say("no entry");
     }
-    Ok(())
+    for entry in entries {
+        tell_entry(answer, entry);
+    }
+}
+
+/// Tells an entry: the worker, the node and the reply.
+fn tell_entry(answer: &mut Answer, entry: &Entry) {
+    answer.comma();
+    answer.put(&entry.worker);
+    answer.say(" ");
+    answer.put(&entry.node);
+    answer.say(" ");
+    answer.put(&entry.reply);
+}
+
+/// The counts to which a machine comes that is stepped by hand, and those to which its entries lead where they are checked.
+fn by_hand(
+    alloc: Global,
+    answer: &mut Answer,
+    net: &Net,
+    dest: &Value,
+    given: &Value,
+    order: &Value,
+) -> Option<()> {
+    let dest = number(dest)?;
+    let order = numbers(alloc, order)?;
+    let (entries, counts) = step_by_hand(alloc, net, dest, targets(alloc, given)?, &order).ok()?;
+    answer.put(&counts);
+    answer.say(", checked ");
+    answer.put(&check_run(alloc, net, dest, &entries));
+    Some(())
 }
 
 /// Steps a machine by hand: each number is the worker of the next step, and one that is no worker is passed over. The entries
@@ -286,56 +149,35 @@ fn step_by_hand(
     Ok((entries, counts))
 }
 
-#[test]
-fn stepped_by_hand_it_makes_a_run(rt: HostRuntime) -> Result<(), Fail> {
-    let net = Net::new(rt.alloc(), 3, &[(0, 1), (1, 2)])?;
-    let targets = targets_of(rt.alloc(), &[&[Turn(2)], &[Turn(1)]])?;
-    let order = [0, 0, 2, 0, 1, 1, 7, 1, 1];
-    let (entries, counts) = step_by_hand(rt.alloc(), &net, 0, targets, &order)?;
-    let checked = check_run(rt.alloc(), &net, 0, &entries);
-    assert!(rt; counts.as_slice() == [0, 1, 1].as_slice() && checked == Ok(counts));
-    Ok(())
-}
-
-/// What each step of the workers decides, with destination 0, with the counts after it, and the number of workers.
+/// What each step decides, with the counts after it, and the number of workers. A step of a number that is no worker is passed over.
 fn steps(
     alloc: Global,
+    answer: &mut Answer,
     net: &Net,
-    targets: Vec<Vec<Target>>,
-    order: &[u32],
-) -> Result<String, Fail> {
-    let mut machine = Machine::new(alloc, net, 0, targets)?;
-    let mut text = String::new(alloc);
-    for worker in order {
+    dest: &Value,
+    given: &Value,
+    order: &Value,
+) -> Option<()> {
+    let dest = number(dest)?;
+    let order = numbers(alloc, order)?;
+    let mut machine = Machine::new(alloc, net, dest, targets(alloc, given)?).ok()?;
+    for worker in &order {
         if (*worker as usize) < machine.workers() {
-            match machine.step(*worker) {
-                Some(entry) => write!(text, "{:?} ", entry.reply)?,
-                None => write!(text, "None ")?,
-            }
-            write!(text, "{:?}, ", machine.counts())?;
+            tell_step(answer, machine.step(*worker), machine.counts());
         }
     }
-    write!(text, "{}", machine.workers())?;
-    Ok(text)
+    answer.comma();
+    answer.put(&machine.workers());
+    Some(())
 }
 
-#[test]
-fn two_workers_at_one_node_step_by_step(rt: HostRuntime) -> Result<(), Fail> {
-    let net = Net::new(rt.alloc(), 2, &[(0, 1)])?;
-    let targets = targets_of(rt.alloc(), &[&[Turn(1)], &[Turn(1)]])?;
-    let text = steps(rt.alloc(), &net, targets, &[0, 1, 0, 1, 0, 1, 0])?;
-    let wanted = "None [0, 0], None [0, 0], None [0, 0], None [0, 0], Turned { count: 1 } [0, 1], \
-        Moved { had: 0, count: 1 } [0, 1], None [0, 1], 2";
-    assert!(rt; text.as_str() == wanted, "{text}");
-    Ok(())
-}
-
-#[test]
-fn faults_say_what_is_wrong(rt: HostRuntime) -> Result<(), Fail> {
-    let bad = CheckFault::BadAt {
-        index: 2,
-        why: Why::NotHeld,
-    };
-    assert!(rt; bad.to_string(rt.alloc())?.as_str() == "entry 2 is not legal: NotHeld");
-    Ok(())
+/// Tells what a step decides, and the counts after it.
+fn tell_step(answer: &mut Answer, decided: Option<Entry>, counts: &[u64]) {
+    answer.comma();
+    match decided {
+        Some(entry) => answer.put(&entry.reply),
+        None => answer.say("None"),
+    }
+    answer.say(" ");
+    answer.put(&counts);
 }

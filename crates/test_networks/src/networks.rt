@@ -1,408 +1,176 @@
-//! Networks, and those made of them by changes and by turns, told as text.
+//! Networks, told as text: made of links, copied, and turned by counts.
 
-ghost use Rattle.std.specs.Prelude.{◌≡◌, All, IsTrue};
+ghost use Rattle.std.specs.Prelude.{◌≡◌, ◌<◌, All, IsTrue, length};
 ghost use Rattle.fr_net.specs.Counts.{IsKept};
 
-use fr_net::Edit::{Add, Cut, Join};
-use fr_net::laws::{join_law, rows_law};
-use fr_net::{
-    Edit, EditFault, LineFault, MAX_EDITS, MAX_LINKS, MAX_NODES, Net, NetFault, NotEdited, Turns,
-};
-use std::alloc::{AllocError, Global};
-use std::fmt::Write;
-use std::test::Fail;
+use crate::answers::Answer;
+use crate::cases::{counts, links, number};
+use fr_net::laws::rows_law;
+use fr_net::{Net, NetFault, Turns};
+use serde_json::Value;
+use std::alloc::Global;
 
-type Links = &'static [(u32, u32)];
+/// Answers what is asked of a network, if it is that.
+pub fn answer(alloc: Global, answer: &mut Answer, word: &str, given: &[Value]) -> Option<()> {
+    match (word, given) {
+        ("made", [nodes, links]) => made(alloc, answer, nodes, links),
+        ("counted", [nodes, links]) => counted(alloc, answer, nodes, links),
+        ("rows", [nodes, links]) => rows(alloc, answer, nodes, links),
+        ("copied", [nodes, links]) => copied(alloc, answer, nodes, links),
+        ("turned", [links, counts]) => turned(alloc, answer, links, counts),
+        _ => None,
+    }
+}
 
-/// The links of a network, or the fault. Of a closed walk only its steps are told, of two nodes the lower one first: contracts
-/// say that they are true.
-fn told(alloc: Global, made: Result<Net, NetFault>) -> Result<String, AllocError> {
-    let mut text = String::new(alloc);
+/// The network with these links, or the fault of them.
+pub fn make(alloc: Global, nodes: &Value, given: &Value) -> Option<Result<Net, NetFault>> {
+    let links = links(alloc, given)?;
+    Some(Net::new(alloc, number(nodes)?, &links))
+}
+
+/// The network with these links.
+pub fn network(alloc: Global, nodes: &Value, given: &Value) -> Option<Net> {
+    make(alloc, nodes, given)?.ok()
+}
+
+/// Tells the links of a network, or the fault.
+pub fn tell(alloc: Global, answer: &mut Answer, made: Result<Net, NetFault>) {
     match made {
-        Ok(net) => write!(text, "{:?}", net.links(alloc)?)?,
-        Err(NetFault::Twice(u, v)) => write!(text, "Twice({}, {})", u.min(v), u.max(v))?,
-        Err(NetFault::Cycle(walk)) => write!(text, "Cycle of {}", walk.len())?,
-        Err(fault) => write!(text, "{fault:?}")?,
+        Ok(net) => tell_links(alloc, answer, &net),
+        Err(fault) => tell_fault(answer, fault),
     }
-    Ok(text)
 }
 
-/// Nodes and links of a network, and what is made of them.
-const MADE: &[(u32, Links, &str)] = &[
-    (1, &[], "[]"),
-    (MAX_NODES, &[], "[]"),
-    (
-        4,
-        &[(2, 3), (1, 3), (0, 2), (0, 1)],
-        "[(0, 1), (0, 2), (1, 3), (2, 3)]",
-    ),
-    // One fault.
-    (MAX_NODES + 1, &[], "TooMany"),
-    (0, &[], "Range(0)"),
-    (1024, &[(1024, 0)], "Range(1024)"),
-    (3, &[(0, 1), (3, 1)], "Range(3)"),
-    (3, &[(2, 2)], "SelfLink(2)"),
-    (2, &[(1, 0), (0, 1)], "Twice(0, 1)"),
-    (3, &[(1, 2), (0, 1), (1, 2)], "Twice(1, 2)"),
-    (3, &[(0, 1), (1, 2), (2, 0)], "Cycle of 4"),
-    (6, &[(4, 5), (5, 3), (3, 4), (0, 3)], "Cycle of 4"),
-    (5, &[(2, 0), (4, 2), (2, 3), (3, 4)], "Cycle of 4"),
-    // The first of several, in whatever order the links are listed.
-    (0, &[(0, 1)], "Range(0)"),
-    (
-        MAX_NODES + 1,
-        &[(9999, 1), (1, 1), (0, 2), (2, 0)],
-        "TooMany",
-    ),
-    (3, &[(5, 0), (1, 1), (0, 2), (2, 0)], "Range(5)"),
-    (3, &[(2, 0), (0, 2), (1, 1), (5, 0)], "Range(5)"),
-    (3, &[(1, 1), (0, 2), (2, 0)], "SelfLink(1)"),
-    (3, &[(2, 0), (0, 2), (1, 1)], "SelfLink(1)"),
-    (3, &[(0, 1), (1, 0), (1, 2), (2, 0)], "Twice(0, 1)"),
-];
-
-#[test]
-fn makes_networks(rt: HostRuntime) -> Result<(), Fail> {
-    for (nodes, links, wanted) in MADE {
-        let text = told(rt.alloc(), Net::new(rt.alloc(), *nodes, links))?;
-        assert!(rt; text.as_str() == *wanted, "{nodes} {links:?}: {text}");
+/// Tells the links of a network.
+pub fn tell_links(alloc: Global, answer: &mut Answer, net: &Net) {
+    match net.links(alloc) {
+        Ok(links) => answer.put(&links),
+        Err(fault) => answer.put(&fault),
     }
-    Ok(())
 }
 
-/// Links of four nodes, the ends of one that is cut, and what is made of them.
-const CUT: &[(Links, (u32, u32), &str)] = &[
-    (&[(1, 0), (2, 1), (3, 2)], (1, 0), "[(2, 1), (3, 2)]"),
-    (&[(1, 0), (2, 1), (3, 2)], (0, 1), "[(2, 1), (3, 2)]"),
-    (&[(1, 0)], (0, 1), "[]"),
-    (&[(1, 0), (2, 1)], (0, 2), "NoLink"),
-    (&[(1, 0), (2, 1)], (1, 1), "NoLink"),
-    (&[(1, 0), (2, 1)], (0, 4), "NoLink"),
-    (&[(1, 0), (2, 1)], (4294967295, 7), "NoLink"),
-];
-
-/// Links of four nodes, two nodes, and what is made where a link from the first to the second is added, and where they are joined.
-const ADDED: &[(Links, (u32, u32), &str, &str)] = &[
-    (
-        &[(2, 1), (3, 2)],
-        (3, 0),
-        "[(2, 1), (3, 0), (3, 2)]",
-        "[(2, 1), (3, 0), (3, 2)]",
-    ),
-    (
-        &[(2, 1), (3, 2)],
-        (0, 3),
-        "[(0, 3), (2, 1), (3, 2)]",
-        "[(0, 3), (2, 1), (3, 2)]",
-    ),
-    (&[(1, 0), (2, 1)], (0, 4), "Range(4)", "Range(4)"),
-    (&[(1, 0), (2, 1)], (4, 4), "Range(4)", "Range(4)"),
-    (&[(1, 0), (2, 1)], (2, 2), "SelfLink(2)", "SelfLink(2)"),
-    (&[(1, 0), (2, 1)], (0, 1), "Twice(0, 1)", "Twice(0, 1)"),
-    (&[(1, 0), (2, 1)], (1, 0), "Twice(0, 1)", "Twice(0, 1)"),
-    (
-        &[(1, 0), (2, 1)],
-        (0, 2),
-        "Cycle of 4",
-        "[(1, 0), (2, 0), (2, 1)]",
-    ),
-    (
-        &[(1, 0), (2, 1)],
-        (2, 0),
-        "[(1, 0), (2, 0), (2, 1)]",
-        "[(1, 0), (2, 0), (2, 1)]",
-    ),
-];
-
-#[test]
-fn cuts_links(rt: HostRuntime) -> Result<(), Fail> {
-    for (links, (u, v), wanted) in CUT {
-        let net = Net::new(rt.alloc(), 4, links)?;
-        let text = told(rt.alloc(), net.with_cut(rt.alloc(), *u, *v))?;
-        assert!(rt; text.as_str() == *wanted, "{links:?} {u} {v}: {text}");
-    }
-    Ok(())
-}
-
-#[test]
-fn adds_links_and_joins_nodes(rt: HostRuntime) -> Result<(), Fail> {
-    join_law();
-    for (links, (u, v), add, join) in ADDED {
-        let net = Net::new(rt.alloc(), 4, links)?;
-        let added = told(rt.alloc(), net.with_link(rt.alloc(), *u, *v))?;
-        let joined = told(rt.alloc(), net.with_join(rt.alloc(), *u, *v))?;
-        assert!(rt;
-            added.as_str() == *add && joined.as_str() == *join,
-            "{links:?} {u} {v}: {added} {joined}"
-        );
-    }
-    Ok(())
-}
-
-/// Links put into a network of seven nodes in which ways from 0 part, meet and end, and what comes of them.
-const FAR: &[((u32, u32), &str)] = &[
-    ((5, 0), "Cycle of 5"),
-    ((6, 0), "Cycle of 6"),
-    ((6, 3), "Cycle of 5"),
-    ((2, 0), "Cycle of 4"),
-    (
-        (2, 5),
-        "[(0, 1), (0, 3), (1, 2), (2, 5), (3, 2), (3, 4), (4, 5), (5, 6)]",
-    ),
-    (
-        (1, 6),
-        "[(0, 1), (0, 3), (1, 2), (1, 6), (3, 2), (3, 4), (4, 5), (5, 6)]",
-    ),
-];
-
-#[test]
-fn finds_walks_past_dead_ends(rt: HostRuntime) -> Result<(), Fail> {
-    let links = &[(0, 1), (1, 2), (0, 3), (3, 2), (3, 4), (4, 5), (5, 6)];
-    for ((u, v), wanted) in FAR {
-        let net = Net::new(rt.alloc(), 7, links)?;
-        let text = told(rt.alloc(), net.with_link(rt.alloc(), *u, *v))?;
-        assert!(rt; text.as_str() == *wanted, "{u} {v}: {text}");
-    }
-    Ok(())
-}
-
-/// Edits of the links 0>3, 1>0 and 2>3 of four nodes, and what is made of them, or the place of the first that is refused and why.
-const EDITED: &[(&[Edit], &str)] = &[
-    (&[], "[(0, 3), (1, 0), (2, 3)]"),
-    (
-        &[
-            Cut { u: 3, v: 0 },
-            Add { u: 1, v: 3 },
-            Cut { u: 1, v: 0 },
-            Add { u: 3, v: 0 },
-            Add { u: 1, v: 0 },
-        ],
-        "[(1, 0), (1, 3), (2, 3), (3, 0)]",
-    ),
-    (&[Cut { u: 0, v: 2 }, Add { u: 4, v: 0 }], "0 NoLink"),
-    (&[Cut { u: 0, v: 3 }, Cut { u: 0, v: 3 }], "1 NoLink"),
-    (
-        &[Cut { u: 0, v: 3 }, Add { u: 4, v: 0 }, Add { u: 2, v: 2 }],
-        "1 Range(4)",
-    ),
-    (
-        &[
-            Cut { u: 0, v: 3 },
-            Add { u: 3, v: 0 },
-            Add { u: 2, v: 2 },
-            Cut { u: 0, v: 2 },
-        ],
-        "2 SelfLink(2)",
-    ),
-    (
-        &[Cut { u: 0, v: 3 }, Add { u: 3, v: 0 }, Add { u: 0, v: 1 }],
-        "2 Twice(0, 1)",
-    ),
-    (&[Add { u: 2, v: 0 }, Add { u: 3, v: 1 }], "1 Cycle of 4"),
-    // A link from 3 to 1 closes a walk, but none once the one from 0 to 3 is cut.
-    (&[Join { u: 3, v: 1 }], "[(0, 3), (1, 0), (1, 3), (2, 3)]"),
-    (
-        &[Cut { u: 3, v: 0 }, Join { u: 3, v: 1 }],
-        "[(1, 0), (2, 3), (3, 1)]",
-    ),
-    (&[Join { u: 2, v: 0 }, Join { u: 0, v: 2 }], "1 Twice(0, 2)"),
-    (&[Join { u: 2, v: 4 }, Cut { u: 2, v: 0 }], "0 Range(4)"),
-    (&[Cut { u: 0, v: 3 }, Join { u: 2, v: 2 }], "1 SelfLink(2)"),
-];
-
-/// What is made of edits, or the place of the first that is refused and why.
-fn edited(alloc: Global, net: &Net, edits: &[Edit]) -> Result<String, AllocError> {
-    match net.with_edits(alloc, edits) {
-        Ok(made) => told(alloc, Ok(made)),
-        Err(refused) => {
-            let why = told(alloc, Err(refused.fault))?;
-            format!(in alloc; "{} {why}", refused.at)
+/// Tells a fault. Of a closed walk only its steps are told, of two nodes the lower one first: contracts say that they are true.
+pub fn tell_fault(answer: &mut Answer, fault: NetFault) {
+    match fault {
+        NetFault::Twice(u, v) => answer.put(&NetFault::Twice(u.min(v), u.max(v))),
+        NetFault::Cycle(walk) => {
+            answer.say("Cycle of ");
+            answer.put(&walk.len());
         }
+        other => answer.put(&other),
     }
 }
 
-#[test]
-fn makes_edits_one_after_the_other(rt: HostRuntime) -> Result<(), Fail> {
-    let net = Net::new(rt.alloc(), 4, &[(0, 3), (1, 0), (2, 3)])?;
-    for (edits, wanted) in EDITED {
-        let text = edited(rt.alloc(), &net, edits)?;
-        assert!(rt; text.as_str() == *wanted, "{edits:?}: {text}");
+fn made(alloc: Global, answer: &mut Answer, nodes: &Value, links: &Value) -> Option<()> {
+    tell(alloc, answer, make(alloc, nodes, links)?);
+    Some(())
+}
+
+/// How many links are given, and how many a network of them has, which it lists in their order; or the fault.
+fn counted(alloc: Global, answer: &mut Answer, nodes: &Value, given: &Value) -> Option<()> {
+    let links = links(alloc, given)?;
+    answer.put(&links.len());
+    answer.say(" links, ");
+    match Net::new(alloc, number(nodes)?, &links) {
+        Ok(net) => tell_count(alloc, answer, &net, &links),
+        Err(fault) => tell_fault(answer, fault),
     }
-    Ok(())
+    Some(())
 }
 
-#[test]
-fn tries_no_edit_of_too_many(rt: HostRuntime) -> Result<(), Fail> {
-    let net = Net::new(rt.alloc(), 2, &[(1, 0)])?;
-    let edits = vec![in rt.alloc(); Cut { u: 1, v: 1 }; MAX_EDITS + 1]?;
-    let text = edited(rt.alloc(), &net, &edits)?;
-    let wanted = format!(in rt.alloc(); "{MAX_EDITS} TooMany")?;
-    assert!(rt; text == wanted, "{text}");
-    Ok(())
+/// Tells how many links a network has, and whether it lists these.
+fn tell_count(alloc: Global, answer: &mut Answer, net: &Net, links: &[(u32, u32)]) {
+    answer.put(&net.link_count());
+    let listed = net.links(alloc);
+    answer.say(if listed.is_ok_and(|listed| listed.as_slice() == links) {
+        " in the network, the same"
+    } else {
+        " in the network, others"
+    });
 }
 
-/// Edits of the links 0>3, 1>0 and 2>3 of four nodes, how many links they may leave, what is answered of them, and what is left.
-const JUDGED: &[(&[Edit], usize, &str)] = &[
-    (&[], 3, "3 links [(0, 3), (1, 0), (2, 3)]"),
-    (&[], 2, "not 3 links [(0, 3), (1, 0), (2, 3)]"),
-    (&[Cut { u: 3, v: 0 }], 3, "2 links [(1, 0), (2, 3)]"),
-    (
-        &[Cut { u: 3, v: 0 }],
-        1,
-        "not 2 links [(0, 3), (1, 0), (2, 3)]",
-    ),
-    (
-        &[Add { u: 1, v: 3 }],
-        4,
-        "4 links [(0, 3), (1, 0), (1, 3), (2, 3)]",
-    ),
-    (
-        &[Add { u: 1, v: 3 }],
-        3,
-        "not 4 links [(0, 3), (1, 0), (2, 3)]",
-    ),
-    // A link from 3 to 1 closes a walk, but none once the one from 0 to 3 is cut.
-    (
-        &[Cut { u: 3, v: 0 }, Join { u: 3, v: 1 }],
-        3,
-        "3 links [(1, 0), (2, 3), (3, 1)]",
-    ),
-    (
-        &[Cut { u: 3, v: 0 }, Join { u: 3, v: 1 }, Add { u: 2, v: 0 }],
-        3,
-        "not 4 links [(0, 3), (1, 0), (2, 3)]",
-    ),
-    // The link between 0 and 3 is put in turned around, and another one is taken out.
-    (
-        &[
-            Cut { u: 0, v: 3 },
-            Add { u: 3, v: 0 },
-            Cut { u: 1, v: 0 },
-            Cut { u: 3, v: 0 },
-        ],
-        0,
-        "not 1 links [(0, 3), (1, 0), (2, 3)]",
-    ),
-    // Refused edits.
-    (
-        &[Cut { u: 0, v: 3 }, Cut { u: 0, v: 3 }],
-        9,
-        "1 NoLink [(0, 3), (1, 0), (2, 3)]",
-    ),
-    (
-        &[Cut { u: 2, v: 3 }, Add { u: 3, v: 1 }, Join { u: 2, v: 0 }],
-        9,
-        "1 Cycle of 4 [(0, 3), (1, 0), (2, 3)]",
-    ),
-    (
-        &[Join { u: 2, v: 1 }, Cut { u: 0, v: 1 }, Add { u: 2, v: 2 }],
-        9,
-        "2 SelfLink(2) [(0, 3), (1, 0), (2, 3)]",
-    ),
-];
-
-/// What is answered where edits may leave so many links, and the links that are left.
-fn judged(alloc: Global, net: &mut Net, edits: &[Edit], most: usize) -> Result<String, AllocError> {
-    let way = |made: &Net| {
-        let links = made.link_count();
-        if links <= most { Ok(links) } else { Err(links) }
-    };
-    let answer = match net.edit_if(alloc, edits, way) {
-        Ok(links) => format!(in alloc; "{links} links"),
-        Err(NotEdited::Fault(links)) => format!(in alloc; "not {links} links"),
-        Err(NotEdited::Refused(refused)) => {
-            let why = told(alloc, Err(refused.fault))?;
-            format!(in alloc; "{} {why}", refused.at)
-        }
-    }?;
-    format!(in alloc; "{answer} {:?}", net.links(alloc)?)
-}
-
-#[test]
-fn undoes_edits_that_cannot_stay(rt: HostRuntime) -> Result<(), Fail> {
-    for (edits, most, wanted) in JUDGED {
-        let mut net = Net::new(rt.alloc(), 4, &[(0, 3), (1, 0), (2, 3)])?;
-        let text = judged(rt.alloc(), &mut net, edits, *most)?;
-        assert!(rt; text.as_str() == *wanted, "{edits:?} {most}: {text}");
-        let anew = Net::new(rt.alloc(), 4, &net.links(rt.alloc())?)?;
-        assert!(rt;
-            rows(rt.alloc(), &net)? == rows(rt.alloc(), &anew)?,
-            "{edits:?} {most}"
-        );
-    }
-    Ok(())
-}
-
-#[test]
-fn copies_a_network(rt: HostRuntime) -> Result<(), Fail> {
-    let net = Net::new(rt.alloc(), 4, &[(0, 3), (1, 0), (2, 3)])?;
-    let copy = net.copied(rt.alloc())?;
-    assert!(rt; rows(rt.alloc(), &net)? == rows(rt.alloc(), &copy)?);
-    assert!(rt; told(rt.alloc(), Ok(copy))?.as_str() == "[(0, 3), (1, 0), (2, 3)]");
-    Ok(())
-}
-
-/// The first `count` links from a node to a lower one, in rising order of tail, then head.
-fn links_down(alloc: Global, count: usize) -> Result<Vec<(u32, u32)>, AllocError> {
-    let mut links = Vec::new(alloc);
-    for tail in 0..MAX_NODES {
-        for head in 0..tail {
-            if links.len() == count {
-                return Ok(links);
-            }
-            links.push((tail, head))?;
-        }
-    }
-    Ok(links)
-}
-
-#[test]
-fn takes_links_up_to_the_limit(rt: HostRuntime) -> Result<(), Fail> {
-    let links = links_down(rt.alloc(), MAX_LINKS)?;
-    let full = Net::new(rt.alloc(), MAX_NODES, &links)?;
-    assert!(rt; full.link_count() == MAX_LINKS && full.links(rt.alloc())? == links);
-    let added = told(rt.alloc(), full.with_link(rt.alloc(), 1, 0))?;
-    let joined = told(rt.alloc(), full.with_join(rt.alloc(), 300, 0))?;
-    assert!(rt; added.as_str() == "TooMany" && joined == added);
-    Ok(())
-}
-
-#[test]
-fn refuses_one_link_more(rt: HostRuntime) -> Result<(), Fail> {
-    let links = links_down(rt.alloc(), MAX_LINKS + 1)?;
-    for nodes in [MAX_NODES, 0] {
-        let over = told(rt.alloc(), Net::new(rt.alloc(), nodes, &links))?;
-        assert!(rt;
-            links.len() == MAX_LINKS + 1 && over.as_str() == "TooMany",
-            "{nodes}"
-        );
-    }
-    Ok(())
-}
-
-/// The rows of a network, by each call that shows them.
-fn rows(alloc: Global, net: &Net) -> Result<String, AllocError> {
-    let mut text = String::new(alloc);
-    net.network_law();
-    for x in 0..net.nodes() {
-        write!(text, "{} {:?} ", net.degree(x), net.row(x))?;
-        if net.degree(x) > 0 {
-            write!(text, "{:?} ", net.neighbour(x, 0))?;
-        }
-    }
-    Ok(text)
-}
-
-#[test]
-fn shows_rows(rt: HostRuntime) -> Result<(), Fail> {
+fn rows(alloc: Global, answer: &mut Answer, nodes: &Value, links: &Value) -> Option<()> {
     rows_law();
-    let net = Net::new(rt.alloc(), 4, &[(2, 0), (1, 0), (2, 1)])?;
-    let text = rows(rt.alloc(), &net)?;
-    let wanted = "2 [(1, Inward), (2, Inward)] (1, Inward) \
-        2 [(0, Outward), (2, Inward)] (0, Outward) \
-        2 [(0, Outward), (1, Outward)] (0, Outward) 0 [] ";
-    assert!(rt; text.as_str() == wanted, "{text}");
-    Ok(())
+    tell_rows(answer, &network(alloc, nodes, links)?);
+    Some(())
+}
+
+/// Tells the rows of a network, by each call that shows them.
+fn tell_rows(answer: &mut Answer, net: &Net) {
+    for x in 0..net.nodes() {
+        tell_row(answer, net, x);
+    }
+}
+
+/// Tells the row of a node.
+fn tell_row(answer: &mut Answer, net: &Net, x: u32)
+    requires { x < net.now.nodes }
+{
+    net.network_law();
+    answer.comma();
+    answer.put(&net.degree(x));
+    answer.say(" ");
+    answer.put(&net.row(x));
+    if net.degree(x) > 0 {
+        answer.say(" ");
+        answer.put(&net.neighbour(x, 0));
+    }
+}
+
+/// Tells whether a network has the rows of another one.
+fn tell_alike(alloc: Global, answer: &mut Answer, net: &Net, other: &Net) {
+    let mut rows = Answer::new(alloc);
+    tell_rows(&mut rows, net);
+    let mut others = Answer::new(alloc);
+    tell_rows(&mut others, other);
+    answer.say(if rows.text() == others.text() {
+        ", the same rows"
+    } else {
+        ", other rows"
+    });
+}
+
+/// Tells whether a network has the rows of one that is made of its links.
+pub fn tell_anew(alloc: Global, answer: &mut Answer, net: &Net) -> Option<()> {
+    let links = net.links(alloc).ok()?;
+    let anew = Net::new(alloc, net.nodes(), &links).ok()?;
+    tell_alike(alloc, answer, net, &anew);
+    Some(())
+}
+
+/// The links of a copy, and whether it has the rows of the network.
+fn copied(alloc: Global, answer: &mut Answer, nodes: &Value, links: &Value) -> Option<()> {
+    let net = network(alloc, nodes, links)?;
+    let copy = net.copied(alloc).ok()?;
+    tell_links(alloc, answer, &copy);
+    tell_alike(alloc, answer, &net, &copy);
+    Some(())
+}
+
+/// The links that counts give, one for each node: in a network beside the first one, and in that one itself.
+fn turned(alloc: Global, answer: &mut Answer, links: &Value, given: &Value) -> Option<()> {
+    let counts = counts(alloc, given)?;
+    let net = crate::cases::links(alloc, links)?;
+    let net = Net::new(alloc, u32::try_from(counts.len()).ok()?, &net).ok()?;
+    let listed = net.links(alloc).ok()?;
+    if counts.len() != net.nodes() as usize || !are_kept(&listed, &counts) {
+        return None;
+    }
+    tell_turned(alloc, answer, net, counts)
+}
+
+/// Tells the links that counts give, beside the network and in its place.
+fn tell_turned(alloc: Global, answer: &mut Answer, mut net: Net, counts: Vec<u64>) -> Option<()>
+    requires one_each { length counts.items ≡ net.nodes }
+    requires kept { All (IsKept counts.items) net.links }
+{
+    answer.say("beside ");
+    tell(alloc, answer, net.turned_by(alloc, &counts));
+    net.network_law();
+    net.turn(&Turns::of(alloc, counts).ok()?);
+    answer.say(", in place ");
+    tell_links(alloc, answer, &net);
+    tell_anew(alloc, answer, &net)
 }
 
 /// Whether each link stays or is reversed at these counts, as `turned_by` and `turn` require.
@@ -420,86 +188,4 @@ fn are_kept(links: &[(u32, u32)], counts: &[u64]) -> bool
         }
     }
     true
-}
-
-/// Links, counts, and the links that these give.
-const TURNED: &[(Links, &[u64], &str)] = &[
-    (
-        &[(0, 1), (1, 2), (2, 3)],
-        &[0, 1, 2, 3],
-        "[(1, 0), (2, 1), (3, 2)]",
-    ),
-    (
-        &[(0, 1), (1, 2), (2, 3)],
-        &[0, 0, 0, 0],
-        "[(0, 1), (1, 2), (2, 3)]",
-    ),
-    (
-        &[(0, 1), (1, 2), (0, 3), (2, 3), (3, 4)],
-        &[0, 1, 1, 1, 2],
-        "[(1, 0), (1, 2), (2, 3), (3, 0), (4, 3)]",
-    ),
-    // One node turns, whose neighbours do not; then all but one, and a node has no link.
-    (
-        &[(0, 2), (1, 2), (1, 3), (3, 2), (4, 2), (4, 3)],
-        &[0, 0, 1, 0, 0],
-        "[(1, 3), (2, 0), (2, 1), (2, 3), (2, 4), (4, 3)]",
-    ),
-    (
-        &[(2, 0), (2, 1), (2, 3), (0, 4), (3, 4), (1, 3)],
-        &[1, 1, 0, 1, 1, 0],
-        "[(0, 2), (0, 4), (1, 2), (1, 3), (3, 2), (3, 4)]",
-    ),
-    (
-        &[(1, 0), (2, 0), (2, 1), (3, 1), (3, 2), (4, 0), (4, 3)],
-        &[2, 1, 1, 1, 1],
-        "[(0, 1), (0, 2), (0, 4), (2, 1), (3, 1), (3, 2), (4, 3)]",
-    ),
-];
-
-#[test]
-fn turns_links_by_counts(rt: HostRuntime) -> Result<(), Fail> {
-    for (links, counts, wanted) in TURNED {
-        let mut net = Net::new(rt.alloc(), counts.len() as u32, links)?;
-        let listed = net.links(rt.alloc())?;
-        if counts.len() != net.nodes() as usize || !are_kept(&listed, counts) {
-            return Err(Fail::from("no such counts"));
-        }
-        let beside = told(rt.alloc(), net.turned_by(rt.alloc(), counts))?;
-        net.network_law();
-        net.turn(&Turns::of(rt.alloc(), counts.to_vec(rt.alloc())?)?);
-        let anew = Net::new(rt.alloc(), net.nodes(), &net.links(rt.alloc())?)?;
-        let as_anew = rows(rt.alloc(), &net)? == rows(rt.alloc(), &anew)?;
-        let in_place = told(rt.alloc(), Ok(net))?;
-        assert!(rt;
-            beside.as_str() == *wanted && beside == in_place && as_anew,
-            "{wanted}: {beside}"
-        );
-    }
-    Ok(())
-}
-
-#[test]
-fn says_what_the_fault_is(rt: HostRuntime) -> Result<(), Fail> {
-    let mut text = String::new(rt.alloc());
-    for fault in [
-        NetFault::TooMany,
-        NetFault::Range(7),
-        NetFault::SelfLink(2),
-        NetFault::Twice(0, 1),
-        NetFault::Cycle([3, 4, 5, 3].to_vec(rt.alloc())?),
-        NetFault::NoLink,
-        NetFault::Memory,
-    ] {
-        writeln!(text, "{fault}")?;
-    }
-    writeln!(text, "{}, {}", LineFault::NotJson, LineFault::NotRequest)?;
-    let (at, fault) = (2, NetFault::NoLink);
-    writeln!(text, "{}", EditFault { at, fault })?;
-    let wanted =
-        "too many nodes or links\nnode 7 is out of range\na link joins node 2 with itself\n\
-        more than one link joins nodes 0 and 1\nthe links close a walk of 3 steps\nno link joins the two nodes\nno memory\n\
-        the line is no JSON, the line is no request\nedit 2 is refused: no link joins the two nodes\n";
-    assert!(rt; text.as_str() == wanted, "{text}");
-    Ok(())
 }

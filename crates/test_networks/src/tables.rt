@@ -1,38 +1,105 @@
 //! Tables of turns.
 
-use fr_net::Turns;
-use std::alloc::{AllocError, Global};
-use std::test::Fail;
+use crate::answers::Answer;
+use crate::cases::{counts, list, number};
+use fr_net::{MAX_NODES, Turns};
+use serde_json::Value;
+use std::alloc::Global;
 
-/// The counts, the nodes that have turned, and the turns, of a table.
-fn told(alloc: Global, turns: &Turns) -> Result<String, AllocError> {
-    format!(in alloc;
-        "{:?} {:?} {}, ",
-        turns.counts(),
-        turns.nodes(),
-        turns.total()
-    )
+/// Answers what is asked of tables of turns, if it is that.
+pub fn answer(alloc: Global, answer: &mut Answer, word: &str, given: &[Value]) -> Option<()> {
+    match (word, given) {
+        ("turns", [nodes, steps]) => turns(alloc, answer, nodes, steps),
+        ("turns_of", [counts]) => turns_of(alloc, answer, counts),
+        _ => None,
+    }
 }
 
-/// Two turns of node 2 and one of node 0 in the order 2, 0, 2; then four turns for each; then other counts; then none.
-#[test]
-fn lists_the_nodes_that_turn(rt: HostRuntime) -> Result<(), Fail> {
-    let alloc = rt.alloc();
-    let mut turns = Turns::none(alloc, 4)?;
-    turns.add(2);
-    turns.add(0);
-    turns.add(2);
-    let mut text = told(alloc, &turns)?;
-    turns.set_each(4);
-    text.push_str(&told(alloc, &turns)?)?;
-    turns.copy_from(&[0, 1, 0, 0]);
-    text.push_str(&told(alloc, &turns)?)?;
-    turns.clear();
-    text.push_str(&told(alloc, &turns)?)?;
-    let wanted =
-        "[1, 0, 2, 0] [2, 0] 3, [4, 0, 4, 0] [2, 0] 8, [0, 1, 0, 0] [1] 1, [0, 0, 0, 0] [] 0, ";
-    assert!(rt; text.as_str() == wanted, "{text}");
-    let counts = Turns::of(alloc, vec![in alloc; 3u64; 2]?)?.into_counts();
-    assert!(rt; counts.as_slice() == [3, 3].as_slice());
-    Ok(())
+/// A table in which none of so many nodes has turned.
+pub fn none(alloc: Global, nodes: u32) -> Option<Turns> {
+    if nodes > MAX_NODES {
+        return None;
+    }
+    Turns::none(alloc, nodes).ok()
+}
+
+/// Takes steps with a table that has no turns.
+fn turns(alloc: Global, answer: &mut Answer, nodes: &Value, steps: &Value) -> Option<()> {
+    let mut turns = none(alloc, number(nodes)?)?;
+    for step in steps.as_array()? {
+        take(alloc, answer, &mut turns, step.as_array()?.as_slice())?;
+    }
+    Some(())
+}
+
+/// Takes one step, which tells the table or changes it.
+fn take(alloc: Global, answer: &mut Answer, turns: &mut Turns, step: &[Value]) -> Option<()> {
+    match step {
+        [word] => tell_or_clear(answer, turns, word.as_str()?),
+        [word, given] => change(alloc, turns, word.as_str()?, given),
+        _ => None,
+    }
+}
+
+fn tell_or_clear(answer: &mut Answer, turns: &mut Turns, word: &str) -> Option<()> {
+    match word {
+        "tell" => tell(answer, turns),
+        "clear" => turns.clear(),
+        _ => return None,
+    }
+    Some(())
+}
+
+/// Tells the counts, the nodes that have turned, and how many turns there are.
+fn tell(answer: &mut Answer, turns: &Turns) {
+    answer.comma();
+    answer.put(&turns.counts());
+    answer.say(" ");
+    answer.put(&turns.nodes());
+    answer.say(" ");
+    answer.put(&turns.total());
+}
+
+/// Changes a table, if it can be changed so.
+fn change(alloc: Global, turns: &mut Turns, word: &str, given: &Value) -> Option<()> {
+    match word {
+        "add" => add(turns, number(given)?),
+        "each" => set_each(turns, given.as_u64()?),
+        "copy" => copy(turns, &counts(alloc, given)?),
+        _ => None,
+    }
+}
+
+fn add(turns: &mut Turns, x: u32) -> Option<()> {
+    if *turns.counts().get(x as usize)? == u64::MAX {
+        return None;
+    }
+    turns.add(x);
+    Some(())
+}
+
+fn set_each(turns: &mut Turns, count: u64) -> Option<()> {
+    if count == 0 {
+        return None;
+    }
+    turns.set_each(count);
+    Some(())
+}
+
+fn copy(turns: &mut Turns, counts: &[u64]) -> Option<()> {
+    if counts.len() != turns.counts().len() {
+        return None;
+    }
+    turns.copy_from(counts);
+    Some(())
+}
+
+/// The counts of a table that is made of counts.
+fn turns_of(alloc: Global, answer: &mut Answer, given: &Value) -> Option<()> {
+    let counts = counts(alloc, given)?;
+    if counts.len() > MAX_NODES as usize {
+        return None;
+    }
+    answer.put(&Turns::of(alloc, counts).ok()?.into_counts());
+    Some(())
 }

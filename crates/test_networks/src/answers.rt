@@ -1,0 +1,58 @@
+//! What came of a case, as text.
+
+use std::alloc::Global;
+use std::fmt::{Debug, Display, Write};
+
+/// A text that grows piece by piece. Where a piece finds no memory, the whole text says so, and no caller has to.
+#[derive(Drop)]
+pub struct Answer {
+    text: String,
+    is_whole: bool,
+}
+
+impl Answer {
+    /// No text yet.
+    pub fn new(alloc: Global) -> Answer {
+        Answer {
+            text: String::new(alloc),
+            is_whole: true,
+        }
+    }
+
+    /// The text.
+    pub fn text(&self) -> &str {
+        if self.is_whole {
+            self.text.as_str()
+        } else {
+            "no memory"
+        }
+    }
+
+    /// Puts words behind it.
+    pub fn say(&mut self, words: &str) {
+        if self.text.push_str(words).is_err() {
+            self.is_whole = false;
+        }
+    }
+
+    /// Puts a value behind it, as `Debug` writes it.
+    pub fn put<T: Debug>(&mut self, value: &T) {
+        if write!(self.text, "{value:?}").is_err() {
+            self.is_whole = false;
+        }
+    }
+
+    /// Puts a value behind it, as `Display` writes it.
+    pub fn show<T: Display>(&mut self, value: &T) {
+        if write!(self.text, "{value}").is_err() {
+            self.is_whole = false;
+        }
+    }
+
+    /// Puts a comma behind it, before what comes next.
+    pub fn comma(&mut self) {
+        if !self.text.is_empty() {
+            self.say(", ");
+        }
+    }
+}
