@@ -2,20 +2,31 @@
 
 ghost use Rattle.std.specs.Prelude.{◌≡◌, IfSome, replicate};
 
-use crate::telling::{number_told, told};
+use crate::telling::{number_told, tell, told};
 use fr_core::{Machine, Target, check_run, play};
 use fr_crew::{
-    OpenGate, Plan, live_walk, settle, settle_alone, settled_counts, settled_counts_alone,
+    LiveWalk, OpenGate, Plan, Settled, live_walk, settle, settle_alone, settled_counts,
+    settled_counts_alone,
 };
 use fr_net::{Edit, LineFault, LineReader, Net, NotEdited, Question, Request, Turns, read_line};
 use fr_round::{OpenWhy, Round};
 use fr_route::{Change, Report, Router, Session, counts_line, links_line};
 use std::alloc::{AllocError, Global};
+use std::fmt::Display;
 use std::sync::Wait;
 use std::thread::Threads;
 
 /// A chain that points away from the destination, node 0.
 const CHAIN: [(u32, u32); 3] = [(0, 1), (1, 2), (2, 3)];
+
+/// How often its nodes turn until it leads home.
+const CHAIN_TURNS: &[u64] = &[0, 1, 2, 3];
+
+/// The line of the chain.
+const NETWORK_LINE: &[u8] = br#"["net",4,0,[[0,1],[1,2],[2,3]]]"#;
+
+/// The edits that put a link of the chain in another place.
+const MOVED_LINK: [Edit; 2] = [Edit::Cut { u: 1, v: 2 }, Edit::Add { u: 0, v: 3 }];
 
 /// A link from each of the nodes 0 to 3 to each of the nodes 4 to 7.
 const LEFT_TO_RIGHT: [(u32, u32); 16] = [
@@ -146,7 +157,10 @@ fn links_told<R: Alloc<A = Global> + Eprint>(rt: &R, net: &Net) -> Option<String
 
 /// Whether these are the links of a network. Want of memory is told, and answers no.
 fn has_links<R: Alloc<A = Global> + Eprint>(rt: &R, net: &Net, links: &[(u32, u32)]) -> bool {
-    told(rt, net.links(rt.alloc())).is_some_and(|listed| listed.as_slice() == links)
+    match told(rt, net.links(rt.alloc())) {
+        Some(listed) => listed.as_slice() == links,
+        None => false,
+    }
 }
 
 /// Whether a network still has the links of the chain.
@@ -159,46 +173,67 @@ fn network<R: Alloc<A = Global> + Eprint>(rt: &R) -> Option<String> {
     links_told(rt, &net)
 }
 
-fn cut_network<R: Alloc<A = Global> + Eprint>(rt: &R) -> Option<String> {
-    let net = told(rt, chain(rt)?.with_cut(rt.alloc(), 2, 1))?;
+/// The links of a network that was made, as text.
+fn links_made<R: Alloc<A = Global> + Eprint, E: Display + Drop>(
+    rt: &R,
+    made: Result<Net, E>,
+) -> Option<String> {
+    let net = told(rt, made)?;
     links_told(rt, &net)
 }
 
+fn cut_network<R: Alloc<A = Global> + Eprint>(rt: &R) -> Option<String> {
+    let net = chain(rt)?;
+    links_made(rt, net.with_cut(rt.alloc(), 2, 1))
+}
+
 fn linked_network<R: Alloc<A = Global> + Eprint>(rt: &R) -> Option<String> {
-    let net = told(rt, chain(rt)?.with_link(rt.alloc(), 0, 3))?;
-    links_told(rt, &net)
+    let net = chain(rt)?;
+    links_made(rt, net.with_link(rt.alloc(), 0, 3))
 }
 
 /// The chain with its ends joined: a link from 3 to 0 would close a walk.
 fn joined_network<R: Alloc<A = Global> + Eprint>(rt: &R) -> Option<String> {
-    let net = told(rt, chain(rt)?.with_join(rt.alloc(), 3, 0))?;
-    links_told(rt, &net)
+    let net = chain(rt)?;
+    links_made(rt, net.with_join(rt.alloc(), 3, 0))
 }
 
 /// The chain with a link in another place.
 fn edited_network<R: Alloc<A = Global> + Eprint>(rt: &R) -> Option<String> {
-    let edits = [Edit::Cut { u: 1, v: 2 }, Edit::Add { u: 0, v: 3 }];
-    let net = match chain(rt)?.with_edits(rt.alloc(), &edits) {
-        Ok(net) => net,
-        Err(refused) => return told(rt, Err(refused.fault)),
-    };
-    links_told(rt, &net)
+    let net = chain(rt)?;
+    match net.with_edits(rt.alloc(), &MOVED_LINK) {
+        Ok(net) => links_told(rt, &net),
+        Err(refused) => told(rt, Err(refused.fault)),
+    }
 }
 
 /// The same where the network stands, with its text made before the edits stay. Where that finds no memory, it has to be as it was.
 fn edited_in_place<R: Alloc<A = Global> + Print + Eprint>(rt: &R) -> Option<String> {
     let alloc = rt.alloc();
     let mut net = chain(rt)?;
-    let edits = [Edit::Cut { u: 1, v: 2 }, Edit::Add { u: 0, v: 3 }];
-    let why = match net.edit_if(alloc, &edits, |edited| links_of(alloc, edited)) {
-        Ok(links) => return Some(links),
-        Err(NotEdited::Refused(refused)) => told(rt, Err(refused.fault)),
-        Err(NotEdited::Fault(fault)) => told(rt, Err(fault)),
-    };
-    if !is_chain(rt, &net) {
-        let _ = rt.println("the network has changed");
+    match net.edit_if(alloc, &MOVED_LINK, |edited| links_of(alloc, edited)) {
+        Ok(links) => Some(links),
+        Err(fault) => {
+            tell_not_edited(rt, fault);
+            if !is_chain(rt, &net) {
+                say(rt, "the network has changed");
+            }
+            None
+        }
     }
-    why
+}
+
+/// Tells why a network was not edited.
+fn tell_not_edited<R: Eprint>(rt: &R, fault: NotEdited<AllocError>) {
+    match fault {
+        NotEdited::Refused(refused) => tell(rt, refused.fault),
+        NotEdited::Fault(fault) => tell(rt, fault),
+    }
+}
+
+/// Writes to standard output what should not have come to pass.
+fn say<R: Print>(rt: &R, text: &str) {
+    let _ = rt.println(text);
 }
 
 /// The numbers of faults of links.
@@ -209,15 +244,20 @@ fn refused_networks<R: Alloc<A = Global> + Eprint>(rt: &R) -> Option<String> {
     let twice = number_told(rt, Net::new(alloc, 2, &[(0, 1), (1, 0)]))?;
     let closing = number_told(rt, net.with_link(alloc, 3, 0))?;
     let no_link = number_told(rt, net.with_cut(alloc, 0, 3))?;
-    told(
-        rt,
-        format!(in alloc; "refused {walk} {twice} {closing} {no_link}"),
-    )
+    told(rt, numbers_line(alloc, &[walk, twice, closing, no_link]))
+}
+
+/// The numbers of refusals as a line.
+fn numbers_line(alloc: Global, numbers: &[u32]) -> Result<String, AllocError> {
+    let mut line = String::from_str(alloc, "refused")?;
+    for number in numbers {
+        write!(line, " {number}")?;
+    }
+    Ok(line)
 }
 
 fn request<R: Alloc<A = Global> + Eprint>(rt: &R) -> Option<String> {
-    let line = br#"["net",4,0,[[0,1],[1,2],[2,3]]]"#;
-    match told(rt, read_line(rt.alloc(), line))? {
+    match told(rt, read_line(rt.alloc(), NETWORK_LINE))? {
         Request::Network { links, .. } => told(rt, links_line(rt.alloc(), &links)),
         _ => told(rt, String::from_str(rt.alloc(), "another request")),
     }
@@ -227,17 +267,22 @@ fn request<R: Alloc<A = Global> + Eprint>(rt: &R) -> Option<String> {
 fn lines_read<R: Alloc<A = Global> + Eprint>(rt: &R) -> Option<String> {
     let alloc = rt.alloc();
     let mut reader = LineReader::new();
-    let Request::Walk { x } = told(rt, reader.read(alloc, br#"["walk", 3]"#))? else {
-        return told(rt, String::from_str(alloc, "another request"));
-    };
-    let line = br#"["net",4,0,[[0,1],[1,2],[2,3]]]"#;
-    match told(rt, reader.read(alloc, line))? {
-        Request::Network { links, .. } => {
-            let text = told(rt, links_line(alloc, &links))?;
-            told(rt, format!(in alloc; "walk {x} {text}"))
-        }
-        _ => told(rt, String::from_str(alloc, "another request")),
+    let first = told(rt, reader.read(alloc, br#"["walk", 3]"#))?;
+    let second = told(rt, reader.read(alloc, NETWORK_LINE))?;
+    told(rt, requests_line(alloc, &first, &second))
+}
+
+/// The node of a walk and the links of a network.
+fn requests_line(alloc: Global, first: &Request, second: &Request) -> Result<String, AllocError> {
+    match (first, second) {
+        (Request::Walk { x }, Request::Network { links, .. }) => walk_and_links(alloc, *x, links),
+        _ => String::from_str(alloc, "another request"),
     }
+}
+
+fn walk_and_links(alloc: Global, x: u32, links: &[(u32, u32)]) -> Result<String, AllocError> {
+    let walk = format!(in alloc; "walk {x}")?;
+    joined_text(alloc, &walk, &links_line(alloc, links)?)
 }
 
 fn refused_line<R: Alloc<A = Global> + Eprint>(rt: &R) -> Option<String> {
@@ -273,11 +318,18 @@ fn machine<R: Alloc<A = Global> + Eprint>(rt: &R) -> Option<String> {
     told(rt, counts_line(alloc, machine.counts()))
 }
 
+/// The ends of the chain that two workers are to turn, a node each.
 fn targets(alloc: Global) -> Result<Vec<Vec<Target>>, AllocError> {
-    Ok(vec![in alloc;
-        vec![in alloc; Target::Turn(3)]?,
-        vec![in alloc; Target::Turn(2)]?,
-    ]?)
+    let mut targets = Vec::new(alloc);
+    for x in [3, 2] {
+        targets.push(target(alloc, x)?)?;
+    }
+    Ok(targets)
+}
+
+/// The targets of a worker that is to turn one node.
+fn target(alloc: Global, x: u32) -> Result<Vec<Target>, AllocError> {
+    Vec::from_slice(alloc, &[Target::Turn(x)])
 }
 
 /// A round that is opened and closed; where it is not opened, the network has to come back.
@@ -290,7 +342,7 @@ fn opened<R: Alloc<A = Global> + Print + Eprint>(rt: &R) -> Option<String> {
         }
         Err(fault) => {
             if fault.net.nodes() != 4 || !is_chain(rt, &fault.net) {
-                let _ = rt.println("another network was handed back");
+                say(rt, "another network was handed back");
             }
             told(rt, Err(fault.why))
         }
@@ -313,10 +365,15 @@ fn settled_with_growth<R: Threads + Wait + Sync + Alloc<A = Global> + Eprint>(
     let plan = Plan::new(1, 0, 1000)?;
     let net = told(rt, Net::new(alloc, 8, &LEFT_TO_RIGHT))?;
     let settled = told(rt, settle(rt, alloc, net, 0, &plan, &OpenGate))?;
+    told(rt, settled_line(alloc, &settled))
+}
+
+/// How many turns settled a network, the counts and the links.
+fn settled_line(alloc: Global, settled: &Settled) -> Result<String, AllocError> {
     let turned = settled.by_workers.saturating_add(settled.by_finisher);
-    let counts = told(rt, counts_line(alloc, &settled.counts))?;
-    let links = links_told(rt, &settled.net)?;
-    told(rt, format!(in alloc; "turned {turned} {counts} {links}"))
+    let turned = format!(in alloc; "turned {turned}")?;
+    let turned = joined_text(alloc, &turned, &counts_line(alloc, &settled.counts)?)?;
+    joined_text(alloc, &turned, &links_of(alloc, &settled.net)?)
 }
 
 /// A router that changes and walks. Where a change finds no memory or no thread, the router has to be as it was.
@@ -327,19 +384,30 @@ fn routed<R: Threads + Wait + Sync + Alloc<A = Global> + Print + Eprint>(rt: &R)
     let mut router = told(rt, Router::open(rt, alloc, net, 0, &plan, &OpenGate))?;
     let cut = Change::Cut { u: 2, v: 1 };
     if told(rt, router.change(rt, alloc, cut, &plan, &OpenGate)).is_none() {
-        if !is_chain_home(rt, &router) {
-            let _ = rt.println("the router has changed");
-        }
+        look_for_change(rt, &router);
         return None;
     }
     let add = Change::Add { u: 0, v: 3 };
     told(rt, router.change(rt, alloc, add, &plan, &OpenGate))?;
+    walked(rt, &router)
+}
+
+/// Says so if the router is not that of the chain once it leads home.
+fn look_for_change<R: Alloc<A = Global> + Print + Eprint>(rt: &R, router: &Router) {
+    if !is_chain_home(rt, router) {
+        say(rt, "the router has changed");
+    }
+}
+
+/// The links of a router and the way from node 2.
+fn walked<R: Alloc<A = Global> + Eprint>(rt: &R, router: &Router) -> Option<String> {
     if router.net().nodes() < 4 {
         return None;
     }
-    let walked = told(rt, router.walk(alloc, 2))?;
-    let links = links_told(rt, router.net())?;
-    told(rt, format!(in alloc; "{links} {walked:?}"))
+    let walked = told(rt, router.walk(rt.alloc(), 2))?;
+    let mut line = links_told(rt, router.net())?;
+    told(rt, write!(line, " {walked:?}"))?;
+    Some(line)
 }
 
 fn counted<R: Threads + Wait + Sync + Alloc<A = Global> + Eprint>(rt: &R) -> Option<String> {
@@ -370,12 +438,11 @@ fn settled_alone<R: Alloc<A = Global> + Eprint>(rt: &R) -> Option<String> {
 /// A router on the calling thread alone. Where its change finds no memory, it has to be as it was.
 fn routed_alone<R: Alloc<A = Global> + Print + Eprint>(rt: &R) -> Option<String> {
     let alloc = rt.alloc();
-    let mut router = told(rt, Router::open_alone(alloc, chain(rt)?, 0))?;
+    let net = chain(rt)?;
+    let mut router = told(rt, Router::open_alone(alloc, net, 0))?;
     let cut = Change::Cut { u: 2, v: 1 };
     if told(rt, router.change_alone(alloc, cut)).is_none() {
-        if !is_chain_home(rt, &router) {
-            let _ = rt.println("the router has changed");
-        }
+        look_for_change(rt, &router);
         return None;
     }
     links_told(rt, router.net())
@@ -384,12 +451,19 @@ fn routed_alone<R: Alloc<A = Global> + Print + Eprint>(rt: &R) -> Option<String>
 /// A line and a request, answered on the calling thread alone.
 fn answered_alone<R: Alloc<A = Global> + Eprint>(rt: &R) -> Option<String> {
     let alloc = rt.alloc();
-    let line = br#"["net",4,0,[[0,1],[1,2],[2,3]]]"#;
     let mut session = Session::new();
-    let report = told(rt, session.answer_line_alone(alloc, line))??;
+    let report = told(rt, session.answer_line_alone(alloc, NETWORK_LINE))??;
     let request = Request::Ask(Question::Links);
     let links = told(rt, session.answer_alone(alloc, &request))?;
-    told(rt, format!(in alloc; "{report} {links}"))
+    told(rt, joined_text(alloc, &report, &links))
+}
+
+/// Two texts with a blank between them.
+fn joined_text(alloc: Global, one: &str, other: &str) -> Result<String, AllocError> {
+    let mut text = String::from_str(alloc, one)?;
+    text.push_str(" ")?;
+    text.push_str(other)?;
+    Ok(text)
 }
 
 /// A walk in an open round on a chain that leads home.
@@ -401,16 +475,23 @@ fn walked_live<R: Alloc<A = Global> + Eprint>(rt: &R) -> Option<String> {
         Err(fault) => return told(rt, Err(fault.why)),
     };
     let mut worker = workers.pop()?;
-    match live_walk(alloc, &round, &mut worker, 3, 10) {
-        Ok(walk) => told(rt, format!(in alloc; "{:?} {:?}", walk.nodes, walk.end)),
-        Err(fault) => told(rt, Err(fault)),
-    }
+    let walk = told(rt, live_walk(alloc, &round, &mut worker, 3, 10))?;
+    told(rt, walk_line(alloc, &walk))
+}
+
+fn walk_line(alloc: Global, walk: &LiveWalk) -> Result<String, AllocError> {
+    let mut line = format!(in alloc; "{:?} ", walk.nodes)?;
+    write!(line, "{:?}", walk.end)?;
+    Ok(line)
 }
 
 /// Whether the router is that of the chain once it leads home.
 fn is_chain_home<R: Alloc<A = Global> + Eprint>(rt: &R, router: &Router) -> bool {
-    router.report() == Report { turned: 6, cut: 0 }
-        && router.dest() == 0
-        && router.counts() == [0, 1, 2, 3].as_slice()
-        && has_links(rt, router.net(), &[(1, 0), (2, 1), (3, 2)])
+    has_turned_home(router) && has_links(rt, router.net(), &[(1, 0), (2, 1), (3, 2)])
+}
+
+/// Whether the router tells the turns by which the chain comes to lead home.
+fn has_turned_home(router: &Router) -> bool {
+    let Report { turned, cut } = router.report();
+    turned == 6 && cut == 0 && router.dest() == 0 && router.counts() == CHAIN_TURNS
 }

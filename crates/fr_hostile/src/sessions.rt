@@ -80,15 +80,21 @@ fn links<R: Threads + Wait + Sync + Alloc<A = Global> + Eprint>(
     session: &mut Session,
     plan: &Plan,
 ) -> Option<String> {
+    match links_once(rt, session, plan) {
+        Some(text) => Some(text),
+        None => links_once(rt, session, plan),
+    }
+}
+
+/// The same, asked once.
+fn links_once<R: Threads + Wait + Sync + Alloc<A = Global> + Eprint>(
+    rt: &R,
+    session: &mut Session,
+    plan: &Plan,
+) -> Option<String> {
     let request = Request::Ask(Question::Links);
-    match told(
+    told(
         rt,
         session.answer(rt, rt.alloc(), &request, plan, &OpenGate),
-    ) {
-        Some(text) => Some(text),
-        None => told(
-            rt,
-            session.answer(rt, rt.alloc(), &request, plan, &OpenGate),
-        ),
-    }
+    )
 }

@@ -13,20 +13,29 @@ pub fn told<T: Drop, E: Display + Drop, R: Eprint>(rt: &R, outcome: Result<T, E>
     match outcome {
         Ok(value) => Some(value),
         Err(fault) => {
-            let _ = rt.eprintln(fault);
+            tell(rt, fault);
             None
         }
     }
+}
+
+/// Tells of a fault.
+pub fn tell<E: Display + Drop, R: Eprint>(rt: &R, fault: E) {
+    let _ = rt.eprintln(fault);
 }
 
 /// The number of the fault of links that a call names, or 0 if it names none. Want of memory is told.
 pub fn number_told<R: Eprint>(rt: &R, outcome: Result<Net, NetFault>) -> Option<u32> {
     match outcome {
         Ok(_) => Some(0),
-        Err(NetFault::Memory) => {
-            let _ = rt.eprintln(NetFault::Memory);
-            None
-        }
-        Err(fault) => Some(fault_number(&fault)),
+        Err(fault) => fault_told(rt, fault),
+    }
+}
+
+/// The number of a fault of links. Want of memory has none, and is told.
+fn fault_told<R: Eprint>(rt: &R, fault: NetFault) -> Option<u32> {
+    match fault_number(&fault) {
+        0 => told(rt, Err(fault)),
+        number => Some(number),
     }
 }
