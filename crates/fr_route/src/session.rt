@@ -284,7 +284,7 @@ impl Session {
             way,
             &|report| report_line(alloc, report),
         ) {
-            Ok(text) => Ok(text),
+            Ok(line) => Ok(line),
             Err(fault) => refusal(alloc, &fault),
         }
     }
