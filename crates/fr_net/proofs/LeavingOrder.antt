@@ -1,5 +1,5 @@
 -- The order in which the search leaves nodes.
-use Rattle.std.proofs.Common.{List, [], arith, cond, get_or, inl, inr, length, refl, replicate, set, sym, ℕ, ◌⊎◌, ◌++◌, ◌<◌, ◌∙◌, ◌∷◌, ◌≡◌, ◌≢◌, ◌≤◌}
+use Rattle.std.proofs.Common.{List, [], arith, cond, get_or, inl, inr, length, refl, replicate, set, subst, sym, ℕ, ◌⊎◌, ◌++◌, ◌<◌, ◌∙◌, ◌∷◌, ◌≡◌, ◌≢◌, ◌≤◌}
 use Rattle.std.proofs.lemmas.Bool.{cases_lt}
 use Rattle.std.proofs.lemmas.List.{get_or-replicate, get_or_past, length-replicate, length_push}
 use Rattle.std.proofs.lemmas.List.Elements.{All-contains, All-from_get_or, All-get_or, All-nil, All-push, Contains-append_left, Contains-push}
@@ -7,11 +7,12 @@ use Rattle.std.proofs.lemmas.List.Folds.{sum_by-replicate}
 use Rattle.std.proofs.lemmas.List.Sums.{count_by-le-length}
 use Rattle.std.specs.List.{All, count_by}
 use Rattle.fr_net.proofs.Cycles.{count_by-set, mark_set, node_cases, points_to_done}
-use Rattle.fr_net.specs.CycleSearch.{AreTailStarts, IsCycleSearch, IsOrder, LeadsToDone, is_done, mark_of}
+use Rattle.fr_net.specs.CycleSearch.{AreTailStarts, IsCycleSearch, IsOrder, IsSearch, LeadsToDone, is_done, mark_of}
 use Rattle.fr_net.specs.Heights.{HasHeadsFirst}
 use Rattle.fr_net.specs.Links.{AreBelow, IsAcyclic, IsClosedWalk}
 use Rattle.fr_net.specs.declared.cycle.Mark.{Mark}
 use Rattle.fr_net.specs.declared.cycle.Mark.TheVariants.{Done, Fresh, Open}
+use Rattle.fr_net.specs.declared.cycle.Search.{Search}
 
 abbrev IsDone : List Mark → ℕ → Type 0
 IsDone marks x = mark_of marks x ≡ Done
@@ -109,7 +110,7 @@ tail_below n links u (v ∷ vs) below walk =
     both.0
 
 -- what stands once the search has met each node
-pub all_left : (n : ℕ) (links : List (ℕ × ℕ)) (marks : List Mark) (places order : List ℕ) → AreBelow n links → IsCycleSearch n links marks places [] → IsOrder links marks order → ((x : ℕ) → x < n → mark_of marks x ≢ Fresh) → IsAcyclic links × HasHeadsFirst n links order
+all_left : (n : ℕ) (links : List (ℕ × ℕ)) (marks : List Mark) (places order : List ℕ) → AreBelow n links → IsCycleSearch n links marks places [] → IsOrder links marks order → ((x : ℕ) → x < n → mark_of marks x ≢ Fresh) → IsAcyclic links × HasHeadsFirst n links order
 all_left n links marks places order below s o met =
     let done : (x : ℕ) → x < n → mark_of marks x ≡ Done = λ x l. elim (mark_cases (mark_of marks x)) [
       | inl f ↦ absurd (met x l f)
@@ -127,3 +128,10 @@ all_left n links marks places order below s o met =
         heads = o.heads;
       },
     )
+
+pub search_ends : (n : ℕ) (links : List (ℕ × ℕ)) (search : Search) → IsSearch links search → search.path.items ≡ [] → length search.marks.items ≡ n → ((x : ℕ) → x < n → mark_of search.marks.items x ≢ Fresh) → IsAcyclic links × HasHeadsFirst n links search.order.items
+search_ends n links search is empty one_each met =
+    let marks = search.marks.items in
+    let steps : IsCycleSearch (length marks) links marks search.places.items [] = subst (λ (path : List ℕ). IsCycleSearch (length marks) links marks search.places.items path) empty is.steps in
+    subst (λ (k : ℕ). IsAcyclic links × HasHeadsFirst k links search.order.items) one_each
+    (all_left (length marks) links marks search.places.items search.order.items is.below steps is.order (λ x l. met x (subst (λ (k : ℕ). x < k) one_each l)))
