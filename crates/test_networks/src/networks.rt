@@ -148,10 +148,10 @@ fn copied(alloc: Global, answer: &mut Answer, nodes: &Value, links: &Value) -> O
 }
 
 /// The links that counts give, one for each node: in a network beside the first one, and in that one itself.
-fn turned(alloc: Global, answer: &mut Answer, links: &Value, given: &Value) -> Option<()> {
-    let counts = counts(alloc, given)?;
-    let net = crate::cases::links(alloc, links)?;
-    let net = Net::new(alloc, u32::try_from(counts.len()).ok()?, &net).ok()?;
+fn turned(alloc: Global, answer: &mut Answer, given: &Value, given_counts: &Value) -> Option<()> {
+    let links = links(alloc, given)?;
+    let counts = counts(alloc, given_counts)?;
+    let net = Net::new(alloc, u32::try_from(counts.len()).ok()?, &links).ok()?;
     let listed = net.links(alloc).ok()?;
     if counts.len() != net.nodes() as usize || !are_kept(&listed, &counts) {
         return None;
