@@ -4,6 +4,7 @@
 //! turn. What a call leaves behind after a fault is looked at as well.
 #![tactic(auto)]
 
+mod callers;
 mod calls;
 mod sessions;
 mod telling;

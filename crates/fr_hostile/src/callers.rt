@@ -1,6 +1,5 @@
 //! A caller of each library, as its page `CALLING.md` shows it. They are proved by public contracts alone, and nothing calls
 //! them; `examples/check` compares the pages with these files.
-#![tactic(auto)]
 
 pub mod answers;
 pub mod crews;
