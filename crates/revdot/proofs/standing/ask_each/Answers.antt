@@ -1,4 +1,4 @@
-use Rattle.std.proofs.Common.{List, ℕ, ap, ◌∙◌, ◌≡◌}
+use Rattle.std.proofs.Common.{ap, ◌∙◌, ◌≡◌}
 use Rattle.fr_command.specs.Lines.{lines_left, lines_of}
 use Rattle.revdot.proofs.Asking.{at_start, one_line_more, all_asked}
 use Rattle.revdot.proofs.standing.ask_each.Goals as goal
