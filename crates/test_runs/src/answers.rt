@@ -3,10 +3,10 @@
 use crate::cases::Case;
 use crate::gates::tell_held;
 use crate::inputs::{MadeReader, by_turns, long_chain};
-use crate::runs::{FEW_PLANS, PLANS, run_of, run_text, tell_plans};
+use crate::outcomes::{tell_first, tell_outcome};
+use crate::runs::{FEW_PLANS, PLANS, run_by, run_of, tell_plans};
 use crate::streams::{tell_narrow_writes, tell_slow_reads};
-use crate::tasks::{draw_at, task_at, task_text};
-use crate::telling::{tell, tell_lines};
+use crate::tasks::{draw_at, outcome_of, task_at};
 use crate::words::{tell_faults, tell_words};
 use crate::{changes, plays};
 use fr_command::Task;
@@ -33,7 +33,7 @@ pub fn tell_answer<R: Threads + Wait + Sync + AllocGlobal + Print>(
         "reads fail" => tell_reads(rt, case),
         "writes fail" => tell_writes(rt, case),
         "words" => tell_words(rt, case),
-        "faults" => Some(tell_faults(rt)),
+        "faults" => tell_faults(rt),
         _ => None,
     }
 }
@@ -41,10 +41,9 @@ pub fn tell_answer<R: Threads + Wait + Sync + AllocGlobal + Print>(
 /// `["run"]`: a run of the lines under each of the plans.
 fn tell_run<R: Threads + Wait + Sync + AllocGlobal + Print>(rt: &R, case: &Case<'_>) -> Option<()> {
     let input = case.input(rt.alloc());
-    let text = run_of(rt, &input, (1, 0));
-    tell_lines(rt, &text);
-    tell_plans(rt, &input, PLANS, &text);
-    Some(())
+    let outcome = run_of(rt, &input, (1, 0))?;
+    tell_outcome(rt, &outcome);
+    tell_plans(rt, &input, PLANS, &outcome)
 }
 
 /// `["made", [byte, count], [byte, count]]`: a run of an input of one byte so often, and then of another.
@@ -56,7 +55,7 @@ fn tell_made<R: Threads + Wait + Sync + AllocGlobal + Print>(
         first: bytes_in(case.value(1)?)?,
         second: bytes_in(case.value(2)?)?,
     };
-    tell_lines(rt, &run_text(rt, &mut reader, (1, 0), &OpenGate));
+    tell_outcome(rt, &run_by(rt, &mut reader, (1, 0), &OpenGate)?);
     Some(())
 }
 
@@ -73,8 +72,7 @@ fn tell_gate<R: Threads + Wait + Sync + AllocGlobal + Print>(
     case: &Case<'_>,
 ) -> Option<()> {
     let (held, until) = (case.small(1)?, case.small(2)?);
-    tell_held(rt, &case.input(rt.alloc()), held, until);
-    Some(())
+    tell_held(rt, &case.input(rt.alloc()), held, until)
 }
 
 /// `["batch", count]`: a run of a batch of so many edits.
@@ -83,7 +81,7 @@ fn tell_batch<R: Threads + Wait + Sync + AllocGlobal + Print>(
     case: &Case<'_>,
 ) -> Option<()> {
     let input = by_turns(rt.alloc(), case.small(1)?);
-    tell_lines(rt, &run_of(rt, &input, (1, 0)));
+    tell_outcome(rt, &run_of(rt, &input, (1, 0))?);
     Some(())
 }
 
@@ -94,10 +92,9 @@ fn tell_chain<R: Threads + Wait + Sync + AllocGlobal + Print>(
 ) -> Option<()> {
     let (nodes, first) = (case.small(1)?, case.small(2)?);
     let input = long_chain(rt.alloc(), nodes, first);
-    let text = run_of(rt, &input, (1, 0));
-    tell(rt, str::from_utf8(&text).ok()?.lines().next()?);
-    tell_plans(rt, &input, FEW_PLANS, &text);
-    Some(())
+    let outcome = run_of(rt, &input, (1, 0))?;
+    tell_first(rt, &outcome);
+    tell_plans(rt, &input, FEW_PLANS, &outcome)
 }
 
 /// `["play", workers, seed, steps]`: a play on the network of the lines.
@@ -107,7 +104,7 @@ fn tell_play<R: Threads + Wait + Sync + AllocGlobal + Print>(
 ) -> Option<()> {
     let task = task_at(case, 0)?;
     let input = case.input(rt.alloc());
-    tell_lines(rt, &task_text(rt, task, &mut input.as_bytes()));
+    tell_outcome(rt, &outcome_of(rt, task, &mut input.as_bytes()));
     Some(())
 }
 

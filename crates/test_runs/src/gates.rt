@@ -1,7 +1,8 @@
 //! A run whose network is settled by threads, under a gate that holds one of them.
 
-use crate::runs::run_text;
-use crate::telling::{tell, tell_lines};
+use crate::outcomes::tell_outcome;
+use crate::runs::run_by;
+use crate::telling::tell;
 use fr_crew::Gate;
 use std::sync::Wait;
 use std::sync::atomic::{AtomicBool, AtomicU64, Ordering};
@@ -70,10 +71,10 @@ pub fn tell_held<R: Threads + Wait + Sync + AllocGlobal + Print>(
     input: &str,
     held: u32,
     until: u32,
-) {
+) -> Option<()> {
     let gate = HoldingGate::new(held, until);
-    let text = run_text(rt, &mut input.as_bytes(), (2, 1000), &gate);
-    tell_lines(rt, &text);
+    let outcome = run_by(rt, &mut input.as_bytes(), (2, 1000), &gate)?;
+    tell_outcome(rt, &outcome);
     tell(
         rt,
         if gate.is_passed() {
@@ -82,4 +83,5 @@ pub fn tell_held<R: Threads + Wait + Sync + AllocGlobal + Print>(
             "not passed"
         },
     );
+    Some(())
 }

@@ -14,6 +14,7 @@ mod cases;
 mod changes;
 mod gates;
 mod inputs;
+mod outcomes;
 mod plays;
 mod routers;
 mod runs;

@@ -1,7 +1,8 @@
 //! Whether a play makes the schedule that is drawn.
 
-use crate::tasks::task_text;
-use crate::telling::{put, put_word, tell, tell_lines};
+use crate::outcomes::tell_outcome;
+use crate::tasks::outcome_of;
+use crate::telling::{put, put_word, tell};
 use fr_command::{Draw, Task};
 use fr_core::{Entry, Reply, Target, play};
 use fr_net::{Net, Request, read_line};
@@ -21,11 +22,11 @@ pub fn tell_drawn<R: Threads + Wait + Sync + AllocGlobal + Print>(
     line: &str,
 ) -> Option<()> {
     let begin = begin_of_play(rt.alloc(), draw, seed, line)?;
-    let text = task_text(rt, Task::Play(draw), &mut line.as_bytes());
-    if text.starts_with(begin.as_bytes()) {
+    let outcome = outcome_of(rt, Task::Play(draw), &mut line.as_bytes());
+    if outcome.out.starts_with(begin.as_bytes()) {
         tell(rt, "as drawn");
     } else {
-        tell_lines(rt, &text);
+        tell_outcome(rt, &outcome);
     }
     Some(())
 }

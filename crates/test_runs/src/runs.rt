@@ -1,10 +1,10 @@
-//! What a run writes under one plan and under others, on which no answer depends.
+//! What a run comes to under one plan and under others, on which no answer depends.
 
-use crate::telling::{tell, tell_lines};
+use crate::outcomes::{Outcome, tell_outcome};
+use crate::telling::tell;
 use fr_command::run;
 use fr_crew::{Gate, OpenGate, Plan};
-use std::alloc::Global;
-use std::io::{Read, Write};
+use std::io::Read;
 use std::sync::Wait;
 use std::thread::Threads;
 
@@ -24,19 +24,17 @@ pub const PLANS: &[(u32, u64)] = &[
 /// The same for long inputs.
 pub const FEW_PLANS: &[(u32, u64)] = &[(1, 0), (1, 20_000), (2, 20_000), (8, 20_000)];
 
-/// What a run writes for an input by so many workers, each with so many calls, and behind it what the run answers.
-pub fn run_text<T: Threads + Wait + Sync + AllocGlobal, R: Read, G: Gate + Sync>(
+/// What a run comes to by so many workers, each with so many calls; `None` where there is no such plan.
+pub fn run_by<T: Threads + Wait + Sync + AllocGlobal, R: Read, G: Gate + Sync>(
     rt: &T,
     reader: &mut R,
     numbers: (u32, u64),
     gate: &G,
-) -> Vec<u8> {
+) -> Option<Outcome> {
+    let plan = Plan::new(numbers.0, 0, numbers.1)?;
     let mut out = Vec::new(rt.alloc());
-    if let Some(plan) = Plan::new(numbers.0, 0, numbers.1) {
-        let end = run(rt, rt.alloc(), reader, &mut out, &plan, gate);
-        let _ = writeln!(out, "{end:?}");
-    }
-    out
+    let end = run(rt, rt.alloc(), reader, &mut out, &plan, gate);
+    Some(Outcome { out, end })
 }
 
 /// The same for an input as a text, with the gate open.
@@ -44,24 +42,25 @@ pub fn run_of<T: Threads + Wait + Sync + AllocGlobal>(
     rt: &T,
     input: &str,
     numbers: (u32, u64),
-) -> Vec<u8> {
-    run_text(rt, &mut input.as_bytes(), numbers, &OpenGate)
+) -> Option<Outcome> {
+    run_by(rt, &mut input.as_bytes(), numbers, &OpenGate)
 }
 
-/// Tells whether the run of an input comes to this under each of the plans, and the first that comes to something else.
+/// Tells whether the run of an input comes to this under each of the plans, or the first under which it comes to something else.
 pub fn tell_plans<R: Threads + Wait + Sync + AllocGlobal + Print>(
     rt: &R,
     input: &str,
     plans: &[(u32, u64)],
-    wanted: &[u8],
-) {
+    wanted: &Outcome,
+) -> Option<()> {
     for (workers, budget) in plans {
-        let text = run_of(rt, input, (*workers, *budget));
-        if text.as_slice() != wanted {
+        let outcome = run_of(rt, input, (*workers, *budget))?;
+        if outcome != *wanted {
             let _ = println!(rt; "  by {workers} workers with {budget} calls:");
-            tell_lines(rt, &text);
-            return;
+            tell_outcome(rt, &outcome);
+            return Some(());
         }
     }
     tell(rt, "by all plans");
+    Some(())
 }

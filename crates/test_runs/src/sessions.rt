@@ -3,7 +3,7 @@
 use crate::inputs::unescaped;
 use crate::telling::{echo, tell, tell_value};
 use fr_crew::{OpenGate, Plan};
-use fr_net::read_line;
+use fr_net::{Request, read_line};
 use fr_route::{AnswerFault, Session};
 use std::sync::Wait;
 use std::thread::Threads;
@@ -46,7 +46,19 @@ fn answer_request<R: Threads + Wait + Sync + AllocGlobal>(
     plan: &Plan,
 ) -> Result<Option<String>, AnswerFault> {
     match read_line(rt.alloc(), line) {
-        Ok(request) => Ok(Some(session.answer(rt, rt.alloc(), &request, plan, &OpenGate)?)),
+        Ok(request) => answer(rt, session, &request, plan),
         Err(_) => Ok(None),
+    }
+}
+
+fn answer<R: Threads + Wait + Sync + AllocGlobal>(
+    rt: &R,
+    session: &mut Session,
+    request: &Request,
+    plan: &Plan,
+) -> Result<Option<String>, AnswerFault> {
+    match session.answer(rt, rt.alloc(), request, plan, &OpenGate) {
+        Ok(text) => Ok(Some(text)),
+        Err(fault) => Err(fault),
     }
 }

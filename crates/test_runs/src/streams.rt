@@ -1,7 +1,8 @@
 //! Readers and writers that fail, and what runs and plays make of them.
 
-use crate::tasks::{perform, task_text};
-use crate::telling::{tell, tell_lines, tell_value};
+use crate::outcomes::{Outcome, tell_outcome};
+use crate::tasks::{outcome_of, perform};
+use crate::telling::tell;
 use fr_command::{RunFault, Task};
 use std::alloc::Global;
 use std::io;
@@ -36,18 +37,26 @@ pub fn tell_slow_reads<R: Threads + Wait + Sync + AllocGlobal + Print>(
     input: &str,
     most: u32,
 ) {
-    let mut last = Vec::new(rt.alloc());
+    let mut last = None;
     for good in 0..most {
         let mut reader = SlowReader {
             rest: input.as_bytes(),
             good,
         };
-        let text = task_text(rt, task, &mut reader);
-        if text != last {
+        let outcome = outcome_of(rt, task, &mut reader);
+        if !is_told(&last, &outcome) {
             let _ = println!(rt; "  from {good} good reads on:");
-            tell_lines(rt, &text);
-            last = text;
+            tell_outcome(rt, &outcome);
+            last = Some(outcome);
         }
+    }
+}
+
+/// Whether an outcome is the last that was told.
+fn is_told(last: &Option<Outcome>, outcome: &Outcome) -> bool {
+    match last {
+        Some(last) => last == outcome,
+        None => false,
     }
 }
 
@@ -73,15 +82,12 @@ impl NarrowWriter {
     }
 
     /// Whether all was written and flushed where all went well, and else a beginning, with no flush.
-    fn fits(
-        &self,
-        end: &Result<u64, RunFault>,
-        wanted: &Result<u64, RunFault>,
-        whole: &[u8],
-    ) -> bool {
+    fn fits(&self, end: &Result<u64, RunFault>, whole: &Outcome) -> bool {
         match end {
-            Err(RunFault::Write) => { self.failed && !self.flushed && whole.starts_with(&self.out) }
-            _ => !self.failed && self.flushed && end == wanted && self.out.as_slice() == whole,
+            Err(RunFault::Write) => {
+                self.failed && !self.flushed && whole.out.starts_with(&self.out)
+            }
+            _ => { !self.failed && self.flushed && *end == whole.end && self.out == whole.out }
         }
     }
 }
@@ -113,13 +119,12 @@ impl Write for NarrowWriter {
     }
 }
 
-/// A task with its input, and what it writes and answers where no call fails.
+/// A task with its input, and what it comes to where no call fails.
 #[derive(Drop)]
 struct Undisturbed<'a> {
     task: Task,
     input: &'a str,
-    out: Vec<u8>,
-    end: Result<u64, RunFault>,
+    outcome: Outcome,
 }
 
 impl<'a> Undisturbed<'a> {
@@ -128,13 +133,10 @@ impl<'a> Undisturbed<'a> {
         task: Task,
         input: &'a str,
     ) -> Undisturbed<'a> {
-        let mut out = Vec::new(rt.alloc());
-        let end = perform(rt, task, &mut input.as_bytes(), &mut out);
         Undisturbed {
             task,
             input,
-            out,
-            end,
+            outcome: outcome_of(rt, task, &mut input.as_bytes()),
         }
     }
 
@@ -146,7 +148,7 @@ impl<'a> Undisturbed<'a> {
         done: bool,
     ) -> bool {
         let end = perform(rt, self.task, &mut self.input.as_bytes(), &mut writer);
-        writer.fits(&end, &self.end, &self.out) && (!done || end.is_ok())
+        writer.fits(&end, &self.outcome) && (!done || end.is_ok())
     }
 }
 
@@ -160,8 +162,7 @@ pub fn tell_narrow_writes<R: Threads + Wait + Sync + AllocGlobal + Print>(
     enough: u32,
 ) {
     let undisturbed = Undisturbed::new(rt, task, input);
-    tell_lines(rt, &undisturbed.out);
-    tell_value(rt, &undisturbed.end);
+    tell_outcome(rt, &undisturbed.outcome);
     for good in 0..most {
         let fails = NarrowWriter::new(rt.alloc(), good, true);
         let takes_none = NarrowWriter::new(rt.alloc(), good, false);

@@ -1,6 +1,7 @@
 //! Runs and plays by any reader and writer.
 
 use crate::cases::Case;
+use crate::outcomes::Outcome;
 use fr_command::{Draw, RunFault, Task, play_drawn, run};
 use fr_crew::{OpenGate, Plan};
 use std::io::{Read, Write};
@@ -41,14 +42,13 @@ pub fn perform<T: Threads + Wait + Sync + AllocGlobal, R: Read, W: Write>(
     }
 }
 
-/// What a task writes, and behind it what it answers.
-pub fn task_text<T: Threads + Wait + Sync + AllocGlobal, R: Read>(
+/// What a task comes to with a writer that takes all.
+pub fn outcome_of<T: Threads + Wait + Sync + AllocGlobal, R: Read>(
     rt: &T,
     task: Task,
     reader: &mut R,
-) -> Vec<u8> {
+) -> Outcome {
     let mut out = Vec::new(rt.alloc());
     let end = perform(rt, task, reader, &mut out);
-    let _ = writeln!(out, "{end:?}");
-    out
+    Outcome { out, end }
 }

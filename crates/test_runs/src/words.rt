@@ -6,8 +6,8 @@ use fr_command::{RunFault, TaskFault, run_end, task_end, task_of};
 use fr_route::{AnswerFault, RouteFault};
 use std::fmt::Display;
 
-/// Tells the task that the words of a case ask for, or the status and of the text how it begins, what it holds, and how it ends, where
-/// the case says that.
+/// `["words", [word, ..]]`: the task that the words ask for, or the status and the text. `["words", [word, ..], begin, middle, end]`: the
+/// status, and whether the text begins, goes on and ends so.
 pub fn tell_words<R: AllocGlobal + Print>(rt: &R, case: &Case<'_>) -> Option<()> {
     let mut words = Vec::new(rt.alloc());
     for word in case.value(1)?.as_array()? {
@@ -38,13 +38,16 @@ fn tell_end<R: Print>(rt: &R, fault: &TaskFault, case: &Case<'_>) {
 /// Tells whether a part of a text stands where it is wanted, if one is.
 fn tell_part<R: Print>(rt: &R, what: &str, part: &str, stands: bool) {
     if !part.is_empty() {
-        let not = if stands { "" } else { "not " };
-        let _ = println!(rt; "  {not}{what}: {part}");
+        tell_pair(rt, if stands { what } else { "lacks" }, part);
     }
 }
 
-/// Tells how runs end, and then faults of routers, of sessions and of command lines.
-pub fn tell_faults<R: Print>(rt: &R) {
+fn tell_pair<R: Print>(rt: &R, what: &str, part: &str) {
+    let _ = println!(rt; "  {what}: {part}");
+}
+
+/// `["faults"]`: how runs end, and then faults of routers, of sessions and of command lines.
+pub fn tell_faults<R: Print>(rt: &R) -> Option<()> {
     tell_value(rt, &run_end(&RunFault::Read));
     tell_value(rt, &run_end(&RunFault::Write));
     tell_value(rt, &run_end(&RunFault::TooLong));
@@ -56,6 +59,7 @@ pub fn tell_faults<R: Print>(rt: &R) {
     tell_shown(rt, &AnswerFault::Start);
     tell_shown(rt, &AnswerFault::Memory);
     tell_value(rt, &task_end(&TaskFault::Memory));
+    Some(())
 }
 
 fn tell_shown<R: Print, T: Display>(rt: &R, value: &T) {
