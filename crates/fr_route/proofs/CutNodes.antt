@@ -2,7 +2,7 @@
 use Rattle.std.proofs.Common.{Bool, Contains, List, [], ◌∷◌, add-one, ap, append_assoc, arith, cond, eq-eqb, eqb-true, false, get_or, inl, inr, length, map, ne_eqb, refl, slice_index, sym, suc, true, zero, zero-add, ℕ, ⊎_elim, ◌+◌, ◌++◌, ◌<◌, ◌≤◌, ◌↔◌, ◌∙◌, ◌≡◌, ◌⊎◌, ◌==◌, IsTrue}
 use Rattle.std.specs.List.{All, count_by, filter, range_with_len}
 use Rattle.std.specs.Prelude.{not, ◌&&◌, ◌||◌}
-use Rattle.std.proofs.lemmas.Bool.{cases_eq, cases_lt, false≢true}
+use Rattle.std.proofs.lemmas.Bool.{and_parts, cases_eq, cases_lt, false≢true}
 use Rattle.std.proofs.lemmas.Bool.Decides.{Decides-and, Decides-eqb, Decides-not, Decides-or}
 use Rattle.std.proofs.lemmas.List.{get_or_past, map-id}
 use Rattle.std.proofs.lemmas.List.Elements.{All-filter}
@@ -13,7 +13,6 @@ use Rattle.fr_net.specs.Links.{IsAlone, IsNet}
 use Rattle.fr_net.specs.Network.{Network, net_of}
 use Rattle.fr_net.specs.Counts.{links_at}
 use Rattle.fr_net.specs.Rows.{alone_count, has_no_neighbour, row}
-use Rattle.fr_net.proofs.Booleans.{and_cases}
 use Rattle.fr_net.proofs.Counting.{count-range_agree, count-range_more, count_by-map}
 use Rattle.fr_net.proofs.Neighbours.{row_alone, row_linked}
 use Rattle.fr_core.specs.Settled.{IsSettledCount}
@@ -173,7 +172,7 @@ module _ (n d : ℕ) (first : List (ℕ × ℕ)) (s : State) (net : IsNet n firs
 
   never_both : (x : ℕ) → x < n → but d alone x ≡ true → capped x ≡ true → ⊥
   never_both x low lone cap =
-      never_capped x ((lawful n d first s net below round).alone x ((just x low).0 (and_cases (not (x == d)) (alone x) lone).1)) (eqb-true (slice_index s.counts x) n cap)
+      never_capped x ((lawful n d first s net below round).alone x ((just x low).0 (and_parts (not (x == d)) (alone x) lone).1)) (eqb-true (slice_index s.counts x) n cap)
 
   pub cut_count : IsCutCount n d s.links (count_by (but d alone) (range_with_len 0 n) + count_by (λ count. count == n) s.counts)
   cut_count = record {
