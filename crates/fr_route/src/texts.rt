@@ -39,6 +39,15 @@ fn push_number(
     line.push_str(buffer.format(number))
 }
 
+/// The number of nodes that are cut off, behind its word. It is no call of `push_number`, whose callers all put one byte before a
+/// number, so that it is compiled to a store of that byte.
+fn push_cut(line: &mut String, cut: u64, buffer: &mut Buffer) -> Result<(), AllocError>
+    ensures { OnOk result (string_bytes line.new ≡ string_bytes line.old ++ (codes " cut " ++ decimal cut)) }
+{
+    line.push_str(" cut ")?;
+    line.push_str(buffer.format(cut))
+}
+
 /// `links`, and each link after a space, as `tail>head`.
 pub fn links_line(alloc: Global, links: &[(u32, u32)]) -> Result<String, AllocError>
     ensures { IfOk result (λ line. string_bytes line ≡ links_text links.now) }
@@ -114,7 +123,7 @@ pub(crate) fn report_line(alloc: Global, report: Report) -> Result<String, Alloc
     let mut line = begun(alloc, "turned", 4)?;
     let mut buffer = Buffer::new();
     push_number(&mut line, " ", report.turned, &mut buffer)?;
-    push_number(&mut line, " cut ", report.cut, &mut buffer)?;
+    push_cut(&mut line, report.cut, &mut buffer)?;
     Ok(line)
 }
 

@@ -5,5 +5,5 @@ use Rattle.fr_route.proofs.texts.report_line.Goals as goal
 
 pub returns-clause-short : goal.returns-clause-short
 returns-clause-short c =
-    let is : string_bytes c.push_number-2.new.line ≡ report_text c.args.report.turned c.args.report.cut = search rules in
+    let is : string_bytes c.push_cut.new.line ≡ report_text c.args.report.turned c.args.report.cut = search rules in
     rw is (report_short c.args.report.turned c.args.report.cut (search rules) (search rules))
