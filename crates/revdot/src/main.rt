@@ -10,39 +10,44 @@ mod turns;
 
 use drawing::{Picture, draw};
 use fr_command::RunFault;
+use fr_route::VERSION;
 use std::alloc::Global;
 use std::io::{BufWriter, ErrorKind};
 use std::process::ExitCode;
 use std::rt::Env;
 use std::{env, io};
 
-/// How the program is called.
-const USAGE: &str = "\
+/// What the program is for, and how it is called.
+const HELP: &str = "\
 Draws the network that the lines of standard input leave, as a graph in Graphviz's language.
 
 usage: revdot [--turns] < LINES | dot -Tsvg > PICTURE
 
-  --turns  a graph for each turn of the last round, and then the network (dot -Tsvg -O FILE makes a picture of each)
+  --turns        a graph for each turn of the last round, and then the network (dot -Tsvg -O FILE makes a picture of each)
+  -h, --help     this text
+  -V, --version  the version
 ";
 
 /// What the program is to do.
-#[derive(Clone, Copy)]
+#[derive(Drop)]
 enum Task {
     /// Draw this picture.
     Draw(Picture),
-    /// Say how it is called, since that was asked for, or since the words are wrong.
-    Tell { asked: bool },
+    /// Say what it is for.
+    Help,
+    /// Say its version.
+    Version,
+    /// Refuse this word, or one that is no UTF-8.
+    Refuse(Option<String>),
 }
 
 fn main(rt: HostRuntime) -> ExitCode {
     let end = match task_of(&rt) {
         Ok(Task::Draw(picture)) => perform(&rt, picture),
-        Ok(Task::Tell { asked: true }) => {
-            let _ = rt.print(USAGE);
-            return ExitCode::SUCCESS;
-        }
-        Ok(Task::Tell { asked: false }) => {
-            let _ = rt.eprint(USAGE);
+        Ok(Task::Help) => told(rt.print(HELP)),
+        Ok(Task::Version) => told(println!(rt; "revdot {VERSION}")),
+        Ok(Task::Refuse(word)) => {
+            refuse(&rt, word);
             return ExitCode::from(2);
         }
         Err(fault) => Err(fault),
@@ -56,24 +61,39 @@ fn main(rt: HostRuntime) -> ExitCode {
     }
 }
 
-/// The task of the command line: without a word the network as it stands. A word that is no UTF-8 is a wrong word.
+/// How the writing of a text that was asked for ended.
+fn told(written: io::Result<()>) -> Result<(), RunFault> {
+    match written {
+        Ok(()) => Ok(()),
+        Err(_) => Err(RunFault::Write),
+    }
+}
+
+/// Says which word is wrong.
+fn refuse<R: Print>(rt: &R, word: Option<String>) {
+    let _ = match word {
+        Some(word) => eprintln!(rt; "revdot: unknown word '{word}', try 'revdot --help'"),
+        None => eprintln!(rt; "revdot: a word is no UTF-8, try 'revdot --help'"),
+    };
+}
+
+/// The task of the command line: without a word the network as it stands. The first word that is help, the version or wrong decides.
 fn task_of<R: Env + Alloc<A = Global>>(rt: &R) -> Result<Task, RunFault> {
     let words = match env::args(rt) {
         Ok(words) => words,
-        Err(error) if error.kind() == ErrorKind::InvalidData => {
-            return Ok(Task::Tell { asked: false });
-        }
+        Err(error) if error.kind() == ErrorKind::InvalidData => return Ok(Task::Refuse(None)),
         Err(_) => return Err(RunFault::Memory),
     };
-    let mut task = Task::Draw(Picture::Network);
+    let mut picture = Picture::Network;
     for word in words.skip(1) {
-        task = match word.as_str() {
-            "--turns" => Task::Draw(Picture::Turns),
-            "--help" => return Ok(Task::Tell { asked: true }),
-            _ => return Ok(Task::Tell { asked: false }),
-        };
+        match word.as_str() {
+            "--turns" => picture = Picture::Turns,
+            "-h" | "--help" => return Ok(Task::Help),
+            "-V" | "--version" => return Ok(Task::Version),
+            _ => return Ok(Task::Refuse(Some(word))),
+        }
     }
-    Ok(task)
+    Ok(Task::Draw(picture))
 }
 
 /// Draws the input of the program to its output.

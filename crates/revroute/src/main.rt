@@ -18,24 +18,30 @@ fn main(rt: HostRuntime) -> ExitCode {
     };
     let task = match task {
         Ok(task) => task,
-        Err(fault) => {
-            let (status, text) = task_end(&fault);
-            let _ = if status == 0 {
-                rt.print(text)
-            } else {
-                rt.eprintln(text.trim_end())
-            };
-            return ExitCode::from(status);
-        }
+        Err(fault) => return tell(&rt, &fault),
     };
     match perform(&rt, task) {
         Ok(_) => ExitCode::SUCCESS,
-        Err(fault) => {
-            let (status, text) = run_end(&fault);
-            let _ = rt.eprintln(text);
-            ExitCode::from(status)
-        }
+        Err(fault) => end(&rt, &fault),
     }
+}
+
+/// Ends for words that are no task: with the text that they ask for, or with what is wrong.
+fn tell<R: Print>(rt: &R, fault: &TaskFault) -> ExitCode {
+    let (status, text) = task_end(fault);
+    if status != 0 {
+        let _ = rt.eprintln(text.trim_end());
+    } else if rt.print(text).is_err() {
+        return end(rt, &RunFault::Write);
+    }
+    ExitCode::from(status)
+}
+
+/// Ends for a fault, which is told on standard error.
+fn end<R: Print>(rt: &R, fault: &RunFault) -> ExitCode {
+    let (status, text) = run_end(fault);
+    let _ = rt.eprintln(text);
+    ExitCode::from(status)
 }
 
 /// The words of the command line, the program's name first. One that is no UTF-8 is a wrong word.

@@ -8,7 +8,7 @@ use std::alloc::Global;
 use std::sync::Wait;
 use std::thread::Threads;
 
-/// What a case can ask for. The last five are threads and gates, which are no data.
+/// What a case can ask for. The last six are threads and gates, which are no data.
 #[derive(Clone, Copy)]
 enum Asked {
     Open,
@@ -24,13 +24,14 @@ enum Asked {
     CallsOfOne,
     TwoThreadsTurn,
     WalksBesideTwoThreads,
+    Told,
     Held,
     OddHeld,
     Slow,
 }
 
 /// The words that ask.
-const WORDS: [(&str, Asked); 16] = [
+const WORDS: [(&str, Asked); 17] = [
     ("open", Asked::Open),
     ("calls", Asked::Calls),
     ("walk", Asked::Walk),
@@ -44,6 +45,7 @@ const WORDS: [(&str, Asked); 16] = [
     ("calls of one", Asked::CallsOfOne),
     ("two threads turn", Asked::TwoThreadsTurn),
     ("walks beside two threads", Asked::WalksBesideTwoThreads),
+    ("told", Asked::Told),
     ("held", Asked::Held),
     ("odd held", Asked::OddHeld),
     ("slow", Asked::Slow),
@@ -91,6 +93,7 @@ fn put_answer<R: Threads + Wait + Sync + Alloc<A = Global>>(
         Asked::CallsOfOne => counts::calls_of_one(rt, text, case),
         Asked::TwoThreadsTurn => threads::two_turn(rt, text),
         Asked::WalksBesideTwoThreads => threads::walk_beside_two(rt, text),
+        Asked::Told => gates::told(rt, text, case),
         Asked::Held => gates::one_held(rt, text, case),
         Asked::OddHeld => gates::odd_held(rt, text),
         Asked::Slow => gates::slow(rt, text),

@@ -1,12 +1,13 @@
-//! Gates that hold workers: two threads really run, the gate is called, and no answer depends on who is slow.
+//! Gates that hold workers, and one that listens: two threads really run, the gate is called around each call, and no answer depends on
+//! who is slow.
 
-use crate::crews::{long_chain, plan, put_total};
+use crate::crews::{long_chain, named_plan, plan, put_total};
 use crate::fault::Fault;
-use crate::values::{put, small_number};
-use fr_crew::{Gate, Settled, settle};
+use crate::values::{network, put, small_number};
+use fr_crew::{Gate, Plan, Settled, settle};
 use fr_net::Net;
 use serde_json::Value;
-use std::alloc::Global;
+use std::alloc::{AllocError, Global};
 use std::sync::Wait;
 use std::sync::atomic::{AtomicU64, Ordering};
 use std::thread::Threads;
@@ -102,6 +103,116 @@ impl Gate for SlowGate {
     }
 
     fn after(&self, _worker: u32, _call: u64) {}
+}
+
+/// What a gate was told of the calls of one worker.
+#[derive(Drop)]
+struct Told {
+    before: AtomicU64,
+    after: AtomicU64,
+}
+
+impl Told {
+    /// Takes note that this call comes: whether it is the next one, and the one before it has been answered.
+    fn begins(&self, call: u64) -> bool {
+        let passed = self.before.fetch_add(1, Ordering::SeqCst);
+        call.checked_sub(1) == Some(passed) && self.after.load(Ordering::SeqCst) == passed
+    }
+
+    /// Takes note that this call was answered: whether it is the one that came last.
+    fn ends(&self, call: u64) -> bool {
+        let passed = self.after.fetch_add(1, Ordering::SeqCst);
+        call.checked_sub(1) == Some(passed) && self.before.load(Ordering::SeqCst) == call
+    }
+}
+
+/// A gate that listens: whether each worker's calls are told one after the other, counted from 1, each before it and then after it.
+#[derive(Drop)]
+struct ListeningGate {
+    told: Vec<Told>,
+    out_of_order: AtomicU64,
+}
+
+impl ListeningGate {
+    fn new(alloc: Global, workers: u32) -> Result<ListeningGate, AllocError> {
+        let mut told = Vec::new(alloc);
+        for _ in 0..workers {
+            told.push(Told {
+                before: AtomicU64::new(0),
+                after: AtomicU64::new(0),
+            })?;
+        }
+        Ok(ListeningGate {
+            told,
+            out_of_order: AtomicU64::new(0),
+        })
+    }
+
+    fn note(&self, is_next: bool) {
+        if !is_next {
+            self.out_of_order.fetch_add(1, Ordering::SeqCst);
+        }
+    }
+
+    /// How many calls were told before them.
+    fn calls(&self) -> u64 {
+        let mut calls = 0u64;
+        for worker in &self.told {
+            calls = calls.saturating_add(worker.before.load(Ordering::SeqCst));
+        }
+        calls
+    }
+
+    /// Whether all was in order, and each call that was told before it was told after it.
+    fn was_in_order(&self) -> bool {
+        self.out_of_order.load(Ordering::SeqCst) == 0
+            && self.told.iter().all(|worker| {
+                worker.before.load(Ordering::SeqCst) == worker.after.load(Ordering::SeqCst)
+            })
+    }
+}
+
+impl Gate for ListeningGate {
+    fn before(&self, worker: u32, call: u64) {
+        self.note(match self.told.get(worker as usize) {
+            Some(told) => told.begins(call),
+            None => false,
+        });
+    }
+
+    fn after(&self, worker: u32, call: u64) {
+        self.note(match self.told.get(worker as usize) {
+            Some(told) => told.ends(call),
+            None => false,
+        });
+    }
+}
+
+/// `["told", nodes, destination, links, workers, budget]`: whether a gate was told each call of each worker in order, before it and after
+/// it, and by one worker how many there were.
+pub fn told<R: Threads + Wait + Sync + Alloc<A = Global>>(
+    rt: &R,
+    text: &mut String,
+    asked: &[Value],
+) -> Result<(), Fault> {
+    let [nodes, dest, links, workers, budget] = asked else {
+        return Err(Fault::NoCase);
+    };
+    let (dest, plan) = (small_number(dest)?, named_plan(workers, budget)?);
+    let net = network(rt.alloc(), nodes, links)?;
+    let gate = ListeningGate::new(rt.alloc(), plan.workers())?;
+    let _settled = settle(rt, rt.alloc(), net, dest, &plan, &gate)?;
+    put_told(text, &plan, &gate)?;
+    Ok(())
+}
+
+/// Puts what a gate was told behind a text: how many calls there are by more workers than one depends on the order of their steps.
+fn put_told(text: &mut String, plan: &Plan, gate: &ListeningGate) -> Result<(), AllocError> {
+    put(text, "in order ", &gate.was_in_order())?;
+    if plan.workers() == 1 {
+        put(text, ", calls ", &gate.calls())?;
+    }
+    Ok(())
 }
 
 /// Two workers settle the square beside this gate.
