@@ -17,16 +17,15 @@ pub at_start : (whole : List ℕ) (left : List (List ℕ)) (now : Option State) 
 at_start whole left now all none = rw (all, none) ([], none_asked whole)
 
 -- what a session answers to one line
-answer_of : (line : List ℕ) (now next : Option State) (answer : Option (String Global)) → IfNone answer ((is_blank line ≡ true) × (next ≡ now))
+pub answer_of : (line : List ℕ) (now next : Option State) (answer : Option (String Global)) → IfNone answer ((is_blank line ≡ true) × (next ≡ now))
     → IfSome answer (λ text. (is_blank line ≡ false) × IsLineAnswer now (reading line) (string_bytes text) next) → (text : List ℕ) × AreAnswers now (line ∷ []) text next
 answer_of line now next None blank told = ([], blank_line line now next blank.0 blank.1)
 answer_of line now next (Some text) blank told = (string_bytes text ++ 10 ∷ [], answered_line line (string_bytes text) now next told.0 told.1)
 
 -- one line more
-pub one_line_more : (whole line : List ℕ) (all left : List (List ℕ)) (now next : Option State) (answer : Option (String Global)) → all ≡ line ∷ left → IsAsked whole all now
-    → IfNone answer ((is_blank line ≡ true) × (next ≡ now)) → IfSome answer (λ text. (is_blank line ≡ false) × IsLineAnswer now (reading line) (string_bytes text) next) → IsAsked whole left next
-one_line_more whole line all left now next answer first h blank told =
-    let is = answer_of line now next answer blank told in
+pub one_line_more : (whole line : List ℕ) (all left : List (List ℕ)) (now next : Option State) → all ≡ line ∷ left → IsAsked whole all now
+    → ((text : List ℕ) × AreAnswers now (line ∷ []) text next) → IsAsked whole left next
+one_line_more whole line all left now next first h is =
     (h.0 ++ is.0, asked_more whole line left now next h.0 is.0 (subst (λ (ls : List (List ℕ)). HasAsked whole ls now h.0) first h.1) is.1)
 
 -- no line is left

@@ -70,7 +70,7 @@ fn told(written: io::Result<()>) -> Result<(), RunFault> {
 }
 
 /// Says which word is wrong.
-fn refuse<R: Print>(rt: &R, word: Option<String>) {
+fn refuse<R: Eprint>(rt: &R, word: Option<String>) {
     let _ = match word {
         Some(word) => eprintln!(rt; "revdot: unknown word '{word}', try 'revdot --help'"),
         None => eprintln!(rt; "revdot: a word is no UTF-8, try 'revdot --help'"),

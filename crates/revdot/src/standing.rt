@@ -1,6 +1,7 @@
 //! The session that the lines of an input leave.
 
-ghost use Rattle.std.specs.Prelude.{◌≡◌, IfOk, None, OnOk};
+ghost use Rattle.std.specs.Prelude.{◌≡◌, ◌∷◌, [], ℕ, IfOk, List, None, OnOk};
+ghost use Rattle.fr_command.specs.Answers.{AreAnswers};
 ghost use Rattle.revdot.specs.Drawings.{IsLeftBy};
 
 use fr_command::Lines;
@@ -22,9 +23,17 @@ fn ask_each(alloc: Global, session: &mut Session, input: &[u8]) -> Result<(), Al
     ensures { OnOk result (IsLeftBy input.now session.new) }
 {
     for line in Lines::new(input) {
-        let Ok(_answer) = session.answer_line_alone(alloc, line) else {
-            return Err(AllocError);
-        };
+        ask(alloc, session, line)?;
     }
     Ok(())
+}
+
+/// Asks a session a line, and drops the answer.
+fn ask(alloc: Global, session: &mut Session, line: &[u8]) -> Result<(), AllocError>
+    ensures { OnOk result ((answer : List ℕ) × AreAnswers session.old (line.now ∷ []) answer session.new) }
+{
+    match session.answer_line_alone(alloc, line) {
+        Ok(_answer) => Ok(()),
+        Err(_) => Err(AllocError),
+    }
 }

@@ -27,7 +27,7 @@ fn main(rt: HostRuntime) -> ExitCode {
 }
 
 /// Ends for words that are no task: with the text that they ask for, or with what is wrong.
-fn tell<R: Print>(rt: &R, fault: &TaskFault) -> ExitCode {
+fn tell<R: Print + Eprint>(rt: &R, fault: &TaskFault) -> ExitCode {
     let (status, text) = task_end(fault);
     if status != 0 {
         let _ = rt.eprintln(text.trim_end());
@@ -38,7 +38,7 @@ fn tell<R: Print>(rt: &R, fault: &TaskFault) -> ExitCode {
 }
 
 /// Ends for a fault, which is told on standard error.
-fn end<R: Print>(rt: &R, fault: &RunFault) -> ExitCode {
+fn end<R: Eprint>(rt: &R, fault: &RunFault) -> ExitCode {
     let (status, text) = run_end(fault);
     let _ = rt.eprintln(text);
     ExitCode::from(status)

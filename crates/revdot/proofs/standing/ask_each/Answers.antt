@@ -10,13 +10,8 @@ loop-line-init c =
 
 pub loop-line-preserved : goal.loop-line-preserved
 loop-line-preserved c =
-    one_line_more c.args.input.now c.in-Some.line.now (lines_left c.loop-line.line-iterator) (lines_left c.next.new.self) c.loop-line.session c.answer_line_alone.new.self c.in-Ok._answer
-    c.in-Some.ensures.steps c.loop-line.invariant c.in-Ok.ensures.blank c.in-Ok.ensures.text
-
-pub loop-line-preserved-in-Ok : goal.loop-line-preserved-in-Ok
-loop-line-preserved-in-Ok c =
-    one_line_more c.args.input.now c.in-Some.line.now (lines_left c.loop-line.line-iterator) (lines_left c.next.new.self) c.loop-line.session c.answer_line_alone.new.self c.in-Ok._answer
-    c.in-Some.ensures.steps c.loop-line.invariant c.in-Ok.ensures.blank c.in-Ok.ensures.text
+    one_line_more c.args.input.now c.in-Some.line.now (lines_left c.loop-line.line-iterator) (lines_left c.next.new.self) c.loop-line.session c.ask.new.session
+    c.in-Some.ensures.steps c.loop-line.invariant c.in_ok-ask.ensures
 
 pub returns : goal.returns
 returns c = all_asked c.args.input.now (lines_left c.loop-line.line-iterator) c.loop-line.session c.in-None.ensures.steps.0 c.loop-line.invariant
