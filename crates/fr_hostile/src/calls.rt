@@ -12,15 +12,12 @@ use fr_net::{Edit, LineFault, LineReader, Net, NotEdited, Question, Request, Tur
 use fr_round::{OpenWhy, Round};
 use fr_route::{Change, Report, Router, Session, counts_line, links_line};
 use std::alloc::{AllocError, Global};
-use std::fmt::Display;
+use std::fmt::{Debug, Display};
 use std::sync::Wait;
 use std::thread::Threads;
 
 /// A chain that points away from the destination, node 0.
 const CHAIN: [(u32, u32); 3] = [(0, 1), (1, 2), (2, 3)];
-
-/// How often its nodes turn until it leads home.
-const CHAIN_TURNS: &[u64] = &[0, 1, 2, 3];
 
 /// The line of the chain.
 const NETWORK_LINE: &[u8] = br#"["net",4,0,[[0,1],[1,2],[2,3]]]"#;
@@ -329,7 +326,9 @@ fn targets(alloc: Global) -> Result<Vec<Vec<Target>>, AllocError> {
 
 /// The targets of a worker that is to turn one node.
 fn target(alloc: Global, x: u32) -> Result<Vec<Target>, AllocError> {
-    Vec::from_slice(alloc, &[Target::Turn(x)])
+    let mut targets = Vec::new(alloc);
+    targets.push(Target::Turn(x))?;
+    Ok(targets)
 }
 
 /// A round that is opened and closed; where it is not opened, the network has to come back.
@@ -450,12 +449,21 @@ fn routed_alone<R: Alloc<A = Global> + Print + Eprint>(rt: &R) -> Option<String>
 
 /// A line and a request, answered on the calling thread alone.
 fn answered_alone<R: Alloc<A = Global> + Eprint>(rt: &R) -> Option<String> {
-    let alloc = rt.alloc();
     let mut session = Session::new();
-    let report = told(rt, session.answer_line_alone(alloc, NETWORK_LINE))??;
+    let report = reported_alone(rt, &mut session)?;
+    let links = links_alone(rt, &mut session)?;
+    told(rt, joined_text(rt.alloc(), &report, &links))
+}
+
+/// What a session reports of the chain.
+fn reported_alone<R: Alloc<A = Global> + Eprint>(rt: &R, session: &mut Session) -> Option<String> {
+    told(rt, session.answer_line_alone(rt.alloc(), NETWORK_LINE))?
+}
+
+/// The answer to the question for the links.
+fn links_alone<R: Alloc<A = Global> + Eprint>(rt: &R, session: &mut Session) -> Option<String> {
     let request = Request::Ask(Question::Links);
-    let links = told(rt, session.answer_alone(alloc, &request))?;
-    told(rt, joined_text(alloc, &report, &links))
+    told(rt, session.answer_alone(rt.alloc(), &request))
 }
 
 /// Two texts with a blank between them.
@@ -480,9 +488,16 @@ fn walked_live<R: Alloc<A = Global> + Eprint>(rt: &R) -> Option<String> {
 }
 
 fn walk_line(alloc: Global, walk: &LiveWalk) -> Result<String, AllocError> {
-    let mut line = format!(in alloc; "{:?} ", walk.nodes)?;
-    write!(line, "{:?}", walk.end)?;
-    Ok(line)
+    joined_text(
+        alloc,
+        &debug_text(alloc, &walk.nodes)?,
+        &debug_text(alloc, &walk.end)?,
+    )
+}
+
+/// A value as a programmer reads it.
+fn debug_text<T: Debug>(alloc: Global, value: &T) -> Result<String, AllocError> {
+    format!(in alloc; "{value:?}")
 }
 
 /// Whether the router is that of the chain once it leads home.
@@ -493,5 +508,5 @@ fn is_chain_home<R: Alloc<A = Global> + Eprint>(rt: &R, router: &Router) -> bool
 /// Whether the router tells the turns by which the chain comes to lead home.
 fn has_turned_home(router: &Router) -> bool {
     let Report { turned, cut } = router.report();
-    turned == 6 && cut == 0 && router.dest() == 0 && router.counts() == CHAIN_TURNS
+    turned == 6 && cut == 0 && router.dest() == 0 && matches!(router.counts(), [0, 1, 2, 3])
 }

@@ -4,7 +4,7 @@
 use crate::telling::told;
 use fr_crew::{OpenGate, Plan};
 use fr_net::{Question, Request};
-use fr_route::Session;
+use fr_route::{AnswerFault, Session};
 use std::alloc::Global;
 use std::sync::Wait;
 use std::thread::Threads;
@@ -92,9 +92,15 @@ fn links_once<R: Threads + Wait + Sync + Alloc<A = Global> + Eprint>(
     session: &mut Session,
     plan: &Plan,
 ) -> Option<String> {
+    told(rt, asked_for_links(rt, session, plan))
+}
+
+/// The session's answer to the question for its links.
+fn asked_for_links<R: Threads + Wait + Sync + Alloc<A = Global>>(
+    rt: &R,
+    session: &mut Session,
+    plan: &Plan,
+) -> Result<String, AnswerFault> {
     let request = Request::Ask(Question::Links);
-    told(
-        rt,
-        session.answer(rt, rt.alloc(), &request, plan, &OpenGate),
-    )
+    session.answer(rt, rt.alloc(), &request, plan, &OpenGate)
 }

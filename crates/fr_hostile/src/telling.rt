@@ -34,8 +34,10 @@ pub fn number_told<R: Eprint>(rt: &R, outcome: Result<Net, NetFault>) -> Option<
 
 /// The number of a fault of links. Want of memory has none, and is told.
 fn fault_told<R: Eprint>(rt: &R, fault: NetFault) -> Option<u32> {
-    match fault_number(&fault) {
-        0 => told(rt, Err(fault)),
-        number => Some(number),
+    let number = fault_number(&fault);
+    if number == 0 {
+        tell(rt, fault);
+        return None;
     }
+    Some(number)
 }

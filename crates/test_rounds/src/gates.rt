@@ -107,12 +107,12 @@ impl Gate for SlowGate {
 
 /// What a gate was told of the calls of one worker.
 #[derive(Drop)]
-struct Told {
+struct Calls {
     before: AtomicU64,
     after: AtomicU64,
 }
 
-impl Told {
+impl Calls {
     /// Takes note that this call comes: whether it is the next one, and the one before it has been answered.
     fn begins(&self, call: u64) -> bool {
         let passed = self.before.fetch_add(1, Ordering::SeqCst);
@@ -129,21 +129,21 @@ impl Told {
 /// A gate that listens: whether each worker's calls are told one after the other, counted from 1, each before it and then after it.
 #[derive(Drop)]
 struct ListeningGate {
-    told: Vec<Told>,
+    workers: Vec<Calls>,
     out_of_order: AtomicU64,
 }
 
 impl ListeningGate {
-    fn new(alloc: Global, workers: u32) -> Result<ListeningGate, AllocError> {
-        let mut told = Vec::new(alloc);
-        for _ in 0..workers {
-            told.push(Told {
+    fn new(alloc: Global, count: u32) -> Result<ListeningGate, AllocError> {
+        let mut workers = Vec::new(alloc);
+        for _ in 0..count {
+            workers.push(Calls {
                 before: AtomicU64::new(0),
                 after: AtomicU64::new(0),
             })?;
         }
         Ok(ListeningGate {
-            told,
+            workers,
             out_of_order: AtomicU64::new(0),
         })
     }
@@ -157,7 +157,7 @@ impl ListeningGate {
     /// How many calls were told before them.
     fn calls(&self) -> u64 {
         let mut calls = 0u64;
-        for worker in &self.told {
+        for worker in &self.workers {
             calls = calls.saturating_add(worker.before.load(Ordering::SeqCst));
         }
         calls
@@ -166,7 +166,7 @@ impl ListeningGate {
     /// Whether all was in order, and each call that was told before it was told after it.
     fn was_in_order(&self) -> bool {
         self.out_of_order.load(Ordering::SeqCst) == 0
-            && self.told.iter().all(|worker| {
+            && self.workers.iter().all(|worker| {
                 worker.before.load(Ordering::SeqCst) == worker.after.load(Ordering::SeqCst)
             })
     }
@@ -174,15 +174,15 @@ impl ListeningGate {
 
 impl Gate for ListeningGate {
     fn before(&self, worker: u32, call: u64) {
-        self.note(match self.told.get(worker as usize) {
-            Some(told) => told.begins(call),
+        self.note(match self.workers.get(worker as usize) {
+            Some(calls) => calls.begins(call),
             None => false,
         });
     }
 
     fn after(&self, worker: u32, call: u64) {
-        self.note(match self.told.get(worker as usize) {
-            Some(told) => told.ends(call),
+        self.note(match self.workers.get(worker as usize) {
+            Some(calls) => calls.ends(call),
             None => false,
         });
     }

@@ -59,6 +59,17 @@ fn two_of(round: &Round, workers: &mut Vec<Worker>) -> Result<(Worker, Worker), 
     Ok((a, b))
 }
 
+/// The last three of some workers of a round.
+fn three_of(round: &Round, workers: &mut Vec<Worker>) -> Result<((Worker, Worker), Worker), Fault>
+    requires { Each (IsOwn round.now) workers.old.items }
+    ensures two { IfOk result (λ three. IsOwn round.now three.0.0 × IsOwn round.now three.0.1) }
+    ensures third { IfOk result (λ three. IsOwn round.now three.1) }
+{
+    let third = last_of(round, workers)?;
+    let two = two_of(round, workers)?;
+    Ok((two, third))
+}
+
 /// A round with destination 0, and its two workers by number.
 pub fn opened_by_two(alloc: Global, net: Net) -> Result<(Round, Worker, Worker), Fault>
     ensures own { IfOk result (λ r. IsOwn r.0 r.1 × IsOwn r.0 r.2) }
@@ -76,8 +87,7 @@ pub fn opened_by_three(alloc: Global, net: Net) -> Result<(Round, (Worker, Worke
     ensures workers { IfOk result (λ r. r.0.setup.workers ≡ 3) }
 {
     let (round, mut workers) = opened(alloc, net, 0, 3)?;
-    let third = last_of(&round, &mut workers)?;
-    let two = two_of(&round, &mut workers)?;
+    let (two, third) = three_of(&round, &mut workers)?;
     Ok((round, two, third))
 }
 
