@@ -27,7 +27,7 @@ use Rattle.fr_round.proofs.Entries.{lawful_after}
 use Rattle.fr_round.proofs.Keeping.{each_snoc}
 use Rattle.fr_crew.specs.Crews.{IsSameWorker}
 use Rattle.fr_crew.specs.LiveWalks.{AreLooksFrom, FindsNoSink, HasWalked, hop_of, node_after, trail}
-use Rattle.fr_crew.specs.declared.live_walks.LiveEnd.TheVariants.{AtSink, Here, Limit}
+use Rattle.fr_crew.specs.declared.live_walks.LiveEnd.TheVariants.{AtSink}
 use Rattle.fr_crew.specs.declared.live_walks.LiveFault.{LiveFault}
 use Rattle.fr_crew.specs.declared.live_walks.LiveFault.TheVariants.{Memory}
 
@@ -165,35 +165,7 @@ walks_moved b old now next d x made nodes here w had k looked other = walks_on b
     moved_is_no_sink : (h j : ℕ) → ◌≢◌ {A = Reply} (Moved h j) Sink
     moved_is_no_sink h j e = cc
 
--- the ends of a walk
-pub ends_here : (old now : Knowledge) (d x made limit : ℕ) (nodes : List ℕ) (here : ℕ) → IsWalking old now d x made nodes here → made ≤ limit → here ≡ d → HasWalked old now d x limit nodes Here
-ends_here old now d x made limit nodes here w few at = record {
-  looks = w.looks;
-  begins = w.begins;
-  own = w.own;
-  along = w.along;
-  few = omega (arith, w.count, few);
-  nodes_are = w.nodes_are;
-  front = w.front;
-  last = here;
-  parted = w.parted;
-  ends = at;
-}
-
-pub ends_at_limit : (old now : Knowledge) (d x made limit : ℕ) (nodes : List ℕ) (here : ℕ) → IsWalking old now d x made nodes here → made ≡ limit → here ≢ d → HasWalked old now d x limit nodes Limit
-ends_at_limit old now d x made limit nodes here w all other = record {
-  looks = w.looks;
-  begins = w.begins;
-  own = w.own;
-  along = w.along;
-  few = omega (arith, w.count, all);
-  nodes_are = w.nodes_are;
-  front = w.front;
-  last = here;
-  parted = w.parted;
-  ends = (other, w.count ∙ all, w.no_sink);
-}
-
+-- a walk that ends at a sink
 pub ends_at_sink : (b : Setup) (old now next : Knowledge) (d x made limit : ℕ) (nodes : List ℕ) (here : ℕ) → IsWalking old now d x made nodes here → HasLooked b now next here Sink → here ≢ d → made < limit → HasWalked old next d x limit nodes AtSink
 ends_at_sink b old now next d x made limit nodes here w looked other few = record {
   looks = w.looks ++ entry now.number here Sink ∷ [];

@@ -1,10 +1,10 @@
 //! Workers in threads of their own. Nothing here waits but the joining of the threads.
 
-ghost use Rattle.std.specs.Prelude.{◌≡◌, ◌≢◌, ◌<◌, ◌≤◌, true, IfOk, IfErr, vec_len, vec_capacity};
+ghost use Rattle.std.specs.Prelude.{◌≡◌, ◌≢◌, ◌+◌, ◌<◌, ◌≤◌, true, IfOk, IfErr, IfSome, IsSome, vec_len, vec_capacity};
 ghost use Rattle.std.specs.List.{AllByRecursion as Each};
 ghost use Rattle.fr_round.specs.Knowledge.{IsOwn, OpenRound};
 ghost use Rattle.fr_crew.specs.Crews.{IsSameWorker, IsOwnMember, IsOwnThread};
-ghost use Rattle.fr_crew.specs.declared.fault.CrewFault.TheVariants.{Range};
+ghost use Rattle.fr_crew.specs.declared.fault.CrewFault.TheVariants.{Range, Start};
 
 use crate::deques::Stealer;
 use crate::fault::CrewFault;
@@ -42,6 +42,7 @@ impl Promise<Worker> for GivesBack {
 type Thread = PromisedHandle<Worker, GivesBack>;
 
 /// The room that is taken before the first thread is started.
+#[derive(Drop)]
 struct Rooms {
     back: Vec<Worker>,
     threads: Vec<Thread>,
@@ -104,6 +105,7 @@ fn start_each<'s, 'e, J: Naming + Send + Sync, G: Gate + Sync>(
     ensures own { Each (IsOwnThread job.now.round) result.threads.items }
     ensures all { result.all ≡ true → vec_len result.threads ≡ vec_len members }
     ensures few { vec_len result.threads ≤ vec_len members }
+    ensures none { vec_len members ≡ 0 → result.all ≡ true }
 {
     for member in members {
         let promise = GivesBack(Snapshot::of(&member.worker));
@@ -142,6 +144,38 @@ fn make_room(alloc: Global, members: usize) -> Result<Rooms, AllocError>
     })
 }
 
+/// The last member works on this thread, and each of the others in a thread of its own. All workers come back, or none where a
+/// thread cannot be started: those that were started are joined then, and the last member does nothing.
+fn work_beside<'s, 'e, J: Naming + Send + Sync, R: Threads, G: Gate + Sync>(
+    scope: &'s Scope<'s, &'e ()>,
+    rt: &R,
+    job: &'e Job<J>,
+    gate: &'e G,
+    rooms: Rooms,
+    members: Vec<Member<J>>,
+    last: Member<J>,
+) -> Option<Vec<Worker>>
+    requires named { job.now.round.setup ≡ J.setup }
+    requires own { Each (IsOwnMember job.now.round) members.items }
+    requires last { IsOwnMember job.now.round last }
+    requires back { (vec_len rooms.back ≡ 0) × (vec_len members < vec_capacity rooms.back) }
+    requires threads { (vec_len rooms.threads ≡ 0) × (vec_len members ≤ vec_capacity rooms.threads) }
+    ensures own { IfSome result (λ back. Each (IsOwn job.now.round) back.items) }
+    ensures len { IfSome result (λ back. vec_len back ≡ vec_len members + 1) }
+    ensures some { vec_len members ≡ 0 → IsSome result }
+{
+    let Rooms { back, threads } = rooms;
+    let Started { threads, all } = start_each(scope, job, gate, threads, members);
+    if !all {
+        join_each(rt, threads, back);
+        return None;
+    }
+    let last = work(job, gate, last);
+    let mut back = join_each(rt, threads, back);
+    back.push_reserved(last);
+    Some(back)
+}
+
 /// The whole life of the threads. The room for all of them is taken before the first is started. The last member works on
 /// the thread that called, which would only wait for the others.
 fn run_each<'s, 'e, J: Naming + Send + Sync, R: Threads, G: Gate + Sync>(
@@ -157,20 +191,13 @@ fn run_each<'s, 'e, J: Naming + Send + Sync, R: Threads, G: Gate + Sync>(
     ensures own { IfOk result (λ back. Each (IsOwn job.now.round) back.items) }
     ensures len { IfOk result (λ back. vec_len back ≡ vec_len members) }
     ensures fault { IfErr result (λ fault. fault ≢ Range) }
+    ensures no_start { vec_len members ≡ 1 → IfErr result (λ fault. fault ≢ Start) }
 {
-    let Rooms { back, threads } = make_room(alloc, members.len())?;
+    let rooms = make_room(alloc, members.len())?;
     let Some(last) = members.pop() else {
-        return Ok(back);
+        return Ok(rooms.back);
     };
-    let Started { threads, all } = start_each(scope, job, gate, threads, members);
-    if !all {
-        join_each(rt, threads, back);
-        return Err(CrewFault::Start);
-    }
-    let last = work(job, gate, last);
-    let mut back = join_each(rt, threads, back);
-    back.push_reserved(last);
-    Ok(back)
+    work_beside(scope, rt, job, gate, rooms, members, last).ok_or(CrewFault::Start)
 }
 
 /// Starts the threads in a scope, which ends when all of them have.
@@ -186,14 +213,17 @@ fn run_threads<J: Naming + Send + Sync, R: Threads + Wait, G: Gate + Sync>(
     ensures own { IfOk result (λ back. Each (IsOwn job.now.round) back.items) }
     ensures len { IfOk result (λ back. vec_len back ≡ vec_len members) }
     ensures fault { IfErr result (λ fault. fault ≢ Range) }
+    ensures no_start { vec_len members ≡ 1 → IfErr result (λ fault. fault ≢ Start) }
 {
     thread::scope(
         thread::scope_env(),
         rt,
         |scope| -> Result<Vec<Worker>, CrewFault>
             requires { (job.now.round.setup ≡ J.setup) × Each (IsOwnMember job.now.round) members.items }
-            ensures { IfOk result (λ back. Each (IsOwn job.entry.now.round) back.items) × IfOk result (λ back. vec_len back ≡ vec_len members)
-                × IfErr result (λ fault. fault ≢ Range) }
+            ensures own { IfOk result (λ back. Each (IsOwn job.entry.now.round) back.items) }
+            ensures len { IfOk result (λ back. vec_len back ≡ vec_len members) }
+            ensures fault { IfErr result (λ fault. fault ≢ Range) }
+            ensures no_start { vec_len members ≡ 1 → IfErr result (λ fault. fault ≢ Start) }
         { run_each(scope, rt, alloc, job, gate, members) },
     )
 }
@@ -218,6 +248,7 @@ pub(crate) fn run_crew<J: Naming + Send + Sync, R: Threads + Wait, G: Gate + Syn
     ensures own { IfOk result (λ back. Each (IsOwn round) back.1.items) }
     ensures len { IfOk result (λ back. vec_len back.1 ≡ vec_len workers) }
     ensures fault { IfErr result (λ fault. fault ≢ Range) }
+    ensures no_start { vec_len workers ≡ 1 → IfErr result (λ fault. fault ≢ Start) }
 {
     let room = room_for(&round, from);
     let Members {
