@@ -17,9 +17,9 @@ from __future__ import annotations
 
 import ctypes
 import os
-import threading
 import weakref
 from pathlib import Path
+from threading import RLock, get_ident
 from typing import NoReturn, Optional, Union
 
 __all__ = ["AnswerLost", "Session", "version"]
@@ -75,10 +75,10 @@ class Session:
 
     def __init__(self) -> None:
         self._handle = _Handle()
-        self._lock = threading.RLock()
+        self._lock = RLock()
         self._caller: Optional[int] = None
         self._length = ctypes.c_size_t()
-        self._answered = False
+        self._is_closed = self._answered = False
         self._lost: Optional[AnswerLost] = None
         self._make_room(_FIRST_ROOM)
         self._at, self._length_at = ctypes.byref(self._handle), ctypes.byref(self._length)
@@ -100,17 +100,19 @@ class Session:
         TypeError for what is no line; ValueError for text that has no UTF-8, as a lone surrogate, and once the session is
         closed; and RuntimeError where the call would wait for itself.
         """
-        if type(line) is not bytes:
+        if type(line) is str:
+            line = line.encode()
+        elif type(line) is not bytes:
             line = _bytes_of(line)
         size = len(line) - line.endswith(b"\n")
         with self._lock:
             if self._caller is not None:
                 self._refuse()
-            if not self._end.alive:
+            if self._is_closed:
                 raise ValueError("the session is closed")
             if self._lost is None:
                 self._lost = AnswerLost("the line was answered, but there was no memory for the text")
-            self._caller = threading.get_ident()
+            self._caller = get_ident()
             try:
                 self._answered = False
                 while True:
@@ -145,17 +147,18 @@ class Session:
     def close(self) -> None:
         """Ends the session, and gives its memory back. A second call does nothing."""
         with self._lock:
-            if self._caller == threading.get_ident():
+            if self._caller == get_ident():
                 self._refuse()
+            self._is_closed = True
             self._end()
 
     def _refuse(self) -> NoReturn:
-        raise RuntimeError(_INTERRUPTED if self._caller == threading.get_ident() else _LEFT_BEHIND)
+        raise RuntimeError(_INTERRUPTED if self._caller == get_ident() else _LEFT_BEHIND)
 
     def _inherit(self) -> None:
         """Makes the session the child's own, or gives it up if a thread was changing it that the child does not have."""
-        self._lock = threading.RLock()
-        if self._caller not in (None, threading.get_ident()):
+        self._lock = RLock()
+        if self._caller not in (None, get_ident()):
             self._caller = _GONE
             self._end.detach()
 
