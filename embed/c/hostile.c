@@ -4,9 +4,10 @@
  *
  *   - with too little room: of no byte, of one less than the least, and of one less than its answer, until it has just enough;
  *   - with the Nth allocation of a session refused, for N = 1, 2, .. until all lines are answered without meeting it. A call may do
- *     without it; or it says that there is no memory, and is made again.
+ *     without it; or it says that there is no memory, and is made again. A blank line always does without.
  *
- * The answer must be the same, and before it the session as it was. Each line and each buffer ends where no memory is behind it, so
+ * The answer must be the same, and before it the session as it was, the handle's own bytes too. A handle that holds no network yet is
+ * asked again in the same ways, and owns nothing until a line is answered. Each line and each buffer ends where no memory is behind it, so
  * that a byte read or written too far ends the program by a signal. Printed are how many allocations were refused, and how many
  * calls said so.
  */
@@ -37,12 +38,15 @@ typedef struct {
     size_t length;
 } answer;
 
-/* One call, which may write no byte of the buffer but the answer's, and tells a length only with an answer or where room is wanted. */
+/* One call, which may write no byte of the buffer but the answer's, tells a length only with an answer or where room is wanted, and
+ * writes the handle only with an answer. */
 static uint32_t call(revroute *session, line it, size_t room, size_t *length) {
     if (it.length > FENCED) stop("a line is too long for this test");
     memcpy(line_end - it.length, it.bytes, it.length);
     memset(answer_end - room, UNTOUCHED, room);
+    revroute before = *session;
     uint32_t status = revroute_answer(session, line_end - it.length, it.length, answer_end - room, room, length);
+    if (status != REVROUTE_ANSWERED && session->at != before.at) stop("a call with no answer wrote the handle");
     if ((status == REVROUTE_BLANK || status == REVROUTE_NO_MEMORY) && *length != 0) stop("a length without an answer");
     for (size_t at = status == REVROUTE_ANSWERED ? *length : 0; at < room; at++)
         if (answer_end[at - room] != UNTOUCHED) stop("a byte was written that is none of the answer's");
@@ -120,6 +124,7 @@ static int ask_poor(revroute *session, line it, answer wanted, long *left) {
     refusing_left = 0;
     if (found.status == REVROUTE_NO_MEMORY) {
         if (!was_refused) stop("want of memory was told where none was refused");
+        if (wanted.status == REVROUTE_BLANK) stop("a blank line wants memory");
         refusals++;
         expect_state(session, before, "a call without memory changed the session");
         found = ask(session, it);
@@ -128,6 +133,22 @@ static int ask_poor(revroute *session, line it, answer wanted, long *left) {
     free(found.bytes);
     drop(before);
     return was_refused;
+}
+
+/* Asks a line of a handle that holds no network yet: until the line is answered the handle owns nothing. */
+static void ask_new(line it, answer wanted) {
+    revroute session = REVROUTE_NEW;
+    size_t length;
+    if (call(&session, it, 0, &length) != REVROUTE_TOO_SHORT || refusing_held) stop("a buffer that is too short took memory");
+    refusing_left = 1;
+    uint32_t status = call(&session, it, FENCED, &length);
+    refusing_left = 0;
+    if (status != (wanted.status == REVROUTE_BLANK ? REVROUTE_BLANK : REVROUTE_NO_MEMORY)) stop("a new session asks for no memory");
+    if (refusing_held) stop("a handle with no answer owns memory");
+    free(ask(&session, it).bytes);
+    if (wanted.status == REVROUTE_BLANK && refusing_held) stop("a blank line took memory");
+    revroute_close(&session);
+    if (refusing_held) stop("a closed session holds memory");
 }
 
 int main(void) {
@@ -144,6 +165,7 @@ int main(void) {
     revroute_close(&ahead);
     revroute_close(&behind);
     revroute_close(&behind);
+    for (size_t at = 0; at < asked.count; at++) ask_new(asked.at[at], wanted[at]);
     long number = 0;
     for (int meets = 1; meets;) {
         long left = ++number;

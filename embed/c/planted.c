@@ -1,5 +1,6 @@
 /* The library with a fault in it: embed/can-fail builds it with each FAULT, over the true calls, which are named engine_ there. */
 #include <revroute.h>
+#include <stdlib.h>
 #include <string.h>
 
 uint32_t engine_answer(revroute *, const uint8_t *, size_t, uint8_t *, size_t, size_t *);
@@ -17,6 +18,8 @@ enum {
     too_short_that_wants_too_little,
     no_memory_told_as_blank,
     no_memory_that_loses_the_session,
+    a_blank_line_without_memory,
+    a_session_for_a_blank_line,
     close_that_keeps_the_memory,
     another_version
 };
@@ -29,12 +32,24 @@ static uint32_t move_on(revroute *session, const uint8_t *line, size_t line_leng
     return REVROUTE_TOO_SHORT;
 }
 
+/* Whether the block of a new session is refused, which is asked for before the line is looked at. */
+static int wants_memory(const revroute *session) {
+    void *volatile block = session->at ? NULL : malloc(sizeof *session);
+    int is_refused = !session->at && !block;
+    free(block);
+    return is_refused;
+}
+
 uint32_t revroute_answer(revroute *session, const uint8_t *line, size_t line_length, uint8_t *answer, size_t room,
                          size_t *length) {
     static revroute shared = REVROUTE_NEW;
     if (FAULT == sessions_that_share) session = &shared;
     if (FAULT == too_short_after_the_state_has_moved_on && room < REVROUTE_LEAST_ROOM)
         return move_on(session, line, line_length, length);
+    if (FAULT == a_blank_line_without_memory && room >= REVROUTE_LEAST_ROOM && wants_memory(session)) {
+        *length = 0;
+        return REVROUTE_NO_MEMORY;
+    }
     if (FAULT == the_line_read_too_far && line[line_length] == 0xff) return REVROUTE_BLANK;
     uint32_t status = engine_answer(session, line, line_length, answer, room, length);
     if (FAULT == a_byte_too_few && status == REVROUTE_ANSWERED) --*length;
@@ -42,6 +57,10 @@ uint32_t revroute_answer(revroute *session, const uint8_t *line, size_t line_len
     if (FAULT == a_length_with_no_answer && status == REVROUTE_BLANK) *length = line_length + 1;
     if (FAULT == too_short_that_wants_too_little && status == REVROUTE_TOO_SHORT && room >= REVROUTE_LEAST_ROOM) --*length;
     if (FAULT == no_memory_that_loses_the_session && status == REVROUTE_NO_MEMORY) engine_close(session);
+    if (FAULT == a_session_for_a_blank_line && status == REVROUTE_BLANK) {
+        move_on(session, (const uint8_t *)"[]", 2, length);
+        *length = 0;
+    }
     return FAULT == no_memory_told_as_blank && status == REVROUTE_NO_MEMORY ? REVROUTE_BLANK : status;
 }
 

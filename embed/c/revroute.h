@@ -13,7 +13,9 @@
  *
  * What a caller owes, since no call tests it:
  *
- * - No pointer is null, not even that of a line or of a buffer of no bytes.
+ * - No pointer is null, not even that of a line or of a buffer of no bytes, nor that of a session: what a session holds may be.
+ * - A pointer to bytes covers as many of them as the length beside it tells, so no length stands for 'unbounded'. Line and buffer may
+ *   stand anywhere; a session and a length are aligned, as variables of their types are.
  * - The session, the line, the buffer and the length do not overlap. Until the call returns nobody else uses them; others
  *   may read the line.
  * - A session is used by one call at a time. It may go from one thread to another, if its calls do not overlap and each sees
@@ -22,7 +24,9 @@
  *   gives the same memory back twice. Memory that was moved, as by realloc, is no copy if the old place is used no more.
  * - Memory is the process's malloc, realloc and free, of one allocator as long as a session is open. So no call is made from a
  *   signal handler, or in the child that a process with threads has forked.
- * - The thread has 256 KiB of stack left. A request was seen to take 56, a line that nests as deep as JSON may here 72.
+ * - The thread has 256 KiB of stack left. A request was seen to take 52, a line that nests as deep as JSON may here 141.
+ *
+ * A buffer and a length need not be written before a call, as above: it reads no byte of them.
  *
  * A call waits for nobody, starts no thread, reads no file and keeps no pointer of its caller's.
  */
@@ -51,7 +55,7 @@ typedef struct revroute {
 enum {
     /* The answer stands at the front of the buffer, in ASCII, with no line end and no NUL, and *length is its length. */
     REVROUTE_ANSWERED = 0,
-    /* The line is blank, spaces, tabs and carriage returns alone, and has no answer. *length is 0. */
+    /* The line is blank, spaces, tabs and carriage returns alone, and has no answer. It takes no memory, and *length is 0. */
     REVROUTE_BLANK = 1,
     /* The buffer is too short, and *length is the room that is wanted: ask again with that. */
     REVROUTE_TOO_SHORT = 2,
@@ -61,8 +65,8 @@ enum {
 
 /* Answers a line of line_length bytes, which is without its line end, into the buffer `answer` of `room` bytes, and returns how
  * that ended. A line that is refused is answered as well, by `refused` and a number. The buffer is as it was behind the answer;
- * after any end but REVROUTE_ANSWERED the session and the whole buffer are as they were. An answer that changes the session
- * always fits into REVROUTE_LEAST_ROOM. */
+ * after any end but REVROUTE_ANSWERED the session, its own bytes too, and the whole buffer are as they were, so that a session
+ * that has answered nothing holds no memory. An answer that changes the session always fits into REVROUTE_LEAST_ROOM. */
 uint32_t revroute_answer(revroute *session, const uint8_t *line, size_t line_length, uint8_t *answer, size_t room,
                          size_t *length);
 

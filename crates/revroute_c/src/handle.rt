@@ -1,13 +1,14 @@
 //! What C holds of a session.
 
-ghost use Rattle.std.specs.Prelude.{◌≡◌, MatchOption, Option, None, IfOk, OnErr};
+ghost use Rattle.std.specs.Prelude.{◌≡◌, MatchOption, Option, None};
+ghost use Rattle.std.specs.Borrow.{sem};
 ghost use denote.RawPtr.{null_ptr};
 ghost use Rattle.fr_route.specs.States.{State};
 ghost use Rattle.revroute_c.specs.Holding.{holds};
 
 use crate::loose::Loose;
 use fr_route::Session;
-use std::alloc::{AllocError, Global};
+use std::alloc::Global;
 use std::marker::{Model, Send};
 use std::mem::replace;
 use std::ptr::null_mut;
@@ -29,6 +30,8 @@ impl Model for Handle {
 unsafe impl Send for Handle {}
 
 impl Handle {
+    ghost use Rattle.revroute_c.specs.Lending.{LendsSession};
+
     /// The null handle, of a session that holds no network.
     fn empty() -> Handle
         ensures session { result.session ≡ None }
@@ -75,20 +78,20 @@ impl Handle {
         }
     }
 
-    /// Takes the session out of a handle, or makes a new one where it is null. The handle is then null. Where memory for a new one
-    /// is missing, all is as it was.
-    pub(crate) fn take(handle: &mut Handle, alloc: Global) -> Result<Box<Session>, AllocError>
-        ensures session { IfOk result (λ session. handle.old.session ≡ session.value) }
-        ensures unchanged { OnErr result (handle.new.session ≡ handle.old.session) }
+    /// The session of a handle, where it stands; none where the handle is null.
+    pub(crate) fn session_mut(&mut self) -> Option<&mut Session>
+        ensures* writes_back { sem 𝓛 (LendsSession self.entry result) }
+        ensures value { MatchOption result ((self.old.at ≡ null_ptr) × (self.old.session ≡ None)) (λ session. session.now ≡ self.old.session) }
     {
-        match Handle::taken(handle, alloc) {
-            Some(session) => Ok(session),
-            None => Ok(Box::new(alloc, Session::new())?),
+        if self.at.is_null() {
+            return None;
         }
+        unsafe { Some(&mut *self.at.cast::<Session>()) }
     }
 
-    /// Puts a session into a handle.
+    /// Puts a session into a null handle.
     pub(crate) fn put(handle: &mut Handle, session: Box<Session>)
+        requires { handle.old.at ≡ null_ptr }
         ensures { handle.new.session ≡ session.value }
     {
         *handle = Handle::of(Loose::of(session));

@@ -6,23 +6,23 @@
 
 ghost use Rattle.std.specs.Prelude.{◌≡◌, ◌≤◌, ◌<◌, ◌⊎◌, true, None, length};
 ghost use denote.RawPtr.{null_ptr};
-ghost use Rattle.fr_route.specs.Blank.{is_blank};
+ghost use Rattle.fr_route.specs.Blank.{is_blank as is_blank_line};
 ghost use Rattle.revroute_c.specs.Replies.{least_room, IsAnswered, IsWanted, IsWritten};
 
 mod handle;
 mod loose;
 mod replies;
 
-use fr_route::VERSION;
+use fr_route::{VERSION, is_blank};
 use handle::Handle;
-use replies::{ANSWERED, BLANK, LEAST_ROOM, NO_MEMORY, TOO_SHORT, hand_out, reply};
+use replies::{ANSWERED, BLANK, LEAST_ROOM, NO_MEMORY, TOO_SHORT, hand_out, reply, reply_anew};
 use std::alloc::Global;
 
 /// Answers a line, without its line end, in the session behind the handle; a null handle is a session that holds no network yet.
-/// The answer goes to the front of the buffer, with no line end, and its length to `size`; a blank line has none, and `size` is
-/// then 0. `TOO_SHORT` says that nothing has changed and that `size` is the room that is wanted: the answer's length, or
-/// [`LEAST_ROOM`] for a buffer that has less, which is tested first. `NO_MEMORY` says that an allocation was refused, and leaves the
-/// session as it was.
+/// The answer goes to the front of the buffer, with no line end, and its length to `size`. `BLANK` says that the line is blank and
+/// has none, and takes no memory; `size` is then 0. `TOO_SHORT` says that `size` is the room that is wanted: the answer's length, or
+/// [`LEAST_ROOM`] for a buffer that has less, which is tested first. `NO_MEMORY` says that an allocation was refused. After each of
+/// these the session is as it was, and so are the handle's own bytes: null stays null, and owns nothing.
 #[unsafe(no_mangle)]
 pub extern "C" fn revroute_answer(
     alloc: Global,
@@ -32,10 +32,12 @@ pub extern "C" fn revroute_answer(
     size: &mut usize,
 ) -> u32
     ensures answered { result ≡ ANSWERED → IsAnswered handle.old.session line.now handle.new.session answer.old answer.new size.new }
-    ensures blank { result ≡ BLANK → (is_blank line.now ≡ true) × (size.new ≡ 0) }
+    ensures blank { result ≡ BLANK → (is_blank_line line.now ≡ true) × (size.new ≡ 0) }
+    ensures blank_line { is_blank_line line.now ≡ true → least_room ≤ length answer.old → result ≡ BLANK }
     ensures too_short { result ≡ TOO_SHORT → (length answer.old < size.new) × IsWanted handle.old.session line.now (length answer.old) size.new }
     ensures no_memory { result ≡ NO_MEMORY → size.new ≡ 0 }
     ensures unchanged { ¬ (result ≡ ANSWERED) → (handle.new.session ≡ handle.old.session) × (answer.new ≡ answer.old) }
+    ensures kept { ¬ (result ≡ ANSWERED) → handle.new.at ≡ handle.old.at }
     ensures room { length answer.old < least_room → result ≡ TOO_SHORT }
     ensures status { result ≤ NO_MEMORY }
 {
@@ -44,12 +46,13 @@ pub extern "C" fn revroute_answer(
         *size = LEAST_ROOM;
         return TOO_SHORT;
     }
-    let Ok(mut session) = Handle::take(handle, alloc) else {
-        return NO_MEMORY;
-    };
-    let status = reply(&mut session, alloc, line, answer, size);
-    Handle::put(handle, session);
-    status
+    if is_blank(line) {
+        return BLANK;
+    }
+    match handle.session_mut() {
+        Some(session) => reply(session, alloc, line, answer, size),
+        None => reply_anew(handle, alloc, line, answer, size),
+    }
 }
 
 /// Gives back all memory of the session behind the handle, which then is null again.

@@ -1,9 +1,11 @@
 //! Answers in the buffer of a caller.
 
-ghost use Rattle.std.specs.Prelude.{◌≡◌, ◌≤◌, ◌<◌, ◌⊎◌, true, length};
+ghost use Rattle.std.specs.Prelude.{◌≡◌, ◌≢◌, ◌≤◌, ◌<◌, ◌⊎◌, false, length, None};
+ghost use denote.RawPtr.{null_ptr};
 ghost use Rattle.fr_route.specs.Blank.{is_blank};
 ghost use Rattle.revroute_c.specs.Replies.{least_room, IsAnswered, IsAnswerLength, IsWritten};
 
+use crate::handle::Handle;
 use fr_route::{AnswerFault, Session};
 use std::alloc::Global;
 
@@ -38,7 +40,8 @@ pub(crate) fn hand_out(bytes: &[u8], buffer: &mut [u8], size: &mut usize) -> u32
     ANSWERED
 }
 
-/// Answers a line in a buffer of at least [`LEAST_ROOM`] bytes. `size` has to be 0, and stays so where there is no answer.
+/// Answers a line that is not blank, in a buffer of at least [`LEAST_ROOM`] bytes. `size` has to be 0, and stays so where there is
+/// no memory.
 pub(crate) fn reply(
     session: &mut Session,
     alloc: Global,
@@ -46,19 +49,47 @@ pub(crate) fn reply(
     answer: &mut [u8],
     size: &mut usize,
 ) -> u32
+    requires asks { is_blank line.now ≡ false }
     requires room { least_room ≤ length answer.old }
     requires size { size.old ≡ 0 }
     ensures answered { result ≡ ANSWERED → IsAnswered session.old line.now session.new answer.old answer.new size.new }
-    ensures blank { result ≡ BLANK → (is_blank line.now ≡ true) × (size.new ≡ 0) }
     ensures too_short { result ≡ TOO_SHORT → (length answer.old < size.new) × IsAnswerLength session.old line.now size.new }
     ensures no_memory { result ≡ NO_MEMORY → size.new ≡ 0 }
     ensures unchanged { ¬ (result ≡ ANSWERED) → (session.new ≡ session.old) × (answer.new ≡ answer.old) }
-    ensures status { result ≤ NO_MEMORY }
+    ensures status { (result ≢ BLANK) × (result ≤ NO_MEMORY) }
 {
     match session.answer_line_alone(alloc, line) {
         Ok(Some(text)) => hand_out(text.as_bytes(), answer, size),
-        Ok(None) => BLANK,
         Err(AnswerFault::Memory) => NO_MEMORY,
-        Err(AnswerFault::Start) => unreachable!(),
+        Ok(None) | Err(AnswerFault::Start) => unreachable!(),
     }
+}
+
+/// The same in a new session, which the null handle holds from then on if the line is answered.
+pub(crate) fn reply_anew(
+    handle: &mut Handle,
+    alloc: Global,
+    line: &[u8],
+    answer: &mut [u8],
+    size: &mut usize,
+) -> u32
+    requires null { handle.old.at ≡ null_ptr }
+    requires session { handle.old.session ≡ None }
+    requires asks { is_blank line.now ≡ false }
+    requires room { least_room ≤ length answer.old }
+    requires size { size.old ≡ 0 }
+    ensures answered { result ≡ ANSWERED → IsAnswered handle.old.session line.now handle.new.session answer.old answer.new size.new }
+    ensures too_short { result ≡ TOO_SHORT → (length answer.old < size.new) × IsAnswerLength handle.old.session line.now size.new }
+    ensures no_memory { result ≡ NO_MEMORY → size.new ≡ 0 }
+    ensures unchanged { ¬ (result ≡ ANSWERED) → (handle.new ≡ handle.old) × (answer.new ≡ answer.old) }
+    ensures status { (result ≢ BLANK) × (result ≤ NO_MEMORY) }
+{
+    let Ok(mut session) = Box::new(alloc, Session::new()) else {
+        return NO_MEMORY;
+    };
+    let status = reply(&mut session, alloc, line, answer, size);
+    if status == ANSWERED {
+        Handle::put(handle, session);
+    }
+    status
 }

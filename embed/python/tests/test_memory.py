@@ -1,11 +1,36 @@
-"""Without memory: each allocation of the library refused in turn, by the heap that embed/check puts under it."""
+"""Without memory: each allocation of the library refused in turn, by the heap that embed/check puts under it, and each of Python."""
 
 import ctypes
 import unittest
 
 import revroute
 
+try:
+    from _testcapi import remove_mem_hooks, set_nomemory
+except ImportError:
+    set_nomemory = None
+
 LINES = ['["net",4,0,[[0,1],[1,2],[2,3]]]', '["cut",1,0]', '["add",3,0]', '["walk",1]']
+CHAIN, CUT = LINES[:2]
+
+
+class NoText:
+    """A buffer of which no text can be made."""
+
+    def __getitem__(self, _):
+        raise MemoryError
+
+
+def ask_poor(session, line, first, last):
+    """Asks while Python's allocations from the first to the last, or all behind it, are refused. Returns what came of it."""
+    set_nomemory(first, last)
+    try:
+        return session.answer(line)
+    except BaseException as fault:
+        remove_mem_hooks()
+        return fault
+    finally:
+        remove_mem_hooks()
 
 
 class MemoryTest(unittest.TestCase):
@@ -27,6 +52,50 @@ class MemoryTest(unittest.TestCase):
                 self.assertGreater(number, 1, line)
             self.assertEqual(session.answer('["links"]'), "links 1>2 2>3 3>0")
         self.assertEqual(ctypes.c_long.in_dll(revroute._library, "refusing_held").value, 0)
+
+    def test_an_answer_that_is_lost_is_no_want_of_memory_and_can_be_asked_for_again(self):
+        with revroute.Session() as session:
+            session.answer(CHAIN)
+            for line, wanted in ((CUT, "turned 12 cut 3"), ('["net",1,0,[]]', "turned 0 cut 0")):
+                buffer, answer, room = session._room
+                session._room = buffer, NoText(), room
+                with self.assertRaises(revroute.AnswerLost):
+                    session.answer(line)
+                session._room = buffer, answer, room
+                self.assertEqual(session.last_answer(), wanted)
+            self.assertEqual(session.answer('["links"]'), "links")
+
+    @unittest.skipUnless(set_nomemory, "Python has no heap that refuses")
+    def test_where_python_has_no_memory_a_change_is_no_want_of_memory(self):
+        # where more than two are refused, Python has not the memory to raise another fault than MemoryError
+        for many in (1, 2):
+            number, is_met = 0, True
+            while is_met:
+                number += 1
+                with revroute.Session() as session:
+                    session.answer(CHAIN)
+                    found = ask_poor(session, CUT, number, number + many)
+                    is_met = isinstance(found, BaseException)
+                    if isinstance(found, MemoryError):
+                        self.assertEqual(session.answer(CUT), "turned 12 cut 3", number)
+                    elif is_met:
+                        self.assertIsInstance(found, revroute.AnswerLost)
+                        self.assertEqual(session.last_answer(), "turned 12 cut 3", number)
+                    self.assertEqual(session.answer('["walk",3]'), "walk 3 cut")
+            self.assertGreater(number, 1)
+
+    @unittest.skipUnless(set_nomemory, "Python has no heap that refuses")
+    def test_a_buffer_that_could_not_grow_is_as_it_was(self):
+        links = ",".join(f"[{x},{x - 1}]" for x in range(1, 2048))
+        wanted = " ".join(["walk", *map(str, range(2047, -1, -1))])
+        number, found = 0, None
+        while found != wanted:
+            number += 1
+            with revroute.Session() as session:
+                session.answer(f'["net",2048,0,[{links}]]')
+                found = ask_poor(session, '["walk",2047]', number, number + 1)
+                self.assertEqual(session.answer('["walk",2047]'), wanted, number)
+        self.assertGreater(number, 1)
 
 
 if __name__ == "__main__":

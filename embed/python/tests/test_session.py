@@ -1,14 +1,19 @@
 """The session, over the installed package."""
 
+import array
 import copy
 import doctest
 import gc
 import importlib.metadata
+import os
 import pickle
+import signal
 import threading
 import unittest
+import warnings
 from concurrent.futures import ThreadPoolExecutor
 from pathlib import Path
+from unittest import mock
 
 import revroute
 
@@ -26,6 +31,67 @@ def answers(lines):
 def examples():
     for path in sorted(EXAMPLES.glob("*.jsonl")):
         yield path.name, path.read_bytes().split(b"\n"), path.with_suffix(".answers").read_text().splitlines()
+
+
+class LongerThanItIs(bytes):
+    """Bytes that tell another length, and are no more than they are."""
+
+    def __len__(self):
+        return 1 << 40
+
+
+class NullBehindALength:
+    """What ctypes takes for a null pointer."""
+
+    _as_parameter_ = None
+
+    def __len__(self):
+        return 5
+
+
+class TextOfItsOwn(str):
+    def encode(self, *_):
+        return LongerThanItIs(b"[]")
+
+    def __len__(self):
+        return 1 << 40
+
+
+def in_call(before=lambda: None, behind=lambda: None):
+    """The library's call with something done before it and behind it, while the session is in the call."""
+    true_call = revroute._library.revroute_answer
+
+    def call(*words):
+        before()
+        status = true_call(*words)
+        behind()
+        return status
+
+    return mock.patch.object(revroute._library, "revroute_answer", call)
+
+
+def ends_well(what):
+    """Whether a child of this process comes to the end of what it is given, and in time."""
+    with warnings.catch_warnings():
+        # that it is forked while threads run is what is tried
+        warnings.simplefilter("ignore", DeprecationWarning)
+        child = os.fork()
+    if child:
+        return os.waitstatus_to_exitcode(os.waitpid(child, 0)[1]) == 0
+    signal.alarm(5)
+    try:
+        what()
+        os._exit(0)
+    except BaseException:
+        os._exit(1)
+
+
+def raises(fault, what, *words):
+    try:
+        what(*words)
+    except fault:
+        return
+    raise AssertionError(f"no {fault.__name__}")
 
 
 class SessionTest(unittest.TestCase):
@@ -71,7 +137,6 @@ class SessionTest(unittest.TestCase):
             for line, wanted in [
                 ("", None),
                 (b" \t\r", None),
-                ("\n", "refused 1"),
                 (b"\xff", "refused 1"),
                 ("\0", "refused 1"),
                 ("[]", "refused 2"),
@@ -79,11 +144,42 @@ class SessionTest(unittest.TestCase):
             ]:
                 self.assertEqual(session.answer(line), wanted, line)
 
-    def test_what_is_no_line_is_no_call(self):
+    def test_one_line_feed_at_the_end_is_no_part_of_a_line(self):
         with revroute.Session() as session:
-            for it in (None, 7, ["links"], bytearray(b'["links"]')):
-                with self.assertRaises((TypeError, revroute.ctypes.ArgumentError)):
+            session.answer(CHAIN + "\n")
+            for line, wanted in [
+                ("\n", None),
+                ("\r\n", None),
+                ("\n\n", "refused 1"),
+                ('["links"]\n', CHAIN_LINKS),
+                ('["links"]\r\n', CHAIN_LINKS),
+                ('\n["links"]\n', CHAIN_LINKS),
+            ]:
+                self.assertEqual(session.answer(line), wanted, line)
+                self.assertEqual(session.answer(line.encode()), wanted, line)
+
+    def test_the_lines_of_a_file_are_asked_as_they_are_read(self):
+        for path in sorted(EXAMPLES.glob("*.jsonl")):
+            wanted = path.with_suffix(".answers").read_text().splitlines()
+            for how in ({"mode": "r"}, {"mode": "rb"}):
+                with self.subTest(path.name, **how), path.open(**how) as lines:
+                    self.assertEqual(answers(lines), wanted)
+
+    def test_what_has_bytes_is_a_line(self):
+        line = CHAIN.encode()
+        with revroute.Session() as session:
+            for it in (bytearray(line), memoryview(line), memoryview(line + line)[: len(line)], array.array("B", line), LongerThanItIs(line)):
+                self.assertEqual(session.answer(it), "turned 6 cut 0", type(it))
+            self.assertEqual(session.answer(LongerThanItIs(b" " * (1 << 20))), None)
+            self.assertEqual(session.answer(TextOfItsOwn('["links"]')), CHAIN_LINKS)
+
+    def test_what_has_no_bytes_is_no_line(self):
+        with revroute.Session() as session:
+            for it in (None, 7, 7.5, ["links"], NullBehindALength(), object()):
+                with self.assertRaisesRegex(TypeError, "a line is a str, or bytes, .* and no " + type(it).__name__):
                     session.answer(it)
+            with self.assertRaises(ValueError):
+                session.answer('"\ud800"')
 
     def test_a_closed_session_answers_no_more(self):
         session = revroute.Session()
@@ -116,6 +212,82 @@ class SessionTest(unittest.TestCase):
         thread.join()
         session.close()
         self.assertEqual(found, [CHAIN_LINKS])
+
+    def test_a_call_that_interrupts_another_is_refused(self):
+        refused = []
+
+        def handle(*_):
+            for what in (lambda: session.answer('["links"]'), session.last_answer, session.close):
+                raises(RuntimeError, what)
+                refused.append(what)
+
+        before = signal.signal(signal.SIGUSR1, handle)
+        signal.alarm(20)
+        try:
+            with revroute.Session() as session:
+                for when in ("before", "behind"):
+                    with in_call(**{when: lambda: signal.raise_signal(signal.SIGUSR1)}):
+                        self.assertEqual(session.answer(CHAIN), "turned 6 cut 0")
+                self.assertEqual(session.answer('["links"]'), CHAIN_LINKS)
+        finally:
+            signal.alarm(0)
+            signal.signal(signal.SIGUSR1, before)
+        self.assertEqual(len(refused), 6)
+
+    def test_a_child_has_a_session_of_its_own(self):
+        def ask():
+            assert session.answer('["cut",1,0]') == "turned 12 cut 3"
+            session.close()
+
+        with revroute.Session() as session:
+            session.answer(CHAIN)
+            self.assertTrue(ends_well(ask))
+            self.assertEqual(session.answer('["links"]'), CHAIN_LINKS)
+
+    def test_a_child_is_refused_a_session_that_was_in_a_call(self):
+        def ask():
+            for _ in range(2):
+                raises(RuntimeError, session.answer, '["links"]')
+            session.close()
+            assert other.answer('["links"]') == CHAIN_LINKS
+
+        is_in, goes_on = threading.Event(), threading.Event()
+        with revroute.Session() as session, revroute.Session() as other:
+            other.answer(CHAIN)
+            with in_call(lambda: (is_in.set(), goes_on.wait(20))), ThreadPoolExecutor(1) as pool:
+                found = pool.submit(session.answer, CHAIN)
+                is_in.wait(20)
+                with mock.patch.object(revroute._library, "revroute_answer", revroute._load().revroute_answer):
+                    is_well = ends_well(ask)
+                goes_on.set()
+                self.assertEqual(found.result(), "turned 6 cut 0")
+            self.assertTrue(is_well)
+            self.assertEqual(session.answer('["links"]'), CHAIN_LINKS)
+
+    def test_a_child_of_a_handler_goes_on_with_the_call(self):
+        children = []
+
+        def fork():
+            with warnings.catch_warnings():
+                warnings.simplefilter("ignore", DeprecationWarning)
+                children.append(os.fork())
+
+        with revroute.Session() as session:
+            with in_call(behind=fork):
+                found = session.answer(CHAIN)
+            if not children[0]:
+                signal.alarm(5)
+                os._exit(not (found == "turned 6 cut 0" and session.answer('["links"]') == CHAIN_LINKS))
+            self.assertEqual(os.waitpid(children[0], 0)[1], 0)
+
+    def test_the_last_answer_can_be_asked_for_again(self):
+        with revroute.Session() as session:
+            self.assertIsNone(session.last_answer())
+            session.answer(CHAIN)
+            self.assertEqual(session.last_answer(), "turned 6 cut 0")
+            self.assertEqual(session.last_answer(), "turned 6 cut 0")
+            session.answer("")
+            self.assertIsNone(session.last_answer())
 
     def test_the_package_has_the_version_of_the_library(self):
         self.assertEqual(importlib.metadata.version("revroute"), revroute.version())

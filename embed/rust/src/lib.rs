@@ -55,12 +55,13 @@ impl Session {
         }
     }
 
-    /// The answer to a line, or `None` for a blank one, which has spaces, tabs and carriage returns alone. Neither the line nor the
-    /// answer has a line end. A request that is refused has an answer too:
+    /// The answer to a line, or `None` for a blank one, which has spaces, tabs and carriage returns alone. One line feed at its end is
+    /// no part of a line, so that lines can be asked as they are read; the answer has none. A request that is refused has an answer
+    /// too:
     ///
     /// ```
     /// let mut session = revroute::Session::new();
-    /// assert_eq!(session.answer(r#"["walk",3]"#)?, Some("refused 3"));
+    /// assert_eq!(session.answer("[\"walk\",3]\n")?, Some("refused 3"));
     /// assert_eq!(session.answer(" ")?, None);
     /// # Ok::<(), revroute::NoMemory>(())
     /// ```
@@ -69,7 +70,8 @@ impl Session {
     ///
     /// Where memory runs out, for the answer or its buffer. The session is then as it was, and the line can be asked again.
     pub fn answer(&mut self, line: impl AsRef<[u8]>) -> Result<Option<&str>, NoMemory> {
-        self.answer_bytes(line.as_ref())
+        let line = line.as_ref();
+        self.answer_bytes(line.strip_suffix(b"\n").unwrap_or(line))
     }
 
     fn answer_bytes(&mut self, line: &[u8]) -> Result<Option<&str>, NoMemory> {

@@ -118,7 +118,10 @@ fn what_is_no_request_is_answered() -> Result<(), NoMemory> {
     for (line, answer) in [
         (&b""[..], None),
         (b" \t\r", None),
-        (b"\n", Some("refused 1")),
+        (b"\n", None),
+        (b"\r\n", None),
+        (b"\n\n", Some("refused 1")),
+        (b"[\"links\"]\r\n", Some("refused 3")),
         (b"\xff", Some("refused 1")),
         (b"\0", Some("refused 1")),
         (b"[]", Some("refused 2")),

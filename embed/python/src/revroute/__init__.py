@@ -16,15 +16,20 @@ The requests and their answers are those of the program `revroute run`. A reques
 from __future__ import annotations
 
 import ctypes
-import threading
+import os
 import weakref
 from pathlib import Path
+from threading import RLock, get_ident
 from typing import NoReturn, Optional, Union
 
-__all__ = ["Session", "version"]
+__all__ = ["AnswerLost", "Session", "version"]
 
 _ANSWERED, _BLANK, _TOO_SHORT, _NO_MEMORY = range(4)
 _FIRST_ROOM = 4096
+# who is in a call that a fork has left behind: no thread of this process
+_GONE = 0
+_INTERRUPTED = "the session is in a call that this one has interrupted"
+_LEFT_BEHIND = "another thread was in a call on the session as this process was forked"
 
 
 class _Handle(ctypes.Structure):
@@ -50,6 +55,11 @@ def _load() -> ctypes.CDLL:
 
 
 _library = _load()
+_sessions: weakref.WeakValueDictionary[int, Session] = weakref.WeakValueDictionary()
+
+
+class AnswerLost(Exception):
+    """The line was answered, and what it changes is changed, but there was no memory for the text: `Session.last_answer` has it."""
 
 
 class Session:
@@ -57,46 +67,100 @@ class Session:
 
     Any thread may ask, one at a time: others wait until the call has returned. Sessions share nothing, so threads with one each run
     side by side. Leaving a `with` block, `close` or the end of the last reference gives the memory back.
+
+    What would wait for itself is a RuntimeError: a call from a signal handler, or from whatever else has interrupted a call on this
+    session, and a call in the child of `os.fork` if another thread was in a call as the process was forked. The child can use
+    every other session, and has a copy of its own.
     """
 
     def __init__(self) -> None:
         self._handle = _Handle()
-        self._lock = threading.Lock()
+        self._lock = RLock()
+        self._caller: Optional[int] = None
         self._length = ctypes.c_size_t()
+        self._is_closed = self._answered = False
+        self._lost: Optional[AnswerLost] = None
         self._make_room(_FIRST_ROOM)
         self._at, self._length_at = ctypes.byref(self._handle), ctypes.byref(self._length)
         self._end = weakref.finalize(self, _library.revroute_close, self._at)
         self._end.atexit = False
+        _sessions[id(self)] = self
 
     def _make_room(self, room: int) -> None:
-        self._buffer, self._room = ctypes.create_string_buffer(room), room
-        self._bytes = memoryview(self._buffer).cast("B")
+        buffer = ctypes.create_string_buffer(room)
+        self._room = buffer, memoryview(buffer).cast("B"), room
 
-    def answer(self, line: Union[str, bytes]) -> Optional[str]:
+    def answer(self, line: Union[str, bytes, bytearray, memoryview]) -> Optional[str]:
         """The answer to a line, or None for a blank one, which has spaces, tabs and carriage returns alone.
 
-        Neither the line nor the answer has a line end. Raises MemoryError where memory runs out, with the session as it was, and
-        ValueError once the session is closed.
+        A line is text, or the bytes of a buffer. One line feed at its end is no part of it, so that the lines of a file can be asked
+        as they are read; the answer has none.
+
+        Raises MemoryError where memory runs out, with the session as it was; AnswerLost where it runs out behind the answer;
+        TypeError for what is no line; ValueError for text that has no UTF-8, as a lone surrogate, and once the session is
+        closed; and RuntimeError where the call would wait for itself.
         """
-        if isinstance(line, str):
+        if type(line) is str:
             line = line.encode()
+        elif type(line) is not bytes:
+            line = _bytes_of(line)
+        size = len(line) - line.endswith(b"\n")
         with self._lock:
-            if not self._end.alive:
+            if self._caller is not None:
+                self._refuse()
+            if self._is_closed:
                 raise ValueError("the session is closed")
-            while True:
-                status = _library.revroute_answer(self._at, line, len(line), self._buffer, self._room, self._length_at)
-                if status == _ANSWERED:
-                    return str(self._bytes[: self._length.value], "ascii")
-                if status == _BLANK:
-                    return None
-                if status == _NO_MEMORY:
-                    raise MemoryError
-                self._make_room(max(self._length.value, 2 * self._room))
+            if self._lost is None:
+                self._lost = AnswerLost("the line was answered, but there was no memory for the text")
+            self._caller = get_ident()
+            try:
+                self._answered = False
+                while True:
+                    buffer, answer, room = self._room
+                    try:
+                        status = _library.revroute_answer(self._at, line, size, buffer, room, self._length_at)
+                    except ctypes.ArgumentError:
+                        # each has its type, so that only memory can have been missing for them
+                        raise MemoryError from None
+                    if status == _ANSWERED:
+                        self._answered = True
+                        try:
+                            return str(answer[: self._length.value], "ascii")
+                        except MemoryError:
+                            lost, self._lost = self._lost, None
+                            raise lost from None
+                    if status == _BLANK:
+                        return None
+                    if status == _NO_MEMORY:
+                        raise MemoryError
+                    self._make_room(max(self._length.value, 2 * room))
+            finally:
+                self._caller = None
+
+    def last_answer(self) -> Optional[str]:
+        """The answer to the last line again, or None if that line had none: for a caller that met AnswerLost."""
+        with self._lock:
+            if self._caller is not None:
+                self._refuse()
+            return str(self._room[1][: self._length.value], "ascii") if self._answered else None
 
     def close(self) -> None:
         """Ends the session, and gives its memory back. A second call does nothing."""
         with self._lock:
+            if self._caller == get_ident():
+                self._refuse()
+            self._is_closed = True
             self._end()
+
+    def _refuse(self) -> NoReturn:
+        raise RuntimeError(_INTERRUPTED if self._caller == get_ident() else _LEFT_BEHIND)
+
+    def _inherit(self) -> None:
+        """Makes the session the child's own, or gives it up if a thread was changing it that the child does not have."""
+        self._lock = RLock()
+        if self._caller not in (None, get_ident()):
+            self._caller = _GONE
+            self._end.detach()
 
     def __enter__(self) -> Session:
         return self
@@ -106,6 +170,24 @@ class Session:
 
     def __reduce__(self) -> NoReturn:
         raise TypeError("a session can neither be copied nor pickled")
+
+
+def _inherit_sessions() -> None:
+    for session in list(_sessions.values()):
+        session._inherit()
+
+
+os.register_at_fork(after_in_child=_inherit_sessions)
+
+
+def _bytes_of(line: Union[str, bytes, bytearray, memoryview]) -> bytes:
+    """What a line is, whatever methods a type of the caller's has of its own."""
+    if isinstance(line, str):
+        return str.encode(line)
+    try:
+        return bytes(memoryview(line))
+    except TypeError:
+        raise TypeError(f"a line is a str, or bytes, a bytearray or another buffer, and no {type(line).__name__}") from None
 
 
 def version() -> str:
