@@ -17,7 +17,6 @@ pub mod Tables
 pub mod KeptRows
 pub mod Heights
 pub mod CycleSearch
-pub mod ClosingSearch
 pub mod PathSearch
 pub mod Graph
 pub mod Inside

@@ -10,7 +10,6 @@
 #![tactic(auto)]
 
 mod checks;
-mod closing;
 mod cycle;
 mod edit;
 mod edits;

@@ -181,6 +181,13 @@ impl RowTable {
         })
     }
 
+    /// How many rows there are.
+    pub(crate) fn len(&self) -> usize
+        ensures { result ≡ length self.now.rows }
+    {
+        self.places.len()
+    }
+
     /// The row of `x`.
     pub(crate) fn row(&self, x: u32) -> &[(u16, First)]
         requires { x < length self.now.rows }
