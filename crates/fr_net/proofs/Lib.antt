@@ -34,7 +34,6 @@ pub mod Meetings
 pub mod Reordering
 pub mod Outward
 pub mod Undoing
-pub mod RowPlaces
 pub mod RowTables
 pub mod LaidOut
 pub mod LiftedNodes

@@ -12,7 +12,6 @@ pub mod Batches
 pub mod RowLists
 pub mod Halves
 pub mod TurnedRows
-pub mod RowPlaces
 pub mod Tables
 pub mod KeptRows
 pub mod Heights
