@@ -18,17 +18,18 @@ use Rattle.fr_net.specs.Edits.{IsJoined, IsJoinFault, without}
 use Rattle.fr_net.specs.Faults.{IsFaultless, IsFirstFault, IsInRange}
 use Rattle.fr_net.specs.Halves.{AreUnjoined}
 use Rattle.fr_net.specs.Limits.{IsWithinLimits, most_links}
-use Rattle.fr_net.specs.Links.{AreBelow, AreSingle, HasNoSelfLink, HasPath, IsAcyclic, IsCycle, IsPath, Joins, is_between}
+use Rattle.fr_net.specs.Links.{AreBelow, AreSingle, HasNoSelfLink, HasPath, IsAcyclic, IsClosedWalk, IsCycle, IsPath, Joins, end_of, is_between}
 use Rattle.fr_net.specs.Network.{Network}
 use Rattle.fr_net.specs.Order.{is_not_after, with_in_order}
 use Rattle.fr_net.specs.declared.fault.NetFault.{NetFault}
 use Rattle.fr_net.specs.declared.fault.NetFault.TheVariants.{Cycle, Memory, NoLink, Range, SelfLink, TooMany, Twice}
 
 -- a link closes a walk exactly where a path leads from its head to its tail
+pub path_walks : (links : List (ℕ × ℕ)) (u v : ℕ) (vs : List ℕ) → IsPath links v vs → end_of v vs ≡ u → IsClosedWalk (added links u v) u (v ∷ vs)
+path_walks links u v vs path ends = ((Contains-push links (u, v), path_carries links (added links u v) (λ x y p. Contains-append_left links ((u, v) ∷ []) (x, y) p) v vs path), ends)
+
 pub path_closes : (links : List (ℕ × ℕ)) (u v : ℕ) → HasPath links v u → ¬ IsAcyclic (added links u v)
-path_closes links u v path acyclic =
-    let along : IsPath (added links u v) v path.0 = path_carries links (added links u v) (λ x y p. Contains-append_left links ((u, v) ∷ []) (x, y) p) v path.0 path.1.0 in
-    acyclic u (v ∷ path.0) ((Contains-push links (u, v), along), path.1.1)
+path_closes links u v path acyclic = acyclic u (v ∷ path.0) (path_walks links u v path.0 path.1.0 path.1.1)
 
 pub no_path_free : (links : List (ℕ × ℕ)) (u v : ℕ) → IsAcyclic links → ¬ HasPath links v u → IsAcyclic (added links u v)
 no_path_free links u v acyclic none a vs walk = none (closed_back links u v a vs acyclic walk)

@@ -1,23 +1,16 @@
 -- Rows laid one behind the other, each with room behind it.
-use Rattle.std.proofs.Common.{Bool, IsTrue, List, [], ap, arith, cond, count_by, drop, get_or, inl, inr, length, length-append, map, refl, slice_range, sym, take, ℕ, ◌++◌, ◌+◌, ◌-◌, ◌<◌, ◌∙◌, ◌∷◌, ◌≡◌, ◌≤◌}
+use Rattle.std.proofs.Common.{Bool, IsTrue, List, [], ap, arith, cond, count_by, drop, get_or, inl, inr, length, length-append, map, refl, set, slice_range, sym, take, ℕ, ◌++◌, ◌+◌, ◌-◌, ◌<◌, ◌∙◌, ◌∷◌, ◌≡◌, ◌≤◌}
 use Rattle.std.specs.List.{range_with_len}
 use Rattle.std.proofs.lemmas.Bool.{cases_eq, cases_lt}
-use Rattle.std.proofs.lemmas.List.{drop_at, get_or_append_left, get_or_past, get_or_push, length-take-le, length_push, same_lists, take-append-le, take-take, take_all, take_at, take_more}
-use Rattle.std.proofs.lemmas.List.FromFn.{get_or-map-range_with_len, length-map-range_with_len, map-range_with_len_more}
+use Rattle.std.proofs.lemmas.List.{drop_at, get_or-set_other, get_or-set_same, get_or_append_left, get_or_past, get_or_push, length-set, length-take-le, length_push, take-append-le, take-take, take_all, take_at, take_more}
+use Rattle.std.proofs.lemmas.List.FromFn.{length-map-range_with_len, map-range_with_len_more}
 use Rattle.std.proofs.lemmas.List.Sums.{sum_by-append}
 use Rattle.std.proofs.lemmas.Slice.{between_is}
-use Rattle.fr_net.proofs.RowTables.{end_of, length_rows, rows_in, start_of, starts_rise}
-use Rattle.fr_net.specs.Tables.{HasRoomIn, IsTable, KeepsRooms, Table, has_none, room_between, room_of, row_between, row_of, table_of}
+use Rattle.fr_net.proofs.RowTables.{alike_below, length_rows, nowhere, starts_rise}
+use Rattle.fr_net.specs.Tables.{HasRoomIn, IsTable, KeepsRooms, Table, end_of, has_none, room_between, room_of, row_between, row_of, rows_in, start_of, table_of}
+use Rattle.fr_net.specs.declared.row_table.Place.{Place}
 use Rattle.fr_net.specs.declared.row_table.RowTable.TheInside.{Inside}
 use Rattle.fr_net.specs.declared.rows.First.{First}
-
--- a list by its places says the same of functions that agree at each
-pub alike_below : {X : Type 0} (f g : ℕ → X) (n : ℕ) → ((x : ℕ) → x < n → f x ≡ g x) → map f (range_with_len 0 n) ≡ map g (range_with_len 0 n)
-alike_below f g n same =
-    same_lists (map f (range_with_len 0 n)) (map g (range_with_len 0 n)) (length-map-range_with_len f 0 n ∙ sym (length-map-range_with_len g 0 n))
-    (λ k d l.
-    let lt : k < n = omega (arith, l, length-map-range_with_len f 0 n) in
-    get_or-map-range_with_len f 0 n k k d lt (omega arith) ∙ same k lt ∙ sym (get_or-map-range_with_len g 0 n k k d lt (omega arith)))
 
 -- what stands below a place stays where what follows is laid anew
 pub part_before : {X : Type 0} (xs rest : List X) (s a b : ℕ) → b ≤ s → s ≤ length xs → slice_range (take s xs ++ rest) a b ≡ slice_range xs a b
@@ -38,102 +31,125 @@ start_behind t = start_of t (rows_in t)
 -- the fields once a row is laid behind the others, with this room
 pub record IsBehind (t u : Inside) (row rest : List (ℕ × First)) (room : ℕ) : Type 0 where
   pub within : length row + length rest ≡ room
-  pub starts : u.places.starts ≡ t.places.starts ++ (start_behind t + room) ∷ []
-  pub ends : u.places.ends ≡ t.places.ends ++ (start_behind t + length row) ∷ []
+  pub places : u.places.items ≡ set t.places.items (rows_in t) (record { start = start_behind t; end = start_behind t + length row }) ++ record { start = start_behind t + room; end = start_behind t + room } ∷ []
   pub entries : u.entries.items ≡ take (start_behind t) t.entries.items ++ (row ++ rest)
   pub empty : u.empty ≡ t.empty + count_by has_none (row ∷ [])
 
-rows_more : (t u : Inside) (row rest : List (ℕ × First)) (room : ℕ) → IsBehind t u row rest room → rows_in u ≡ rows_in t + 1
-rows_more t u row rest room to = ap length to.ends ∙ length_push t.places.ends (start_behind t + length row)
+module _ (t u : Inside) (row rest : List (ℕ × First)) (room : ℕ) (is : IsTable t) (to : IsBehind t u row rest room) where
+  abbrev last_place : Place
+  last_place = record { start = start_behind t; end = start_behind t + length row }
 
-start_stays : (t u : Inside) (row rest : List (ℕ × First)) (room : ℕ) → IsTable t → IsBehind t u row rest room → (x : ℕ) → x ≤ rows_in t → start_of u x ≡ start_of t x
-start_stays t u row rest room is to x le = ap (λ ss. get_or ss x 0) to.starts ∙ get_or_append_left t.places.starts ((start_behind t + room) ∷ []) 0 x (omega (arith, is.one_each))
+  abbrev behind_place : Place
+  behind_place = record { start = start_behind t + room; end = start_behind t + room }
 
-end_stays : (t u : Inside) (row rest : List (ℕ × First)) (room : ℕ) → IsBehind t u row rest room → (x : ℕ) → x < rows_in t → end_of u x ≡ end_of t x
-end_stays t u row rest room to x lt = ap (λ es. get_or es x 0) to.ends ∙ get_or_append_left t.places.ends ((start_behind t + length row) ∷ []) 0 x lt
+  one_more : length u.places.items ≡ length t.places.items + 1
+  one_more = ap length to.places ∙ length_push (set t.places.items (rows_in t) last_place) behind_place ∙ ap (λ n. n + 1) (length-set t.places.items (rows_in t) last_place)
 
-start_more : (t u : Inside) (row rest : List (ℕ × First)) (room : ℕ) → IsTable t → IsBehind t u row rest room → start_of u (rows_in t + 1) ≡ start_behind t + room
-start_more t u row rest room is to = ap (λ ss. get_or ss (rows_in t + 1) 0) to.starts ∙ get_or_push t.places.starts (start_behind t + room) 0 (rows_in t + 1) is.one_each
+  pub rows_more : rows_in u ≡ rows_in t + 1
+  rows_more = omega (arith, one_more, is.some)
 
-end_more : (t u : Inside) (row rest : List (ℕ × First)) (room : ℕ) → IsBehind t u row rest room → end_of u (rows_in t) ≡ start_behind t + length row
-end_more t u row rest room to = ap (λ es. get_or es (rows_in t) 0) to.ends ∙ get_or_push t.places.ends (start_behind t + length row) 0 (rows_in t) refl
+  set_place : (x : ℕ) → x ≤ rows_in t → get_or u.places.items x nowhere ≡ get_or (set t.places.items (rows_in t) last_place) x nowhere
+  set_place x le = ap (λ (ps : List Place). get_or ps x nowhere) to.places ∙ get_or_append_left (set t.places.items (rows_in t) last_place) (behind_place ∷ []) nowhere x (omega (arith, le, is.some, length-set t.places.items (rows_in t) last_place))
 
-entries_more : (t u : Inside) (row rest : List (ℕ × First)) (room : ℕ) → IsTable t → IsBehind t u row rest room → length u.entries.items ≡ start_behind t + room
-entries_more t u row rest room is to =
-    omega (
-      arith,
-      ap length to.entries,
-      length-append (take (start_behind t) t.entries.items) (row ++ rest),
-      length-append row rest,
-      length-take-le (start_behind t) t.entries.items (is.inside (rows_in t)),
-      to.within,
-    )
+  last_is : get_or u.places.items (rows_in t) nowhere ≡ last_place
+  last_is = set_place (rows_in t) (omega arith) ∙ get_or-set_same t.places.items (rows_in t) last_place nowhere (omega (arith, is.some))
 
-row_stays : (t u : Inside) (row rest : List (ℕ × First)) (room : ℕ) → IsTable t → IsBehind t u row rest room → (x : ℕ) → x < rows_in t → row_between u x ≡ row_between t x
-row_stays t u row rest room is to x lt =
-    let low : end_of t x ≤ start_behind t = omega (arith, is.high x lt, starts_rise t is (x + 1) (rows_in t) (omega arith) (omega arith)) in
-    rw (start_stays t u row rest room is to x (omega arith), end_stays t u row rest room to x lt, to.entries)
-    (part_before t.entries.items (row ++ rest) (start_behind t) (start_of t x) (end_of t x) low (is.inside (rows_in t)))
+  place_stays : (x : ℕ) → x < rows_in t → get_or u.places.items x nowhere ≡ get_or t.places.items x nowhere
+  place_stays x lt = set_place x (omega (arith, lt)) ∙ get_or-set_other t.places.items (rows_in t) x last_place nowhere (λ e. omega (arith, e, lt))
 
-row_behind : (t u : Inside) (row rest : List (ℕ × First)) (room : ℕ) → IsTable t → IsBehind t u row rest room → row_between u (rows_in t) ≡ row
-row_behind t u row rest room is to =
-    rw (start_stays t u row rest room is to (rows_in t) (omega arith), end_more t u row rest room to, to.entries)
-    (part_behind t.entries.items row rest (start_behind t) (is.inside (rows_in t)))
+  start_stays : (x : ℕ) → x ≤ rows_in t → start_of u x ≡ start_of t x
+  start_stays x le = elim (cases_eq x (rows_in t)) [
+    | inl e ↦ rw e (ap (λ (p : Place). p.start) last_is)
+    | inr ne ↦ ap (λ (p : Place). p.start) (place_stays x (omega (arith, le, ne)))
+  ]
 
--- the rows that the fields show are those before and the one laid behind them
-pub rows_behind : (t u : Inside) (row rest : List (ℕ × First)) (room : ℕ) → IsTable t → IsBehind t u row rest room → (table_of u).rows ≡ (table_of t).rows ++ row ∷ []
-rows_behind t u row rest room is to =
-    let n = rows_in t in
-    ap (λ m. map (row_between u) (range_with_len 0 m)) (rows_more t u row rest room to)
-    ∙ map-range_with_len_more (row_between u) 0 n n (omega arith)
-    ∙ ap (λ rows. rows ++ row_between u n ∷ []) (alike_below (row_between u) (row_between t) n (row_stays t u row rest room is to))
-    ∙ ap (λ r. (table_of t).rows ++ r ∷ []) (row_behind t u row rest room is to)
+  end_stays : (x : ℕ) → x < rows_in t → end_of u x ≡ end_of t x
+  end_stays x lt = ap (λ (p : Place). p.end) (place_stays x lt)
 
--- and so are the rooms
-pub rooms_behind : (t u : Inside) (row rest : List (ℕ × First)) (room : ℕ) → IsTable t → IsBehind t u row rest room → (table_of u).rooms ≡ (table_of t).rooms ++ room ∷ []
-rooms_behind t u row rest room is to =
-    let n = rows_in t in
-    let last : room_between u n ≡ room = omega (arith, start_more t u row rest room is to, start_stays t u row rest room is to n (omega arith)) in
-    ap (λ m. map (room_between u) (range_with_len 0 m)) (rows_more t u row rest room to)
-    ∙ map-range_with_len_more (room_between u) 0 n n (omega arith)
-    ∙ ap (λ rooms. rooms ++ room_between u n ∷ [])
-    (alike_below (room_between u) (room_between t) n
-    (λ x lt. rw (start_stays t u row rest room is to (x + 1) (omega arith), start_stays t u row rest room is to x (omega arith)) refl))
-    ∙ ap (λ r. (table_of t).rooms ++ r ∷ []) last
+  start_more : start_of u (rows_in t + 1) ≡ start_behind t + room
+  start_more =
+      ap (λ (ps : List Place). (get_or ps (rows_in t + 1) nowhere).start) to.places
+      ∙ ap (λ (p : Place). p.start) (get_or_push (set t.places.items (rows_in t) last_place) behind_place nowhere (rows_in t + 1) (omega (arith, is.some, length-set t.places.items (rows_in t) last_place)))
 
--- and the fields are those of a table again
-pub table_behind : (t u : Inside) (row rest : List (ℕ × First)) (room : ℕ) → IsTable t → IsBehind t u row rest room → IsTable u
-table_behind t u row rest room is to =
-    let n = rows_in t in
-    let more = rows_more t u row rest room to in
-    record {
-      one_each = omega (arith, ap length to.starts, length_push t.places.starts (start_behind t + room), is.one_each, more);
-      low = λ x lt. elim (cases_eq x n) [
-        | inl e ↦ rw e (omega (arith, start_stays t u row rest room is to n (omega arith), end_more t u row rest room to))
-        | inr ne ↦
-            let less : x < n = omega (arith, lt, ne, more) in
-            omega (arith, start_stays t u row rest room is to x (omega arith), end_stays t u row rest room to x less, is.low x less)
-      ];
-      high = λ x lt. elim (cases_eq x n) [
-        | inl e ↦ rw e (omega (arith, start_more t u row rest room is to, end_more t u row rest room to, to.within))
-        | inr ne ↦
-            let less : x < n = omega (arith, lt, ne, more) in
-            omega (arith, start_stays t u row rest room is to (x + 1) (omega arith), end_stays t u row rest room to x less, is.high x less)
-      ];
-      inside = λ x. elim (cases_lt n x) [
-        | inl past ↦ elim (cases_eq x (n + 1)) [
-          | inl e ↦ rw e (omega (arith, start_more t u row rest room is to, entries_more t u row rest room is to))
+  end_more : end_of u (rows_in t) ≡ start_behind t + length row
+  end_more = ap (λ (p : Place). p.end) last_is
+
+  entries_more : length u.entries.items ≡ start_behind t + room
+  entries_more =
+      omega (
+        arith,
+        ap length to.entries,
+        length-append (take (start_behind t) t.entries.items) (row ++ rest),
+        length-append row rest,
+        length-take-le (start_behind t) t.entries.items (is.inside (rows_in t)),
+        to.within,
+      )
+
+  row_stays : (x : ℕ) → x < rows_in t → row_between u x ≡ row_between t x
+  row_stays x lt =
+      let low : end_of t x ≤ start_behind t = omega (arith, is.high x lt, starts_rise t is (x + 1) (rows_in t) (omega arith) (omega arith)) in
+      rw (start_stays x (omega arith), end_stays x lt, to.entries)
+      (part_before t.entries.items (row ++ rest) (start_behind t) (start_of t x) (end_of t x) low (is.inside (rows_in t)))
+
+  row_behind : row_between u (rows_in t) ≡ row
+  row_behind =
+      rw (start_stays (rows_in t) (omega arith), end_more, to.entries)
+      (part_behind t.entries.items row rest (start_behind t) (is.inside (rows_in t)))
+
+  -- the rows that the fields show are those before and the one laid behind them
+  pub rows_behind : (table_of u).rows ≡ (table_of t).rows ++ row ∷ []
+  rows_behind =
+      let n = rows_in t in
+      ap (λ m. map (row_between u) (range_with_len 0 m)) rows_more
+      ∙ map-range_with_len_more (row_between u) 0 n n (omega arith)
+      ∙ ap (λ rows. rows ++ row_between u n ∷ []) (alike_below (row_between u) (row_between t) n row_stays)
+      ∙ ap (λ r. (table_of t).rows ++ r ∷ []) row_behind
+
+  -- and so are the rooms
+  pub rooms_behind : (table_of u).rooms ≡ (table_of t).rooms ++ room ∷ []
+  rooms_behind =
+      let n = rows_in t in
+      let last : room_between u n ≡ room = omega (arith, start_more, start_stays n (omega arith)) in
+      ap (λ m. map (room_between u) (range_with_len 0 m)) rows_more
+      ∙ map-range_with_len_more (room_between u) 0 n n (omega arith)
+      ∙ ap (λ rooms. rooms ++ room_between u n ∷ [])
+      (alike_below (room_between u) (room_between t) n
+      (λ x lt. rw (start_stays (x + 1) (omega arith), start_stays x (omega arith)) refl))
+      ∙ ap (λ r. (table_of t).rooms ++ r ∷ []) last
+
+  -- and the fields are those of a table again
+  pub table_behind : IsTable u
+  table_behind =
+      let n = rows_in t in
+      let more = rows_more in
+      record {
+        some = omega (arith, one_more);
+        low = λ x lt. elim (cases_eq x n) [
+          | inl e ↦ rw e (omega (arith, start_stays n (omega arith), end_more))
           | inr ne ↦
-              let none : start_of u x ≡ 0 =
-              get_or_past u.places.starts x 0 (omega (arith, past, ne, ap length to.starts, length_push t.places.starts (start_behind t + room), is.one_each)) in
-              omega (arith, none)
-        ]
-        | inr le ↦ omega (arith, start_stays t u row rest room is to x le, starts_rise t is x n le (omega arith), entries_more t u row rest room is to)
-      ];
-      counted =
-          to.empty ∙ ap (λ k. k + count_by has_none (row ∷ [])) is.counted
-          ∙ sym (ap (count_by has_none) (rows_behind t u row rest room is to) ∙ sum_by-append (λ r. cond (has_none r) 1 0) (table_of t).rows (row ∷ []));
-    }
+              let less : x < n = omega (arith, lt, ne, more) in
+              omega (arith, start_stays x (omega arith), end_stays x less, is.low x less)
+        ];
+        high = λ x lt. elim (cases_eq x n) [
+          | inl e ↦ rw e (omega (arith, start_more, end_more, to.within))
+          | inr ne ↦
+              let less : x < n = omega (arith, lt, ne, more) in
+              omega (arith, start_stays (x + 1) (omega arith), end_stays x less, is.high x less)
+        ];
+        inside = λ x. elim (cases_lt n x) [
+          | inl past ↦ elim (cases_eq x (n + 1)) [
+            | inl e ↦ rw e (omega (arith, start_more, entries_more))
+            | inr ne ↦
+                let none : start_of u x ≡ 0 =
+                ap (λ (p : Place). p.start) (get_or_past u.places.items x nowhere (omega (arith, past, ne, one_more, is.some))) in
+                omega (arith, none)
+          ]
+          | inr le ↦ omega (arith, start_stays x le, starts_rise t is x n le (omega arith), entries_more)
+        ];
+        counted =
+            to.empty ∙ ap (λ k. k + count_by has_none (row ∷ [])) is.counted
+            ∙ sym (ap (count_by has_none) rows_behind ∙ sum_by-append (λ r. cond (has_none r) 1 0) (table_of t).rows (row ∷ []));
+      }
 
 -- the rows below x are laid out in another table, with room for more and, if room is kept, with no less than they had
 pub record AreLaidOut (before : Table) (keeps_room : Bool) (x : ℕ) (after : Table) : Type 0 where

@@ -29,12 +29,11 @@ pub mod Batches
 pub mod ByNode
 pub mod Cycles
 pub mod LeavingOrder
-pub mod ClosingWalks
 pub mod TwoEnds
+pub mod Meetings
 pub mod Reordering
 pub mod Outward
 pub mod Undoing
-pub mod RowPlaces
 pub mod RowTables
 pub mod LaidOut
 pub mod LiftedNodes

@@ -9,7 +9,7 @@ use Rattle.fr_net.proofs.TurnedRows.{links_of_rows, out_rows}
 use Rattle.fr_net.specs.Faults.{IsFaultless, IsNetworkOf}
 use Rattle.fr_net.specs.Graph.{IsGraph, IsSame, shown}
 use Rattle.fr_net.specs.Heights.{Fit, Levels}
-use Rattle.fr_net.specs.KeptRows.{AreRows, links_in}
+use Rattle.fr_net.specs.KeptRows.{AreRows, ShowsNet, links_in, net_in}
 use Rattle.fr_net.specs.Links.{IsNet, Points}
 use Rattle.fr_net.specs.Network.{Network}
 use Rattle.fr_net.specs.Order.{in_order}
@@ -133,3 +133,10 @@ same_through before mid after first next = record {
   same = next.same ∙ first.same;
   rooms = λ x. omega (arith, first.rooms x, next.rooms x);
 }
+
+-- the rows of a graph show its network
+pub net_shown : (g : Graph) → IsGraph g → net_in g.rows ≡ shown g
+net_shown g is = let at : ℕ → Network = λ n. record { nodes = n; links = links_in n g.rows } in ap at is.rows.one_each
+
+pub shows_net : (g : Graph) → IsGraph g → ShowsNet g.rows
+shows_net g is = record { is_net = rw is.rows.one_each is.faultless.is_net; rows = rw is.rows.one_each is.rows }

@@ -1,7 +1,7 @@
 -- Rows that stand in one list, each between its start and its end, and one of which changes where it stands.
 use Rattle.std.proofs.Common.{Bool, List, [], ap, arith, count_by, drop, eq-eqb, eqb, false, get_or, inl, inr, length, length-drop, map, ne_eqb, refl, set, slice_range, subst, suc, sym, take, true, zero, ℕ, ◌++◌, ◌+◌, ◌-◌, ◌<◌, ◌∙◌, ◌∷◌, ◌≡◌, ◌≢◌, ◌≤◌}
 use Rattle.std.proofs.lemmas.Bool.{cases_eq, cases_lt}
-use Rattle.std.proofs.lemmas.List.{append_assoc, drop-append-le, drop-drop, drop-take, drop_more, get_or-append_right, get_or-drop, get_or-set_other, get_or-set_same, length-set, length-take-le, same_lists, set-get_or, set_at, take-append-le, take-take, take_all, take_more, with_items_is}
+use Rattle.std.proofs.lemmas.List.{append_assoc, drop-append-le, drop-drop, drop-take, drop_more, get_or-append_right, get_or-drop, get_or_past, get_or_read, get_or-set_other, get_or-set_same, length-set, length-take-le, same_lists, set-get_or, set_at, take-append-le, take-take, take_all, take_more, with_items_is}
 use Rattle.std.proofs.lemmas.List.Edits.{length-between, length-insert, length-remove}
 use Rattle.std.proofs.lemmas.List.FromFn.{get_or-map-range_with_len, length-map-range_with_len, sum_by-map-range_with_len_more}
 use Rattle.std.proofs.lemmas.List.Sums.{count_by-le-length, get_or-le-sum_by, sum_by-set}
@@ -14,7 +14,8 @@ use mir.Val.{bool_byte}
 use borrow.Rule.Slice.PartMut.{put_mid}
 use Rattle.fr_net.proofs.Counting.{count-range_more, weigh}
 use Rattle.fr_net.proofs.RowsInPlace.{length_put, starts_up}
-use Rattle.fr_net.specs.Tables.{ArePacked, HasRoomIn, IsTable, Table, has_none, room_between, room_of, row_between, row_of, table_of, with_row}
+use Rattle.fr_net.specs.Tables.{ArePacked, HasRoomIn, IsTable, Table, end_of, has_none, place_between, places_of, room_between, room_of, row_between, row_of, rows_in, start_of, table_of, with_row}
+use Rattle.fr_net.specs.declared.row_table.Place.{Place}
 use Rattle.fr_net.specs.declared.row_table.RowTable.TheInside.{Inside}
 use Rattle.fr_net.specs.declared.rows.First.{First}
 
@@ -42,16 +43,9 @@ pub weigh-le : (b : Bool) → weigh b ≤ 1
 weigh-le true = omega arith
 weigh-le false = omega arith
 
--- where the row of x starts, and where it ends
-abbrev pub start_of : Inside → ℕ → ℕ
-start_of t x = get_or t.places.starts x 0
-
-abbrev pub end_of : Inside → ℕ → ℕ
-end_of t x = get_or t.places.ends x 0
-
--- how many rows there are
-abbrev pub rows_in : Inside → ℕ
-rows_in t = length t.places.ends
+-- no place of a row
+abbrev pub nowhere : Place
+nowhere = record { start = 0; end = 0 }
 
 pub length_rows : (t : Inside) → length (table_of t).rows ≡ rows_in t
 length_rows t = length-map-range_with_len (row_between t) 0 (rows_in t)
@@ -65,7 +59,7 @@ room_shown t x lt = get_or-map-range_with_len (room_between t) 0 (rows_in t) x x
 -- the place of a row that the table has
 pub record IsRowAt (t : Inside) (table : Table) (x : ℕ) : Type 0 where
   pub has : x < rows_in t
-  pub starts : x + 1 < length t.places.starts
+  pub next : x + 1 < length t.places.items
   pub low : start_of t x ≤ end_of t x
   pub high : end_of t x ≤ start_of t (x + 1)
   pub inside : start_of t (x + 1) ≤ length t.entries.items
@@ -82,7 +76,7 @@ row_at t table x is view lt =
     let is_row : row_between t x ≡ row_of table x = sym (row_shown t x has) ∙ ap (λ (v : Table). row_of v x) view in
     record {
       has = has;
-      starts = omega (arith, has, is.one_each);
+      next = omega (arith, has);
       low = low;
       high = high;
       inside = inside;
@@ -91,14 +85,21 @@ row_at t table x is view lt =
       room = ap (λ (v : Table). room_of v x) (sym view) ∙ room_shown t x has;
     }
 
+-- a list by its places says the same of functions that agree at each
+pub alike_below : {X : Type 0} (f g : ℕ → X) (n : ℕ) → ((x : ℕ) → x < n → f x ≡ g x) → map f (range_with_len 0 n) ≡ map g (range_with_len 0 n)
+alike_below f g n same =
+    same_lists (map f (range_with_len 0 n)) (map g (range_with_len 0 n)) (length-map-range_with_len f 0 n ∙ sym (length-map-range_with_len g 0 n))
+    (λ k d l.
+    let lt : k < n = omega (arith, l, length-map-range_with_len f 0 n) in
+    get_or-map-range_with_len f 0 n k k d lt (omega arith) ∙ same k lt ∙ sym (get_or-map-range_with_len g 0 n k k d lt (omega arith)))
+
 -- behind a row come only later ones
 pub starts_rise : (t : Inside) → IsTable t → (x y : ℕ) → x ≤ y → y ≤ rows_in t → start_of t x ≤ start_of t y
 starts_rise t is = starts_up (start_of t) (rows_in t) (λ y l. omega (arith, is.low y l, is.high y l))
 
 -- fields of which only those of the row of x were written: from the place `at` on this part, which stays in the room of x, and its end
 pub record IsWritten (t after : Inside) (x at end : ℕ) (part : List (ℕ × First)) : Type 0 where
-  pub starts : after.places.starts ≡ t.places.starts
-  pub ends : after.places.ends ≡ set t.places.ends x end
+  pub places : after.places.items ≡ set t.places.items x (record { start = start_of t x; end = end })
   pub entries : after.entries.items ≡ put_mid at (length part) t.entries.items part
   pub behind_start : start_of t x ≤ at
   pub in_room : at + length part ≤ start_of t (x + 1)
@@ -106,17 +107,26 @@ pub record IsWritten (t after : Inside) (x at end : ℕ) (part : List (ℕ × Fi
   pub high : end ≤ start_of t (x + 1)
 
 module _ (t after : Inside) (x at end : ℕ) (part : List (ℕ × First)) (is : IsTable t) (lt : x < rows_in t) (w : IsWritten t after x at end part) where
+  abbrev new_place : Place
+  new_place = record { start = start_of t x; end = end }
+
   pub as_many : rows_in after ≡ rows_in t
-  as_many = ap length w.ends ∙ length-set t.places.ends x end
+  as_many = ap (λ (ps : List Place). length ps - 1) w.places ∙ ap (λ n. n - 1) (length-set t.places.items x new_place)
+
+  place_written : get_or after.places.items x nowhere ≡ new_place
+  place_written = ap (λ (ps : List Place). get_or ps x nowhere) w.places ∙ get_or-set_same t.places.items x new_place nowhere (omega (arith, lt))
+
+  place_stays : (y : ℕ) → y ≢ x → get_or after.places.items y nowhere ≡ get_or t.places.items y nowhere
+  place_stays y ne = ap (λ (ps : List Place). get_or ps y nowhere) w.places ∙ get_or-set_other t.places.items x y new_place nowhere ne
 
   start_stays : (y : ℕ) → start_of after y ≡ start_of t y
-  start_stays y = ap (λ (xs : List ℕ). get_or xs y 0) w.starts
+  start_stays y = elim (cases_eq y x) [ inl e ↦ rw e (ap (λ (p : Place). p.start) place_written) | inr ne ↦ ap (λ (p : Place). p.start) (place_stays y ne) ]
 
   pub end_written : end_of after x ≡ end
-  end_written = ap (λ (xs : List ℕ). get_or xs x 0) w.ends ∙ get_or-set_same t.places.ends x end 0 lt
+  end_written = ap (λ (p : Place). p.end) place_written
 
   end_stays : (y : ℕ) → y ≢ x → end_of after y ≡ end_of t y
-  end_stays y ne = ap (λ (xs : List ℕ). get_or xs y 0) w.ends ∙ get_or-set_other t.places.ends x y end 0 ne
+  end_stays y ne = ap (λ (p : Place). p.end) (place_stays y ne)
 
   size_stays : length after.entries.items ≡ length t.entries.items
   size_stays = ap length w.entries ∙ length_put at (length part) t.entries.items part (omega (arith, w.in_room, is.inside (x + 1))) refl
@@ -163,8 +173,7 @@ module _ (t after : Inside) (x at end : ℕ) (part : List (ℕ × First)) (is : 
 
   rooms_stay : (table_of after).rooms ≡ (table_of t).rooms
   rooms_stay =
-      ap (λ (starts : List ℕ). map (λ y. get_or starts (y + 1) 0 - get_or starts y 0) (range_with_len 0 (rows_in after))) w.starts
-      ∙ ap (λ n. map (room_between t) (range_with_len 0 n)) as_many
+      alike_below (room_between after) (room_between t) (rows_in after) (λ y l. rw (start_stays (y + 1), start_stays y) refl) ∙ ap (λ n. map (room_between t) (range_with_len 0 n)) as_many
 
   -- the view has the new row in the place of the old one
   pub table_written : (row : List (ℕ × First)) → row_between after x ≡ row → table_of after ≡ with_row (table_of t) x row
@@ -179,7 +188,7 @@ module _ (t after : Inside) (x at end : ℕ) (part : List (ℕ × First)) (is : 
       let new : count_by has_none (table_of after).rows ≡ count_by has_none (set (table_of t).rows x row) = ap (count_by has_none) (rows_written row here) in
       let changed = sum_by-set weight (table_of t).rows x row [] (omega (arith, lt, length_rows t)) in
       record {
-        one_each = ap length w.starts ∙ is.one_each ∙ ap (λ n. n + 1) (sym many);
+        some = omega (arith, lt, ap length w.places, length-set t.places.items x new_place);
         low = λ y l. elim (cases_eq y x) [
           | inl e ↦ rw e (omega (arith, start_stays x, end_written, w.low))
           | inr ne ↦ omega (arith, start_stays y, end_stays y ne, is.low y (omega (arith, l, many)))
@@ -276,9 +285,9 @@ row_shows t after table x at end part row is view lt w here count =
 -- an entry was put into the row of x
 pub entry_inserted : (t after : Inside) (table : Table) (x p : ℕ) (entry : ℕ × First) (part : List (ℕ × First)) → IsTable t → table_of t ≡ table → x < length table.rows → p ≤ length (row_of table x) → HasRoomIn table x
     → length part ≡ end_of t x + 1 - (start_of t x + p) → part ≡ take (end_of t x + 1 - (start_of t x + p)) (entry ∷ slice_range t.entries.items (start_of t x + p) (end_of t x + 1))
-    → after.places.starts ≡ t.places.starts → after.places.ends ≡ set t.places.ends x (end_of t x + 1) → after.entries.items ≡ put_mid (start_of t x + p) (length part) t.entries.items part
+    → after.places.items ≡ set t.places.items x (record { start = start_of t x; end = end_of t x + 1 }) → after.entries.items ≡ put_mid (start_of t x + p) (length part) t.entries.items part
     → after.empty + weigh (eqb (start_of t x) (end_of t x)) ≡ t.empty → ShowsRowWritten after table x (insert (row_of table x) p entry)
-entry_inserted t after table x p entry part is view lt inside room long is_part starts ends entries count =
+entry_inserted t after table x p entry part is view lt inside room long is_part places entries count =
     let s = start_of t x in
     let e = end_of t x in
     let row = row_of table x in
@@ -286,8 +295,7 @@ entry_inserted t after table x p entry part is view lt inside room long is_part 
     let low : s + p ≤ e = omega (arith, inside, at.long, at.low) in
     let high : e < start_of t (x + 1) = omega (arith, room, at.long, at.room, at.low, at.high) in
     let w : IsWritten t after x (s + p) (e + 1) part = record {
-      starts = starts;
-      ends = ends;
+      places = places;
       entries = entries;
       behind_start = omega arith;
       in_room = omega (arith, long, low, high);
@@ -304,17 +312,16 @@ entry_inserted t after table x p entry part is view lt inside room long is_part 
 -- an entry was taken out of the row of x
 pub entry_removed : (t after : Inside) (table : Table) (x p e : ℕ) (part : List (ℕ × First)) → IsTable t → table_of t ≡ table → x < length table.rows → p < length (row_of table x) → e + 1 ≡ end_of t x
     → length part ≡ e + 1 - (start_of t x + p) → take (e + 1 - (start_of t x + p) - 1) part ≡ drop 1 (slice_range t.entries.items (start_of t x + p) (e + 1))
-    → after.places.starts ≡ t.places.starts → after.places.ends ≡ set t.places.ends x e → after.entries.items ≡ put_mid (start_of t x + p) (length part) t.entries.items part
+    → after.places.items ≡ set t.places.items x (record { start = start_of t x; end = e }) → after.entries.items ≡ put_mid (start_of t x + p) (length part) t.entries.items part
     → after.empty ≡ t.empty + weigh (eqb (start_of t x) e) → ShowsRowWritten after table x (remove (row_of table x) p)
-entry_removed t after table x p e part is view lt inside last long is_part starts ends entries count =
+entry_removed t after table x p e part is view lt inside last long is_part places entries count =
     let s = start_of t x in
     let row = row_of table x in
     let at = row_at t table x is view lt in
     let low : s + p ≤ e = omega (arith, inside, at.long, at.low, last) in
     let high : e < start_of t (x + 1) = omega (arith, at.high, last) in
     let w : IsWritten t after x (s + p) e part = record {
-      starts = starts;
-      ends = ends;
+      places = places;
       entries = entries;
       behind_start = omega arith;
       in_room = omega (arith, long, low, high);
@@ -340,14 +347,13 @@ none_few t is = omega (arith, is.counted, count_by-le-length has_none (table_of 
 
 -- the entries of the row of x were written over
 pub row_rewritten : (t after : Inside) (table : Table) (x : ℕ) (part : List (ℕ × First)) → IsTable t → table_of t ≡ table → x < length table.rows → length part ≡ length (row_of table x)
-    → after.places.starts ≡ t.places.starts → after.places.ends ≡ t.places.ends → after.entries.items ≡ put_mid (start_of t x) (length part) t.entries.items part → after.empty ≡ t.empty → ShowsRowWritten after table x part
-row_rewritten t after table x part is view lt long starts ends entries count =
+    → after.places.items ≡ t.places.items → after.entries.items ≡ put_mid (start_of t x) (length part) t.entries.items part → after.empty ≡ t.empty → ShowsRowWritten after table x part
+row_rewritten t after table x part is view lt long places entries count =
     let s = start_of t x in
     let e = end_of t x in
     let at = row_at t table x is view lt in
     let w : IsWritten t after x s e part = record {
-      starts = starts;
-      ends = ends ∙ sym (set-get_or t.places.ends x 0);
+      places = places ∙ sym (set-get_or t.places.items x nowhere);
       entries = entries;
       behind_start = omega arith;
       in_room = omega (arith, long, at.long, at.low, at.high);
@@ -358,18 +364,29 @@ row_rewritten t after table x part is view lt long starts ends entries count =
     let same : weigh (has_none (row_between t x)) ≡ weigh (has_none part) = ap weigh (none_by_length (row_between t x) part (ap length at.is_row ∙ sym long)) in
     row_shows t after table x s e part part is view lt w here (omega (arith, same, count))
 
--- the part of the entries between two places that were read from the starts and the ends is the row of x
+-- the part of the entries at a place that was read is the row of x
 pub record IsPart (t : Inside) (table : Table) (x i j : ℕ) (entries : List (ℕ × First)) : Type 0 where
   pub start : i ≡ start_of t x
+  pub end : j ≡ end_of t x
   pub low : i ≤ j
   pub high : j ≤ length entries
   pub is_row : slice_range entries i j ≡ row_of table x
   pub long : length (row_of table x) ≡ j - i
 
-pub part_read : (t : Inside) (table : Table) (x i j : ℕ) (entries : List (ℕ × First)) → IsRowAt t table x → i ≡ start_of t x → j ≡ end_of t x → entries ≡ t.entries.items → IsPart t table x i j entries
-part_read t table x i j entries at start end same =
+pub start_read : (t : Inside) (x : ℕ) (place : Place) → x < length t.places.items → place ≡ get_or t.places.items x place → place.start ≡ start_of t x
+start_read t x place lt read = ap (λ (p : Place). p.start) (get_or_read t.places.items x place lt read nowhere)
+
+pub end_read : (t : Inside) (x : ℕ) (place : Place) → x < length t.places.items → place ≡ get_or t.places.items x place → place.end ≡ end_of t x
+end_read t x place lt read = ap (λ (p : Place). p.end) (get_or_read t.places.items x place lt read nowhere)
+
+pub part_at : (t : Inside) (table : Table) (x : ℕ) (place : Place) (entries : List (ℕ × First)) → IsTable t → table_of t ≡ table → x < length table.rows → place ≡ get_or t.places.items x place → entries ≡ t.entries.items → IsPart t table x place.start place.end entries
+part_at t table x place entries is view lt read same =
+    let at = row_at t table x is view lt in
+    let start = start_read t x place (omega (arith, at.next)) read in
+    let end = end_read t x place (omega (arith, at.next)) read in
     record {
       start = start;
+      end = end;
       low = omega (arith, start, end, at.low);
       high = omega (arith, end, at.high, at.inside, ap length same);
       is_row = rw (same, start, end) at.is_row;
@@ -380,7 +397,7 @@ part_read t table x i j entries at start end same =
 pub part_rewritten : (t : Inside) (table : Table) (x i j : ℕ) (entries new : List (ℕ × First)) → IsTable t → table_of t ≡ table → x < length table.rows → IsPart t table x i j entries → entries ≡ t.entries.items → length new ≡ length (row_of table x)
     → ShowsRowWritten (record { places = t.places; entries = with_items t.entries (put_mid i (j - i) entries new); empty = t.empty }) table x new
 part_rewritten t table x i j entries new is view lt part same long =
-    row_rewritten t (record { places = t.places; entries = with_items t.entries (put_mid i (j - i) entries new); empty = t.empty }) table x new is view lt long refl refl
+    row_rewritten t (record { places = t.places; entries = with_items t.entries (put_mid i (j - i) entries new); empty = t.empty }) table x new is view lt long refl
     (part_put t.entries entries new i (j - i) same (omega (arith, long, part.long)) (omega (arith, part.low, part.high, ap length same)) ∙ ap (λ k. put_mid k (length new) t.entries.items new) part.start)
     refl
 
@@ -395,28 +412,36 @@ count-map-range {X} p q f (suc n) same =
     subst (λ k. count_by p (map f (range_with_len 0 k)) ≡ count_by q (range_with_len 0 k)) next
     (omega (arith, sum_by-map-range_with_len_more weight f 0 n n (omega arith), count-range_more q n, here, rest))
 
-module _ (t : Inside) (packed : ArePacked t.places.starts t.entries.items) (ends : t.places.ends ≡ drop 1 t.places.starts) where
-  end_next : (x : ℕ) → end_of t x ≡ start_of t (x + 1)
-  end_next x =
-      let next : 1 + x ≡ x + 1 = omega arith in
-      ap (λ (xs : List ℕ). get_or xs x 0) ends ∙ get_or-drop 1 t.places.starts x 0 ∙ ap (start_of t) next
+module _ (t : Inside) (starts : List ℕ) (packed : ArePacked starts t.entries.items) (places : t.places.items ≡ places_of starts) where
+  pub packed_one_each : length starts ≡ length t.places.items
+  packed_one_each = sym (ap length places ∙ length-map-range_with_len (place_between starts) 0 (length starts))
+
+  place_is : (x : ℕ) → x < length starts → get_or t.places.items x nowhere ≡ place_between starts x
+  place_is x l = ap (λ (ps : List Place). get_or ps x nowhere) places ∙ get_or-map-range_with_len (place_between starts) 0 (length starts) x x nowhere l (omega arith)
+
+  start_is : (x : ℕ) → start_of t x ≡ get_or starts x 0
+  start_is x = elim (cases_lt x (length starts)) [
+    | inl l ↦ ap (λ (p : Place). p.start) (place_is x l)
+    | inr past ↦ ap (λ (p : Place). p.start) (get_or_past t.places.items x nowhere (omega (arith, past, packed_one_each))) ∙ sym (get_or_past starts x 0 past)
+  ]
+
+  end_is : (x : ℕ) → x < length starts → end_of t x ≡ get_or starts (x + 1) 0
+  end_is x l = ap (λ (p : Place). p.end) (place_is x l)
 
   -- starts of rows that stand one behind the other make a table
-  pub packed_one_each : length t.places.starts ≡ rows_in t + 1
-  packed_one_each = omega (arith, ap length ends, length-drop 1 t.places.starts, packed.some)
-
-  pub packed_row : (x : ℕ) → x + 1 < length t.places.starts → row_of (table_of t) x ≡ slice_range t.entries.items (start_of t x) (start_of t (x + 1))
-  packed_row x l = row_shown t x (omega (arith, l, packed_one_each)) ∙ ap (slice_range t.entries.items (start_of t x)) (end_next x)
+  pub packed_row : (x : ℕ) → x + 1 < length starts → row_of (table_of t) x ≡ slice_range t.entries.items (get_or starts x 0) (get_or starts (x + 1) 0)
+  packed_row x l = row_shown t x (omega (arith, l, packed_one_each)) ∙ rw (start_is x, end_is x (omega (arith, l))) refl
 
   pub packed_table : t.empty ≡ count_by (λ x. eqb (start_of t x) (end_of t x)) (range_with_len 0 (rows_in t)) → IsTable t
   packed_table count =
-      let up : (x : ℕ) → x < rows_in t → start_of t x ≤ end_of t x = λ x l. omega (arith, end_next x, packed.rise x (omega (arith, l, packed_one_each))) in
+      let many = packed_one_each in
+      let up : (x : ℕ) → x < rows_in t → start_of t x ≤ end_of t x = λ x l. omega (arith, start_is x, end_is x (omega (arith, l, many)), packed.rise x (omega (arith, l, many))) in
       let none : (x : ℕ) → x < rows_in t → has_none (row_between t x) ≡ eqb (start_of t x) (end_of t x) = λ x l.
-      none_where (row_between t x) (start_of t x) (end_of t x) (omega (arith, up x l, length-between t.entries.items (start_of t x) (end_of t x) (omega (arith, end_next x, packed.inside (x + 1))))) in
+      none_where (row_between t x) (start_of t x) (end_of t x) (omega (arith, up x l, length-between t.entries.items (start_of t x) (end_of t x) (omega (arith, end_is x (omega (arith, l, many)), packed.inside (x + 1))))) in
       record {
-        one_each = packed_one_each;
+        some = omega (arith, packed.some, many);
         low = up;
-        high = λ x l. omega (arith, end_next x);
-        inside = packed.inside;
+        high = λ x l. omega (arith, end_is x (omega (arith, l, many)), start_is (x + 1));
+        inside = λ x. omega (arith, start_is x, packed.inside x);
         counted = count ∙ sym (count-map-range has_none (λ x. eqb (start_of t x) (end_of t x)) (row_between t) (rows_in t) none);
       }

@@ -1,33 +1,27 @@
 -- The steps of the search for a way from both ends keep its state, and where a side has nothing left to read, they show that none leads.
 use Rattle.std.proofs.Common.{Contains, List, [], ap, arith, get_or, inl, inr, length, refl, replicate, set, slice_index, subst, sym, ℕ, ◌++◌, ◌+◌, ◌<◌, ◌∙◌, ◌∷◌, ◌≡◌, ◌≢◌, ◌≤◌, ◌⊎◌}
 use Rattle.std.proofs.lemmas.Bool.{cases_eq, cases_lt}
-use Rattle.std.proofs.lemmas.List.{get_or_append_left, get_or_default, get_or_past, get_or-replicate, get_or-set_other, get_or-set_same, length-replicate, length-set, length_push}
+use Rattle.std.proofs.lemmas.List.{get_or_append_left, get_or_default, get_or_past, get_or_push, get_or-replicate, get_or-set_other, get_or-set_same, length-replicate, length-set, length_push}
 use Rattle.std.proofs.lemmas.List.Elements.{All-contains, All-push, Contains-append_left, Contains-get_or, Contains-push, Contains-push_cases}
 use Rattle.std.proofs.lemmas.List.Sums.{count_by-le-length, sum_by-set}
 use Rattle.std.specs.List.{All}
 use Rattle.fr_net.proofs.Acyclic.{path_falls}
-use Rattle.fr_net.proofs.AddedLinks.{added, path_joins}
-use Rattle.fr_net.proofs.ClosingWalks.{path_step}
+use Rattle.fr_net.proofs.AddedLinks.{added}
 use Rattle.fr_net.proofs.Counting.{weigh}
+use Rattle.fr_net.proofs.Cycles.{node_cases}
 use Rattle.fr_net.proofs.Neighbours.{entry_is, in_of_row, out_of_row, row_holds, row_of_in, row_of_out}
-use Rattle.fr_net.specs.Faults.{IsFaultless}
-use Rattle.fr_net.specs.Graph.{IsGraph, shown}
 use Rattle.fr_net.specs.Heights.{AreFalling, FitBetween}
 use Rattle.fr_net.specs.Links.{HasPath, IsNet, IsPath, Points, end_of}
-use Rattle.fr_net.specs.PathSearch.{HasBegun, HasMet, HasMetMore, HasMovedEdge, HasPassed, HasWay, IsBeyond, IsPast, IsMetOrAside, IsSide, IsWay, LeadsOn, LiesOn, MeetsNew, is_never, met_by, met_of, never_count, way_of_ended, start_of}
+use Rattle.fr_net.specs.PathSearch.{HasBegun, HasMet, HasMetMore, HasMovedEdge, HasOrigins, HasPassed, IsBeyond, IsMeeting, IsPast, IsMetOrAside, IsSide, IsWay, LeadsOn, LiesOn, MeetAlong, MeetsNew, is_never, link_by, met_by, met_of, never_count, way_of_ended, start_of}
 use Rattle.fr_net.specs.Network.{Network}
 use Rattle.fr_net.specs.RowLists.{opposite}
 use Rattle.fr_net.specs.Rows.{row}
-use Rattle.fr_net.specs.declared.graph.Graph.{Graph}
+use Rattle.fr_net.specs.declared.path_search.Meeting.{Meeting}
 use Rattle.fr_net.specs.declared.path_search.Met.{Met}
 use Rattle.fr_net.specs.declared.path_search.Met.TheVariants.{Backward, Forward, Never}
 use Rattle.fr_net.specs.declared.path_search.Side.{Side}
 use Rattle.fr_net.specs.declared.rows.First.{First}
 use Rattle.fr_net.specs.declared.rows.First.TheVariants.{Inward, Outward}
-
--- a graph shows a network without a fault
-pub graph_faultless : (g : Graph) → IsGraph g → IsFaultless (shown g).nodes (shown g).links
-graph_faultless g is = is.faultless
 
 -- the links that the row of a node shows in one direction
 leads_by_row : (f : First) (n : ℕ) (links : List (ℕ × ℕ)) (x w : ℕ) → Contains (row n links x) (w, f) → LeadsOn f links x w
@@ -49,19 +43,25 @@ lies_leads Outward Inward heights links x w falling step lies = absurd (omega (a
 lies_leads Inward Outward heights links x w falling step lies = absurd (omega (arith, falling x w step))
 lies_leads Inward Inward heights links x w falling step lies = step
 
--- ways of no link, of one link more, and of two parts
-way_here : (f : First) (links : List (ℕ × ℕ)) (x : ℕ) → HasWay f links x x
-way_here Outward links x = ([], (tt, refl))
-way_here Inward links x = ([], (tt, refl))
-
-pub way_on : (f : First) (links : List (ℕ × ℕ)) (a x w : ℕ) → HasWay f links a x → LeadsOn f links x w → HasWay f links a w
-way_on Outward links a x w way step =
-    let longer = path_step links a way.0 w way.1.0 (rw way.1.1 step) in
-    (way.0 ++ w ∷ [], longer)
-way_on Inward links a x w way step = (x ∷ way.0, ((step, way.1.0), way.1.1))
-
-pub ways_meet : (links : List (ℕ × ℕ)) (a b w : ℕ) → HasWay Outward links a w → HasWay Inward links b w → HasPath links a b
-ways_meet links a b w there back = path_joins links a there.0 w b there.1.0 there.1.1 back
+-- one node more to which a side came from one of its nodes
+came_on : (f : First) (links : List (ℕ × ℕ)) (nodes origins : List ℕ) (x place : ℕ) → HasOrigins f links nodes origins → place < length nodes → LeadsOn f links (get_or nodes place 0) x → HasOrigins f links (nodes ++ x ∷ []) (origins ++ place ∷ [])
+came_on f links nodes origins x place came inside step =
+    let long = length_push nodes x in
+    let also = length_push origins place in
+    record {
+      begun = omega (arith, long);
+      one_each = omega (arith, long, also, came.one_each);
+      earlier = λ k some l. elim (node_cases nodes x k l) [
+        | inl w ↦ rw (get_or_append_left origins (place ∷ []) 0 k (omega (arith, w.0, came.one_each))) (came.earlier k some w.0)
+        | inr w ↦ rw (get_or_push origins place 0 k (omega (arith, w.0, came.one_each))) (omega (arith, w.0))
+      ];
+      leads = λ k some l. elim (node_cases nodes x k l) [
+        | inl w ↦
+            let before : get_or origins k 0 < length nodes = omega (arith, came.earlier k some w.0, w.0) in
+            rw (w.1, get_or_append_left origins (place ∷ []) 0 k (omega (arith, w.0, came.one_each)), get_or_append_left nodes (x ∷ []) 0 (get_or origins k 0) before) (came.leads k some w.0)
+        | inr w ↦ rw (w.1, get_or_push origins place 0 k (omega (arith, w.0, came.one_each)), get_or_append_left nodes (x ∷ []) 0 place inside) step
+      ];
+    }
 
 -- where links lead from nodes with P to nodes with P only, but for heads below the limit, so do paths that end no lower
 path_ahead : (heights : List ℕ) (links : List (ℕ × ℕ)) (limit : ℕ) (P : ℕ → Type 0) → AreFalling heights links → ((u v : ℕ) → P u → Points links u v → P v ⊎ (slice_index heights v < limit)) → (u : ℕ) (vs : List ℕ) → IsPath links u vs → limit ≤ slice_index heights (end_of u vs) → P u → P (end_of u vs)
@@ -135,12 +135,13 @@ with_edge_nearer first_is nearer = record {
   same_limit = refl;
   nearer = rw first_is nearer;
   same_nodes = refl;
+  same_origins = refl;
   same_read = refl;
 }
 
 -- a side that met nothing, and whose edge stayed
 pub same_more : (side : Side) (met : List Met) → HasMetMore side side met met
-same_more side met = none_more {before = side} {after = side} {met = met} record { same_first = refl; same_limit = refl; nearer = λ height past. past; same_nodes = refl; same_read = refl }
+same_more side met = none_more {before = side} {after = side} {met = met} record { same_first = refl; same_limit = refl; nearer = λ height past. past; same_nodes = refl; same_origins = refl; same_read = refl }
 
 -- a side that met more nodes still did so, whichever edges are put in place of theirs, as long as they come nearer
 pub more_by_edges : {before after : Side} {f : First} {old new : List Met} {edge nearer_edge : ℕ} → before.first ≡ f → ((height : ℕ) → IsPast f edge height → IsPast f nearer_edge height) → HasMetMore before after old new → HasMetMore (record before { edge = edge }) (record after { edge = nearer_edge }) old new
@@ -194,19 +195,26 @@ side_begins net heights f start limit met side long here alone few near b =
       first_is = b.first_is;
       limit_is = b.limit_is;
       start_is = rw b.met_alone refl;
-      begun = rw b.met_alone (omega arith);
+      came = rw (b.met_alone, b.came_alone) record {
+        begun = omega arith;
+        one_each = refl;
+        earlier = λ k some l. absurd (omega (arith, some, l));
+        leads = λ k some l. absurd (omega (arith, some, l));
+      };
       all_met = first (HasMet f met) here;
       listed = λ x h. rw (b.met_alone, alone x h) (Contains-push [] start);
-      ways = first (HasWay f net.links start) (way_here f net.links start);
       inside = rw b.none_read (omega arith);
       within = first (λ (x : ℕ). ¬ IsBeyond f limit (slice_index heights x)) near;
       leads_on = λ k w l step. absurd (omega (arith, b.none_read, l));
-      room = omega (arith, few, b.room, ap length b.met_alone);
+      room = record {
+        nodes = omega (arith, few, b.room, ap length b.met_alone);
+        origins = omega (arith, few, b.origin_room, ap length b.came_alone);
+      };
     }
 
 -- a side that has met one node more
-side_meets : {net : Network} {heights : List ℕ} {f : First} {start limit : ℕ} {old new : List Met} {before after : Side} {x : ℕ} → x < net.nodes → HasWay f net.links start x → ¬ IsBeyond f limit (slice_index heights x) → MeetsNew before after old new x → IsSide net heights f start limit old before → IsSide net heights f start limit new after
-side_meets {net} {heights} {f} {start} {limit} {old} {new} {before} {after} {x} below way near m s =
+side_meets : {net : Network} {heights : List ℕ} {f : First} {start limit : ℕ} {old new : List Met} {before after : Side} {x : ℕ} → x < net.nodes → before.read < length before.nodes.items → LeadsOn f net.links (get_or before.nodes.items before.read 0) x → ¬ IsBeyond f limit (slice_index heights x) → MeetsNew before after old new x → IsSide net heights f start limit old before → IsSide net heights f start limit new after
+side_meets {net} {heights} {f} {start} {limit} {old} {new} {before} {after} {x} below unread step near m s =
     let l : x < length old = omega (arith, s.one_each) in
     let more = one_more l m in
     let new_is : new ≡ set old x (met_by f) = rw s.first_is at m.met in
@@ -215,20 +223,22 @@ side_meets {net} {heights} {f} {start} {limit} {old} {new} {before} {after} {x} 
       one_each = more.one_each ∙ s.one_each;
       first_is = m.same_first ∙ s.first_is;
       limit_is = m.same_limit ∙ s.limit_is;
-      start_is = more.stands 0 s.begun ∙ s.start_is;
-      begun = omega (arith, s.begun, more.longer);
+      start_is = more.stands 0 s.came.begun ∙ s.start_is;
+      came = rw (m.nodes, m.origins) (came_on f net.links before.nodes.items before.origins.items x before.read s.came unread step);
       all_met = rw m.nodes (All-push (HasMet f new) before.nodes.items x (λ k d h. met_stays f _ s.first_is more (s.all_met k d h)) now);
       listed = λ y h. rw m.nodes (elim (met_set old x y (met_by f) l) [
         | inl w ↦ rw w.0 (Contains-push before.nodes.items x)
         | inr w ↦ Contains-append_left before.nodes.items (x ∷ []) y (s.listed y (sym w ∙ rw new_is at h))
       ]);
-      ways = rw m.nodes (All-push (HasWay f net.links start) before.nodes.items x s.ways way);
       inside = rw m.same_read (omega (arith, s.inside, more.longer));
       within = rw m.nodes (All-push (λ (y : ℕ). ¬ IsBeyond f limit (slice_index heights y)) before.nodes.items x s.within near);
       leads_on = λ k w l step.
           let early : k < before.read = omega (arith, l, m.same_read) in
           settled_stays f w (slice_index heights w) s.first_is more (s.leads_on k w early (rw (more.stands k (omega (arith, early, s.inside))) at step));
-      room = rw m.same_room (omega (arith, more.counted, s.room));
+      room = record {
+        nodes = rw m.same_room (omega (arith, more.counted, s.room.nodes));
+        origins = rw m.same_origin_room (omega (arith, more.counted, s.room.origins, s.came.one_each, ap length m.nodes, ap length m.origins, length_push before.nodes.items x, length_push before.origins.items before.read));
+      };
     }
 
 -- a side that may have left one node more aside
@@ -238,20 +248,19 @@ side_moves {net} {heights} {f} {start} {limit} {met} {before} {after} m s = reco
   first_is = m.same_first ∙ s.first_is;
   limit_is = m.same_limit ∙ s.limit_is;
   start_is = rw m.same_nodes s.start_is;
-  begun = rw m.same_nodes s.begun;
+  came = rw (m.same_nodes, m.same_origins) s.came;
   all_met = rw m.same_nodes s.all_met;
   listed = rw m.same_nodes s.listed;
-  ways = rw m.same_nodes s.ways;
   inside = rw (m.same_nodes, m.same_read) s.inside;
   within = rw m.same_nodes s.within;
   leads_on = λ k w l step. settled_stays f w (slice_index heights w) s.first_is (none_more m) (s.leads_on k w (omega (arith, l, m.same_read)) (rw m.same_nodes at step));
-  room = rw m.same_nodes s.room;
+  room = record { nodes = rw m.same_nodes s.room.nodes; origins = rw m.same_origins s.room.origins };
 }
 
 -- so it keeps its state, whether it meets a node within the limit now, or has met it before
-pub side_goes_on : {net : Network} {heights : List ℕ} {f : First} {start limit : ℕ} {old new : List Met} {before after : Side} (x : ℕ) → x < net.nodes → HasWay f net.links start x → ¬ IsBeyond f limit (slice_index heights x) → ((after ≡ before) × (new ≡ old)) ⊎ MeetsNew before after old new x → IsSide net heights f start limit old before → IsSide net heights f start limit new after × HasMetMore before after old new × (after.read ≡ before.read) × (after.edge ≡ before.edge)
-side_goes_on {old = old} {before = before} x below way near (inl m) s = rw (m.0, m.1) (s, same_more before old, refl, refl)
-side_goes_on x below way near (inr m) s = (side_meets below way near m s, one_more (omega (arith, s.one_each)) m, m.same_read, m.same_edge)
+pub side_goes_on : {net : Network} {heights : List ℕ} {f : First} {start limit : ℕ} {old new : List Met} {before after : Side} (x : ℕ) → x < net.nodes → before.read < length before.nodes.items → LeadsOn f net.links (get_or before.nodes.items before.read 0) x → ¬ IsBeyond f limit (slice_index heights x) → ((after ≡ before) × (new ≡ old)) ⊎ MeetsNew before after old new x → IsSide net heights f start limit old before → IsSide net heights f start limit new after × HasMetMore before after old new × (after.read ≡ before.read) × (after.edge ≡ before.edge)
+side_goes_on {old = old} {before = before} x below unread step near (inl m) s = rw (m.0, m.1) (s, same_more before old, refl, refl)
+side_goes_on x below unread step near (inr m) s = (side_meets below unread step near m s, one_more (omega (arith, s.one_each)) m, m.same_read, m.same_edge)
 
 -- the other side as a side meets more
 pub other_stays : {net : Network} {heights : List ℕ} {start limit : ℕ} {old new : List Met} {before after other : Side} (f : First) → before.first ≡ f → HasMetMore before after old new → IsSide net heights (opposite f) start limit old other → IsSide net heights (opposite f) start limit new other
@@ -264,14 +273,16 @@ other_stays {net} {heights} {start} {limit} {old} {new} {before} {after} {other}
       first_is = s.first_is;
       limit_is = s.limit_is;
       start_is = s.start_is;
-      begun = s.begun;
+      came = s.came;
       all_met = λ k d h. stays _ (s.all_met k d h);
       listed = λ y h. s.listed y (other_was f y first_is more h);
-      ways = s.ways;
       inside = s.inside;
       within = s.within;
       leads_on = λ k w l step. elim (s.leads_on k w l step) [ inl h ↦ inl (stays w h) | inr aside ↦ inr aside ];
-      room = omega (arith, more.counted, more.longer, s.room);
+      room = record {
+        nodes = omega (arith, more.counted, more.longer, s.room.nodes);
+        origins = omega (arith, more.counted, more.longer, s.room.origins);
+      };
     }
 
 pub entry_leads : (f : First) (n : ℕ) (links : List (ℕ × ℕ)) (x : ℕ) (entries : List (ℕ × First)) (k : ℕ) (d : ℕ × First) → entries ≡ row n links x → k < length entries → (get_or entries k d).1 ≡ f → LeadsOn f links x (get_or entries k d).0
@@ -315,29 +326,24 @@ side_reads {net} {heights} {f} {start} {limit} {met} {side} x is_net unread at_r
       first_is = s.first_is;
       limit_is = s.limit_is;
       start_is = s.start_is;
-      begun = s.begun;
+      came = s.came;
       all_met = s.all_met;
       listed = s.listed;
-      ways = s.ways;
       inside = omega arith;
       within = s.within;
       leads_on = λ k w l step. again w (elim (cases_lt k side.read) [
         | inl less ↦ s.leads_on k w less step
         | inr more ↦ let e : k ≡ side.read = omega arith in here w (rw (e, at_read) at step)
       ]);
-      room = s.room;
+      room = record { nodes = s.room.nodes; origins = s.room.origins };
     }
   where
     again : (w : ℕ) → IsMetOrAside f side met w (slice_index heights w) → IsMetOrAside f (record side { read = side.read + 1 }) met w (slice_index heights w)
     again w (inl h) = inl h
     again w (inr aside) = inr record { beyond = aside.beyond; past = aside.past }
 
--- a way leads to each node that a side has met
-pub way_to_met : {net : Network} {heights : List ℕ} {f : First} {start limit : ℕ} {met : List Met} {side : Side} (x : ℕ) → IsSide net heights f start limit met side → HasMet f met x → HasWay f net.links start x
-way_to_met {net} {heights} {f} {start} {limit} {met} {side} x s h = All-contains (HasWay f net.links start) side.nodes.items x s.ways (s.listed x h)
-
 start_met : {net : Network} {heights : List ℕ} {f : First} {start limit : ℕ} {met : List Met} {side : Side} → IsSide net heights f start limit met side → HasMet f met start
-start_met s = rw s.start_is at (s.all_met 0 0 s.begun)
+start_met s = rw s.start_is at (s.all_met 0 0 s.came.begun)
 
 listed_met : {net : Network} {heights : List ℕ} {f : First} {start limit : ℕ} {met : List Met} {side : Side} (x : ℕ) → IsSide net heights f start limit met side → Contains side.nodes.items x → HasMet f met x
 listed_met {net} {heights} {f} {start} {limit} {met} {side} x s h = All-contains (HasMet f met) side.nodes.items x s.all_met h
@@ -378,6 +384,23 @@ more_read nearer more = record {
   met = more.met;
   one_each = more.one_each;
   counted = more.counted;
+}
+
+-- a side leads on from one of its nodes to one of the other
+pub meet_along : (f : First) (links : List (ℕ × ℕ)) (met : List Met) (x w : ℕ) → HasMet f met x → HasMet (opposite f) met w → LeadsOn f links x w → MeetAlong links met (link_by f x w)
+meet_along Outward links met x w own other step = record { tail = own; head = other; points = step }
+meet_along Inward links met x w own other step = record { tail = other; head = own; points = step }
+
+-- so both sides tell where they met
+pub sides_meet : {net : Network} {heights : List ℕ} {from to low high : ℕ} {met : List Met} (meeting : Meeting) → IsSide net heights Outward from low met meeting.ahead → IsSide net heights Inward to high met meeting.behind → MeetAlong net.links met meeting.link → IsMeeting net.links from to meeting
+sides_meet meeting ahead behind along = record {
+  ahead = ahead.came;
+  behind = behind.came;
+  from_start = ahead.start_is;
+  to_start = behind.start_is;
+  tail = ahead.listed meeting.link.0 along.tail;
+  head = behind.listed meeting.link.1 along.head;
+  points = along.points;
 }
 
 -- where a side has read all rows of its nodes, links lead on to nodes that it has met or that lie past its edge

@@ -26,3 +26,12 @@ pub record ShowsNoLink (net : Network) (u v : ℕ) (table : Table) : Type 0 wher
 -- the links that the rows of n nodes show, row by row, each at its tail
 abbrev pub links_in : ℕ → Table → List (ℕ × ℕ)
 links_in n table = rows_below n (λ x. out_links x (row_of table x))
+
+-- the network of the links that a table of rows shows
+abbrev pub net_in : Table → Network
+net_in table = record { nodes = length table.rows; links = links_in (length table.rows) table }
+
+-- the table holds the rows of the network of its links
+pub record ShowsNet (table : Table) : Type 0 where
+  pub is_net : IsNet (net_in table).nodes (net_in table).links
+  pub rows : AreRows (net_in table).nodes (net_in table).links table

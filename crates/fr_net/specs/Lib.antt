@@ -12,12 +12,10 @@ pub mod Batches
 pub mod RowLists
 pub mod Halves
 pub mod TurnedRows
-pub mod RowPlaces
 pub mod Tables
 pub mod KeptRows
 pub mod Heights
 pub mod CycleSearch
-pub mod ClosingSearch
 pub mod PathSearch
 pub mod Graph
 pub mod Inside

@@ -1,7 +1,7 @@
 //! The rows of a network with one link taken out or put in, each where it stands.
 
-ghost use Rattle.std.specs.Prelude.{◌≡◌, ℕ, ◌<◌, ◌≤◌, ◌++◌, [], ◌∷◌, length, map, slice_index_or, insert, remove, Contains};
-ghost use Rattle.std.specs.List.Sorted.{IsNonDecreasingBy, IsStrictlyIncreasing};
+ghost use Rattle.std.specs.Prelude.{◌≡◌, ℕ, ◌<◌, ◌≤◌, ◌++◌, [], ◌∷◌, length, map, insert, remove, Contains};
+ghost use Rattle.std.specs.List.Sorted.{IsStrictlyIncreasing};
 ghost use Rattle.fr_net.specs.Network.{Network};
 ghost use Rattle.fr_net.specs.Edits.{without};
 ghost use Rattle.fr_net.specs.Halves.{IsPlaceIn};
@@ -9,18 +9,9 @@ ghost use Rattle.fr_net.specs.KeptRows.{AreRows, ShowsLink, ShowsNoLink};
 ghost use Rattle.fr_net.specs.Limits.{most_nodes};
 ghost use Rattle.fr_net.specs.Tables.{HasRoomIn, row_of, with_row};
 
+use crate::row::place_in_row;
 use crate::row_table::RowTable;
 use crate::rows::First;
-
-/// The first place in the row, which is in rising order of the neighbour, whose neighbour is not below `w`.
-pub(crate) fn place_in_row(row: &[(u16, First)], w: u32) -> usize
-    requires { IsNonDecreasingBy (λ (e : ℕ × First). e.0) row.now }
-    ensures inside { result ≤ length row.now }
-    ensures before { (k : ℕ) (d : ℕ × First) → k < result → (slice_index_or row.now k d).0 < w }
-    ensures stops { (k : ℕ) (d : ℕ × First) → result ≤ k → k < length row.now → w ≤ (slice_index_or row.now k d).0 }
-{
-    row.partition_point(|entry| (entry.0 as u32) < w)
-}
 
 /// Takes the entry of `w` out of the row of `x`, which has one.
 fn cut_entry(rows: &mut RowTable, x: u32, w: u32)

@@ -9,20 +9,21 @@ ghost use Rattle.fr_net.specs.Faults.{IsNetworkOf};
 ghost use Rattle.fr_net.specs.Edits.{IsJoinFault, without};
 ghost use Rattle.fr_net.specs.Batches.{AreMade, IsEditFault, IsRefusedAt};
 ghost use Rattle.fr_net.specs.Limits.{most_edits, most_links};
+ghost use Rattle.fr_net.specs.PathSearch.{IsMeeting};
 ghost use Rattle.fr_net.specs.Graph.{CanUndo, HasRoomFor, IsDone, IsEdited, IsGraph, IsSame, shown};
 ghost use Rattle.fr_net.specs.Tables.{HasRoomIn};
 ghost use Rattle.fr_net.specs.declared.fault.NetFault.TheVariants.{Memory};
 ghost use Rattle.fr_net.specs.declared.edit.Edit.TheVariants.{Cut, Add, Join};
 
 use crate::checks::first_outside;
-use crate::closing::closing_walk;
 use crate::cycle::{Found, find_cycle};
 use crate::edit::Edit;
-use crate::edits::{cut_from_rows, place_in_row, put_in_rows};
+use crate::edits::{cut_from_rows, put_in_rows};
 use crate::fault::{EditFault, NetFault};
 use crate::heights::Heights;
 use crate::limits::MAX_LINKS;
-use crate::path_search::{Way, way_between};
+use crate::path_search::{Meeting, Way, way_between};
+use crate::row::place_in_row;
 use crate::row_table::RowTable;
 use crate::rows::First;
 use crate::turned::links_of_rows;
@@ -181,25 +182,36 @@ impl Graph {
         Ok(())
     }
 
-    /// Whether the links lead from `v` to `u`. The heights tell mostly that they do not; where it takes a search to tell so, a link from `u` to
-    /// `v` falls behind it, if there is room between the heights.
+    /// Where the links lead from `v` to `u`, what shows it. The heights tell mostly that they do not; where it takes a search to tell so, a
+    /// link from `u` to `v` falls behind it, if there is room between the heights.
+    fn way_back(&mut self, alloc: Global, u: u32, v: u32) -> Result<Option<Meeting>, AllocError>
+        requires graph { IsGraph self.old }
+        requires nodes { AreUnjoined self.old.nodes (shown self.old).links u v }
+        ensures same { IsSame self.old self.new }
+        ensures found { IfOk result (λ found. IfSome found (IsMeeting (shown self.old).links v u)) }
+        ensures none { IfOk result (λ found. IfNone found (¬ HasPath (shown self.old).links v u)) }
+    {
+        self.renew_heights(alloc)?;
+        if self.heights.falls(u, v) {
+            return Ok(None);
+        }
+        match way_between(alloc, &self.rows, &self.heights, v, u)? {
+            Way::Leads(meeting) => Ok(Some(meeting)),
+            Way::Ends { nodes, low, high } => {
+                self.heights.put_between(nodes, low, high);
+                Ok(None)
+            }
+        }
+    }
+
+    /// Whether the links lead from `v` to `u`.
     fn leads_back(&mut self, alloc: Global, u: u32, v: u32) -> Result<bool, AllocError>
         requires graph { IsGraph self.old }
         requires nodes { AreUnjoined self.old.nodes (shown self.old).links u v }
         ensures same { IsSame self.old self.new }
         ensures leads { IfOk result (λ found. IsTrue found ↔ HasPath (shown self.old).links v u) }
     {
-        self.renew_heights(alloc)?;
-        if self.heights.falls(u, v) {
-            return Ok(false);
-        }
-        match way_between(alloc, self, v, u)? {
-            Way::Leads => Ok(true),
-            Way::Ends { nodes, low, high } => {
-                self.heights.put_between(nodes, low, high);
-                Ok(false)
-            }
-        }
+        Ok(self.way_back(alloc, u, v)?.is_some())
     }
 
     /// Takes out the link between `u` and `v`, whichever way it points.
@@ -225,12 +237,8 @@ impl Graph {
         ensures unchanged { OnErr result (IsSame self.old self.new) }
     {
         self.test_join(u, v)?;
-        // Few added links close a walk, and to tell so costs little. The search that names the walk starts from one end alone.
-        if self.leads_back(alloc, u, v)? {
-            let Some(walk) = closing_walk(alloc, self, u, v)? else {
-                unreachable!();
-            };
-            return Err(NetFault::Cycle(walk));
+        if let Some(meeting) = self.way_back(alloc, u, v)? {
+            return Err(NetFault::Cycle(meeting.closed_walk(alloc)?));
         }
         self.make_room(alloc, u, v)?;
         self.rows.room_law();

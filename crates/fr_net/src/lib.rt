@@ -10,7 +10,6 @@
 #![tactic(auto)]
 
 mod checks;
-mod closing;
 mod cycle;
 mod edit;
 mod edits;
@@ -22,7 +21,7 @@ mod limits;
 mod lines;
 mod network;
 mod path_search;
-mod row_places;
+mod row;
 mod row_table;
 mod rows;
 mod turned;

@@ -1,17 +1,17 @@
 //! Rows of neighbours, one for each node, in one list, with room behind each row: a row grows and shrinks where it stands, and no
 //! other moves.
 
-ghost use Rattle.std.specs.Prelude.{◌≡◌, ℕ, ◌<◌, ◌≤◌, ◌+◌, ◌-◌, ◌==◌, ◌++◌, [], ◌∷◌, length, map, take, drop, slice_index, slice_range, insert, remove, count_by, IfOk, OnOk, OnErr, IsTrue, All, Contains};
+ghost use Rattle.std.specs.Prelude.{◌≡◌, ℕ, ◌<◌, ◌≤◌, ◌+◌, ◌-◌, ◌==◌, ◌++◌, [], ◌∷◌, length, map, take, drop, replicate, slice_index, slice_range, insert, remove, count_by, IfOk, OnOk, OnErr, IsTrue, All, Contains};
 ghost use Rattle.std.specs.List.{range_with_len};
 ghost use Rattle.std.specs.List.Sorted.{IsStrictlyIncreasing};
 ghost use Rattle.fr_net.specs.RowLists.{turned_entry};
-ghost use Rattle.fr_net.specs.Tables.{ArePacked, HasRoomIn, KeepsRooms, has_none, room_of, row_of, with_row};
+ghost use Rattle.fr_net.specs.Tables.{ArePacked, HasRoomIn, KeepsRooms, end_at, has_none, places_of, room_of, row_of, start_at, with_row};
 ghost use Rattle.fr_net.specs.TurnedRows.{reversed_at};
+ghost use Rattle.fr_net.specs.declared.rows.First.TheVariants.{Outward};
 
 use crate::limits::MAX_LINKS;
-use crate::row_places::RowPlaces;
+use crate::row::{reverse_entry, turn_row};
 use crate::rows::First;
-use crate::turned::{reverse_entry, turn_row};
 use std::alloc::{AllocError, Global};
 use std::marker::Model;
 
@@ -19,11 +19,19 @@ use std::marker::Model;
 /// network has at most.
 const MOST_ROOM: usize = 8 * MAX_LINKS;
 
+/// Where a row starts and where it ends. They stand beside each other, so that a row that is read costs one cache line for both.
+#[derive(Debug, Drop, Clone, Copy)]
+struct Place {
+    start: usize,
+    end: usize,
+}
+
 /// Rows of neighbours, one for each node. Contracts see the rows, and how many entries each has room for.
 #[derive(Debug, Drop)]
 pub(crate) struct RowTable {
-    // Each row stands in `entries` from where it starts up to where it ends, and its room goes on up to where the next one starts.
-    places: RowPlaces,
+    // Each row stands in `entries` from where it starts up to where it ends, and its room goes on up to where the next one starts. Behind
+    // the places of the rows stands one more, where the room of the last row ends: its own end says nothing.
+    places: Vec<Place>,
     entries: Vec<(u16, First)>,
     // How many rows are empty.
     empty: usize,
@@ -41,14 +49,30 @@ impl Model for RowTable {
     ghost invariant = { IsTable };
 }
 
-/// How many of the rows at these places are empty.
-fn empty_between(places: &RowPlaces) -> usize
-    requires { length places.now.starts ≡ length places.now.ends + 1 }
-    ensures { result ≡ count_by (λ x. slice_index places.now.starts x == slice_index places.now.ends x) (range_with_len 0 (length places.now.ends)) }
+/// The places of rows that stand one behind the other between these starts: each ends where the next one starts.
+fn places_between(alloc: Global, starts: &[usize]) -> Result<Vec<Place>, AllocError>
+    ensures { IfOk result (λ places. places.items ≡ places_of starts.now) }
+{
+    let mut places = Vec::with_capacity(alloc, starts.len())?;
+    for x in 0..starts.len() {
+        let end = starts.get(x + 1).copied().unwrap_or(0);
+        places.push(Place {
+            start: starts[x],
+            end,
+        })?;
+    }
+    Ok(places)
+}
+
+/// How many of the rows at these places are empty, where the last place is that of no row.
+fn empty_between(places: &[Place]) -> usize
+    requires { 0 < length places.now }
+    ensures { result ≡ count_by (λ x. start_at places.now x == end_at places.now x) (range_with_len 0 (length places.now - 1)) }
 {
     let mut empty = 0;
-    for x in 0..places.len() {
-        empty += usize::from(places.start(x) == places.end(x));
+    for x in 0..places.len() - 1 {
+        let place = places[x];
+        empty += usize::from(place.start == place.end);
     }
     empty
 }
@@ -77,13 +101,33 @@ fn shift_out(entries: &mut [(u16, First)])
     }
 }
 
+/// Keeps the entries up to `start`, and lays the row behind them, with room up to `next`.
+fn lay_behind(
+    entries: &mut Vec<(u16, First)>,
+    start: usize,
+    next: usize,
+    row: &[(u16, First)],
+) -> Result<(), AllocError>
+    requires inside { start ≤ length entries.old.items }
+    requires room { start + length row.now ≤ next }
+    ensures { OnOk result (entries.new.items
+        ≡ take start entries.old.items ++ (row.now ++ replicate (next - (start + length row.now)) (0, Outward))) }
+{
+    entries.truncate(start);
+    entries.extend_from_slice(row)?;
+    entries.resize(next, (0, First::Outward))?;
+    Ok(())
+}
+
 impl RowTable {
     /// No rows yet, but room for so many, and for so many entries in all of them together.
     fn with_capacity(alloc: Global, rows: usize, entries: usize) -> Result<RowTable, AllocError>
         ensures { IfOk result (λ table. (table.rows ≡ []) × (table.rooms ≡ [])) }
     {
+        let mut places = Vec::with_capacity(alloc, rows.saturating_add(1))?;
+        places.push(Place { start: 0, end: 0 })?;
         Ok(RowTable {
-            places: RowPlaces::none(alloc, rows, 0)?,
+            places,
             entries: Vec::with_capacity(alloc, entries)?,
             empty: 0,
         })
@@ -100,16 +144,20 @@ impl RowTable {
             mut entries,
             mut empty,
         } = self;
-        let start = places.start(places.len());
+        let last = places.len() - 1;
+        let start = places[last].start;
         let next = start.checked_add(room).ok_or(AllocError)?;
         // Entries behind the room of the last row are of no row.
-        entries.truncate(start);
-        entries.extend_from_slice(row)?;
-        places.push(entries.len(), next)?;
-        entries.resize(next, (0, First::Outward))?;
-        if row.is_empty() {
-            empty += 1;
-        }
+        lay_behind(&mut entries, start, next, row)?;
+        places[last] = Place {
+            start,
+            end: start + row.len(),
+        };
+        places.push(Place {
+            start: next,
+            end: next,
+        })?;
+        empty += usize::from(row.is_empty());
         Ok(RowTable {
             places,
             entries,
@@ -122,7 +170,8 @@ impl RowTable {
         requires { x < length self.now.rows }
         ensures { result.now ≡ row_of self.now x }
     {
-        &self.entries[self.places.start(x)..self.places.end(x)]
+        let place = self.places[x];
+        &self.entries[place.start..place.end]
     }
 
     /// How many entries the row at this place has room for once it is laid out anew: an eighth more than it has, and six, for links
@@ -134,14 +183,14 @@ impl RowTable {
     {
         let long = self.row_at(x).len();
         let wide = long + long / 8 + 6;
-        let held = self.places.room_end(x) - self.places.start(x);
+        let held = self.places[x + 1].start - self.places[x].start;
         if keeps_room { wide.max(held) } else { wide }
     }
 
     /// How many entries all rows together have room for once they are laid out anew.
     fn whole_room_anew(&self, keeps_room: bool) -> usize {
         let mut whole: usize = 0;
-        for x in 0..self.places.len() {
+        for x in 0..self.len() {
             whole = whole.saturating_add(self.room_anew(x, keeps_room));
         }
         whole
@@ -153,7 +202,7 @@ impl RowTable {
         ensures room { IfOk result (λ table. (x : ℕ) → x < length self.now.rows → HasRoomIn table x) }
         ensures kept { IsTrue keeps_room → IfOk result (KeepsRooms self.now) }
     {
-        let rows = self.places.len();
+        let rows = self.places.len() - 1;
         let mut table = RowTable::with_capacity(alloc, rows, self.whole_room_anew(keeps_room))?;
         for x in 0..rows {
             table = table.with_row_behind(self.row_at(x), self.room_anew(x, keeps_room))?;
@@ -172,13 +221,20 @@ impl RowTable {
         ensures rows { IfOk result (λ table. (x : ℕ) → x + 1 < length starts.items
             → row_of table x ≡ slice_range entries.items (slice_index starts.items x) (slice_index starts.items (x + 1))) }
     {
-        let places = RowPlaces::packed(alloc, &starts)?;
+        let places = places_between(alloc, &starts)?;
         let empty = empty_between(&places);
         Ok(RowTable {
             places,
             entries,
             empty,
         })
+    }
+
+    /// How many rows there are.
+    pub(crate) fn len(&self) -> usize
+        ensures { result ≡ length self.now.rows }
+    {
+        self.places.len() - 1
     }
 
     /// The row of `x`.
@@ -208,7 +264,7 @@ impl RowTable {
         ensures { IfOk result (λ copy. copy ≡ self.now) }
     {
         Ok(RowTable {
-            places: self.places.copied(alloc)?,
+            places: self.places.to_vec(alloc)?,
             entries: self.entries.to_vec(alloc)?,
             empty: self.empty,
         })
@@ -223,7 +279,7 @@ impl RowTable {
         ensures room { OnOk result (HasRoomIn self.new x) }
         ensures unchanged { OnErr result (self.new ≡ self.old) }
     {
-        if self.places.end(x as usize) == self.places.room_end(x as usize) {
+        if self.places[x as usize].end == self.places[x as usize + 1].start {
             *self = self.laid_out(alloc, true)?;
         }
         Ok(())
@@ -246,10 +302,12 @@ impl RowTable {
         requires room { HasRoomIn self.old x }
         ensures { self.new ≡ with_row self.old x (insert (row_of self.old x) place entry) }
     {
-        let start = self.places.start(x as usize);
-        let end = self.places.end(x as usize);
+        let Place { start, end } = self.places[x as usize];
         shift_in(&mut self.entries[start + place..end + 1], entry);
-        self.places.set_end(x as usize, end + 1);
+        self.places[x as usize] = Place {
+            start,
+            end: end + 1,
+        };
         self.empty -= usize::from(start == end);
     }
 
@@ -259,10 +317,10 @@ impl RowTable {
         requires place { place < length (row_of self.old x) }
         ensures { self.new ≡ with_row self.old x (remove (row_of self.old x) place) }
     {
-        let start = self.places.start(x as usize);
-        let end = self.places.end(x as usize) - 1;
-        shift_out(&mut self.entries[start + place..end + 1]);
-        self.places.set_end(x as usize, end);
+        let Place { start, end } = self.places[x as usize];
+        shift_out(&mut self.entries[start + place..end]);
+        let end = end - 1;
+        self.places[x as usize] = Place { start, end };
         self.empty += usize::from(start == end);
     }
 
@@ -273,11 +331,8 @@ impl RowTable {
         requires below { All (λ (e : ℕ × First). e.0 < length counts.now) (row_of self.old x) }
         ensures { self.new ≡ with_row self.old x (map (turned_entry counts.now x) (row_of self.old x)) }
     {
-        turn_row(
-            &mut self.entries[self.places.start(x as usize)..self.places.end(x as usize)],
-            x,
-            counts,
-        );
+        let place = self.places[x as usize];
+        turn_row(&mut self.entries[place.start..place.end], x, counts);
     }
 
     /// Reverses the entry of `w` in the row of `x`, which has one.
@@ -287,9 +342,7 @@ impl RowTable {
         requires stands { Contains (map (λ (e : ℕ × First). e.0) (row_of self.old x)) w }
         ensures { self.new ≡ with_row self.old x (map (reversed_at w) (row_of self.old x)) }
     {
-        reverse_entry(
-            &mut self.entries[self.places.start(x as usize)..self.places.end(x as usize)],
-            w,
-        );
+        let place = self.places[x as usize];
+        reverse_entry(&mut self.entries[place.start..place.end], w);
     }
 }

@@ -1,53 +1,15 @@
 //! Rows and links as counts turn them, each where it stands.
 
-ghost use Rattle.std.specs.Prelude.{◌≡◌, ℕ, ◌<◌, ◌++◌, Bool, false, length, slice_index, map, All, Contains, IfOk, OnOk};
-ghost use Rattle.std.specs.List.Sorted.{IsStrictlyIncreasing};
+ghost use Rattle.std.specs.Prelude.{◌≡◌, ℕ, ◌<◌, ◌++◌, Bool, false, length, slice_index, IfOk, OnOk};
 ghost use Rattle.fr_net.specs.Network.{Network};
 ghost use Rattle.fr_net.specs.KeptRows.{links_in};
-ghost use Rattle.fr_net.specs.RowLists.{out_links, turned_entry};
-ghost use Rattle.fr_net.specs.TurnedRows.{ArePartTurned, all_done, is_done, none_done, reversed_at, seen_too};
+ghost use Rattle.fr_net.specs.RowLists.{out_links};
+ghost use Rattle.fr_net.specs.TurnedRows.{ArePartTurned, all_done, is_done, none_done, seen_too};
 
-use crate::edits::place_in_row;
 use crate::row_table::RowTable;
 use crate::rows::First;
 use crate::turns::Turns;
 use std::alloc::{AllocError, Global};
-
-/// An entry of the row of `x`, with its link as the counts turn it.
-fn turned_at(entry: (u16, First), x: u32, counts: &[u64]) -> (u16, First)
-    requires node { x < length counts.now }
-    requires neighbour { entry.0 < length counts.now }
-    ensures { result ≡ turned_entry counts.now x entry }
-{
-    let (w, first) = entry;
-    if counts[w as usize] == counts[x as usize] {
-        entry
-    } else {
-        (w, first.opposite())
-    }
-}
-
-/// Turns each link of the row of `x` as the counts say.
-pub(crate) fn turn_row(row: &mut [(u16, First)], x: u32, counts: &[u64])
-    requires node { x < length counts.now }
-    requires below { All (λ (e : ℕ × First). e.0 < length counts.now) row.old }
-    ensures { row.new ≡ map (turned_entry counts.now x) row.old }
-{
-    for entry in row.iter_mut() {
-        *entry = turned_at(*entry, x, counts);
-    }
-}
-
-/// Reverses the entry of `w` in the row, which has one.
-pub(crate) fn reverse_entry(row: &mut [(u16, First)], w: u32)
-    requires rising { IsStrictlyIncreasing (map (λ (e : ℕ × First). e.0) row.old) }
-    requires stands { Contains (map (λ (e : ℕ × First). e.0) row.old) w }
-    ensures { row.new ≡ map (reversed_at w) row.old }
-{
-    let place = place_in_row(row, w);
-    let (neighbour, first) = row[place];
-    row[place] = (neighbour, first.opposite());
-}
 
 /// Turns the row of `x`, which has turned, as the counts say, and its entries in the rows of neighbours that have not.
 fn turn_node(rows: &mut RowTable, x: u32, counts: &[u64])

@@ -1,13 +1,13 @@
 use Rattle.std.proofs.Common.{slice_index, ◌*◌, ◌+◌}
-use Rattle.fr_net.specs.Graph.{shown}
+use Rattle.fr_net.specs.KeptRows.{net_in}
 use Rattle.fr_net.specs.PathSearch.{IsSide, never_count, unread_count}
 use Rattle.fr_net.specs.declared.rows.First.TheVariants.{Inward, Outward}
 use Rattle.fr_net.proofs.path_search.way_between.Given as goal
 
 abbrev pub invariant-loop-behind : goal.invariant-loop-behind
 invariant-loop-behind l = record {
-  ahead : IsSide (shown l.graph) l.graph.heights.heights Outward l.from (slice_index l.graph.heights.heights l.to) l.met l.ahead;
-  behind : IsSide (shown l.graph) l.graph.heights.heights Inward l.to (slice_index l.graph.heights.heights l.from) l.met l.behind;
+  ahead : IsSide (net_in l.rows) l.heights.heights Outward l.from (slice_index l.heights.heights l.to) l.met l.ahead;
+  behind : IsSide (net_in l.rows) l.heights.heights Inward l.to (slice_index l.heights.heights l.from) l.met l.behind;
 }
 
 abbrev pub decreases-loop-behind : goal.decreases-loop-behind

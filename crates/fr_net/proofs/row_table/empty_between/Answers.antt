@@ -1,16 +1,16 @@
-use Rattle.std.proofs.Common.{Bool, arith, eqb, get_or, ℕ, ◌∙◌, ◌≡◌}
-use Rattle.fr_net.proofs.Counting.{weigh}
-use Rattle.fr_net.proofs.Counting.{count-range-le, count-range_more}
+use Rattle.std.proofs.Common.{Bool, arith, eqb, ℕ, ◌∙◌, ◌≡◌}
+use Rattle.fr_net.proofs.Counting.{count-range-le, count-range_more, weigh}
 use Rattle.fr_net.proofs.RowTables.{bit_is, weigh-le}
+use Rattle.fr_net.specs.Tables.{end_at, start_at}
 use Rattle.fr_net.proofs.row_table.empty_between.Goals as goal
 use Rattle.fr_net.proofs.row_table.empty_between.Goals.{After-from-empty}
 
 -- whether a row is empty
 abbrev is_none : (c : After-from-empty) → ℕ → Bool
-is_none c x = eqb (get_or c.args.places.now.starts x 0) (get_or c.args.places.now.ends x 0)
+is_none c x = eqb (start_at c.args.places.now x) (end_at c.args.places.now x)
 
 counts : (c : After-from-empty) → c.from-empty.result ≡ weigh (is_none c c.loop-x.x)
-counts c = rw (← c.start.ensures, ← c.end.ensures) (c.from-empty.ensures ∙ bit_is (eqb c.start.result c.end.result))
+counts c = c.from-empty.ensures ∙ bit_is (is_none c c.loop-x.x)
 
 pub overflow_add-empty : goal.overflow_add-empty
 overflow_add-empty c =

@@ -1,32 +1,32 @@
-use Rattle.std.proofs.Common.{ap, arith, length, subst, sym, ◌≡◌}
+use Rattle.std.proofs.Common.{ap, arith, length, subst, sym}
 use Rattle.fr_net.proofs.AddedLinks.{added}
-use Rattle.fr_net.proofs.Joining.{cycle_fault, no_path_free, path_closes}
+use Rattle.fr_net.proofs.Joining.{cycle_fault, no_path_free}
 use Rattle.fr_net.proofs.Remaking.{same_through}
 use Rattle.fr_net.proofs.Undoing.{IsPut, put_with_room}
 use Rattle.fr_net.specs.Graph.{IsSame, shown}
 use Rattle.fr_net.specs.Halves.{AreUnjoined}
 use Rattle.fr_net.specs.Links.{IsAcyclic}
 use Rattle.fr_net.specs.Network.{Network}
+use Rattle.fr_net.specs.PathSearch.{IsMeeting}
 use Rattle.fr_net.proofs.graph.Graph.add.Goals as goal
-use Rattle.fr_net.proofs.graph.Graph.add.Goals.{After-make_room, Then-branch}
-
--- the links did not change since they were tested
-links_are : (c : Then-branch) → (shown c.leads_back.new.self).links ≡ (shown c.args.self.now).links
-links_are c = ap (λ (m : Network). m.links) c.in_ok-leads_back.ensures.same.same
+use Rattle.fr_net.proofs.graph.Graph.add.Goals.{After-make_room, In-Some}
 
 -- the graph shows the network that was tested
 same : (c : After-make_room) → IsSame c.args.self.now c.make_room.new.self
-same c = same_through c.args.self.now c.leads_back.new.self c.make_room.new.self c.in_ok-leads_back.ensures.same c.make_room.ensures.same
+same c = same_through c.args.self.now c.way_back.new.self c.make_room.new.self c.in_ok-meeting.ensures.same c.make_room.ensures.same
 
-pub unreachable-requires : goal.unreachable-requires
-unreachable-requires c =
-    path_closes (shown c.args.self.now).links c.args.u c.args.v (c.in_ok-leads_back.ensures.leads.0 c.if-branch.true) (rw (c.in_default.is, links_are (goal.at.unreachable-requires c).Then-branch) at c.in_ok-walk.ensures)
+-- the sides of the search met
+met : (c : In-Some) → IsMeeting (shown c.args.self.now).links c.args.v c.args.u c.in-Some.meeting
+met c = rw c.in-Some.is at c.in_ok-meeting.ensures.found
 
-pub returns-then-branch-clause-refused : goal.returns-then-branch-clause-refused
-returns-then-branch-clause-refused c _ =
+pub closed_walk-requires : goal.closed_walk-requires
+closed_walk-requires c = ((shown c.args.self.now).links, c.args.v, c.args.u, met (goal.at.closed_walk-requires c).In-Some)
+
+pub returns-in-Some-clause-refused : goal.returns-in-Some-clause-refused
+returns-in-Some-clause-refused c _ =
     let g = shown c.args.self.now in
     let tested = c.in_ok-test_join.ensures in
-    cycle_fault g.nodes g.links c.args.u c.args.v c.in-Some.walk c.requires.faultless tested.few tested.nodes (rw (c.in-Some.is, links_are (goal.at.returns-then-branch-clause-refused c).Then-branch) at c.in_ok-walk.ensures)
+    cycle_fault g.nodes g.links c.args.u c.args.v c.in_ok-closed_walk.field-0 c.requires.faultless tested.few tested.nodes (c.in_ok-closed_walk.ensures g.links c.args.v c.args.u (met (goal.at.returns-in-Some-clause-refused c).In-Some))
 
 pub put-requires-clause-few : goal.put-requires-clause-few
 put-requires-clause-few c = omega (arith, ap (λ (m : Network). length m.links) (same (goal.at.put-requires-clause-few c).After-make_room).same, c.in_ok-test_join.ensures.few)
@@ -37,7 +37,7 @@ put-requires-clause-nodes c = subst (λ (m : Network). AreUnjoined m.nodes m.lin
 pub put-requires-clause-acyclic : goal.put-requires-clause-acyclic
 put-requires-clause-acyclic c =
     subst (λ (m : Network). IsAcyclic (added m.links c.args.u c.args.v)) (sym (same (goal.at.put-requires-clause-acyclic c).After-make_room).same)
-    (no_path_free (shown c.args.self.now).links c.args.u c.args.v c.requires.faultless.is_net.acyclic (λ path. cc (c.in_ok-leads_back.ensures.leads.1 path, c.if-branch.false)))
+    (no_path_free (shown c.args.self.now).links c.args.u c.args.v c.requires.faultless.is_net.acyclic (rw c.in_default.is at c.in_ok-meeting.ensures.none))
 
 pub returns-clause-ok : goal.returns-clause-ok
 returns-clause-ok c =

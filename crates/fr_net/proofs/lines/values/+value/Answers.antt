@@ -1,11 +1,11 @@
-use Rattle.std.proofs.Common.{Err, List, Ok, Option, Result, None, option_map, ℕ, Some, [], ap, arith, length, refl, sym, ◌-◌, ◌<◌, ◌∙◌, ◌∷◌, ◌≡◌, ◌≢◌}
+use Rattle.std.proofs.Common.{Err, List, Ok, Option, Result, None, option_map, ℕ, Some, [], ap, arith, length, sym, ◌-◌, ◌<◌, ◌∙◌, ◌∷◌, ◌≡◌, ◌≢◌}
 use Rattle.std.specs.Result.{IfErr, IfOk}
 use Rattle.json.proofs.Grammar.{read_key-shorter, value_is}
 use Rattle.json.specs.Json.{after_end_array, items, members, parse_map, read_key, value}
 use Rattle.json.specs.Reads.{token_of}
 use Rattle.json.specs.Token.{Token}
 use Rattle.serde_json.proofs.Views.{view-Array, view-Object}
-use Rattle.serde_json.specs.Data.{Data, array, no_members, object}
+use Rattle.serde_json.specs.Data.{Data, array, object}
 use Rattle.serde_json.specs.Read.{converted, of_items, of_json, of_members}
 use Rattle.serde_json.specs.View.{members_view, view}
 use Rattle.serde_json.specs.declared.value.Value.{Value}

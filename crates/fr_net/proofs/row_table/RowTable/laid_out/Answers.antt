@@ -5,7 +5,7 @@ use Rattle.fr_net.proofs.row_table.RowTable.laid_out.Goals as goal
 use Rattle.fr_net.proofs.row_table.RowTable.laid_out.Goals.{After-loop-x, In-loop-x}
 
 is_row : (c : In-loop-x) → c.loop-x.x < length c.args.self.now.rows
-is_row c = omega (arith, c.loop-x-test.true, c.len-rows.ensures, rows_counted c.self.inside c.args.self.now c.self.view_is)
+is_row c = omega (arith, c.loop-x-test.true, c.len-rows.ensures, c.self.inside.places.ok.0, rows_counted c.self.inside c.args.self.now c.self.view_is)
 
 pub row_at-requires : goal.row_at-requires
 row_at-requires c = is_row (goal.at.row_at-requires c).In-loop-x
@@ -21,7 +21,7 @@ loop-x-preserved c =
 all_laid_out : (c : After-loop-x) → AreLaidOut c.args.self.now c.args.keeps_room (length c.args.self.now.rows) c.loop-x.table
 all_laid_out c =
     let all : c.loop-x.x ≡ length c.args.self.now.rows =
-    omega (arith, c.loop-x-test.false, c.loop-x.auto.x-end, c.len-rows.ensures, rows_counted c.self.inside c.args.self.now c.self.view_is) in
+    omega (arith, c.loop-x-test.false, c.loop-x.auto.x-end, c.len-rows.ensures, c.self.inside.places.ok.0, rows_counted c.self.inside c.args.self.now c.self.view_is) in
     rw all at c.loop-x.invariant
 
 pub returns-clause-rows : goal.returns-clause-rows

@@ -1,18 +1,20 @@
-use Rattle.std.proofs.Common.{arith}
-use Rattle.fr_net.proofs.RowTables.{IsRowAt, row_at}
+use Rattle.std.proofs.Common.{arith, ◌+◌}
+use Rattle.fr_net.proofs.RowTables.{IsRowAt, end_read, row_at, start_read}
 use Rattle.fr_net.proofs.row_table.RowTable.make_room.Goals as goal
 use Rattle.fr_net.proofs.row_table.RowTable.make_room.Goals.{After-self}
 
 place : (c : After-self) → IsRowAt c.self.inside c.args.self.now c.args.x
 place c = row_at c.self.inside c.args.self.now c.args.x c.self.invariant c.self.view_is c.requires
 
-pub end-requires : goal.end-requires
-end-requires c = (place (goal.at.end-requires c).After-self).has
+pub index-requires : goal.index-requires
+index-requires c = omega (arith, (place (goal.at.index-requires c).After-self).next, c.self.inside.places.ok.0)
 
-pub room_end-requires : goal.room_end-requires
-room_end-requires c = (place (goal.at.room_end-requires c).After-self).starts
+pub index-requires-2 : goal.index-requires-2
+index-requires-2 c = omega (arith, (place (goal.at.index-requires-2 c).After-self).next, c.self.inside.places.ok.0)
 
-pub returns-else-end-room_end-clause-room : goal.returns-else-end-room_end-clause-room
-returns-else-end-room_end-clause-room c =
-    let row = place (goal.at.returns-else-end-room_end-clause-room c).After-self in
-    omega (arith, c.end.ensures, c.room_end.ensures, row.low, row.high, row.long, row.room, c.if-end-room_end.false)
+pub returns-else-index-clause-room : goal.returns-else-index-clause-room
+returns-else-index-clause-room c =
+    let row = place (goal.at.returns-else-index-clause-room c).After-self in
+    let end = end_read c.self.inside c.args.x c.index.result.now (omega (arith, row.next)) c.index.ensures in
+    let next = start_read c.self.inside (c.args.x + 1) c.index-2.result.now (omega (arith, row.next)) c.index-2.ensures in
+    omega (arith, end, next, row.low, row.high, row.long, row.room, c.if-index.false)

@@ -4,7 +4,7 @@ use Rattle.std.proofs.lemmas.List.Edits.{map_over_more}
 use Rattle.fr_net.specs.RowLists.{turned_entry}
 use Rattle.fr_net.specs.declared.rows.First.{First}
 use Rattle.fr_net.specs.declared.rows.First.TheVariants.{Outward}
-use Rattle.fr_net.proofs.turned.turn_row.Goals as goal
+use Rattle.fr_net.proofs.row.turn_row.Goals as goal
 
 pub loop-entry-preserved : goal.loop-entry-preserved
 loop-entry-preserved c =

@@ -2,7 +2,7 @@ use Rattle.std.proofs.Common.{arith, ltb, ltb-true, rules, ℕ}
 use Rattle.std.proofs.lemmas.Bool.{ltb-false}
 use Rattle.std.proofs.lemmas.List.Sorted.{IsPartitionPoint-from_clause, IsPartitionedBy-ltb}
 use Rattle.fr_net.specs.declared.rows.First.{First}
-use Rattle.fr_net.proofs.edits.place_in_row.Goals as goal
+use Rattle.fr_net.proofs.row.place_in_row.Goals as goal
 
 pub returns-clause-before : goal.returns-clause-before
 returns-clause-before c = λ k d lt.

@@ -1,6 +1,6 @@
 use Rattle.std.proofs.Common.{drop, map, take, ◌++◌, ◌≡◌}
 use Rattle.fr_net.specs.RowLists.{turned_entry}
-use Rattle.fr_net.proofs.turned.turn_row.Given as goal
+use Rattle.fr_net.proofs.row.turn_row.Given as goal
 
 abbrev pub invariant-loop-entry : goal.invariant-loop-entry
 invariant-loop-entry l =

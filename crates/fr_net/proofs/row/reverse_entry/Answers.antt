@@ -4,8 +4,8 @@ use Rattle.fr_net.proofs.PartTurned.{entry_reversed, neighbour_in, rises_from}
 use Rattle.fr_net.proofs.Places.{neighbour_at, rises_by}
 use Rattle.fr_net.specs.declared.rows.First.{First}
 use Rattle.fr_net.specs.declared.rows.First.TheVariants.{Outward}
-use Rattle.fr_net.proofs.turned.reverse_entry.Goals as goal
-use Rattle.fr_net.proofs.turned.reverse_entry.Goals.{After-place_in_row-place}
+use Rattle.fr_net.proofs.row.reverse_entry.Goals as goal
+use Rattle.fr_net.proofs.row.reverse_entry.Goals.{After-place_in_row-place}
 
 -- the entry of w at its place
 stands : (c : After-place_in_row-place) → (f : First) × (c.place_in_row-place.result < length c.args.row.now) × (get_or c.args.row.now c.place_in_row-place.result (c.args.w, f) ≡ (c.args.w, f))
