@@ -166,12 +166,7 @@ impl Worker {
         let (neighbour, first) = net.neighbour(node, place);
         if counts[neighbour as usize] < bound_of(first, count) {
             self.end_call();
-            return Some((
-                node,
-                Reply::Held {
-                    by: neighbour as u32,
-                },
-            ));
+            return Some((node, Reply::Held { by: neighbour }));
         }
         self.phase = if place + 1 == degree {
             phase_unheld(target, count)

@@ -208,18 +208,19 @@ impl Net {
 
     /// The neighbour at place `j` of the row of node `x`, counted from 0 in rising order of the neighbours, and the
     /// direction of its link as seen from `x`. There has to be such a node and such a place.
-    pub fn neighbour(&self, x: u32, j: u32) -> (u16, First)
+    pub fn neighbour(&self, x: u32, j: u32) -> (u32, First)
         requires node { x < self.now.nodes }
         requires place { j < length (row self.now.nodes self.now.links x) }
         ensures value { slice_get (row self.now.nodes self.now.links x) j ≡ Some result }
         ensures at { HoldsAt (λ e. e ≡ result) (row self.now.nodes self.now.links x) j }
     {
-        self.graph.row(x)[j as usize]
+        let (neighbour, first) = self.graph.row(x)[j as usize];
+        (neighbour as u32, first)
     }
 
     /// All neighbours of node `x` in rising order, each with the direction of its link as seen from `x`: what
-    /// `neighbour` answers for each place, for a loop over a whole row. It has to be a node. Nodes stand here as `u16`, since there are
-    /// few, so that rows take half the room; `as u32` makes them what other calls take.
+    /// `neighbour` answers for each place, for a loop over a whole row. It has to be a node. Here nodes stand as `u16`, as they are
+    /// kept, since there are few, so that rows take half the room; `as u32` makes them what other calls take.
     pub fn row(&self, x: u32) -> &[(u16, First)]
         requires { x < self.now.nodes }
         ensures { result.now ≡ row self.now.nodes self.now.links x }
