@@ -1,6 +1,9 @@
 -- What a round on a network comes to, and the nodes at which edits change links.
-use Rattle.std.specs.Prelude.{◌≡◌, ℕ, ◌<◌, ◌≤◌, ◌⊎◌, not, ◌==◌, ◌&&◌, List, [], ◌∷◌, ◌++◌, count_by, length, slice_get, slice_index, Some}
-use Rattle.std.specs.List.{All, Contains, filter, range_with_len}
+use Rattle.std.specs.Prelude.{◌≡◌, ℕ, ◌<◌, ◌≤◌, ◌⊎◌, not, ◌==◌, ◌&&◌, List, [], ◌∷◌, ◌++◌, count_by, length, nat_eq, slice_get, slice_index, vec_capacity, Some}
+use Rattle.std.specs.List.{All, Contains, IsDistinct, filter, range_with_len}
+use Rattle.std.specs.List.Sorted.{IsStrictlyIncreasing}
+use Rattle.std.specs.declared.alloc.Global.{Global}
+use Rattle.std.specs.declared.vec.Vec.{Vec}
 use Rattle.fr_net.specs.Batches.{AreMade, IsBatchFault}
 use Rattle.fr_net.specs.Counts.{links_at}
 use Rattle.fr_net.specs.Limits.{most_edits}
@@ -67,6 +70,23 @@ pub record HoldsMoved (s : State) (hops : List Hop) (moved : List ℕ) : Type 0 
 -- each hop is right now, or it is what it was, and one of those that are left
 pub record AreRenewed (s : State) (old new : List Hop) (left : ℕ → Hop → Type 0) : Type 0 where
   pub each : (x : ℕ) (hop : Hop) → slice_get new x ≡ Some hop → IsHop s x hop ⊎ ((slice_get old x ≡ Some hop) × left x hop)
+
+-- these are the places at which the hops are no longer those before, each once, and there they are right
+pub record AreNoted (s : State) (before hops : List Hop) (nodes : List ℕ) : Type 0 where
+  pub once : IsDistinct nat_eq nodes
+  pub these : (x : ℕ) → Contains nodes x → (hop : Hop) × ((slice_get hops x ≡ Some hop) × IsHop s x hop × ¬ (slice_get before x ≡ Some hop))
+  pub others : (x : ℕ) → ¬ Contains nodes x → slice_get hops x ≡ slice_get before x
+
+-- as hops are made anew the list goes on to note where, if it has a place for each: whatever the hops were that it began with
+pub record NotesMore (s : State) (old : List Hop) (nodes : Vec ℕ Global) (new : List Hop) (more : Vec ℕ Global) : Type 0 where
+  pub room : vec_capacity more ≡ vec_capacity nodes
+  pub noted : length old ≤ vec_capacity nodes → (before : List Hop) → AreNoted s before old nodes.items → AreNoted s before new more.items
+
+-- these are the places at which the hops differ, in rising order
+pub record AreOthers (old new : List Hop) (nodes : List ℕ) : Type 0 where
+  pub rising : IsStrictlyIncreasing nodes
+  pub these : (x : ℕ) → Contains nodes x → (x < length new) × ¬ (slice_get new x ≡ slice_get old x)
+  pub others : (x : ℕ) → ¬ Contains nodes x → slice_get new x ≡ slice_get old x
 
 -- the edits are made, and this is the state after the round on the network that they make, toward d
 abbrev pub IsEdited : State → List Edit → ℕ → State → Type 0

@@ -254,7 +254,13 @@ impl Session {
         let Some(router) = &mut self.router else {
             return refuse(alloc, Refusal::NoNetwork);
         };
-        match router.change_by(alloc, &change, way, &|report| report_line(alloc, report)) {
+        match router.change_by(
+            alloc,
+            &change,
+            way,
+            &|report| report_line(alloc, report),
+            &mut Vec::new(alloc),
+        ) {
             Ok(text) => Ok(text),
             Err(fault) => refusal(alloc, &fault),
         }
@@ -283,6 +289,7 @@ impl Session {
             dest,
             way,
             &|report| report_line(alloc, report),
+            &mut Vec::new(alloc),
         ) {
             Ok(line) => Ok(line),
             Err(fault) => refusal(alloc, &fault),

@@ -10,6 +10,7 @@ use Rattle.fr_net.specs.declared.fault.NotEdited.TheVariants.{Fault, Refused}
 use Rattle.fr_route.specs.Changes.{IsOpenFault}
 use Rattle.fr_route.specs.Faults.{of_not_edited}
 use Rattle.fr_route.specs.Outcomes.{HoldsMoved, IsEditingFault, IsOutcome, movable, state_after}
+use Rattle.fr_route.specs.Reroutes.{AreRerouted}
 use Rattle.fr_route.specs.Routes.{AreHops}
 use Rattle.fr_route.specs.RouterInside.{state_of}
 use Rattle.fr_route.specs.States.{State, net_at}
@@ -18,6 +19,7 @@ use Rattle.fr_route.proofs.CutNodes.{ended}
 use Rattle.fr_route.proofs.Changing.{made_nodes, refused_fault, round_fault}
 use Rattle.fr_route.proofs.Inside.{sound_after}
 use Rattle.fr_route.proofs.Moving.{made_net, movable_sinks, unmoved_hops}
+use Rattle.fr_route.proofs.Noting.{rerouted_by}
 use Rattle.fr_route.proofs.router.Router.edit_by.Given.{Over}
 use Rattle.fr_route.proofs.router.Router.edit_by.Goals as goal
 use Rattle.fr_route.proofs.router.Router.edit_by.Goals.{After-self, In_ok-outcome}
@@ -132,3 +134,18 @@ pub returns-clause-told : goal.returns-clause-told
 returns-clause-told g c =
     let at = goal.at.returns-clause-told g c in
     (c.in_ok-outcome.outcome.report, rw (c.keep_turns.ensures.last, c.put_in_place.ensures.net) (outcome_is g at.In_ok-outcome).report, search rules)
+
+pub returns-clause-rerouted : goal.returns-clause-rerouted
+returns-clause-rerouted g c = λ room.
+    let at = goal.at.returns-clause-rerouted g c in
+    let s : State = state_of c.self.inside in
+    let net : Network = c.edit_if.new.self in
+    let after : State = state_after net c.args.dest c.in_ok-outcome.outcome.turns in
+    let nodes : net.nodes ≡ s.nodes = made_nodes c.self.inside.net c.args.edits.now net (edits_made g at.In_ok-outcome) in
+    let before : AreHops s s.nodes c.deref_mut.result.now = rw c.deref_mut.ensures.value c.self.invariant.hops in
+    let hops : AreHops after s.nodes c.put_in_place.new.hops = subst (λ (n : ℕ). AreHops after n c.put_in_place.new.hops) nodes c.put_in_place.ensures.hops in
+    let as_many : s.nodes ≡ c.args.self.now.nodes = ap (λ (now : State). now.nodes) (now_is g at.After-self) in
+    let others = c.put_in_place.ensures.rerouted (omega (arith, room, nodes, as_many)) in
+    rw (c.keep_turns.ensures.last, c.put_in_place.ensures.net)
+    (subst (λ (now : State). AreRerouted now after c.put_in_place.new.rerouted.items) (now_is g at.After-self)
+    (rerouted_by s after s.nodes c.deref_mut.result.now c.put_in_place.new.hops c.put_in_place.new.rerouted.items before hops nodes others))
