@@ -42,7 +42,7 @@ cases_can_turn n d m x = ⊎_elim
     (cases_lt (count_at m x) n))
     (cases_eq x d)
 
-can_turn_below : (n d : ℕ) (first : List (ℕ × ℕ)) → IsNet n first → (m : Moment) → m.links ≡ links_at first m.counts → (x : ℕ) → CanTurn n d m x → x < n
+pub can_turn_below : (n d : ℕ) (first : List (ℕ × ℕ)) → IsNet n first → (m : Moment) → m.links ≡ links_at first m.counts → (x : ℕ) → CanTurn n d m x → x < n
 can_turn_below n d first net m e x can = let s = sink_linked first m.counts x (can_turn-links_at n d first m x e can).sink in (joined_below n first x s.0 net s.1).0
 
 cases_none : (n d : ℕ) (first : List (ℕ × ℕ)) → IsNet n first → (m : Moment) → m.links ≡ links_at first m.counts → ((x : ℕ) × CanTurn n d m x) ⊎ NoneCanTurn n d m
@@ -51,24 +51,31 @@ cases_none n d first net m e = ⊎_elim
     (λ none. inr (λ x can. none x (can_turn_below n d first net m e x can) can))
     (cases_below (CanTurn n d m) (cases_can_turn n d m) n)
 
--- a run of turn_count alone, at whose end no node can turn
-pub record Finish (n d : ℕ) (m : Moment) : Type 0 where
+-- a run of turns alone that ends at such a moment
+pub record TurnsTo (n d : ℕ) (m : Moment) (End : Moment → Type 0) : Type 0 where
   pub entries : List Entry
   pub run : IsRun n d m entries
   pub turns_alone : turn_count entries ≡ length entries
-  pub none_left : NoneCanTurn n d (after_all m entries)
+  pub ends : End (after_all m entries)
+
+pub no_turns : (n d : ℕ) (m : Moment) (End : Moment → Type 0) → End m → TurnsTo n d m End
+no_turns n d m End ends = record { entries = []; run = tt; turns_alone = refl; ends = ends }
 
 turn_entry : Moment → ℕ → Entry
 turn_entry m x = record { worker = 0; node = x; reply = Turned (count_at m x + 1) }
 
-finish_more : (n d : ℕ) (m : Moment) (x : ℕ) → CanTurn n d m x → x < n → Finish n d (after_reply m x (Turned (count_at m x + 1))) → Finish n d m
+pub turn_first : (n d : ℕ) (m : Moment) (End : Moment → Type 0) (x : ℕ) → CanTurn n d m x → x < n → TurnsTo n d (after_reply m x (Turned (count_at m x + 1))) End → TurnsTo n d m End
 unfolding turn_entry
-finish_more n d m x can below rest = record {
+turn_first n d m End x can below rest = record {
   entries = turn_entry m x ∷ rest.entries;
   run = ((below, (can, refl)), rest.run);
   turns_alone = sum_by-cons (λ (e : Entry). cond (is_turned e.reply) 1 0) (turn_entry m x) rest.entries ∙ omega (arith, rest.turns_alone);
-  none_left = rest.none_left;
+  ends = rest.ends;
 }
+
+-- such a run at whose end no node can turn
+abbrev pub Finish : ℕ → ℕ → Moment → Type 0
+Finish n d m = TurnsTo n d m (NoneCanTurn n d)
 
 finish_by : (n d : ℕ) (first : List (ℕ × ℕ)) → IsNet n first → (fuel : ℕ) (m : Moment) → IsLawfulAt n d first m → n * n < sum m.counts + fuel → Finish n d m
 finish_by n d first net zero m at l = absurd (omega (arith, lawful_sum n d first m.counts at.lawful))
@@ -80,15 +87,15 @@ finish_by n d first net (suc fuel) m at l = ⊎_elim {C = Finish n d m}
     let below = can_turn_below n d first net m at.links x can in
     let adds = sum_after_reply m x (Turned k) (omega (arith, below, at.lawful.one_each)) in
     let rest = finish_by n d first net fuel (after_reply m x (Turned k)) (turn_keeps n d first net m at x k can) (omega (arith, adds)) in
-    finish_more n d m x can below rest)
-    (λ none_left. record { entries = []; run = tt; turns_alone = refl; none_left = none_left })
+    turn_first n d m (NoneCanTurn n d) x can below rest)
+    (λ none_left. no_turns n d m (NoneCanTurn n d) none_left)
     (cases_none n d first net m at.links)
 
 pub finish : (n d : ℕ) (first : List (ℕ × ℕ)) → IsNet n first → (m : Moment) → IsLawfulAt n d first m → Finish n d m
 finish n d first net m at = finish_by n d first net (suc (n * n)) m at (omega arith)
 
 -- all counts 0: the first links, lawful
-index-zeros : (n x : ℕ) → slice_index (replicate n 0) x ≡ 0
+pub index-zeros : (n x : ℕ) → slice_index (replicate n 0) x ≡ 0
 index-zeros n x = ⊎_elim (λ l. get_or-replicate n x 0 0 l) (λ h. get_or_past (replicate n 0) x 0 (omega (arith, length-replicate {A = ℕ} n 0))) (cases_lt x n)
 
 pub links_at-zeros : (n : ℕ) (first : List (ℕ × ℕ)) → links_at first (replicate n 0) ≡ first
@@ -113,7 +120,7 @@ settled_exists n d first net below =
     let start : IsLawfulAt n d first (moment_of first (replicate n 0)) = record { links = refl; lawful = zeros_lawful n d first } in
     let f = finish n d first net (moment_of first (replicate n 0)) start in
     let end = run_keeps n d first net (moment_of first (replicate n 0)) start f.entries f.run in
-    ((after_all (moment_of first (replicate n 0)) f.entries).counts, settled_at_end n d first net below (after_all (moment_of first (replicate n 0)) f.entries) end f.none_left)
+    ((after_all (moment_of first (replicate n 0)) f.entries).counts, settled_at_end n d first net below (after_all (moment_of first (replicate n 0)) f.entries) end f.ends)
 
 pub moment_path : (m k : Moment) → m.links ≡ k.links → m.counts ≡ k.counts → m ≡ k
 moment_path m k e f = λ i. record { links = e i; counts = f i }

@@ -1,8 +1,9 @@
 -- A history is a run or has one first bad entry, and never both.
 use Rattle.std.proofs.Common.{List, [], ap, arith, inl, inr, length, refl, subst, suc, sym, ℕ, ⊎_elim, ◌++◌, ◌+◌, ◌∙◌, ◌∷◌, ◌≡◌, ◌⊎◌}
-use Rattle.std.proofs.lemmas.Bool.{cases_Bool, cases_eq, cases_lt, false≢true}
+use Rattle.std.proofs.lemmas.Bool.{cases_eq, cases_lt}
 use Rattle.fr_core.proofs.Finishing.{cases_sink}
 use Rattle.fr_core.proofs.Rounds.{run_parts}
+use Rattle.fr_core.proofs.Settling.{cases_points}
 use Rattle.fr_core.specs.Checks.{Fails, FailsReply, FailsTurn, IsBadAt}
 use Rattle.fr_core.specs.History.{Moment, after, after_all, count_at}
 use Rattle.fr_core.specs.Legal.{IsLegal, IsLegalReply, IsRun}
@@ -11,9 +12,6 @@ use Rattle.fr_core.specs.declared.check.fault.Why.TheVariants.{Capped, Destinati
 use Rattle.fr_core.specs.declared.entry.Entry.{Entry}
 use Rattle.fr_core.specs.declared.entry.Reply.{Reply}
 use Rattle.fr_core.specs.declared.entry.Reply.TheVariants.{Cut, Held, Moved, Sink, Turned}
-use Rattle.fr_net.proofs.Neighbours.{Points-has_link, has_link_true}
-use Rattle.fr_net.specs.Links.{Points}
-use Rattle.fr_net.specs.Rows.{has_link}
 
 -- what fails a test is not legal
 turn_not_legal : (n d : ℕ) (m : Moment) (x k : ℕ) (why : Why) → FailsTurn n d m x k why → ¬ IsLegalReply n d m x (Turned k)
@@ -43,12 +41,6 @@ bad_is_no_run n d m entries index why bad run =
     not_legal n d (after_all m bad.front) bad.bad why bad.fails parts.1.0
 
 -- what is not legal fails a test
-cases_points : (links : List (ℕ × ℕ)) (x w : ℕ) → Points links x w ⊎ ¬ Points links x w
-cases_points links x w = ⊎_elim
-    (λ yes. inl (Points-has_link links x w yes))
-    (λ no. inr (λ p. false≢true (sym no ∙ has_link_true links x w p)))
-    (cases_Bool (has_link links x w))
-
 test_turn : (n d : ℕ) (m : Moment) (x k : ℕ) → IsLegalReply n d m x (Turned k) ⊎ ((why : Why) × FailsTurn n d m x k why)
 test_turn n d m x k =
     elim (cases_eq x d) [

@@ -9,6 +9,7 @@ pub mod Paths
 pub mod Runs
 pub mod Searching
 pub mod Finishing
+pub mod Reached
 pub mod SameLinks
 pub mod Rounds
 pub mod Joining

@@ -17,7 +17,7 @@ run_to_settled = λ n d first before settled net below lawful ends.
     let f = finish n d first net start at_start in
     let end : Moment = after_all start f.entries in
     let at_end = run_keeps n d first net start at_start f.entries f.run in
-    let same = settled_unique n d first end.counts settled (settled_at_end n d first net below end at_end f.none_left) ends in
+    let same = settled_unique n d first end.counts settled (settled_at_end n d first net below end at_end f.ends) ends in
     let whole : end ≡ moment_of first settled = moment_path end (moment_of first settled) (at_end.links ∙ ap (links_at first) same) same in
     let adds = run_sum n d start f.entries lawful.one_each f.run in
     let sums : sum end.counts ≡ sum settled = ap sum same in (
@@ -28,7 +28,7 @@ run_to_settled = λ n d first before settled net below lawful ends.
         turns_alone = f.turns_alone;
         long = omega (arith, adds, sums, f.turns_alone);
         ends = whole;
-        none_left = subst (NoneCanTurn n d) whole f.none_left;
+        none_left = subst (NoneCanTurn n d) whole f.ends;
         adds = omega (arith, adds, sums);
       },
     )

@@ -1,10 +1,10 @@
 -- Where no node can turn, lawful counts are settled.
 use Rattle.std.proofs.Common.{List, [], ap, arith, inl, inr, length, refl, slice_index, subst, suc, sym, zero, ℕ, ⊎_elim, ◌++◌, ◌+◌, ◌<◌, ◌∙◌, ◌∷◌, ◌≡◌, ◌≤◌, ◌⊎◌}
-use Rattle.std.proofs.lemmas.Bool.{cases_eq, cases_lt}
+use Rattle.std.proofs.lemmas.Bool.{cases_Bool, cases_eq, cases_lt, false≢true}
 use Rattle.fr_core.proofs.Away.{Climbs, climbs_from_meets, lawful_at_most}
 use Rattle.fr_core.proofs.Following.{path_short}
 use Rattle.fr_core.proofs.Pigeons.{too_many_counts}
-use Rattle.fr_core.proofs.Sinks.{links_at_keeps}
+use Rattle.fr_core.proofs.Sinks.{sink_from_none_out}
 use Rattle.fr_core.specs.History.{moment_of}
 use Rattle.fr_core.specs.Legal.{NoneCanTurn}
 use Rattle.fr_core.specs.Settled.{AreSettled, IsSettledCount}
@@ -13,8 +13,10 @@ use Rattle.fr_net.proofs.Acyclic.{links_at_acyclic}
 use Rattle.fr_net.proofs.Giving.{ComesFrom, Points-links_at_from}
 use Rattle.fr_net.proofs.Linking.{joined_below}
 use Rattle.fr_net.proofs.Members.{cases_some}
+use Rattle.fr_net.proofs.Neighbours.{Points-has_link, has_link_true}
 use Rattle.fr_net.specs.Counts.{AreLawful, links_at}
 use Rattle.fr_net.specs.Links.{IsAlone, IsNet, IsPath, Joins, Points}
+use Rattle.fr_net.specs.Rows.{has_link}
 
 pub cases_linked : (links : List (ℕ × ℕ)) (x : ℕ) → ((w : ℕ) × Joins links x w) ⊎ IsAlone links x
 cases_linked links x = ⊎_elim
@@ -27,6 +29,12 @@ cases_out links x = ⊎_elim
     (λ f. inl (f.0.1, subst (λ (z : ℕ). Points links z f.0.1) f.2 f.1))
     (λ none. inr (λ y h. none (x, y) h refl))
     (cases_some (λ (l : ℕ × ℕ). l.0 ≡ x) (λ l. cases_eq l.0 x) links)
+
+pub cases_points : (links : List (ℕ × ℕ)) (x w : ℕ) → Points links x w ⊎ ¬ Points links x w
+cases_points links x w = ⊎_elim
+    (λ yes. inl (Points-has_link links x w yes))
+    (λ no. inr (λ p. false≢true (sym no ∙ has_link_true links x w p)))
+    (cases_Bool (has_link links x w))
 
 pub walk_along : (links : List (ℕ × ℕ)) (u : ℕ) (vs : List ℕ) (k y x : ℕ) → IsWalk links u vs k y → Points links y x → IsWalk links u (vs ++ x ∷ []) (k + 1) x
 walk_along links u [] k y x w h = inl (subst (λ (z : ℕ). Points links z x) w.0 h, (0, omega (arith, w.1), (refl, refl)))
@@ -62,12 +70,7 @@ module _ (n d : ℕ) (first : List (ℕ × ℕ)) (net : IsNet n first) (in_range
         (λ none. absurd (none_left x (record {
           not_destination = apart;
           below_cap = below;
-          sink = (
-            ⊎_elim
-                (λ h. ⊎_elim (λ o. absurd (none w o)) (λ i. (w, i)) (links_at_keeps first c lawful.kept x w h))
-                (λ h. ⊎_elim (λ i. (w, i)) (λ o. absurd (none w o)) (links_at_keeps first c lawful.kept w x h)) linked,
-            none,
-          );
+          sink = sink_from_none_out first c lawful.kept x w linked none;
         })))
         (cases_out (links_at first c) x)
 

@@ -14,6 +14,15 @@ kept_at first c meets u v h = All-contains (IsKept c) first (u, v) meets h
 pub links_at_keeps : (first : List (ℕ × ℕ)) (c : List ℕ) → All (IsKept c) first → (u v : ℕ) → Points first u v → Joins (links_at first c) u v
 links_at_keeps first c meets u v h = ⊎_elim (λ e. inl (Points-links_at_same first c u v h e)) (λ e. inr (Points-links_at_turned first c v u h e)) (kept_at first c meets u v h)
 
+-- a linked node is a sink where no link points away from it
+pub sink_from_none_out : (first : List (ℕ × ℕ)) (c : List ℕ) → All (IsKept c) first → (x w : ℕ) → Joins first x w → ((y : ℕ) → ¬ Points (links_at first c) x y) → IsSink (links_at first c) x
+sink_from_none_out first c meets x w linked none = (
+  ⊎_elim
+      (λ h. ⊎_elim (λ o. absurd (none w o)) (λ i. (w, i)) (links_at_keeps first c meets x w h))
+      (λ h. ⊎_elim (λ i. (w, i)) (λ o. absurd (none w o)) (links_at_keeps first c meets w x h)) linked,
+  none,
+)
+
 pub sink_meets_bounds : (first : List (ℕ × ℕ)) (c : List ℕ) → All (IsKept c) first → (x : ℕ) → IsSink (links_at first c) x → MeetsBounds first c x
 sink_meets_bounds first c meets x sink = record {
   linked = ⊎_elim (λ h. (sink.0.0, inr h.0)) (λ h. (sink.0.0, inl h.0)) (Points-links_at_from first c sink.0.0 x sink.0.1);

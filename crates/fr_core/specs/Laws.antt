@@ -81,6 +81,11 @@ abbrev pub RunAddsUp : Type 0
 RunAddsUp = (n d : ℕ) (first : List (ℕ × ℕ)) (counts : List ℕ) (h : List Entry) → IsNet n first → AreLawful n d first counts → IsRun n d (moment_of first counts) h
     → (sum (after_all (moment_of first counts) h).counts ≡ sum counts + turn_count h) × (sum counts + turn_count h ≤ n * n)
 
+-- from lawful counts a run of turns alone leads to all lawful counts that are nowhere below them, and so from the counts 0 to all
+abbrev pub LawfulIsReached : Type 0
+LawfulIsReached = (n d : ℕ) (first : List (ℕ × ℕ)) (before counts : List ℕ) → IsNet n first → AreLawful n d first before → AreLawful n d first counts → ((x : ℕ) → slice_index before x ≤ slice_index counts x)
+    → (h : List Entry) × IsRun n d (moment_of first before) h × (turn_count h ≡ length h) × (after_all (moment_of first before) h ≡ moment_of first counts)
+
 -- Sinks
 
 -- a sink is a node that has a link, and the count of each neighbour meets its bound

@@ -91,8 +91,8 @@ fn fits_links(net: &Net, counts: &[u64]) -> bool
 }
 
 /// Whether the counts are lawful: one for each node, 0 at `dest` and at nodes with no link, none above the number of
-/// nodes, and each link with a direction. All counts are that turns of nodes other than `dest` lead to from the counts 0.
-/// Linear in nodes and links.
+/// nodes, and each link with a direction. By the law these are the counts that turns of nodes other than `dest` lead to from the counts 0:
+/// the clauses `all` and `reached` of [`run_law`](crate::laws::run_law). Linear in nodes and links.
 pub fn lawful(net: &Net, dest: u32, counts: &[u64]) -> bool
     requires { dest < net.now.nodes }
     ensures { IsTrue result ↔ AreLawful net.now.nodes dest net.now.links counts.now }

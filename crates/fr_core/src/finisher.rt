@@ -1,6 +1,6 @@
 //! Where every schedule ends, found on one thread.
 
-ghost use Rattle.std.specs.Prelude.{◌≡◌, ℕ, ◌<◌, ◌≤◌, ◌↔◌, IsTrue, length, slice_index};
+ghost use Rattle.std.specs.Prelude.{◌≡◌, ℕ, ◌<◌, ◌≤◌, ◌↔◌, ◌^◌, IsTrue, length, slice_index, sum};
 ghost use Rattle.fr_net.specs.Counts.{AreLawful};
 ghost use Rattle.fr_net.specs.Links.{IsNet};
 ghost use Rattle.fr_core.specs.Finish.{HoldsAllThatCanTurn, IsFinish};
@@ -25,6 +25,14 @@ fn search(net: &Net, dest: u32, turns: &mut Turns)
     let counts = &mut table[..net.nodes() as usize];
     levels::settle(net, dest, counts);
     turns.copy_from(counts);
+}
+
+/// How many turns these counts tell.
+fn total_of(counts: &[u64]) -> u64
+    requires { sum counts.now < 2 ^ 64 }
+    ensures { result ≡ sum counts.now }
+{
+    counts.iter().sum()
 }
 
 /// Goes on to the settled counts: node by node where few turns are left, and else by a search.
@@ -59,6 +67,22 @@ pub fn finish(net: &Net, dest: u32, turns: &mut Turns) -> u64
     settle(net, dest, turns);
     let after = turns.total();
     after - before
+}
+
+/// Goes where [`finish`] goes, over counts that are kept in no [`Turns`], and answers the same. Such counts do not tell where nodes have
+/// turned, so it always searches: it is linear in nodes and links, also where a turn or none is left. It allocates nothing. The counts
+/// have to be lawful, as [`lawful`](crate::lawful) tests.
+pub fn finish_counts(net: &Net, dest: u32, counts: &mut [u64]) -> u64
+    requires node { dest < net.now.nodes }
+    requires lawful { AreLawful net.now.nodes dest net.now.links counts.old }
+    ensures settled { AreSettled net.now.nodes dest net.now.links counts.new }
+    ensures run { IsFinish net.now.nodes dest net.now.links counts.old counts.new result }
+{
+    // By the law there are few nodes, so the totals are exact.
+    net.network_law();
+    let before = total_of(counts);
+    levels::settle(net, dest, counts);
+    total_of(counts) - before
 }
 
 /// Goes to where [`finish`] goes, and looks for nodes that can turn among `from` alone and among the neighbours of nodes that it

@@ -2,7 +2,7 @@
 //! nothing; they are the table of contents of the mathematics that the other contracts stand on.
 
 ghost use Rattle.fr_core.specs.Laws.{NoLoopStands, LinksComeFromFirst, SenseShowsTheLink, LawfulGivesANet, ZerosGiveFirst, OrderDoesNotMatter};
-ghost use Rattle.fr_core.specs.Laws.{TurnIsACount, RunKeepsLawful, MomentIsAfter, NoLoopEverStands, RunAddsUp, SinkByCounts};
+ghost use Rattle.fr_core.specs.Laws.{TurnIsACount, RunKeepsLawful, MomentIsAfter, NoLoopEverStands, RunAddsUp, LawfulIsReached, SinkByCounts};
 ghost use Rattle.fr_core.specs.Laws.{LawfulIsAtMostAway, NoTurnLeftIsSettled, SettledLeavesNoTurn, SettledIsUnique, LawfulIsAtMostSettled};
 ghost use Rattle.fr_core.specs.Laws.{ZeroIsAPath, CapIsNotJoined, JoinedIsBelowCap, JoinedByCounts};
 ghost use Rattle.fr_core.specs.Laws.{EachNetSettles, EachRunSettles, RunsEndAlike, RunLeadsToSettled, TurnsAreBounded};
@@ -19,13 +19,15 @@ pub fn links_law()
     ensures order { OrderDoesNotMatter }
 {}
 
-/// A turn changes the links as its count does, so a run keeps counts lawful, and no loop ever stands.
+/// A turn changes the links as its count does, so a run keeps counts lawful, and no loop ever stands. Turns lead to all lawful counts:
+/// these are just the counts that runs from the counts 0 lead to.
 pub fn run_law()
     ensures one { TurnIsACount }
     ensures all { RunKeepsLawful }
     ensures after { MomentIsAfter }
     ensures acyclic { NoLoopEverStands }
     ensures adds { RunAddsUp }
+    ensures reached { LawfulIsReached }
 {}
 
 /// A sink shows in the counts, also in counts that were loaded one after the other while others turned: what a neighbour

@@ -29,6 +29,10 @@ each_last P (y ∷ xs) x each = each_last P xs x each.1
 pub some_worker : (round : OpenRound) (k : ℕ) (workers : List Knowledge) → 1 ≤ k → workers ≡ new_workers round.table round.setup k → 0 < length workers
 some_worker round k workers some are_new = omega (arith, some, ap length are_new, new_workers_length round k)
 
+-- there are as many as were asked for
+pub as_many_as_asked : (opened : OpenRound) (k : ℕ) (workers : List Knowledge) → workers ≡ new_workers opened.table opened.setup k → length workers ≡ k
+as_many_as_asked opened k workers are_new = omega (arith, ap length are_new, new_workers_length opened k)
+
 -- as many came back as there were opened
 pub all_came_back : (opened closing : OpenRound) (n d k : ℕ) (links : List (ℕ × ℕ)) (workers back : List Knowledge) → opened.setup ≡ record { nodes = n; dest = d; links = links; workers = k } → workers ≡ new_workers opened.table opened.setup k → closing ≡ opened → length back ≡ length workers → length back ≡ closing.setup.workers
 all_came_back opened closing n d k links workers back asked are_new same all =

@@ -2,6 +2,7 @@
 use Rattle.std.specs.Prelude.{◌≡◌, ◌≢◌, ℕ, ◌<◌, ◌≤◌, ◌^◌, ◌↔◌, List, Option, Result, IfOk, IfErr, IfSome, replicate}
 use Rattle.std.specs.Borrow.{Bor}
 use Rattle.fr_net.specs.Network.{Network}
+use Rattle.fr_core.specs.Settled.{AreSettled}
 use Rattle.fr_crew.specs.Settlements.{HoldsSinks, IsCounted}
 use Rattle.fr_crew.specs.declared.fault.CrewFault.{CrewFault}
 use Rattle.fr_crew.specs.declared.fault.CrewFault.TheVariants.{Range, Start}
@@ -13,10 +14,12 @@ pub record CanAsk (net : Bor Network) (d : ℕ) (from : Option (Bor (List ℕ)))
   pub from_sinks : IfSome from (λ from. HoldsSinks net.now d from.now)
   pub none : turns ≡ replicate net.now.nodes 0
 
--- an answer to the call for settled counts: `Range` comes just where the destination is no node
+-- an answer to the call for settled counts: `Range` comes just where the destination is no node, and `Start` only where a node
+-- can turn
 pub record IsCountAnswer (net : Network) (d : ℕ) (answer : Result (List ℕ) CrewFault) : Type 0 where
   pub settled : IfOk answer (IsCounted net.nodes d net.links)
   pub range : IfErr answer (λ fault. (fault ≡ Range) ↔ (net.nodes ≤ d))
+  pub still : AreSettled net.nodes d net.links (replicate net.nodes 0) → IfErr answer (λ fault. fault ≢ Start)
 
 module _ {F : Type 0} where
   -- a way to settle counts: it takes all that it can be asked, and gives such answers alone

@@ -4,7 +4,7 @@ ghost use Rattle.std.specs.Prelude.{◌≡◌, ◌≢◌, ◌<◌, ◌≤◌, tr
 ghost use Rattle.std.specs.List.{AllByRecursion as Each};
 ghost use Rattle.fr_round.specs.Knowledge.{IsOwn, OpenRound};
 ghost use Rattle.fr_crew.specs.Crews.{IsSameWorker, IsOwnMember, IsOwnThread};
-ghost use Rattle.fr_crew.specs.declared.fault.CrewFault.TheVariants.{Range};
+ghost use Rattle.fr_crew.specs.declared.fault.CrewFault.TheVariants.{Range, Start};
 
 use crate::deques::Stealer;
 use crate::fault::CrewFault;
@@ -104,6 +104,7 @@ fn start_each<'s, 'e, J: Naming + Send + Sync, G: Gate + Sync>(
     ensures own { Each (IsOwnThread job.now.round) result.threads.items }
     ensures all { result.all ≡ true → vec_len result.threads ≡ vec_len members }
     ensures few { vec_len result.threads ≤ vec_len members }
+    ensures none { vec_len members ≡ 0 → result.all ≡ true }
 {
     for member in members {
         let promise = GivesBack(Snapshot::of(&member.worker));
@@ -157,6 +158,7 @@ fn run_each<'s, 'e, J: Naming + Send + Sync, R: Threads, G: Gate + Sync>(
     ensures own { IfOk result (λ back. Each (IsOwn job.now.round) back.items) }
     ensures len { IfOk result (λ back. vec_len back ≡ vec_len members) }
     ensures fault { IfErr result (λ fault. fault ≢ Range) }
+    ensures no_start { vec_len members ≡ 1 → IfErr result (λ fault. fault ≢ Start) }
 {
     let Rooms { back, threads } = make_room(alloc, members.len())?;
     let Some(last) = members.pop() else {
@@ -186,14 +188,17 @@ fn run_threads<J: Naming + Send + Sync, R: Threads + Wait, G: Gate + Sync>(
     ensures own { IfOk result (λ back. Each (IsOwn job.now.round) back.items) }
     ensures len { IfOk result (λ back. vec_len back ≡ vec_len members) }
     ensures fault { IfErr result (λ fault. fault ≢ Range) }
+    ensures no_start { vec_len members ≡ 1 → IfErr result (λ fault. fault ≢ Start) }
 {
     thread::scope(
         thread::scope_env(),
         rt,
         |scope| -> Result<Vec<Worker>, CrewFault>
             requires { (job.now.round.setup ≡ J.setup) × Each (IsOwnMember job.now.round) members.items }
-            ensures { IfOk result (λ back. Each (IsOwn job.entry.now.round) back.items) × IfOk result (λ back. vec_len back ≡ vec_len members)
-                × IfErr result (λ fault. fault ≢ Range) }
+            ensures own { IfOk result (λ back. Each (IsOwn job.entry.now.round) back.items) }
+            ensures len { IfOk result (λ back. vec_len back ≡ vec_len members) }
+            ensures fault { IfErr result (λ fault. fault ≢ Range) }
+            ensures no_start { vec_len members ≡ 1 → IfErr result (λ fault. fault ≢ Start) }
         { run_each(scope, rt, alloc, job, gate, members) },
     )
 }
@@ -218,6 +223,7 @@ pub(crate) fn run_crew<J: Naming + Send + Sync, R: Threads + Wait, G: Gate + Syn
     ensures own { IfOk result (λ back. Each (IsOwn round) back.1.items) }
     ensures len { IfOk result (λ back. vec_len back.1 ≡ vec_len workers) }
     ensures fault { IfErr result (λ fault. fault ≢ Range) }
+    ensures no_start { vec_len workers ≡ 1 → IfErr result (λ fault. fault ≢ Start) }
 {
     let room = room_for(&round, from);
     let Members {

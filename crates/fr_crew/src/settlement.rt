@@ -1,6 +1,6 @@
 //! Settling a network.
 
-ghost use Rattle.std.specs.Prelude.{◌≡◌, ◌≢◌, ℕ, ◌<◌, ◌≤◌, ◌^◌, ◌↔◌, IfOk, IfErr, IfSome, IsTrue, OnOk, length, replicate, sum, sum_by};
+ghost use Rattle.std.specs.Prelude.{◌≡◌, ◌≢◌, ℕ, ◌<◌, ◌≤◌, ◌^◌, ◌↔◌, ◌⊎◌, IfOk, IfErr, IfSome, IsTrue, OnOk, length, replicate, sum, sum_by};
 ghost use Rattle.fr_net.specs.Counts.{AreLawful};
 ghost use Rattle.fr_core.specs.Finish.{HoldsAllThatCanTurn};
 ghost use Rattle.fr_core.specs.Settled.{AreSettled};
@@ -37,17 +37,18 @@ pub struct Settled {
 /// [`finish`](fr_core::finish) on one thread. Whatever the plan, the gate and the schedule, the answer is the same but for who
 /// made how many turns.
 ///
-/// Each worker has a deque of candidates. At first these are all nodes with a link but the destination, dealt out in turn. A
-/// worker takes a candidate of its own, or else steals one from another worker, and tries to turn it. It makes candidates of
-/// its own of all neighbours where it did, and of the node itself where another worker was faster. It ends as soon as it finds no
-/// candidate, or its budget is spent. No thread is started where no node can turn at all, or where no worker may make a call.
-/// There is no lock, and the crew waits only for its threads to end.
+/// Each worker has a deque of candidates. At first these are all nodes with a link but the destination, each dealt to the worker
+/// whose number is the node's modulo the number of workers. A worker takes a candidate of its own, or else steals one from another
+/// worker, and tries to turn it. It makes candidates of its own of all neighbours but the destination where it did, and of the node
+/// itself where another worker was faster. It ends as soon as it finds no candidate, or its budget is spent. No thread is started
+/// by a crew of one, nor where no node can turn at all, nor where no worker may make a call. There is no lock, and the crew waits
+/// only for its threads to end.
 ///
 /// `Range` where the destination is no node, which is tested first. The room for the whole round is taken before the first
 /// thread is started; after that the only fault is `Start`, since a candidate for which a deque finds no more room is left to
-/// the finisher. Where there is a fault, the network is given up. It waits for its threads, which end where the calls of the
-/// gate return. Without threads it is linear in nodes and links; by a crew its cost grows with the turns, and `CALLING.md` says
-/// how.
+/// the finisher. `Start` never comes where no thread is started. Where there is a fault, the network is given up. It waits for its
+/// threads, which end where the calls of the gate return. Without threads it is linear in nodes and links; by a crew its cost grows
+/// with the turns, and `CALLING.md` says how.
 pub fn settle<R: Threads + Wait + Sync, G: Gate + Sync>(
     rt: &R,
     alloc: Global,
@@ -58,7 +59,8 @@ pub fn settle<R: Threads + Wait + Sync, G: Gate + Sync>(
 ) -> Result<Settled, CrewFault>
     ensures settled { IfOk result (λ settled. IsSettlement net.nodes dest net.links settled) }
     ensures range { IfErr result (λ fault. (fault ≡ Range) ↔ (net.nodes ≤ dest)) }
-    ensures no_start { plan.now.budget ≡ 0 → IfErr result (λ fault. fault ≢ Start) }
+    ensures by_finisher { plan.now.budget ≡ 0 → IfOk result (λ settled. settled.by_workers ≡ 0) }
+    ensures no_start { (plan.now.budget ≡ 0) ⊎ (plan.now.workers ≡ 1) → IfErr result (λ fault. fault ≢ Start) }
     ensures still { AreSettled net.nodes dest net.links (replicate net.nodes 0) → IfErr result (λ fault. fault ≢ Start) }
 {
     let turns = none_yet(alloc, &net, dest)?;
@@ -92,10 +94,11 @@ pub fn settle_alone(alloc: Global, net: Net, dest: u32) -> Result<Settled, CrewF
 /// given, are nodes, and each sink but the destination is among them; some may stand there twice. Where a few turns settle the
 /// network, or none at all, they are made on the thread that calls, by [`finish_soon`](fr_core::finish_soon): that costs a look at
 /// each of these nodes and the turns, and no thread is started. Else they are the workers' first candidates, in place of all nodes,
-/// and dealt out in turn; and each worker makes at most as many calls as there are nodes, since with more of them it would take longer
-/// to turn what is left than to search.
+/// each dealt to the worker whose number is its place in `from` modulo the number of workers; and each worker makes at most as many
+/// calls as there are nodes, since with more of them it would take longer to turn what is left than to search.
 ///
-/// `Range` where the destination is no node, which is tested first, or else `Start` and `Memory` as by `settle`.
+/// `Range` where the destination is no node, which is tested first. That is the only fault with the budget 0, and where no node can
+/// turn; else `Memory` may come, and `Start` as by `settle`.
 pub fn settled_counts<R: Threads + Wait + Sync, G: Gate + Sync>(
     rt: &R,
     alloc: Global,
@@ -110,7 +113,9 @@ pub fn settled_counts<R: Threads + Wait + Sync, G: Gate + Sync>(
     requires none { turns ≡ replicate net.now.nodes 0 }
     ensures settled { IfOk result (IsCounted net.now.nodes dest net.now.links) }
     ensures range { IfErr result (λ fault. (fault ≡ Range) ↔ (net.now.nodes ≤ dest)) }
-    ensures no_start { plan.now.budget ≡ 0 → IfErr result (λ fault. fault ≢ Start) }
+    ensures alone { plan.now.budget ≡ 0 → IfErr result (λ fault. fault ≡ Range) }
+    ensures no_start { (plan.now.budget ≡ 0) ⊎ (plan.now.workers ≡ 1) → IfErr result (λ fault. fault ≢ Start) }
+    ensures still { AreSettled net.now.nodes dest net.now.links (replicate net.now.nodes 0) → IfErr result (λ fault. fault ≡ Range) }
 {
     if plan.budget() == 0 {
         return settled_counts_alone(net, dest, from, turns);
@@ -175,6 +180,7 @@ fn turn_few(net: &Net, dest: u32, from: Option<&[u32]>, turns: &mut Turns) -> bo
     requires none { turns.old ≡ replicate net.now.nodes 0 }
     ensures one_each { length turns.new ≡ net.now.nodes }
     ensures settled { IsTrue result ↔ AreSettled net.now.nodes dest net.now.links turns.new }
+    ensures still { AreSettled net.now.nodes dest net.now.links (replicate net.now.nodes 0) → IsTrue result }
 {
     net.network_law();
     match from {
@@ -197,6 +203,7 @@ fn settled_by_crew<R: Threads + Wait, G: Gate + Sync>(
     requires one_each { length turns ≡ net.nodes }
     ensures settled { IfOk result (IsSettlement net.nodes dest net.links) }
     ensures fault { IfErr result (λ fault. fault ≢ Range) }
+    ensures no_start { plan.now.workers ≡ 1 → IfErr result (λ fault. fault ≢ Start) }
 {
     let Closed {
         net,
@@ -225,6 +232,7 @@ fn counts_by_crew<R: Threads + Wait, G: Gate + Sync>(
     requires one_each { length turns ≡ net.now.nodes }
     ensures settled { IfOk result (IsCounted net.now.nodes dest net.now.links) }
     ensures fault { IfErr result (λ fault. fault ≢ Range) }
+    ensures no_start { plan.now.workers ≡ 1 → IfErr result (λ fault. fault ≢ Start) }
 {
     let counts = counts_of_crew(rt, alloc, net, dest, from, plan, gate)?;
     turns.copy_from(&counts);
@@ -245,6 +253,7 @@ fn counts_of_crew<R: Threads + Wait, G: Gate + Sync>(
     requires { dest < net.now.nodes }
     ensures lawful { IfOk result (λ counts. AreLawful net.now.nodes dest net.now.links counts.items) }
     ensures fault { IfErr result (λ fault. fault ≢ Range) }
+    ensures no_start { plan.now.workers ≡ 1 → IfErr result (λ fault. fault ≢ Start) }
 {
     let plan = match from {
         Some(_) => plan.with_at_most(u64::from(net.nodes())),
@@ -271,6 +280,7 @@ fn turned_by_crew<R: Threads + Wait, G: Gate + Sync>(
     ensures lawful { IfOk result (λ closed. AreLawful net.nodes dest net.links closed.counts.items) }
     ensures turned { IfOk result (λ closed. sum_by (λ (p : ℕ × ℕ). p.1) closed.turned.items ≡ sum closed.counts.items) }
     ensures fault { IfErr result (λ fault. fault ≢ Range) }
+    ensures no_start { plan.now.workers ≡ 1 → IfErr result (λ fault. fault ≢ Start) }
 {
     let Ok((round, workers)) = Round::open(alloc, net, dest, plan.workers()) else {
         return Err(CrewFault::Memory);

@@ -1,6 +1,7 @@
 //! Settled counts in a way that is passed in.
 
 ghost use Rattle.std.specs.Prelude.{◌≡◌, ◌≢◌, ◌≤◌, ◌↔◌, IfOk, IfErr, IfSome, replicate};
+ghost use Rattle.fr_core.specs.Settled.{AreSettled};
 ghost use Rattle.fr_crew.specs.Settlements.{HoldsSinks, IsCounted};
 ghost use Rattle.fr_crew.specs.Ways.{Settles, NeverStarts};
 ghost use Rattle.fr_crew.specs.declared.fault.CrewFault.TheVariants.{Range, Start};
@@ -10,8 +11,8 @@ use fr_net::{Net, Turns};
 
 /// The settled counts of a network in a way that is passed in, as a closure over [`settled_counts`](crate::settled_counts) or
 /// [`settled_counts_alone`](crate::settled_counts_alone). The answer is that of the way, and so `Range` where the destination is
-/// no node, and never `Start` where the way never answers it. A closure over `settled_counts` has to state what that call
-/// requires of `from` and `turns`.
+/// no node, and never `Start` where no node can turn, or where the way never answers it. A closure over `settled_counts` has to state
+/// what that call requires of `from` and `turns`.
 pub fn settled_counts_by<F: Fn(&Net, u32, Option<&[u32]>, Turns) -> Result<Turns, CrewFault>>(
     way: &F,
     net: &Net,
@@ -25,6 +26,7 @@ pub fn settled_counts_by<F: Fn(&Net, u32, Option<&[u32]>, Turns) -> Result<Turns
     ensures settled { IfOk result (IsCounted net.now.nodes dest net.now.links) }
     ensures range { IfErr result (λ fault. (fault ≡ Range) ↔ (net.now.nodes ≤ dest)) }
     ensures no_start { NeverStarts F.post way.now → IfErr result (λ fault. fault ≢ Start) }
+    ensures still { AreSettled net.now.nodes dest net.now.links (replicate net.now.nodes 0) → IfErr result (λ fault. fault ≢ Start) }
 {
     way(net, dest, from, turns)
 }

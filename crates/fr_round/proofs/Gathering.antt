@@ -1,6 +1,7 @@
 -- The closing of a round.
 use Rattle.std.proofs.Common.{◌≡◌, ◌≢◌, ℕ, zero, suc, ◌+◌, ◌<◌, ◌≤◌, true, List, [], ◌∷◌, ◌++◌, map, length, get_or, set, refl, sym, ap, ◌∙◌, subst, arith, append_assoc, append-nil, length-append, get_or-set_same, get_or-set_other, ext_get_or, sum_by}
 use mathlib.Core.List.{map-append}
+use Rattle.std.proofs.lemmas.List.{nil_from_length}
 use Rattle.std.specs.List.{AllByRecursion as Each}
 use mathlib.Core.Option.{some, some-ne-none, some-injective}
 use mathlib.Core.Logic.{dite}
@@ -81,8 +82,8 @@ some_run b s r =
     run_to b.nodes b.dest b.links r.net r.history s.words r.run ends (subst (λ (l : List ℕ). AreLawful b.nodes b.dest b.links l) (sym r.words) at.lawful)
 
 -- what the last state shows
-pub closes : {S : Type 0} (r : OpenRound) (workers : List Knowledge) (words : List ℕ) (xs : List S) (id : ℕ) (v : View) (turned : List (ℕ × ℕ))
-    → Final (Seen (KeepsRule {S = S} r.setup) id v) words xs → v.closes ≡ true → v.taken ≡ map number_and_known workers → turned ≡ map number_and_turns workers → Closes r workers words turned
+pub closes : (r : OpenRound) (workers : List Knowledge) (words : List ℕ) (xs : List (Unit {0})) (id : ℕ) (v : View) (turned : List (ℕ × ℕ))
+    → Final (Seen (KeepsRule {S = Unit {0}} r.setup) id v) words xs → v.closes ≡ true → v.taken ≡ map number_and_known workers → turned ≡ map number_and_turns workers → Closes r workers words turned
 closes r workers words xs id v turned final closes' taken pairs =
     let s = final.0 in
     let k = final.1.0 in
@@ -105,14 +106,13 @@ closes r workers words xs id v turned final closes' taken pairs =
       numbered = numbered;
       pairs = pairs;
       all_back = λ whole. ap (sum_by (λ (p : ℕ × ℕ). p.1)) pairs ∙ all_handed_back r.setup k.history words workers run opened parts apart numbered whole;
+      state = s;
+      ruled = k;
+      words = final.2;
     }
 
-pub nil_of : {A : Type 0} (l : List A) → length l ≡ 0 → l ≡ []
-nil_of [] e = refl
-nil_of (x ∷ xs) e = absurd (omega arith)
-
 pub taking_all : (p q : RoundSeat) (first turned : List (ℕ × ℕ)) (done rest all : List Knowledge) → IsPartGathered p q first turned done rest all → length rest ≡ 0 → done ≡ all
-taking_all p q first turned done rest all t none = sym (ap (λ l. done ++ l) (nil_of rest none) ∙ append-nil done) ∙ t.parted
+taking_all p q first turned done rest all t none = sym (ap (λ l. done ++ l) (nil_from_length rest none) ∙ append-nil done) ∙ t.parted
 
 at_get : (l : List ℕ) (i a : ℕ) → get_elem? l i ≡ some a → get_or l i 0 ≡ a
 at_get [] i a e = absurd (some-ne-none a (sym e))

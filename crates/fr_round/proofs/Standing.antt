@@ -11,11 +11,11 @@ use Rattle.fr_core.specs.declared.entry.Entry.{Entry}
 use Rattle.fr_round.specs.declared.view.Setup.{Setup}
 use Rattle.fr_round.specs.declared.view.View.{View}
 use Rattle.fr_round.specs.Histories.{AreApart}
-use Rattle.fr_round.specs.Laws.{KnowsPartOf, OneHistoryStandsBehindAll, RuleHoldsAtFirst, workers_at, workers_of}
+use Rattle.fr_round.specs.Laws.{EveryStepKeepsTheRule, KnowsPartOf, OneHistoryStandsBehindAll, RuleHoldsAtFirst, workers_at, workers_of}
 use Rattle.fr_round.specs.Rule.{IsTaken, ViewFits}
 use Rattle.fr_round.proofs.Gathering.{some_run}
-use Rattle.fr_round.proofs.Keeping.{each_weaker}
-use Rattle.fr_round.proofs.Seating.{each_number, first_keeps}
+use Rattle.fr_round.proofs.Keeping.{begins_look, each_weaker, ends_look_at, exchanges_at, loads_against_at, loads_along_at, loads_own}
+use Rattle.fr_round.proofs.Seating.{each_number, enters, first_keeps, joins, splits}
 
 each_append : {X : Type 0} (P : X → Type 0) (xs ys : List X) → Each P xs → Each P ys → Each P (xs ++ ys)
 each_append P [] ys a c = c
@@ -102,3 +102,16 @@ first_holds b net = (
     numbered = tt;
   },
 )
+
+pub steps_keep : EveryStepKeepsTheRule
+steps_keep b = record {
+  own_load = λ slots id me x worker inside. loads_own b slots id me x worker.works (omega (arith, inside, ap (λ (z : Setup). z.nodes) worker.setup));
+  exchange = λ slots id me x c worker may room had met. exchanges_at b b refl slots id me x c (c + 1) refl room had worker may met;
+  along = λ slots id me x c w call link. loads_along_at b slots id me x c w call link;
+  against = λ slots id me x c w call link. loads_against_at b slots id me x c w call link;
+  look_begins = λ slots id me x worker. begins_look b slots id me x worker.works;
+  look_ends = λ slots id me x c call may met. ends_look_at b b refl slots id me x c call may met;
+  numbers = splits b;
+  closing_comes = enters b;
+  takes_back = joins b;
+}

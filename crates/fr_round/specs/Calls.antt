@@ -1,4 +1,5 @@
--- What the steps of a call make of what a worker knows. For the functions of the steps alone.
+-- What a call and its steps make of what a worker knows. Contracts of the public calls cite `ShowsCount` alone, and the laws what a step
+-- needs: `IsWorker`, `IsInCall`, `AllMeet`.
 use Rattle.std.specs.Prelude.{◌≡◌, ℕ, ◌+◌, ◌<◌, ◌≤◌, true, List, [], slice_index, replicate}
 use Rattle.atomic_table.specs.declared.shared.Seat.{Seat}
 use Rattle.atomic_table.specs.declared.shared.Shared.{Shared}

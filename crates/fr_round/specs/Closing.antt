@@ -1,11 +1,14 @@
 -- What the closing of a round says.
 use Rattle.std.specs.Prelude.{◌≡◌, ℕ, ◌<◌, List, length, map, sum, sum_by}
 use Rattle.std.specs.List.{AllByRecursion as Each}
+use Rattle.atomic_table.specs.Table.{State}
 use Rattle.fr_core.specs.History.{part, turn_count}
 use Rattle.fr_core.specs.Runs.{IsRunTo}
 use Rattle.fr_core.specs.declared.entry.Entry.{Entry}
+use Rattle.fr_round.specs.declared.view.View.{View}
 use Rattle.fr_round.specs.Histories.{StartsWith, AreApart}
 use Rattle.fr_round.specs.Knowledge.{Knowledge, OpenRound}
+use Rattle.fr_round.specs.Rule.{KeepsRule}
 
 -- a worker's number, with the history that it knows, and with how often its own calls turned a node
 abbrev pub number_and_known : Knowledge → ℕ × List Entry
@@ -33,5 +36,9 @@ pub record Closes (r : OpenRound) (workers : List Knowledge) (counts : List ℕ)
   pub numbered : Each (λ (k : Knowledge). k.number < r.setup.workers) workers
   -- the pairs are their numbers and turns, in the order in which they were handed back,
   pub pairs : turned ≡ map number_and_turns workers
-  -- and where all came back, their turns add up to the counts
+  -- where all came back, their turns add up to the counts,
   pub all_back : length workers ≡ r.setup.workers → sum_by (λ (p : ℕ × ℕ). p.1) turned ≡ sum counts
+  -- and the counts are the words of a state that the rule of the round allows
+  pub state : State (Unit {0}) View
+  pub ruled : KeepsRule r.setup state
+  pub words : state.words ≡ counts

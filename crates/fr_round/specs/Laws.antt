@@ -1,15 +1,17 @@
 -- The laws of a round: what holds at each moment, whatever the threads did, and that each step is the machine's.
-use Rattle.std.specs.Prelude.{◌≡◌, ℕ, ◌+◌, ◌<◌, ◌==◌, if◌then◌else◌, List, [], ◌∷◌, ◌++◌, map, length, replicate, slice_index, slice_set, Option, Some, None, IsSome}
+use Rattle.std.specs.Prelude.{◌≡◌, ℕ, ◌+◌, ◌<◌, ◌≤◌, ◌==◌, if◌then◌else◌, true, false, List, [], ◌∷◌, ◌++◌, map, length, replicate, slice_index, slice_set, Option, Some, None, IsSome}
 use Rattle.std.specs.List.{AllByRecursion as Each, flat_map}
-use Rattle.atomic_table.specs.Table.{State, Step, Me, opening}
-use Rattle.fr_net.specs.Links.{IsNet}
+use mathlib.Core.Option.{none}
+use prog.Atomic.{either}
+use Rattle.atomic_table.specs.Table.{State, Step, Me, Allows, Splits, Joins, Enters, opening, step}
+use Rattle.fr_net.specs.Links.{IsNet, Points}
 use Rattle.fr_net.specs.Rows.{row}
 use Rattle.fr_net.specs.declared.rows.First.{First}
 use Rattle.fr_net.specs.declared.rows.First.TheVariants.{Outward, Inward}
 use Rattle.fr_core.specs.History.{part}
 use Rattle.fr_core.specs.Machine.{Outcome, WorkerState, all_but_first, outcome, neighbour_at, phase_unheld}
 use Rattle.fr_core.specs.Runs.{IsRunTo}
-use Rattle.fr_core.specs.Targets.{node_of}
+use Rattle.fr_core.specs.Targets.{IsLookable, IsTurnable, node_of}
 use Rattle.fr_core.specs.declared.entry.Entry.{Entry}
 use Rattle.fr_core.specs.declared.entry.Reply.{Reply}
 use Rattle.fr_core.specs.declared.targets.Target.{Target}
@@ -19,7 +21,8 @@ use Rattle.fr_core.specs.declared.worker.Phase.TheVariants.{Idle, Looking, Swapp
 use Rattle.fr_round.specs.declared.view.Setup.{Setup}
 use Rattle.fr_round.specs.declared.view.View.{View}
 use Rattle.fr_round.specs.Histories.{StartsWith, AreApart, entry}
-use Rattle.fr_round.specs.Rule.{KeepsRule, opening_view}
+use Rattle.fr_round.specs.Calls.{AllMeet, IsInCall, IsWorker}
+use Rattle.fr_round.specs.Rule.{KeepsRule, closing_view, numbered_next, opening_view, spent_view, with_taken, worker_view}
 use Rattle.fr_round.specs.Steps.{Extends, own_loaded, neighbour_loaded, exchange_made, look_begun, look_ended}
 
 -- One history behind all
@@ -61,6 +64,29 @@ first_state b = opening (replicate b.nodes 0) [] (opening_view b)
 -- the rule allows it, and the history with no call stands behind it
 abbrev pub RuleHoldsAtFirst : Type 0
 RuleHoldsAtFirst = (b : Setup) → IsNet b.nodes b.links → KeepsRule b (first_state b) × StandsBehind b (first_state b) []
+
+-- each step at a seat, whatever the other threads do meanwhile, leads from states that the rule allows to such states, and tells the
+-- seat what `specs/Steps.antt` says of it:
+pub record StepsKeepTheRule (b : Setup) : Type 0 where
+  -- a worker's load of the own count of its node, in a turn,
+  pub own_load : (slots id : ℕ) (me : Me (Unit {0}) View) (x : ℕ) → IsWorker b me.0 → x < b.nodes → Allows (KeepsRule b) slots id me x (λ n. n) (own_loaded (step slots x 0 0 none) me)
+  -- and the exchange of a count for which each neighbour was seen to meet its bound;
+  pub exchange : (slots id : ℕ) (me : Me (Unit {0}) View) (x c : ℕ) → IsWorker b me.0 → IsTurnable b.nodes b.dest b.links x → c < b.nodes → c ≤ slice_index me.0.seen x → AllMeet b.links me.0.seen x c
+      → Allows (KeepsRule b) slots id me x (λ n. either (n == c) (c + 1) n) (exchange_made (step slots x c (c + 1) none) me)
+  -- the load of a neighbour's count, in a turn and in a look;
+  pub along : (slots id : ℕ) (me : Me (Unit {0}) View) (x c w : ℕ) → IsInCall b x c me.0 → Points b.links x w → Allows (KeepsRule b) slots id me w (λ n. n) (neighbour_loaded 1 (step slots w 0 0 none) me)
+  pub against : (slots id : ℕ) (me : Me (Unit {0}) View) (x c w : ℕ) → IsInCall b x c me.0 → Points b.links w x → Allows (KeepsRule b) slots id me w (λ n. n) (neighbour_loaded 0 (step slots w 0 0 none) me)
+  -- the two loads of the own count, in a look;
+  pub look_begins : (slots id : ℕ) (me : Me (Unit {0}) View) (x : ℕ) → IsWorker b me.0 → Allows (KeepsRule b) slots id me x (λ n. n) (look_begun (step slots x 0 0 none) me)
+  pub look_ends : (slots id : ℕ) (me : Me (Unit {0}) View) (x c : ℕ) → IsInCall b x c me.0 → IsLookable b.nodes b.links x → AllMeet b.links me.0.seen x c
+      → Allows (KeepsRule b) slots id me x (λ n. n) (look_ended (step slots x 0 0 none) me)
+  -- how the opening seat gives out a number, how a closing seat comes, and how it takes a worker back
+  pub numbers : (id : ℕ) (v : View) → v.opens ≡ true → v.works ≡ false → v.closes ≡ false → v.next < b.workers → Splits {S = Unit {0}} (KeepsRule b) id v (numbered_next v) (worker_view v)
+  pub closing_comes : (slots x : ℕ) (v : View) → v.setup ≡ b → Enters {S = Unit {0}} (KeepsRule b) slots x (λ n w. w ≡ closing_view v.setup)
+  pub takes_back : (id : ℕ) (v : View) (other : ℕ) (w : View) → v.closes ≡ true → v.works ≡ false → v.opens ≡ false → w.works ≡ true → Joins {S = Unit {0}} (KeepsRule b) id v other w (with_taken v w) spent_view
+
+abbrev pub EveryStepKeepsTheRule : Type 0
+EveryStepKeepsTheRule = (b : Setup) → StepsKeepTheRule b
 
 -- Each step is the machine's
 

@@ -1,6 +1,6 @@
 //! The laws of a round: each clause is a law of `specs/Laws.antt`, proved. The functions do nothing.
 
-ghost use Rattle.fr_round.specs.Laws.{OneHistoryStandsBehindAll, RuleHoldsAtFirst};
+ghost use Rattle.fr_round.specs.Laws.{OneHistoryStandsBehindAll, RuleHoldsAtFirst, EveryStepKeepsTheRule};
 ghost use Rattle.fr_round.specs.Laws.{OwnLoadIsTheMachines, NeighbourLoadIsTheMachines, ExchangeIsTheMachines};
 ghost use Rattle.fr_round.specs.Laws.{LookBeginsAsTheMachines, LookEndsAsTheMachines};
 
@@ -8,10 +8,12 @@ ghost use Rattle.fr_round.specs.Laws.{LookBeginsAsTheMachines, LookEndsAsTheMach
 /// thread (E. Gafni and D. Bertsekas, 1981) gives at that point: its counts are the words, its links are those that the
 /// words give, and no loop stands among them. What each worker knows is a beginning of the list, the worker's own calls stand
 /// in it in their order, and no two workers have one number. The rule that this starts from holds when a round is opened,
-/// when the list is empty, and every atomic step of every thread keeps it.
+/// when the list is empty, and each step at a seat keeps it, whatever the other threads do. `Round::close` hands out the words of a
+/// state that it allows.
 pub fn round_law()
     ensures run { OneHistoryStandsBehindAll }
     ensures first { RuleHoldsAtFirst }
+    ensures kept { EveryStepKeepsTheRule }
 {}
 
 /// Each load and each exchange that a worker makes on the words is a step of the machine of `fr_core` at the same words: it

@@ -121,9 +121,10 @@ impl Round {
     ///
     /// The worker has to be one of this round. A call on what is no node, on the destination or on a node with no link is
     /// refused, in this order, with no step, and nothing changes. Every other call is decided: `Turned` where it turned the
-    /// node, `Held` by a neighbour to which a link points, `Moved` where another worker turned the node meanwhile, and
-    /// `Cut` where the node has turned as often as there are nodes. Each reply is one that full reversal by one thread
-    /// gives after a history that goes on from all that the worker knew; with it, the history is what the worker knows now.
+    /// node, `Held` by a neighbour to which a link points, `Moved` where another worker has turned the node since this one saw its count,
+    /// which may have been before the call, and `Cut` where the node has turned as often as there are nodes. Each reply is one that full
+    /// reversal by one thread gives after a history that goes on from all that the worker knew; with it, the history is what the
+    /// worker knows now.
     pub fn try_turn(&self, worker: &mut Worker, x: u32) -> Result<Reply, Refusal>
         requires { IsOwn self.now worker.old }
         ensures own { IsOwn self.now worker.new }
@@ -156,7 +157,7 @@ impl Round {
     /// The worker has to be one of this round. A look at what is no node or at a node with no link is refused, in this order,
     /// with no step, and nothing changes; the destination and a node that turns no more are looked at like any other. Every
     /// other look is decided: `Held` by a neighbour to which a link points, `Sink` where all links point to the node, and
-    /// `Moved` where another worker turned the node meanwhile. Each reply holds at one point of a history that goes on from
+    /// `Moved` where another worker turned the node between the two loads of its count. Each reply holds at one point of a history that goes on from
     /// all that the worker knew, the point of its entry; with it, the history is what the worker knows now.
     pub fn look(&self, worker: &mut Worker, x: u32) -> Result<Reply, Refusal>
         requires { IsOwn self.now worker.old }

@@ -1,6 +1,7 @@
 use Rattle.fr_core.proofs.Turning.{turn-links_at, turn_lawful}
 use Rattle.std.proofs.Common.{List, ap, arith, refl, replicate, subst, sym, ℕ, ◌∙◌, ◌≡◌}
 use Rattle.fr_core.proofs.Finishing.{links_at-zeros, zeros_lawful}
+use Rattle.fr_core.proofs.Reached.{lawful_reached}
 use Rattle.fr_core.proofs.Rounds.{links-after_all}
 use Rattle.fr_core.proofs.Runs.{lawful_sum, run_count, run_sum}
 use Rattle.fr_core.proofs.Turning.{run_keeps}
@@ -35,3 +36,6 @@ returns-clause-adds c = λ n d first counts h net lawful run.
     let at = run_keeps n d first net (moment_of first counts) (record { links = refl; lawful = lawful }) h run in
     let adds = run_sum n d (moment_of first counts) h lawful.one_each run in
     (adds, omega (arith, adds, lawful_sum n d first _ at.lawful))
+
+pub returns-clause-reached : goal.returns-clause-reached
+returns-clause-reached c = lawful_reached

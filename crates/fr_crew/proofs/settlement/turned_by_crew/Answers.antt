@@ -1,5 +1,6 @@
-use Rattle.std.proofs.Common.{rules, ◌≡◌, ◌<◌, length, arith}
-use Rattle.fr_crew.proofs.Workers.{new_workers_own, some_worker, all_came_back}
+use Rattle.std.proofs.Common.{arith, length, rules, ◌<◌, ◌≡◌}
+use Rattle.std.proofs.lemmas.Result.{err_from_is_err_and}
+use Rattle.fr_crew.proofs.Workers.{all_came_back, as_many_as_asked, new_workers_own, some_worker}
 use Rattle.fr_crew.proofs.settlement.turned_by_crew.Given.{Over}
 use Rattle.fr_crew.proofs.settlement.turned_by_crew.Goals as goal
 use Rattle.fr_crew.proofs.settlement.turned_by_crew.Goals.{In_ok-round}
@@ -23,3 +24,10 @@ close-requires-clause-few g c = omega (arith, all_back g (goal.at.close-requires
 
 pub returns-clause-turned : goal.returns-clause-turned
 returns-clause-turned g c = c.close.ensures.history.all_back (all_back g (goal.at.returns-clause-turned g c).In_ok-round)
+
+pub returns-in_err-round-clause-no_start : goal.returns-in_err-round-clause-no_start
+returns-in_err-round-clause-no_start g c = λ one.
+    let workers = c.in-Ok.workers in
+    let asked = as_many_as_asked c.in-Ok.round c.workers.result workers.items c.in-Ok.ensures.workers in
+    let fault = err_from_is_err_and c.from_residual.result c.from_residual.ensures.1 in
+    rw (fault.1, fault.2) (c.in_err-round.ensures.no_start (omega (arith, workers.ok.0, asked, one)))
