@@ -15,6 +15,7 @@ use Rattle.fr_net.specs.declared.edit.Edit.{Edit}
 use Rattle.fr_net.specs.declared.edit.Edit.TheVariants.{Cut, Add, Join}
 use Rattle.fr_crew.specs.Settlements.{IsCounted}
 use Rattle.fr_route.specs.Routes.{IsHop}
+use Rattle.fr_route.specs.Changes.{CanTurnAfter}
 use Rattle.fr_route.specs.States.{State, IsReport, IsRound, net_at, state_with}
 use Rattle.fr_route.specs.declared.fault.RouteFault.{RouteFault}
 use Rattle.fr_route.specs.declared.fault.RouteFault.TheVariants.{Net, Range, Start, Memory}
@@ -94,8 +95,8 @@ IsEdited s edits d new =
     (length edits ≤ most_edits) × ((net : Network) × (AreMade (net_at s) edits net × IsRound net.nodes d net.links new))
 
 -- why none of it comes to pass: an edit is refused, or there was no thread or no memory for it
-abbrev pub IsEditingFault : State → List Edit → RouteFault → Type 0
-IsEditingFault s edits (Net fault) = (refused : EditFault) × (IsBatchFault (net_at s) edits refused × (fault ≡ refused.fault))
-IsEditingFault s edits Range = ⊥
-IsEditingFault s edits Start = Unit {0}
-IsEditingFault s edits Memory = Unit {0}
+abbrev pub IsEditingFault : State → List Edit → ℕ → RouteFault → Type 0
+IsEditingFault s edits d (Net fault) = (refused : EditFault) × (IsBatchFault (net_at s) edits refused × (fault ≡ refused.fault))
+IsEditingFault s edits d Range = ⊥
+IsEditingFault s edits d Start = CanTurnAfter s edits d
+IsEditingFault s edits d Memory = Unit {0}

@@ -11,7 +11,7 @@ ghost use Rattle.fr_net.specs.Counts.{AreLawful, links_at};
 ghost use Rattle.fr_net.specs.Network.{net_of};
 ghost use Rattle.fr_route.specs.Routes.{AreHops};
 ghost use Rattle.fr_route.specs.States.{IsReport};
-ghost use Rattle.fr_route.specs.Changes.{IsOpenFault};
+ghost use Rattle.fr_route.specs.Changes.{IsOpenFault, IsStill};
 ghost use Rattle.fr_route.specs.Outcomes.{AreOthers, HoldsMoved, IsOutcome, ends_of, lone_count, state_after};
 ghost use Rattle.fr_route.specs.declared.fault.RouteFault.TheVariants.{Start};
 
@@ -46,6 +46,7 @@ pub(crate) fn outcome_of<F: Fn(&Net, u32, Option<&[u32]>, Turns) -> Result<Turns
     requires none { turns ≡ replicate net.now.nodes 0 }
     ensures outcome { IfOk result (IsOutcome net.now dest) }
     ensures fault { IfErr result (IsOpenFault net.now.nodes dest) }
+    ensures still { IsStill net.now dest → IfErr result (λ fault. fault ≢ Start) }
     ensures no_start { NeverStarts F.post way.now → IfErr result (λ fault. fault ≢ Start) }
 {
     let turns = settled_from(net, dest, from, way, turns)?;
@@ -67,6 +68,7 @@ fn settled_from<F: Fn(&Net, u32, Option<&[u32]>, Turns) -> Result<Turns, CrewFau
     requires none { turns ≡ replicate net.now.nodes 0 }
     ensures settled { IfOk result (IsCounted net.now.nodes dest net.now.links) }
     ensures range { IfErr result (λ fault. (fault ≡ Range) ↔ (net.now.nodes ≤ dest)) }
+    ensures still { IsStill net.now dest → IfErr result (λ fault. fault ≢ CrewStart) }
     ensures no_start { NeverStarts F.post way.now → IfErr result (λ fault. fault ≢ CrewStart) }
 {
     net.network_law();

@@ -7,7 +7,7 @@ ghost use Rattle.fr_route.specs.declared.change.Report.{Report};
 ghost use Rattle.fr_route.specs.declared.fault.RouteFault.TheVariants.{Start, Memory};
 ghost use Rattle.fr_route.specs.States.{IsRound, IsReport};
 ghost use Rattle.fr_route.specs.Routes.{IsHop, AreHops, IsWalked};
-ghost use Rattle.fr_route.specs.Changes.{IsOpenFault, IsChanged, IsRouteFault};
+ghost use Rattle.fr_route.specs.Changes.{IsOpenFault, IsChanged, IsRouteFault, IsStill};
 ghost use Rattle.fr_route.specs.Reroutes.{AreRerouted};
 ghost use Rattle.fr_route.specs.Outcomes.{IsEdited, IsEditingFault, IsOutcome, cut_off_nodes, movable};
 
@@ -60,6 +60,7 @@ fn first_counts<F: Fn(&Net, u32, Option<&[u32]>, Turns) -> Result<Turns, CrewFau
     requires { Settles F.pre F.post way.now }
     ensures counted { IfOk result (IsCounted net.now.nodes dest net.now.links) }
     ensures fault { IfErr result (IsOpenFault net.now.nodes dest) }
+    ensures still { IsStill net.now dest → IfErr result (λ fault. fault ≢ Start) }
     ensures no_start { NeverStarts F.post way.now → IfErr result (λ fault. fault ≢ Start) }
 {
     if dest >= net.nodes() {
@@ -94,6 +95,8 @@ impl Router {
     ) -> Result<Router, RouteFault>
         ensures opened { IfOk result (λ router. (dest < net.nodes) × IsRound net.nodes dest net.links router) }
         ensures fault { IfErr result (IsOpenFault net.nodes dest) }
+        ensures still { IsStill net dest → IfErr result (λ fault. fault ≢ Start) }
+        ensures one_worker { plan.now.workers ≡ 1 → IfErr result (λ fault. fault ≢ Start) }
         ensures no_start { plan.now.budget ≡ 0 → IfErr result (λ fault. fault ≢ Start) }
     {
         Router::open_by(
@@ -131,6 +134,7 @@ impl Router {
         requires { Settles F.pre F.post way.now }
         ensures opened { IfOk result (λ router. (dest < net.nodes) × IsRound net.nodes dest net.links router) }
         ensures fault { IfErr result (IsOpenFault net.nodes dest) }
+        ensures still { IsStill net dest → IfErr result (λ fault. fault ≢ Start) }
         ensures no_start { NeverStarts F.post way.now → IfErr result (λ fault. fault ≢ Start) }
     {
         let turns = first_counts(alloc, &net, dest, way)?;
@@ -181,6 +185,7 @@ impl Router {
         ensures report { IfOk result (λ report. IsReport self.new report.turned report.cut) }
         ensures fault { IfErr result (IsRouteFault self.old change) }
         ensures unchanged { OnErr result (self.new ≡ self.old) }
+        ensures one_worker { plan.now.workers ≡ 1 → IfErr result (λ fault. fault ≢ Start) }
         ensures no_start { plan.now.budget ≡ 0 → IfErr result (λ fault. fault ≢ Start) }
     {
         self.change_by(
@@ -233,6 +238,7 @@ impl Router {
         ensures fault { IfErr result (IsRouteFault self.old change) }
         ensures unchanged { OnErr result (self.new ≡ self.old) }
         ensures untold { OnErr result (rerouted.new.items ≡ rerouted.old.items) }
+        ensures one_worker { plan.now.workers ≡ 1 → IfErr result (λ fault. fault ≢ Start) }
         ensures no_start { plan.now.budget ≡ 0 → IfErr result (λ fault. fault ≢ Start) }
     {
         self.change_telling_by(
@@ -377,7 +383,7 @@ impl Router {
         ensures edited { IfOk result (λ _. IsEdited self.old edits.now dest self.new) }
         ensures told { IfOk result (λ told. (report : Report) × IsReport self.new report.turned report.cut × K.post tell.now report (Ok told)) }
         ensures rerouted { IfOk result (λ _. self.old.nodes ≤ vec_capacity rerouted.old → AreRerouted self.old self.new rerouted.new.items) }
-        ensures fault { IfErr result (IsEditingFault self.old edits.now) }
+        ensures fault { IfErr result (IsEditingFault self.old edits.now dest) }
         ensures unchanged { OnErr result (self.new ≡ self.old) }
         ensures untold { OnErr result (rerouted.new.items ≡ rerouted.old.items) }
         ensures no_start { NeverStarts F.post way.now → IfErr result (λ fault. fault ≢ Start) }
@@ -395,6 +401,7 @@ impl Router {
                 ensures outcome { IfOk result (λ made. IsOutcome net.entry.now dest made.0) }
                 ensures told { IfOk result (λ made. K.post tell.entry.now made.0.report (Ok made.1)) }
                 ensures fault { IfErr result (IsOpenFault net.entry.now.nodes dest) }
+                ensures still { IsStill net.entry.now dest → IfErr result (λ fault. fault ≢ Start) }
                 ensures no_start { NeverStarts F.post way.entry.now → IfErr result (λ fault. fault ≢ Start) }
             {
                 let outcome = outcome_of(net, dest, from, way, turns)?;
