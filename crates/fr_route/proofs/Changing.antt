@@ -1,17 +1,18 @@
 -- What a change makes, by the edits that it makes and the destination toward which the network is then settled.
-use Rattle.std.proofs.Common.{List, [], Some, ap, arith, inl, inr, refl, subst, sym, take, ℕ, ◌++◌, ◌<◌, ◌∙◌, ◌∷◌, ◌≡◌, ◌≢◌}
+use Rattle.std.proofs.Common.{List, [], Some, ap, arith, inl, inr, refl, subst, sym, length, take, ℕ, ◌++◌, ◌<◌, ◌≤◌, ◌∙◌, ◌∷◌, ◌≡◌, ◌≢◌}
 use Rattle.std.specs.List.{HoldsAt}
 use Rattle.fr_net.specs.Batches.{AreMade, IsBatchFault, IsEditFault, IsMade}
 use Rattle.fr_net.specs.Edits.{IsCutFault, IsJoinFault, IsJoined, without}
 use Rattle.fr_net.specs.Faults.{IsFirstFault, IsNetworkOf}
+use Rattle.fr_net.specs.Limits.{most_edits}
 use Rattle.fr_net.specs.declared.fault.EditFault.{EditFault}
 use Rattle.fr_net.specs.declared.fault.NetFault.{NetFault}
 use Rattle.fr_net.specs.declared.fault.NetFault.TheVariants as net
 use Rattle.fr_net.specs.Network.{Network}
 use Rattle.fr_net.specs.declared.edit.Edit.{Edit}
 use Rattle.fr_net.specs.declared.edit.Edit.TheVariants as edit
-use Rattle.fr_route.specs.Answers.{IsAnswer, fault_number}
-use Rattle.fr_route.specs.Changes.{IsChanged, IsOpenFault, IsRouteFault}
+use Rattle.fr_route.specs.Answers.{IsAnswer, MayStartFor, fault_number}
+use Rattle.fr_route.specs.Changes.{IsChanged, IsOpenFault, IsRouteFault, IsStill}
 use Rattle.fr_route.specs.Faults.{of_net_fault}
 use Rattle.fr_route.specs.Outcomes.{IsEdited, IsEditingFault}
 use Rattle.fr_route.specs.Refusals.{IsRefusalOf, request_of_change}
@@ -40,29 +41,30 @@ made_nodes net [] after made = ap (λ (m : Network). m.nodes) made
 made_nodes net (e ∷ es) after made = made_nodes made.0 es after made.1.1 ∙ edited_nodes net e made.0 made.1.0
 
 -- why the edits are not made: one is refused,
-refused_for : (s : State) (edits : List Edit) (refused : EditFault) (fault : NetFault) → refused.fault ≡ fault → (refused.fault ≢ net.Memory → IsBatchFault (net_at s) edits refused) → IsEditingFault s edits (of_net_fault fault)
-refused_for s edits refused net.TooMany is why = (refused, (why (λ e. absurd cc), sym is))
-refused_for s edits refused (net.Range x) is why = (refused, (why (λ e. absurd cc), sym is))
-refused_for s edits refused (net.SelfLink x) is why = (refused, (why (λ e. absurd cc), sym is))
-refused_for s edits refused (net.Twice x y) is why = (refused, (why (λ e. absurd cc), sym is))
-refused_for s edits refused (net.Cycle walk) is why = (refused, (why (λ e. absurd cc), sym is))
-refused_for s edits refused net.NoLink is why = (refused, (why (λ e. absurd cc), sym is))
-refused_for s edits refused net.Memory is why = tt
+refused_for : (s : State) (edits : List Edit) (d : ℕ) (refused : EditFault) (fault : NetFault) → refused.fault ≡ fault → (refused.fault ≢ net.Memory → IsBatchFault (net_at s) edits refused) → IsEditingFault s edits d (of_net_fault fault)
+refused_for s edits d refused net.TooMany is why = (refused, (why (λ e. absurd cc), sym is))
+refused_for s edits d refused (net.Range x) is why = (refused, (why (λ e. absurd cc), sym is))
+refused_for s edits d refused (net.SelfLink x) is why = (refused, (why (λ e. absurd cc), sym is))
+refused_for s edits d refused (net.Twice x y) is why = (refused, (why (λ e. absurd cc), sym is))
+refused_for s edits d refused (net.Cycle walk) is why = (refused, (why (λ e. absurd cc), sym is))
+refused_for s edits d refused net.NoLink is why = (refused, (why (λ e. absurd cc), sym is))
+refused_for s edits d refused net.Memory is why = tt
 
-pub refused_fault : (s : State) (edits : List Edit) (refused : EditFault) → (refused.fault ≢ net.Memory → IsBatchFault (net_at s) edits refused) → IsEditingFault s edits (of_net_fault refused.fault)
-refused_fault s edits refused why = refused_for s edits refused refused.fault refl why
+pub refused_fault : (s : State) (edits : List Edit) (d : ℕ) (refused : EditFault) → (refused.fault ≢ net.Memory → IsBatchFault (net_at s) edits refused) → IsEditingFault s edits d (of_net_fault refused.fault)
+refused_fault s edits d refused why = refused_for s edits d refused refused.fault refl why
 
 -- or the round on the network that they make does not come to pass
-pub round_fault : (s : State) (edits : List Edit) (n d : ℕ) (fault : RouteFault) → d < n → IsOpenFault n d fault → IsEditingFault s edits fault
-round_fault s edits n d (Net fault) below why = absurd why
-round_fault s edits n d Range below why = omega (arith, below, why)
-round_fault s edits n d Start below why = tt
-round_fault s edits n d Memory below why = tt
+pub round_fault : (s : State) (edits : List Edit) (net : Network) (d : ℕ) (fault : RouteFault) → d < s.nodes → length edits ≤ most_edits → AreMade (net_at s) edits net → IsOpenFault net.nodes d fault
+    → (IsStill net d → fault ≢ Start) → IsEditingFault s edits d fault
+round_fault s edits net d (Net fault) below few made why moves = absurd why
+round_fault s edits net d Range below few made why moves = omega (arith, below, why, made_nodes (net_at s) edits net made)
+round_fault s edits net d Start below few made why moves = (few, below, (net, (made, λ still. moves still refl)))
+round_fault s edits net d Memory below few made why moves = tt
 
 -- the change is to make this one edit
 pub record IsBy (s : State) (change : Change) (e : Edit) : Type 0 where
   pub done : (new : State) → IsEdited s (e ∷ []) s.dest new → IsChanged s change new
-  pub undone : (fault : RouteFault) → IsEditingFault s (e ∷ []) fault → IsRouteFault s change fault
+  pub undone : (fault : RouteFault) → IsEditingFault s (e ∷ []) s.dest fault → IsRouteFault s change fault
 
 -- the one edit of a change is refused
 refused_edit : (s : State) (e : Edit) (refused : EditFault) → IsBatchFault (net_at s) (e ∷ []) refused → IsEditFault (net_at s) e refused.fault
@@ -80,10 +82,10 @@ cut_by s u v = record { done = done; undone = undone }
     done new (few, (net, ((next, (made, is)), round))) =
         (made.0, round_listed s.nodes s.dest (without u v s.links) next new made.1 (subst (λ (m : Network). IsRound m.nodes s.dest m.links new) is round))
 
-    undone : (fault : RouteFault) → IsEditingFault s (edit.Cut u v ∷ []) fault → IsRouteFault s (Cut u v) fault
+    undone : (fault : RouteFault) → IsEditingFault s (edit.Cut u v ∷ []) s.dest fault → IsRouteFault s (Cut u v) fault
     undone (Net fault) (refused, (why, is)) = subst (IsCutFault s.links u v) (sym is) (refused_edit s (edit.Cut u v) refused why)
     undone Range h = h
-    undone Start h = λ none. none
+    undone Start h = h
     undone Memory h = tt
 
 pub add_by : (s : State) (u v : ℕ) → IsBy s (Add u v) (edit.Add u v)
@@ -93,10 +95,10 @@ add_by s u v = record { done = done; undone = undone }
     done new (few, (net, ((next, (made, is)), round))) =
         (made.faultless, round_listed s.nodes s.dest (s.links ++ (u, v) ∷ []) next new made (subst (λ (m : Network). IsRound m.nodes s.dest m.links new) is round))
 
-    undone : (fault : RouteFault) → IsEditingFault s (edit.Add u v ∷ []) fault → IsRouteFault s (Add u v) fault
+    undone : (fault : RouteFault) → IsEditingFault s (edit.Add u v ∷ []) s.dest fault → IsRouteFault s (Add u v) fault
     undone (Net fault) (refused, (why, is)) = subst (IsFirstFault s.nodes (s.links ++ (u, v) ∷ [])) (sym is) (refused_edit s (edit.Add u v) refused why)
     undone Range h = h
-    undone Start h = λ none. none
+    undone Start h = h
     undone Memory h = tt
 
 pub join_by : (s : State) (u v : ℕ) → IsBy s (Join u v) (edit.Join u v)
@@ -105,10 +107,10 @@ join_by s u v = record { done = done; undone = undone }
     done : (new : State) → IsEdited s (edit.Join u v ∷ []) s.dest new → IsChanged s (Join u v) new
     done new (few, (net, ((next, (made, is)), round))) = (next, (made, subst (λ (m : Network). IsRound m.nodes s.dest m.links new) is round))
 
-    undone : (fault : RouteFault) → IsEditingFault s (edit.Join u v ∷ []) fault → IsRouteFault s (Join u v) fault
+    undone : (fault : RouteFault) → IsEditingFault s (edit.Join u v ∷ []) s.dest fault → IsRouteFault s (Join u v) fault
     undone (Net fault) (refused, (why, is)) = subst (IsJoinFault s.nodes s.links u v) (sym is) (refused_edit s (edit.Join u v) refused why)
     undone Range h = h
-    undone Start h = λ none. none
+    undone Start h = h
     undone Memory h = tt
 
 -- a change that is refused for this fault is answered by its text
@@ -125,3 +127,11 @@ refused_change s (Batch edits) Range text why is = absurd why
 refused_change s (Destination d) Range text why is = inl (4, (why, refl), is, refl)
 refused_change s change Start text why is = absurd is
 refused_change s change Memory text why is = absurd is
+
+-- a thread is wanted for a change only where it may be
+pub start_for : (s : State) (change : Change) → IsRouteFault s change Start → MayStartFor (Some s) (request_of_change change)
+start_for s (Cut u v) may = may
+start_for s (Add u v) may = may
+start_for s (Join u v) may = may
+start_for s (Batch edits) may = may
+start_for s (Destination d) may = may

@@ -13,4 +13,5 @@ pub mod Touched
 pub mod Moving
 pub mod Written
 pub mod Renewing
+pub mod Noting
 pub mod Inside

@@ -1,11 +1,12 @@
 -- Why a network is not taken, and how that is answered.
-use Rattle.std.proofs.Common.{List, Option, arith, inl, inr, refl, ℕ, ◌≡◌, ◌≢◌}
-use Rattle.fr_net.specs.Faults.{IsFaultless, IsFirstFault}
+use Rattle.std.proofs.Common.{Err, IfErr, List, Ok, Option, Result, ap, arith, inl, inr, refl, ℕ, ◌≢◌}
+use Rattle.fr_net.specs.Faults.{IsFirstFault, IsNetworkOf}
+use Rattle.fr_net.specs.Network.{Network}
 use Rattle.fr_net.specs.Requests.{new_network}
 use Rattle.fr_net.specs.declared.fault.NetFault.{NetFault}
 use Rattle.fr_net.specs.declared.fault.NetFault.TheVariants as net
 use Rattle.fr_route.specs.Answers.{IsAnswer, fault_number}
-use Rattle.fr_route.specs.Changes.{IsOpenFault}
+use Rattle.fr_route.specs.Changes.{IsOpenFault, IsStill}
 use Rattle.fr_route.specs.Faults.{of_net_fault}
 use Rattle.fr_route.specs.Refusals.{IsNewFault, IsRefusalOf}
 use Rattle.fr_route.specs.States.{State}
@@ -23,11 +24,16 @@ new_fault n d links net.NoLink why = why (λ e. absurd cc)
 new_fault n d links net.Memory why = tt
 
 -- or no router is opened on it
-pub open_fault : (n m d : ℕ) (links : List (ℕ × ℕ)) (fault : RouteFault) → m ≡ n → IsFaultless n links → IsOpenFault m d fault → IsNewFault n d links fault
-open_fault n m d links (Net fault) same clear why = absurd why
-open_fault n m d links Range same clear why = (clear, omega (arith, same, why))
-open_fault n m d links Start same clear why = tt
-open_fault n m d links Memory same clear why = tt
+open_fault : (n d : ℕ) (links : List (ℕ × ℕ)) (net : Network) (fault : RouteFault) → IsNetworkOf n links net → IsOpenFault net.nodes d fault → (IsStill net d → fault ≢ Start) → IsNewFault n d links fault
+open_fault n d links net (Net fault) made why moves = absurd why
+open_fault n d links net Range made why moves = (made.faultless, omega (arith, ap (λ (m : Network). m.nodes) made.is, why))
+open_fault n d links net Start made why moves = (omega (arith, ap (λ (m : Network). m.nodes) made.is, why), (net, (made, λ still. moves still refl)))
+open_fault n d links net Memory made why moves = tt
+
+pub opening_fault : (n d : ℕ) (links : List (ℕ × ℕ)) (net : Network) (opened : Result State RouteFault) → IsNetworkOf n links net → IfErr opened (IsOpenFault net.nodes d)
+    → (IsStill net d → IfErr opened (λ fault. fault ≢ Start)) → IfErr opened (IsNewFault n d links)
+opening_fault n d links net (Ok router) made why moves = tt
+opening_fault n d links net (Err fault) made why moves = open_fault n d links net fault made why moves
 
 pub refused_network : (s : Option State) (n d : ℕ) (links : List (ℕ × ℕ)) (fault : RouteFault) (text : List ℕ) → IsNewFault n d links fault → IsRefusalOf fault text → IsAnswer s (new_network n d links) text s
 refused_network s n d links (Net fault) text why is = inl (fault_number fault, inl (fault, why, refl), is, refl)

@@ -1,7 +1,8 @@
 -- The answer to each request and to each line, from the state before it.
 use Rattle.std.specs.Prelude.{◌≡◌, ℕ, ◌<◌, ◌≤◌, ◌⊎◌, List, ◌∷◌, Option, Some, None, Result, Ok, Err}
 use Rattle.fr_net.specs.Batches.{IsBatchFault}
-use Rattle.fr_net.specs.Faults.{IsFirstFault, IsFaultless}
+use Rattle.fr_net.specs.Faults.{IsFirstFault, IsFaultless, IsNetworkOf}
+use Rattle.fr_net.specs.Network.{Network}
 use Rattle.fr_net.specs.Requests.{PlainRequest, new_network, cut_link, add_link, join_nodes, make_edits, move_dest, walk_from, ask}
 use Rattle.fr_net.specs.declared.lines.requests.Question.TheVariants.{Links, Counts, Hops}
 use Rattle.fr_net.specs.declared.lines.requests.LineFault.{LineFault}
@@ -11,9 +12,9 @@ use Rattle.fr_net.specs.declared.fault.NetFault.{NetFault}
 use Rattle.fr_net.specs.declared.fault.NetFault.TheVariants.{TooMany, Range, SelfLink, Twice, Cycle, NoLink, Memory}
 use Rattle.fr_route.specs.States.{State, IsRound, IsReport, IsCutOff, net_at}
 use Rattle.fr_route.specs.Routes.{IsRoute, AreHops}
-use Rattle.fr_route.specs.Changes.{IsBatch, IsChanged, IsChangeFault, IsMoved}
+use Rattle.fr_route.specs.Changes.{CanTurnAfter, IsBatch, IsChanged, IsChangeFault, IsMoved, IsStill, MayStart}
 use Rattle.fr_route.specs.Texts.{counts_text, links_text, hops_text, walk_text, no_walk_text, report_text, refusal_text}
-use Rattle.fr_route.specs.declared.change.Change.TheVariants.{Cut, Add, Join}
+use Rattle.fr_route.specs.declared.change.Change.TheVariants.{Cut, Add, Join, Destination}
 use Rattle.fr_route.specs.declared.hops.Hop.{Hop}
 
 -- the number by which an answer names a fault of links or of an edit (want of memory is none, and has no number)
@@ -93,3 +94,24 @@ IsLineAnswer s (Ok request) text next = IsAnswer s request text next
 IsLineAnswer s (Err NotJson) text next = (text ≡ refusal_text 1) × (next ≡ s)
 IsLineAnswer s (Err NotRequest) text next = (text ≡ refusal_text 2) × (next ≡ s)
 IsLineAnswer s (Err LineMemory) text next = ⊥
+
+-- a thread may be wanted for a new network: it is accepted, and a node can turn on it
+abbrev pub MayStartNew : ℕ → ℕ → List (ℕ × ℕ) → Type 0
+MayStartNew n d links = (d < n) × ((net : Network) × (IsNetworkOf n links net × ¬ IsStill net d))
+
+-- and for a request: it is accepted, and a node can turn on the network that it makes
+abbrev pub MayStartFor : Option State → PlainRequest → Type 0
+MayStartFor s (new_network n d links) = MayStartNew n d links
+MayStartFor None request = ⊥
+MayStartFor (Some s) (cut_link u v) = MayStart s (Cut u v)
+MayStartFor (Some s) (add_link u v) = MayStart s (Add u v)
+MayStartFor (Some s) (join_nodes u v) = MayStart s (Join u v)
+MayStartFor (Some s) (make_edits edits) = CanTurnAfter s edits s.dest
+MayStartFor (Some s) (move_dest d) = MayStart s (Destination d)
+MayStartFor (Some s) (walk_from x) = ⊥
+MayStartFor (Some s) (ask question) = ⊥
+
+-- and for a line as it is read
+abbrev pub MayStartForLine : Option State → Result PlainRequest LineFault → Type 0
+MayStartForLine s (Ok request) = MayStartFor s request
+MayStartForLine s (Err fault) = ⊥

@@ -1,5 +1,5 @@
 -- What a change makes of a state, and why none is made.
-use Rattle.std.specs.Prelude.{◌≡◌, ℕ, ◌<◌, ◌≤◌, List, [], ◌∷◌, ◌++◌, length}
+use Rattle.std.specs.Prelude.{◌≡◌, ℕ, ◌<◌, ◌≤◌, List, [], ◌∷◌, ◌++◌, length, replicate}
 use Rattle.fr_net.specs.Batches.{AreMade, IsBatchFault}
 use Rattle.fr_net.specs.Edits.{IsCutFault, IsJoined, IsJoinFault, without}
 use Rattle.fr_net.specs.Faults.{IsFirstFault, IsFaultless}
@@ -9,6 +9,8 @@ use Rattle.fr_net.specs.Network.{Network}
 use Rattle.fr_net.specs.declared.fault.EditFault.{EditFault}
 use Rattle.fr_net.specs.declared.fault.NetFault.{NetFault}
 use Rattle.fr_net.specs.declared.edit.Edit.{Edit}
+use Rattle.fr_net.specs.declared.edit.Edit.TheVariants as edit
+use Rattle.fr_core.specs.Settled.{AreSettled}
 use Rattle.fr_route.specs.States.{State, IsRound, net_at}
 use Rattle.fr_route.specs.declared.change.Change.{Change}
 use Rattle.fr_route.specs.declared.change.Change.TheVariants.{Cut, Add, Join, Batch, Destination}
@@ -55,11 +57,27 @@ NamesNoNode s (Join u v) = ⊥
 NamesNoNode s (Batch edits) = ⊥
 NamesNoNode s (Destination d) = s.nodes ≤ d
 
+-- no node of the network can turn, toward d: the counts of no turns are the settled ones
+abbrev pub IsStill : Network → ℕ → Type 0
+IsStill net d = AreSettled net.nodes d net.links (replicate net.nodes 0)
+
+-- the edits are accepted, d is a node, and the network that they make is not still: a node can turn
+abbrev pub CanTurnAfter : State → List Edit → ℕ → Type 0
+CanTurnAfter s edits d = (length edits ≤ most_edits) × (d < s.nodes) × ((net : Network) × (AreMade (net_at s) edits net × ¬ IsStill net d))
+
+-- a thread may be wanted: the change is accepted, and a node can turn after it
+abbrev pub MayStart : State → Change → Type 0
+MayStart s (Cut u v) = CanTurnAfter s (edit.Cut u v ∷ []) s.dest
+MayStart s (Add u v) = CanTurnAfter s (edit.Add u v ∷ []) s.dest
+MayStart s (Join u v) = CanTurnAfter s (edit.Join u v ∷ []) s.dest
+MayStart s (Batch edits) = CanTurnAfter s edits.items s.dest
+MayStart s (Destination d) = CanTurnAfter s [] d
+
 -- why no change is made: it is refused, or there was no thread or no memory for it
 abbrev pub IsRouteFault : State → Change → RouteFault → Type 0
 IsRouteFault s change (Net fault) = IsChangeFault s change fault
 IsRouteFault s change Range = NamesNoNode s change
-IsRouteFault s change Start = ¬ NamesNoNode s change
+IsRouteFault s change Start = MayStart s change
 IsRouteFault s change Memory = Unit {0}
 
 -- why no router is opened: the destination is no node, or else there was no thread or no memory for it

@@ -1,5 +1,6 @@
 pub mod States
 pub mod Routes
+pub mod Reroutes
 pub mod Faults
 pub mod Changes
 pub mod Outcomes

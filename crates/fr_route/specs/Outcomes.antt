@@ -1,6 +1,9 @@
 -- What a round on a network comes to, and the nodes at which edits change links.
-use Rattle.std.specs.Prelude.{◌≡◌, ℕ, ◌<◌, ◌≤◌, ◌⊎◌, not, ◌==◌, ◌&&◌, List, [], ◌∷◌, ◌++◌, count_by, length, slice_get, slice_index, Some}
-use Rattle.std.specs.List.{All, Contains, filter, range_with_len}
+use Rattle.std.specs.Prelude.{◌≡◌, ℕ, ◌<◌, ◌≤◌, ◌⊎◌, not, ◌==◌, ◌&&◌, List, [], ◌∷◌, ◌++◌, count_by, length, nat_eq, slice_get, slice_index, vec_capacity, Some}
+use Rattle.std.specs.List.{All, Contains, IsDistinct, filter, range_with_len}
+use Rattle.std.specs.List.Sorted.{IsStrictlyIncreasing}
+use Rattle.std.specs.declared.alloc.Global.{Global}
+use Rattle.std.specs.declared.vec.Vec.{Vec}
 use Rattle.fr_net.specs.Batches.{AreMade, IsBatchFault}
 use Rattle.fr_net.specs.Counts.{links_at}
 use Rattle.fr_net.specs.Limits.{most_edits}
@@ -12,6 +15,7 @@ use Rattle.fr_net.specs.declared.edit.Edit.{Edit}
 use Rattle.fr_net.specs.declared.edit.Edit.TheVariants.{Cut, Add, Join}
 use Rattle.fr_crew.specs.Settlements.{IsCounted}
 use Rattle.fr_route.specs.Routes.{IsHop}
+use Rattle.fr_route.specs.Changes.{CanTurnAfter}
 use Rattle.fr_route.specs.States.{State, IsReport, IsRound, net_at, state_with}
 use Rattle.fr_route.specs.declared.fault.RouteFault.{RouteFault}
 use Rattle.fr_route.specs.declared.fault.RouteFault.TheVariants.{Net, Range, Start, Memory}
@@ -68,14 +72,31 @@ pub record HoldsMoved (s : State) (hops : List Hop) (moved : List ℕ) : Type 0 
 pub record AreRenewed (s : State) (old new : List Hop) (left : ℕ → Hop → Type 0) : Type 0 where
   pub each : (x : ℕ) (hop : Hop) → slice_get new x ≡ Some hop → IsHop s x hop ⊎ ((slice_get old x ≡ Some hop) × left x hop)
 
+-- these are the places at which the hops are no longer those before, each once, and there they are right
+pub record AreNoted (s : State) (before hops : List Hop) (nodes : List ℕ) : Type 0 where
+  pub once : IsDistinct nat_eq nodes
+  pub these : (x : ℕ) → Contains nodes x → (hop : Hop) × ((slice_get hops x ≡ Some hop) × IsHop s x hop × ¬ (slice_get before x ≡ Some hop))
+  pub others : (x : ℕ) → ¬ Contains nodes x → slice_get hops x ≡ slice_get before x
+
+-- as hops are made anew the list goes on to note where, if it has a place for each: whatever the hops were that it began with
+pub record NotesMore (s : State) (old : List Hop) (nodes : Vec ℕ Global) (new : List Hop) (more : Vec ℕ Global) : Type 0 where
+  pub room : vec_capacity more ≡ vec_capacity nodes
+  pub noted : length old ≤ vec_capacity nodes → (before : List Hop) → AreNoted s before old nodes.items → AreNoted s before new more.items
+
+-- these are the places at which the hops differ, in rising order
+pub record AreOthers (old new : List Hop) (nodes : List ℕ) : Type 0 where
+  pub rising : IsStrictlyIncreasing nodes
+  pub these : (x : ℕ) → Contains nodes x → (x < length new) × ¬ (slice_get new x ≡ slice_get old x)
+  pub others : (x : ℕ) → ¬ Contains nodes x → slice_get new x ≡ slice_get old x
+
 -- the edits are made, and this is the state after the round on the network that they make, toward d
 abbrev pub IsEdited : State → List Edit → ℕ → State → Type 0
 IsEdited s edits d new =
     (length edits ≤ most_edits) × ((net : Network) × (AreMade (net_at s) edits net × IsRound net.nodes d net.links new))
 
 -- why none of it comes to pass: an edit is refused, or there was no thread or no memory for it
-abbrev pub IsEditingFault : State → List Edit → RouteFault → Type 0
-IsEditingFault s edits (Net fault) = (refused : EditFault) × (IsBatchFault (net_at s) edits refused × (fault ≡ refused.fault))
-IsEditingFault s edits Range = ⊥
-IsEditingFault s edits Start = Unit {0}
-IsEditingFault s edits Memory = Unit {0}
+abbrev pub IsEditingFault : State → List Edit → ℕ → RouteFault → Type 0
+IsEditingFault s edits d (Net fault) = (refused : EditFault) × (IsBatchFault (net_at s) edits refused × (fault ≡ refused.fault))
+IsEditingFault s edits d Range = ⊥
+IsEditingFault s edits d Start = CanTurnAfter s edits d
+IsEditingFault s edits d Memory = Unit {0}

@@ -2,7 +2,7 @@
 use Rattle.std.specs.Prelude.{◌≡◌, ◌≤◌, ℕ, List}
 use Rattle.fr_net.specs.Faults.{IsFaultless, IsFirstFault}
 use Rattle.fr_net.specs.Requests.{PlainRequest, cut_link, add_link, join_nodes, make_edits, move_dest}
-use Rattle.fr_route.specs.Answers.{fault_number}
+use Rattle.fr_route.specs.Answers.{MayStartNew, fault_number}
 use Rattle.fr_route.specs.Texts.{refusal_text}
 use Rattle.fr_route.specs.declared.change.Change.{Change}
 use Rattle.fr_route.specs.declared.change.Change.TheVariants.{Cut, Add, Join, Batch, Destination}
@@ -35,7 +35,7 @@ request_of_change (Destination d) = move_dest d
 abbrev pub IsNewFault : ℕ → ℕ → List (ℕ × ℕ) → RouteFault → Type 0
 IsNewFault n d links (Net fault) = IsFirstFault n links fault
 IsNewFault n d links Range = IsFaultless n links × (n ≤ d)
-IsNewFault n d links Start = Unit {0}
+IsNewFault n d links Start = MayStartNew n d links
 IsNewFault n d links Memory = Unit {0}
 
 -- the text that refuses a request for this fault; want of a thread or of memory is no refusal

@@ -1,9 +1,9 @@
 //! Where each node sends on to.
 
-ghost use Rattle.std.specs.Prelude.{◌≡◌, ℕ, ◌<◌, All, Contains, length, sum, IfOk, MatchOption};
+ghost use Rattle.std.specs.Prelude.{◌≡◌, ℕ, ◌<◌, ◌↔◌, [], ◌∷◌, ◌++◌, All, Contains, IsTrue, length, sum, vec_capacity, IfOk, MatchOption};
 ghost use Rattle.fr_net.specs.Links.{Points};
 ghost use Rattle.fr_route.specs.Routes.{IsNextHop, IsHop, AreHops};
-ghost use Rattle.fr_route.specs.Outcomes.{AreRenewed, HoldsMoved, IsStale, SendsTo};
+ghost use Rattle.fr_route.specs.Outcomes.{AreRenewed, HoldsMoved, IsStale, NotesMore, SendsTo};
 ghost use Rattle.fr_route.specs.States.{IsAfterRound, state_with};
 
 use fr_net::{First, Net, Turns};
@@ -78,77 +78,143 @@ pub(crate) fn hop_table(
     Ok(hops)
 }
 
-/// Makes anew where the moved nodes send on to, and what turns have made stale. Each other hop is right as it stands.
-pub(crate) fn renew_hops(hops: &mut [Hop], net: &Net, dest: u32, turns: &Turns, moved: &[u32])
+/// Makes anew where the moved nodes send on to, and what turns have made stale. Each other hop is right as it stands. As in all that
+/// it calls, each node with another hop than before is noted, once, where the list has a place for each node; a list with no
+/// place at all is for a caller that does not ask.
+pub(crate) fn renew_hops(
+    hops: &mut [Hop],
+    net: &Net,
+    dest: u32,
+    turns: &Turns,
+    moved: &[u32],
+    rerouted: &mut Vec<u32>,
+)
     requires round { IsAfterRound (state_with net.now dest turns.now) }
     requires one_each { length hops.old ≡ net.now.nodes }
     requires moved { HoldsMoved (state_with net.now dest turns.now) hops.old moved.now }
-    ensures { AreHops (state_with net.now dest turns.now) net.now.nodes hops.new }
+    ensures hops { AreHops (state_with net.now dest turns.now) net.now.nodes hops.new }
+    ensures noted { NotesMore (state_with net.now dest turns.now) hops.old rerouted.old hops.new rerouted.new }
 {
-    renew_turned(hops, net, dest, turns);
-    renew_some(hops, net, dest, turns.counts(), moved);
+    renew_turned(hops, net, dest, turns, rerouted);
+    renew_some(hops, net, dest, turns.counts(), moved, rerouted);
 }
 
 /// Makes anew where each node sends on to that has turned, and each neighbour that sends on to such a node. The links of every
 /// other node point as they did.
-fn renew_turned(hops: &mut [Hop], net: &Net, dest: u32, turns: &Turns)
+fn renew_turned(hops: &mut [Hop], net: &Net, dest: u32, turns: &Turns, rerouted: &mut Vec<u32>)
     requires round { IsAfterRound (state_with net.now dest turns.now) }
     requires one_each { length hops.old ≡ net.now.nodes }
-    ensures { AreRenewed (state_with net.now dest turns.now) hops.old hops.new (λ x hop. ¬ IsStale (state_with net.now dest turns.now) x hop) }
+    ensures renewed { AreRenewed (state_with net.now dest turns.now) hops.old hops.new (λ x hop. ¬ IsStale (state_with net.now dest turns.now) x hop) }
+    ensures noted { NotesMore (state_with net.now dest turns.now) hops.old rerouted.old hops.new rerouted.new }
 {
     for x in turns.nodes() {
-        renew_near(hops, net, dest, turns.counts(), *x);
+        renew_near(hops, net, dest, turns.counts(), *x, rerouted);
     }
 }
 
 /// Makes anew where node `x` sends on to, and each neighbour that sends on to it.
-fn renew_near(hops: &mut [Hop], net: &Net, dest: u32, counts: &[u64], x: u32)
+fn renew_near(
+    hops: &mut [Hop],
+    net: &Net,
+    dest: u32,
+    counts: &[u64],
+    x: u32,
+    rerouted: &mut Vec<u32>,
+)
     requires round { IsAfterRound (state_with net.now dest counts.now) }
     requires one_each { length hops.old ≡ net.now.nodes }
     requires node { x < net.now.nodes }
-    ensures { AreRenewed (state_with net.now dest counts.now) hops.old hops.new (λ y hop. ¬ SendsTo net.now.links x y hop) }
+    ensures renewed { AreRenewed (state_with net.now dest counts.now) hops.old hops.new (λ y hop. ¬ SendsTo net.now.links x y hop) }
+    ensures noted { NotesMore (state_with net.now dest counts.now) hops.old rerouted.old hops.new rerouted.new }
 {
     // By the law the row has each link of `x`.
     net.network_law();
-    renew_one(hops, net, dest, counts, x);
+    renew_one(hops, net, dest, counts, x, rerouted);
     let row = net.row(x);
     for (w, _) in row {
-        renew_sender(hops, net, dest, counts, *w as u32, x);
+        renew_sender(hops, net, dest, counts, *w as u32, x, rerouted);
     }
 }
 
 /// Makes anew where node `w` sends on to, if that is node `x`.
-fn renew_sender(hops: &mut [Hop], net: &Net, dest: u32, counts: &[u64], w: u32, x: u32)
+fn renew_sender(
+    hops: &mut [Hop],
+    net: &Net,
+    dest: u32,
+    counts: &[u64],
+    w: u32,
+    x: u32,
+    rerouted: &mut Vec<u32>,
+)
     requires round { IsAfterRound (state_with net.now dest counts.now) }
     requires one_each { length hops.old ≡ net.now.nodes }
     requires node { w < net.now.nodes }
-    ensures { AreRenewed (state_with net.now dest counts.now) hops.old hops.new (λ y hop. y ≡ w → ¬ (hop ≡ Hop.To x)) }
+    ensures renewed { AreRenewed (state_with net.now dest counts.now) hops.old hops.new (λ y hop. y ≡ w → ¬ (hop ≡ Hop.To x)) }
+    ensures noted { NotesMore (state_with net.now dest counts.now) hops.old rerouted.old hops.new rerouted.new }
 {
     if hops[w as usize] == Hop::To(x) {
-        renew_one(hops, net, dest, counts, w);
+        renew_one(hops, net, dest, counts, w, rerouted);
     }
 }
 
 /// Makes anew where each of these nodes sends on to.
-fn renew_some(hops: &mut [Hop], net: &Net, dest: u32, counts: &[u64], moved: &[u32])
+fn renew_some(
+    hops: &mut [Hop],
+    net: &Net,
+    dest: u32,
+    counts: &[u64],
+    moved: &[u32],
+    rerouted: &mut Vec<u32>,
+)
     requires round { IsAfterRound (state_with net.now dest counts.now) }
     requires one_each { length hops.old ≡ net.now.nodes }
     requires nodes { All (λ (x : ℕ). x < net.now.nodes) moved.now }
-    ensures { AreRenewed (state_with net.now dest counts.now) hops.old hops.new (λ x _. ¬ Contains moved.now x) }
+    ensures renewed { AreRenewed (state_with net.now dest counts.now) hops.old hops.new (λ x _. ¬ Contains moved.now x) }
+    ensures noted { NotesMore (state_with net.now dest counts.now) hops.old rerouted.old hops.new rerouted.new }
 {
     for x in moved {
-        renew_one(hops, net, dest, counts, *x);
+        renew_one(hops, net, dest, counts, *x, rerouted);
     }
 }
 
-/// Makes anew where node `x` sends on to.
-fn renew_one(hops: &mut [Hop], net: &Net, dest: u32, counts: &[u64], x: u32)
+/// Makes anew where node `x` sends on to, and notes it where that is another hop.
+fn renew_one(
+    hops: &mut [Hop],
+    net: &Net,
+    dest: u32,
+    counts: &[u64],
+    x: u32,
+    rerouted: &mut Vec<u32>,
+)
     requires round { IsAfterRound (state_with net.now dest counts.now) }
     requires one_each { length hops.old ≡ net.now.nodes }
     requires node { x < net.now.nodes }
-    ensures { AreRenewed (state_with net.now dest counts.now) hops.old hops.new (λ y _. ¬ (y ≡ x)) }
+    ensures renewed { AreRenewed (state_with net.now dest counts.now) hops.old hops.new (λ y _. ¬ (y ≡ x)) }
+    ensures noted { NotesMore (state_with net.now dest counts.now) hops.old rerouted.old hops.new rerouted.new }
 {
-    hops[x as usize] = hop_of(net, dest, counts, x);
+    let hop = hop_of(net, dest, counts, x);
+    if is_same(hops[x as usize], hop) {
+        return;
+    }
+    hops[x as usize] = hop;
+    note(rerouted, x);
+}
+
+/// Whether two hops are the same.
+fn is_same(some: Hop, other: Hop) -> bool
+    ensures { IsTrue result ↔ (some ≡ other) }
+{
+    some == other
+}
+
+/// Notes a node, if the list has a place left.
+fn note(rerouted: &mut Vec<u32>, x: u32)
+    ensures same_room { vec_capacity rerouted.new ≡ vec_capacity rerouted.old }
+    ensures noted { length rerouted.old.items < vec_capacity rerouted.old → rerouted.new.items ≡ rerouted.old.items ++ x ∷ [] }
+{
+    if rerouted.len() < rerouted.capacity() {
+        rerouted.push_reserved(x);
+    }
 }
 
 /// Makes anew where each node sends on to.

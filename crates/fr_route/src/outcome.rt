@@ -1,20 +1,24 @@
 //! What a round on a network comes to, before any of it is put in place.
 
-ghost use Rattle.std.specs.Prelude.{◌≡◌, ◌≢◌, ℕ, ◌<◌, ◌≤◌, ◌==◌, ◌↔◌, [], ◌∷◌, ◌++◌, All, IsTrue, count_by, length, replicate, slice_index, sum, IfOk, IfErr, OnOk};
+ghost use Rattle.std.specs.Prelude.{◌≡◌, ◌≢◌, ℕ, ◌<◌, ◌≤◌, ◌==◌, ◌↔◌, [], ◌∷◌, ◌++◌, All, Any, IsTrue, count_by, length, replicate, slice_index, sum, vec_capacity, IfOk, IfErr, OnOk};
 ghost use Rattle.std.specs.List.{filter, range_with_len};
+ghost use Rattle.fr_core.specs.History.{moment_of};
+ghost use Rattle.fr_core.specs.Legal.{CanTurn};
 ghost use Rattle.fr_crew.specs.Settlements.{HoldsSinks, IsCounted};
 ghost use Rattle.fr_crew.specs.Ways.{Settles, NeverStarts};
-ghost use Rattle.fr_net.specs.Counts.{links_at};
+ghost use Rattle.fr_crew.specs.declared.fault.CrewFault.TheVariants.{Range, Start as CrewStart};
+ghost use Rattle.fr_net.specs.Counts.{AreLawful, links_at};
 ghost use Rattle.fr_net.specs.Network.{net_of};
 ghost use Rattle.fr_route.specs.Routes.{AreHops};
 ghost use Rattle.fr_route.specs.States.{IsReport};
-ghost use Rattle.fr_route.specs.Changes.{IsOpenFault};
-ghost use Rattle.fr_route.specs.Outcomes.{HoldsMoved, IsOutcome, ends_of, lone_count, state_after};
+ghost use Rattle.fr_route.specs.Changes.{IsOpenFault, IsStill};
+ghost use Rattle.fr_route.specs.Outcomes.{AreOthers, HoldsMoved, IsOutcome, ends_of, lone_count, state_after};
 ghost use Rattle.fr_route.specs.declared.fault.RouteFault.TheVariants.{Start};
 
 use crate::change::Report;
 use crate::fault::RouteFault;
 use crate::hops::{Hop, renew_hops};
+use fr_core::can_turn;
 use fr_crew::{CrewFault, settled_counts_by};
 use fr_net::{Edit, Net, Turns};
 use std::alloc::{AllocError, Global};
@@ -42,11 +46,50 @@ pub(crate) fn outcome_of<F: Fn(&Net, u32, Option<&[u32]>, Turns) -> Result<Turns
     requires none { turns ≡ replicate net.now.nodes 0 }
     ensures outcome { IfOk result (IsOutcome net.now dest) }
     ensures fault { IfErr result (IsOpenFault net.now.nodes dest) }
+    ensures still { IsStill net.now dest → IfErr result (λ fault. fault ≢ Start) }
     ensures no_start { NeverStarts F.post way.now → IfErr result (λ fault. fault ≢ Start) }
 {
-    let turns = settled_counts_by(way, net, dest, Some(from), turns)?;
+    let turns = settled_from(net, dest, from, way, turns)?;
     let report = report_of(net, dest, &turns);
     Ok(Outcome { turns, report })
+}
+
+/// The settled counts of a network in a way that is passed in, or those of no turns where no node of `from` can turn: then that look
+/// is all.
+fn settled_from<F: Fn(&Net, u32, Option<&[u32]>, Turns) -> Result<Turns, CrewFault>>(
+    net: &Net,
+    dest: u32,
+    from: &[u32],
+    way: &F,
+    turns: Turns,
+) -> Result<Turns, CrewFault>
+    requires settles { Settles F.pre F.post way.now }
+    requires from { (dest < net.now.nodes) × HoldsSinks net.now dest from.now }
+    requires none { turns ≡ replicate net.now.nodes 0 }
+    ensures settled { IfOk result (IsCounted net.now.nodes dest net.now.links) }
+    ensures range { IfErr result (λ fault. (fault ≡ Range) ↔ (net.now.nodes ≤ dest)) }
+    ensures still { IsStill net.now dest → IfErr result (λ fault. fault ≢ CrewStart) }
+    ensures no_start { NeverStarts F.post way.now → IfErr result (λ fault. fault ≢ CrewStart) }
+{
+    net.network_law();
+    if !any_can_turn(net, dest, turns.counts(), from) {
+        return Ok(turns);
+    }
+    settled_counts_by(way, net, dest, Some(from), turns)
+}
+
+/// Whether one of these nodes can turn.
+fn any_can_turn(net: &Net, dest: u32, counts: &[u64], among: &[u32]) -> bool
+    requires lawful { AreLawful net.now.nodes dest net.now.links counts.now }
+    requires nodes { All (λ (x : ℕ). x < net.now.nodes) among.now }
+    ensures { IsTrue result ↔ Any (CanTurn net.now.nodes dest (moment_of net.now.links counts.now)) among.now }
+{
+    for x in among {
+        if can_turn(net, dest, counts, *x) {
+            return true;
+        }
+    }
+    false
 }
 
 /// What the round with these settled counts reports: cut off are the nodes without a link, and those that have turned as often as
@@ -90,17 +133,27 @@ fn capped_nodes(nodes: u32, counts: &[u64], turned: u64) -> u64
 }
 
 /// Puts a round in place: turns the links as these turns leave them, and makes anew where the moved nodes send on to, and what
-/// turns have made stale.
-pub(crate) fn put_in_place(net: &mut Net, hops: &mut [Hop], dest: u32, turns: &Turns, moved: &[u32])
+/// turns have made stale. The list tells then which nodes have another hop than before, if it has a place for each node.
+pub(crate) fn put_in_place(
+    net: &mut Net,
+    hops: &mut [Hop],
+    dest: u32,
+    turns: &Turns,
+    moved: &[u32],
+    rerouted: &mut Vec<u32>,
+)
     requires counted { IsCounted net.old.nodes dest net.old.links turns.now }
     requires one_each { length hops.old ≡ net.old.nodes }
     requires moved { HoldsMoved (state_after net.old dest turns.now) hops.old moved.now }
     ensures net { net.new ≡ net_of net.old.nodes (links_at net.old.links turns.now) }
     ensures hops { AreHops (state_after net.old dest turns.now) net.old.nodes hops.new }
+    ensures rerouted { net.old.nodes ≤ vec_capacity rerouted.old → AreOthers hops.old hops.new rerouted.new.items }
 {
     net.network_law();
     net.turn(turns);
-    renew_hops(hops, net, dest, turns, moved);
+    rerouted.clear();
+    renew_hops(hops, net, dest, turns, moved, rerouted);
+    rerouted.sort_unstable();
 }
 
 /// The nodes that edits and a new destination touch: both destinations, and the ends of the links that are taken out or added.

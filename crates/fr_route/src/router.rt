@@ -1,13 +1,14 @@
 //! A router: a settled network with its next hops and routes, and the changes after which it is settled anew.
 
-ghost use Rattle.std.specs.Prelude.{◌≡◌, ◌≢◌, ◌<◌, ◌≤◌, length, replicate, Ok, Some, IfOk, IfErr, IfSome, OnErr};
+ghost use Rattle.std.specs.Prelude.{◌≡◌, ◌≢◌, ◌<◌, ◌≤◌, length, replicate, vec_capacity, Ok, Some, IfOk, IfErr, IfSome, OnErr};
 ghost use Rattle.fr_crew.specs.Settlements.{HoldsSinks, IsCounted};
 ghost use Rattle.fr_crew.specs.Ways.{Settles, NeverStarts};
 ghost use Rattle.fr_route.specs.declared.change.Report.{Report};
 ghost use Rattle.fr_route.specs.declared.fault.RouteFault.TheVariants.{Start, Memory};
 ghost use Rattle.fr_route.specs.States.{IsRound, IsReport};
 ghost use Rattle.fr_route.specs.Routes.{IsHop, AreHops, IsWalked};
-ghost use Rattle.fr_route.specs.Changes.{IsOpenFault, IsChanged, IsRouteFault};
+ghost use Rattle.fr_route.specs.Changes.{IsOpenFault, IsChanged, IsRouteFault, IsStill};
+ghost use Rattle.fr_route.specs.Reroutes.{AreRerouted};
 ghost use Rattle.fr_route.specs.Outcomes.{IsEdited, IsEditingFault, IsOutcome, cut_off_nodes, movable};
 
 use crate::change::{Change, Report};
@@ -59,6 +60,7 @@ fn first_counts<F: Fn(&Net, u32, Option<&[u32]>, Turns) -> Result<Turns, CrewFau
     requires { Settles F.pre F.post way.now }
     ensures counted { IfOk result (IsCounted net.now.nodes dest net.now.links) }
     ensures fault { IfErr result (IsOpenFault net.now.nodes dest) }
+    ensures still { IsStill net.now dest → IfErr result (λ fault. fault ≢ Start) }
     ensures no_start { NeverStarts F.post way.now → IfErr result (λ fault. fault ≢ Start) }
 {
     if dest >= net.nodes() {
@@ -93,6 +95,8 @@ impl Router {
     ) -> Result<Router, RouteFault>
         ensures opened { IfOk result (λ router. (dest < net.nodes) × IsRound net.nodes dest net.links router) }
         ensures fault { IfErr result (IsOpenFault net.nodes dest) }
+        ensures still { IsStill net dest → IfErr result (λ fault. fault ≢ Start) }
+        ensures one_worker { plan.now.workers ≡ 1 → IfErr result (λ fault. fault ≢ Start) }
         ensures no_start { plan.now.budget ≡ 0 → IfErr result (λ fault. fault ≢ Start) }
     {
         Router::open_by(
@@ -130,6 +134,7 @@ impl Router {
         requires { Settles F.pre F.post way.now }
         ensures opened { IfOk result (λ router. (dest < net.nodes) × IsRound net.nodes dest net.links router) }
         ensures fault { IfErr result (IsOpenFault net.nodes dest) }
+        ensures still { IsStill net dest → IfErr result (λ fault. fault ≢ Start) }
         ensures no_start { NeverStarts F.post way.now → IfErr result (λ fault. fault ≢ Start) }
     {
         let turns = first_counts(alloc, &net, dest, way)?;
@@ -180,6 +185,7 @@ impl Router {
         ensures report { IfOk result (λ report. IsReport self.new report.turned report.cut) }
         ensures fault { IfErr result (IsRouteFault self.old change) }
         ensures unchanged { OnErr result (self.new ≡ self.old) }
+        ensures one_worker { plan.now.workers ≡ 1 → IfErr result (λ fault. fault ≢ Start) }
         ensures no_start { plan.now.budget ≡ 0 → IfErr result (λ fault. fault ≢ Start) }
     {
         self.change_by(
@@ -190,6 +196,7 @@ impl Router {
                 requires none { turns ≡ replicate net.now.nodes 0 }
             { settled_counts(rt, alloc, net, dest, from, plan, gate, turns) },
             &|report| Ok(report),
+            &mut Vec::new(alloc),
         )
     }
 
@@ -206,40 +213,152 @@ impl Router {
             &change,
             &|net, dest, from, turns| settled_counts_alone(net, dest, from, turns),
             &|report| Ok(report),
+            &mut Vec::new(alloc),
         )
     }
 
+    /// Changes the network as `change` does, and tells which nodes it reroutes, in a list of the caller's: those that send on to
+    /// another node than before, that are cut off now, or that are no longer, in rising order. Just their hops are new to a caller
+    /// that keeps the hops of all nodes. A fault leaves the list as it was, as it does the router.
+    ///
+    /// The list gets room for all nodes before anything is changed, and keeps it: so a caller that hands in the same list each
+    /// time pays for that once. Beyond `change` it costs a step for each node that is rerouted, and sorting them.
+    pub fn change_telling<R: Threads + Wait + Sync, G: Gate + Sync>(
+        &mut self,
+        rt: &R,
+        alloc: Global,
+        change: Change,
+        plan: &Plan,
+        gate: &G,
+        rerouted: &mut Vec<u32>,
+    ) -> Result<Report, RouteFault>
+        ensures changed { IfOk result (λ _. IsChanged self.old change self.new) }
+        ensures report { IfOk result (λ report. IsReport self.new report.turned report.cut) }
+        ensures rerouted { IfOk result (λ _. AreRerouted self.old self.new rerouted.new.items) }
+        ensures fault { IfErr result (IsRouteFault self.old change) }
+        ensures unchanged { OnErr result (self.new ≡ self.old) }
+        ensures untold { OnErr result (rerouted.new.items ≡ rerouted.old.items) }
+        ensures one_worker { plan.now.workers ≡ 1 → IfErr result (λ fault. fault ≢ Start) }
+        ensures no_start { plan.now.budget ≡ 0 → IfErr result (λ fault. fault ≢ Start) }
+    {
+        self.change_telling_by(
+            alloc,
+            &change,
+            &|net, dest, from, turns|
+                requires from { IfSome from (λ from. HoldsSinks net.now dest from.now) }
+                requires none { turns ≡ replicate net.now.nodes 0 }
+            { settled_counts(rt, alloc, net, dest, from, plan, gate, turns) },
+            rerouted,
+        )
+    }
+
+    /// The same on the thread that calls, with no crew: it starts no thread, waits for nobody, and never answers `Start`.
+    pub fn change_telling_alone(
+        &mut self,
+        alloc: Global,
+        change: Change,
+        rerouted: &mut Vec<u32>,
+    ) -> Result<Report, RouteFault>
+        ensures changed { IfOk result (λ _. IsChanged self.old change self.new) }
+        ensures report { IfOk result (λ report. IsReport self.new report.turned report.cut) }
+        ensures rerouted { IfOk result (λ _. AreRerouted self.old self.new rerouted.new.items) }
+        ensures fault { IfErr result (IsRouteFault self.old change) }
+        ensures unchanged { OnErr result (self.new ≡ self.old) }
+        ensures untold { OnErr result (rerouted.new.items ≡ rerouted.old.items) }
+        ensures no_start { IfErr result (λ fault. fault ≢ Start) }
+    {
+        self.change_telling_by(
+            alloc,
+            &change,
+            &|net, dest, from, turns| settled_counts_alone(net, dest, from, turns),
+            rerouted,
+        )
+    }
+
+    /// Changes the network as `change_by` does, and tells which nodes it reroutes.
+    fn change_telling_by<F: Fn(&Net, u32, Option<&[u32]>, Turns) -> Result<Turns, CrewFault>>(
+        &mut self,
+        alloc: Global,
+        change: &Change,
+        way: &F,
+        rerouted: &mut Vec<u32>,
+    ) -> Result<Report, RouteFault>
+        requires settles { Settles F.pre F.post way.now }
+        ensures changed { IfOk result (λ _. IsChanged self.old change.now self.new) }
+        ensures report { IfOk result (λ report. IsReport self.new report.turned report.cut) }
+        ensures rerouted { IfOk result (λ _. AreRerouted self.old self.new rerouted.new.items) }
+        ensures fault { IfErr result (IsRouteFault self.old change.now) }
+        ensures unchanged { OnErr result (self.new ≡ self.old) }
+        ensures untold { OnErr result (rerouted.new.items ≡ rerouted.old.items) }
+        ensures no_start { NeverStarts F.post way.now → IfErr result (λ fault. fault ≢ Start) }
+    {
+        let nodes = self.net.nodes() as usize;
+        rerouted.reserve(nodes.saturating_sub(rerouted.len()))?;
+        self.change_by(alloc, change, way, &|report| Ok(report), rerouted)
+    }
+
     /// Changes the network or its destination where it stands, settled anew in a way that is passed in, and answers what is told of
-    /// the report. All that the change needs is made before anything is put in place.
+    /// the report. All that the change needs is made before anything is put in place. The list tells then which nodes it reroutes, if it
+    /// has a place for each node; whoever does not ask gives one with no place.
     pub(crate) fn change_by<
         T,
         F: Fn(&Net, u32, Option<&[u32]>, Turns) -> Result<Turns, CrewFault>,
         K: Fn(Report) -> Result<T, AllocError>,
-    >(&mut self, alloc: Global, change: &Change, way: &F, tell: &K) -> Result<T, RouteFault>
+    >(
+        &mut self,
+        alloc: Global,
+        change: &Change,
+        way: &F,
+        tell: &K,
+        rerouted: &mut Vec<u32>,
+    ) -> Result<T, RouteFault>
         requires settles { Settles F.pre F.post way.now }
         requires tells { K.IsAlwaysCallable tell.now }
         ensures changed { IfOk result (λ _. IsChanged self.old change.now self.new) }
         ensures told { IfOk result (λ told. (report : Report) × IsReport self.new report.turned report.cut × K.post tell.now report (Ok told)) }
+        ensures rerouted { IfOk result (λ _. self.old.nodes ≤ vec_capacity rerouted.old → AreRerouted self.old self.new rerouted.new.items) }
         ensures fault { IfErr result (IsRouteFault self.old change.now) }
         ensures unchanged { OnErr result (self.new ≡ self.old) }
+        ensures untold { OnErr result (rerouted.new.items ≡ rerouted.old.items) }
         ensures no_start { NeverStarts F.post way.now → IfErr result (λ fault. fault ≢ Start) }
     {
         match change {
             Change::Cut { u, v } => {
-                self.edit_by(alloc, &[Edit::Cut { u: *u, v: *v }], self.dest, way, tell)
+                self.edit_by(
+                    alloc,
+                    &[Edit::Cut { u: *u, v: *v }],
+                    self.dest,
+                    way,
+                    tell,
+                    rerouted,
+                )
             }
             Change::Add { u, v } => {
-                self.edit_by(alloc, &[Edit::Add { u: *u, v: *v }], self.dest, way, tell)
+                self.edit_by(
+                    alloc,
+                    &[Edit::Add { u: *u, v: *v }],
+                    self.dest,
+                    way,
+                    tell,
+                    rerouted,
+                )
             }
             Change::Join { u, v } => {
-                self.edit_by(alloc, &[Edit::Join { u: *u, v: *v }], self.dest, way, tell)
+                self.edit_by(
+                    alloc,
+                    &[Edit::Join { u: *u, v: *v }],
+                    self.dest,
+                    way,
+                    tell,
+                    rerouted,
+                )
             }
-            Change::Batch(edits) => self.edit_by(alloc, edits, self.dest, way, tell),
+            Change::Batch(edits) => self.edit_by(alloc, edits, self.dest, way, tell, rerouted),
             Change::Destination { dest } => {
                 if *dest >= self.net.nodes() {
                     return Err(RouteFault::Range);
                 }
-                self.edit_by(alloc, &[], *dest, way, tell)
+                self.edit_by(alloc, &[], *dest, way, tell, rerouted)
             }
         }
     }
@@ -256,14 +375,17 @@ impl Router {
         dest: u32,
         way: &F,
         tell: &K,
+        rerouted: &mut Vec<u32>,
     ) -> Result<T, RouteFault>
         requires settles { Settles F.pre F.post way.now }
         requires tells { K.IsAlwaysCallable tell.now }
         requires node { dest < self.old.nodes }
         ensures edited { IfOk result (λ _. IsEdited self.old edits.now dest self.new) }
         ensures told { IfOk result (λ told. (report : Report) × IsReport self.new report.turned report.cut × K.post tell.now report (Ok told)) }
-        ensures fault { IfErr result (IsEditingFault self.old edits.now) }
+        ensures rerouted { IfOk result (λ _. self.old.nodes ≤ vec_capacity rerouted.old → AreRerouted self.old self.new rerouted.new.items) }
+        ensures fault { IfErr result (IsEditingFault self.old edits.now dest) }
         ensures unchanged { OnErr result (self.new ≡ self.old) }
+        ensures untold { OnErr result (rerouted.new.items ≡ rerouted.old.items) }
         ensures no_start { NeverStarts F.post way.now → IfErr result (λ fault. fault ≢ Start) }
     {
         let (movable, turns) = self.before_edits(alloc, edits, dest)?;
@@ -279,6 +401,7 @@ impl Router {
                 ensures outcome { IfOk result (λ made. IsOutcome net.entry.now dest made.0) }
                 ensures told { IfOk result (λ made. K.post tell.entry.now made.0.report (Ok made.1)) }
                 ensures fault { IfErr result (IsOpenFault net.entry.now.nodes dest) }
+                ensures still { IsStill net.entry.now dest → IfErr result (λ fault. fault ≢ Start) }
                 ensures no_start { NeverStarts F.post way.entry.now → IfErr result (λ fault. fault ≢ Start) }
             {
                 let outcome = outcome_of(net, dest, from, way, turns)?;
@@ -287,7 +410,7 @@ impl Router {
             },
         )?;
         let Outcome { turns, report } = outcome;
-        put_in_place(&mut self.net, &mut self.hops, dest, &turns, from);
+        put_in_place(&mut self.net, &mut self.hops, dest, &turns, from, rerouted);
         keep_turns(&mut self.turns, &mut self.spare, turns);
         self.dest = dest;
         self.report = report;

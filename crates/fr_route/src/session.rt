@@ -1,12 +1,12 @@
 //! What the requests so far have made, and the answer to the next one.
 
-ghost use Rattle.std.specs.Prelude.{◌≡◌, ◌≢◌, ℕ, ◌<◌, ◌≤◌, ◌⊎◌, length, replicate, true, false, Some, None, IfOk, IfErr, OnErr, IfSome, IfNone, string_bytes};
+ghost use Rattle.std.specs.Prelude.{◌≡◌, ◌≢◌, ℕ, ◌<◌, ◌≤◌, ◌⊎◌, ◌↔◌, length, replicate, true, false, Some, None, IfOk, IfErr, OnErr, IfSome, IfNone, string_bytes};
 ghost use Rattle.std.specs.Option.{option_copied};
 ghost use Rattle.fr_net.specs.Requests.{ask, make_edits, new_network, walk_from, plain, reading};
 ghost use Rattle.fr_crew.specs.Settlements.{HoldsSinks};
 ghost use Rattle.fr_crew.specs.Ways.{Settles, NeverStarts};
 ghost use Rattle.fr_route.specs.Blank.{is_blank as is_blank_line};
-ghost use Rattle.fr_route.specs.Answers.{IsAccepted, IsAnswer, IsLineAnswer, IsReportLine};
+ghost use Rattle.fr_route.specs.Answers.{IsAccepted, IsAnswer, IsLineAnswer, IsReportLine, MayStartFor, MayStartForLine};
 ghost use Rattle.fr_route.specs.Texts.{longest_report, refusal_text};
 ghost use Rattle.fr_route.specs.Refusals.{number_of, request_of_change, IsNewFault, IsRefusalOf};
 ghost use Rattle.fr_route.specs.declared.fault.AnswerFault.TheVariants.{Start, Memory};
@@ -79,6 +79,8 @@ impl Session {
         ensures text { IfOk result (λ answer. IfSome answer (λ text. (is_blank_line line.now ≡ false)
             × IsLineAnswer self.old (reading line.now) (string_bytes text) self.new)) }
         ensures unchanged { OnErr result ((is_blank_line line.now ≡ false) × (self.new ≡ self.old)) }
+        ensures start { IfErr result (λ fault. fault ≡ Start → MayStartForLine self.old (reading line.now)) }
+        ensures one_worker { plan.now.workers ≡ 1 → IfErr result (λ fault. fault ≢ Start) }
         ensures no_start { plan.now.budget ≡ 0 → IfErr result (λ fault. fault ≢ Start) }
     {
         self.answer_line_by(
@@ -124,6 +126,7 @@ impl Session {
             × IsLineAnswer self.old (reading line.now) (string_bytes text) self.new)) }
         ensures unchanged { OnErr result ((is_blank_line line.now ≡ false) × (self.new ≡ self.old)) }
         ensures short { IfOk result (λ answer. IfSome answer (λ text. (self.new ≡ self.old) ⊎ (length (string_bytes text) ≤ longest_report))) }
+        ensures start { IfErr result (λ fault. fault ≡ Start → MayStartForLine self.old (reading line.now)) }
         ensures no_start { NeverStarts F.post way.now → IfErr result (λ fault. fault ≢ Start) }
     {
         if is_blank(line) {
@@ -143,6 +146,7 @@ impl Session {
         ensures text { IfOk result (λ text. IsLineAnswer self.old (reading line.now) (string_bytes text) self.new) }
         ensures unchanged { OnErr result (self.new ≡ self.old) }
         ensures short { IfOk result (λ text. (self.new ≡ self.old) ⊎ (length (string_bytes text) ≤ longest_report)) }
+        ensures start { IfErr result (λ fault. fault ≡ Start → MayStartForLine self.old (reading line.now)) }
         ensures no_start { NeverStarts F.post way.now → IfErr result (λ fault. fault ≢ Start) }
     {
         match self.reader.read(alloc, line) {
@@ -164,6 +168,8 @@ impl Session {
     ) -> Result<String, AnswerFault>
         ensures text { IfOk result (λ text. IsAnswer self.old (plain request.now) (string_bytes text) self.new) }
         ensures unchanged { OnErr result (self.new ≡ self.old) }
+        ensures start { IfErr result (λ fault. fault ≡ Start → MayStartFor self.old (plain request.now)) }
+        ensures one_worker { plan.now.workers ≡ 1 → IfErr result (λ fault. fault ≢ Start) }
         ensures no_start { plan.now.budget ≡ 0 → IfErr result (λ fault. fault ≢ Start) }
     {
         self.answer_by(
@@ -201,6 +207,7 @@ impl Session {
         ensures text { IfOk result (λ text. IsAnswer self.old (plain request.now) (string_bytes text) self.new) }
         ensures unchanged { OnErr result (self.new ≡ self.old) }
         ensures short { IfOk result (λ text. (self.new ≡ self.old) ⊎ (length (string_bytes text) ≤ longest_report)) }
+        ensures start { IfErr result (λ fault. fault ≡ Start → MayStartFor self.old (plain request.now)) }
         ensures no_start { NeverStarts F.post way.now → IfErr result (λ fault. fault ≢ Start) }
     {
         match request {
@@ -230,6 +237,7 @@ impl Session {
         ensures text { IfOk result (λ text. IsAnswer self.old (new_network nodes dest links.now) (string_bytes text) self.new) }
         ensures unchanged { OnErr result (self.new ≡ self.old) }
         ensures short { IfOk result (λ text. (self.new ≡ self.old) ⊎ (length (string_bytes text) ≤ longest_report)) }
+        ensures start { IfErr result (λ fault. fault ≡ Start → MayStartFor self.old (new_network nodes dest links.now)) }
         ensures no_start { NeverStarts F.post way.now → IfErr result (λ fault. fault ≢ Start) }
     {
         match opened(alloc, nodes, dest, links, way) {
@@ -249,12 +257,19 @@ impl Session {
         ensures text { IfOk result (λ text. IsAnswer self.old (request_of_change change) (string_bytes text) self.new) }
         ensures unchanged { OnErr result (self.new ≡ self.old) }
         ensures short { IfOk result (λ text. (self.new ≡ self.old) ⊎ (length (string_bytes text) ≤ longest_report)) }
+        ensures start { IfErr result (λ fault. fault ≡ Start → MayStartFor self.old (request_of_change change)) }
         ensures no_start { NeverStarts F.post way.now → IfErr result (λ fault. fault ≢ Start) }
     {
         let Some(router) = &mut self.router else {
             return refuse(alloc, Refusal::NoNetwork);
         };
-        match router.change_by(alloc, &change, way, &|report| report_line(alloc, report)) {
+        match router.change_by(
+            alloc,
+            &change,
+            way,
+            &|report| report_line(alloc, report),
+            &mut Vec::new(alloc),
+        ) {
             Ok(text) => Ok(text),
             Err(fault) => refusal(alloc, &fault),
         }
@@ -271,6 +286,7 @@ impl Session {
         ensures text { IfOk result (λ text. IsAnswer self.old (make_edits edits.now) (string_bytes text) self.new) }
         ensures unchanged { OnErr result (self.new ≡ self.old) }
         ensures short { IfOk result (λ text. (self.new ≡ self.old) ⊎ (length (string_bytes text) ≤ longest_report)) }
+        ensures start { IfErr result (λ fault. fault ≡ Start → MayStartFor self.old (make_edits edits.now)) }
         ensures no_start { NeverStarts F.post way.now → IfErr result (λ fault. fault ≢ Start) }
     {
         let Some(router) = &mut self.router else {
@@ -283,6 +299,7 @@ impl Session {
             dest,
             way,
             &|report| report_line(alloc, report),
+            &mut Vec::new(alloc),
         ) {
             Ok(line) => Ok(line),
             Err(fault) => refusal(alloc, &fault),
@@ -346,7 +363,7 @@ fn refuse(alloc: Global, refusal: Refusal) -> Result<String, AnswerFault>
 /// The answer to a request that is refused for this fault; a fault that is no refusal is handed on.
 fn refusal(alloc: Global, fault: &RouteFault) -> Result<String, AnswerFault>
     ensures text { IfOk result (λ text. IsRefusalOf fault.now (string_bytes text)) }
-    ensures start { IfErr result (λ why. why ≡ Start → fault.now ≡ RouteStart) }
+    ensures start { IfErr result (λ why. (why ≡ Start) ↔ (fault.now ≡ RouteStart)) }
 {
     match fault {
         RouteFault::Net(fault) => match Refusal::of(fault) {

@@ -1,15 +1,19 @@
-use Rattle.std.proofs.Common.{List, arith, subst, sym, ℕ, ◌≡◌, ◌<◌, ◌+◌, All}
+use Rattle.std.proofs.Common.{List, arith, subst, sym, ℕ, ◌∙◌, ◌≡◌, ◌<◌, ◌+◌, All}
 use Rattle.fr_core.proofs.RowLinks.{row_below}
 use Rattle.fr_net.specs.declared.rows.First.{First}
 use Rattle.fr_route.specs.States.{State, state_with}
+use Rattle.fr_route.proofs.Noting.{notes_then}
 use Rattle.fr_route.proofs.Renewing.{NoneSends, none_left, none_more, renewed_as, renewed_then}
 use Rattle.fr_route.proofs.hops.renew_near.Goals as goal
 
 pub loop-w-init : goal.loop-w-init
 loop-w-init c =
     let s : State = state_with c.args.net.now c.args.dest c.args.counts.now in
-    renewed_as s c.args.hops.now c.renew_one.new.hops (λ y hop. ¬ (y ≡ c.args.x)) (λ y hop. (¬ (y ≡ c.args.x)) × NoneSends c.row-row.result.now 0 c.args.x y hop) c.renew_one.ensures
-    (λ y hop apart. (apart, λ j d low. absurd (omega arith)))
+    record {
+      renewed = renewed_as s c.args.hops.now c.renew_one.new.hops (λ y hop. ¬ (y ≡ c.args.x)) (λ y hop. (¬ (y ≡ c.args.x)) × NoneSends c.row-row.result.now 0 c.args.x y hop) c.renew_one.ensures.renewed
+          (λ y hop apart. (apart, λ j d low. absurd (omega arith)));
+      noted = c.renew_one.ensures.noted;
+    }
 
 pub renew_sender-requires-clause-node : goal.renew_sender-requires-clause-node
 renew_sender-requires-clause-node c =
@@ -23,16 +27,19 @@ loop-w-preserved c =
     let x = c.args.x in
     let k = c.loop-w.w-index in
     let row = c.row-row.result.now in
-    renewed_then s c.args.hops.now c.loop-w.hops c.renew_sender.new.hops (λ y hop. (¬ (y ≡ x)) × NoneSends row k x y hop) _ (λ y hop. (¬ (y ≡ x)) × NoneSends row (k + 1) x y hop)
-    c.loop-w.invariant c.renew_sender.ensures
-    (λ y hop before here. (before.0, none_more row k _ x y hop c.loop-w-test.true before.1 here))
+    record {
+      renewed = renewed_then s c.args.hops.now c.loop-w.hops c.renew_sender.new.hops (λ y hop. (¬ (y ≡ x)) × NoneSends row k x y hop) _ (λ y hop. (¬ (y ≡ x)) × NoneSends row (k + 1) x y hop)
+          c.loop-w.invariant.renewed c.renew_sender.ensures.renewed
+          (λ y hop before here. (before.0, none_more row k _ x y hop c.loop-w-test.true before.1 here));
+      noted = notes_then s c.args.hops.now c.loop-w.hops c.renew_sender.new.hops c.args.rerouted.now c.loop-w.rerouted c.renew_sender.new.rerouted (c.loop-w.auto.hops ∙ c.renew_one.auto.hops) c.loop-w.invariant.noted c.renew_sender.ensures.noted;
+    }
 
-pub returns : goal.returns
-returns c =
+pub returns-clause-renewed : goal.returns-clause-renewed
+returns-clause-renewed c =
     let s : State = state_with c.args.net.now c.args.dest c.args.counts.now in
     let net = c.args.net.now in
     let x = c.args.x in
     let k = c.loop-w.w-index in
     let row = c.row-row.result.now in
-    renewed_as s c.args.hops.now c.loop-w.hops (λ y hop. (¬ (y ≡ x)) × NoneSends row k x y hop) _ c.loop-w.invariant
+    renewed_as s c.args.hops.now c.loop-w.hops (λ y hop. (¬ (y ≡ x)) × NoneSends row k x y hop) _ c.loop-w.invariant.renewed
     (λ y hop left. none_left net.nodes net.links x row k c.network_law.ensures.is_net c.row-row.ensures c.loop-w-test.false y hop left.0 left.1)

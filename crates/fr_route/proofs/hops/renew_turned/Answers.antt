@@ -4,11 +4,17 @@ use Rattle.std.proofs.lemmas.List.{get_or_default}
 use Rattle.fr_net.proofs.TurnedNodes.{turned_below}
 use Rattle.fr_route.specs.Outcomes.{SendsTo}
 use Rattle.fr_route.specs.States.{State, state_with}
+use Rattle.fr_route.proofs.Noting.{notes_none, notes_then}
 use Rattle.fr_route.proofs.Renewing.{renewed_as, renewed_none, renewed_then}
 use Rattle.fr_route.proofs.hops.renew_turned.Goals as goal
 
 pub loop-x-init : goal.loop-x-init
-loop-x-init c = renewed_none (state_with c.args.net.now c.args.dest c.args.turns.now) c.args.hops.now _ (λ y hop j low. absurd (omega arith))
+loop-x-init c =
+    let s : State = state_with c.args.net.now c.args.dest c.args.turns.now in
+    record {
+      renewed = renewed_none s c.args.hops.now _ (λ y hop j low. absurd (omega arith));
+      noted = notes_none s c.args.hops.now c.args.rerouted.now;
+    }
 
 pub renew_near-requires-clause-node : goal.renew_near-requires-clause-node
 renew_near-requires-clause-node c =
@@ -24,19 +30,22 @@ loop-x-preserved c =
     let nodes : List ℕ = c.nodes-x-items.result.now in
     let k = c.loop-x.x-index in
     let near = rw c.counts.ensures at c.renew_near.ensures in
-    renewed_then s c.args.hops.now c.loop-x.hops c.renew_near.new.hops (λ y hop. (j : ℕ) → j < k → ¬ SendsTo links (get_or nodes j 0) y hop) (λ y hop. ¬ SendsTo links (get_or nodes k 0) y hop) (λ y hop. (j : ℕ) → j < k + 1 → ¬ SendsTo links (get_or nodes j 0) y hop)
-    c.loop-x.invariant near
-    (λ y hop before apart j low. ⊎_elim
-    (λ e. subst (λ (i : ℕ). ¬ SendsTo links (get_or nodes i 0) y hop) (sym e) apart)
-    (λ other. before j (omega arith))
-    (cases_eq j k))
+    record {
+      renewed = renewed_then s c.args.hops.now c.loop-x.hops c.renew_near.new.hops (λ y hop. (j : ℕ) → j < k → ¬ SendsTo links (get_or nodes j 0) y hop) (λ y hop. ¬ SendsTo links (get_or nodes k 0) y hop) (λ y hop. (j : ℕ) → j < k + 1 → ¬ SendsTo links (get_or nodes j 0) y hop)
+          c.loop-x.invariant.renewed near.renewed
+          (λ y hop before apart j low. ⊎_elim
+          (λ e. subst (λ (i : ℕ). ¬ SendsTo links (get_or nodes i 0) y hop) (sym e) apart)
+          (λ other. before j (omega arith))
+          (cases_eq j k));
+      noted = notes_then s c.args.hops.now c.loop-x.hops c.renew_near.new.hops c.args.rerouted.now c.loop-x.rerouted c.renew_near.new.rerouted c.loop-x.auto.hops c.loop-x.invariant.noted near.noted;
+    }
 
-pub returns : goal.returns
-returns c =
+pub returns-clause-renewed : goal.returns-clause-renewed
+returns-clause-renewed c =
     let s : State = state_with c.args.net.now c.args.dest c.args.turns.now in
     let links = c.args.net.now.links in
     let nodes : List ℕ = c.nodes-x-items.result.now in
-    renewed_as s c.args.hops.now c.loop-x.hops (λ y hop. (j : ℕ) → j < c.loop-x.x-index → ¬ SendsTo links (get_or nodes j 0) y hop) _ c.loop-x.invariant
+    renewed_as s c.args.hops.now c.loop-x.hops (λ y hop. (j : ℕ) → j < c.loop-x.x-index → ¬ SendsTo links (get_or nodes j 0) y hop) _ c.loop-x.invariant.renewed
     (λ y hop earlier (z, (some, sends)).
     let at = (c.nodes-x-items.ensures.each z).1 some in
     let is : get_or nodes at.0 0 ≡ z = get_or_default nodes at.0 0 z at.1 ∙ at.2 in

@@ -1,11 +1,12 @@
-use Rattle.std.proofs.Common.{◌≡◌, ◌∙◌, ap, subst, sym, ℕ}
+use Rattle.std.proofs.Common.{◌≡◌, ◌∙◌, ◌≤◌, ap, arith, length, subst, sym, vec_capacity, ℕ}
 use Rattle.fr_net.specs.Counts.{links_at}
 use Rattle.fr_net.specs.Network.{Network, net_of}
 use Rattle.fr_core.proofs.Unique.{settled_lawful}
-use Rattle.fr_route.specs.Outcomes.{HoldsMoved, state_after}
+use Rattle.fr_route.specs.Outcomes.{AreNoted, HoldsMoved, state_after}
 use Rattle.fr_route.specs.Routes.{AreHops}
 use Rattle.fr_route.specs.States.{IsAfterRound, State, state_with}
 use Rattle.fr_route.proofs.CutNodes.{after_outcome}
+use Rattle.fr_route.proofs.Noting.{noted_first, others_sorted}
 use Rattle.fr_route.proofs.outcome.put_in_place.Goals as goal
 use Rattle.fr_route.proofs.outcome.put_in_place.Goals.{After-turn}
 
@@ -38,4 +39,13 @@ returns-clause-hops c =
     let after = state_after c.args.net.now c.args.dest c.args.turns.now in
     let nodes : c.turn.new.self.nodes ≡ c.args.net.now.nodes = ap (λ (m : Network). m.nodes) (turned at) in
     subst (λ (n : ℕ). AreHops after n c.renew_hops.new.hops) nodes
-    (subst (λ (s : State). AreHops s c.turn.new.self.nodes c.renew_hops.new.hops) (reached at) c.renew_hops.ensures)
+    (subst (λ (s : State). AreHops s c.turn.new.self.nodes c.renew_hops.new.hops) (reached at) c.renew_hops.ensures.hops)
+
+pub returns-clause-rerouted : goal.returns-clause-rerouted
+returns-clause-rerouted c = λ room.
+    let s : State = state_with c.turn.new.self c.args.dest c.args.turns.now in
+    let hops = c.args.hops.now in
+    let long : length hops ≤ vec_capacity c.clear.new.self = omega (arith, room, c.clear.ensures.capacity, c.requires.one_each) in
+    let noted : AreNoted s hops c.renew_hops.new.hops c.renew_hops.new.rerouted.items =
+    c.renew_hops.ensures.noted.noted long hops (subst (AreNoted s hops hops) (sym c.clear.ensures.items) (noted_first s hops)) in
+    others_sorted s hops c.renew_hops.new.hops c.renew_hops.new.rerouted.items c.sort_unstable.new.self.items noted c.sort_unstable.ensures.permutation c.sort_unstable.ensures.sorted

@@ -1,7 +1,7 @@
-use Rattle.std.proofs.Common.{◌<◌, ◌≡◌, ℕ, ap, subst}
+use Rattle.std.proofs.Common.{◌<◌, ℕ, ap, subst}
 use Rattle.fr_net.specs.Network.{Network}
-use Rattle.std.proofs.lemmas.Result.{IfErr-weaker, IfOk-weaker, err_from_is_err_and}
-use Rattle.fr_route.proofs.Opening.{new_fault, open_fault}
+use Rattle.std.proofs.lemmas.Result.{IfOk-weaker, err_from_is_err_and}
+use Rattle.fr_route.proofs.Opening.{new_fault, opening_fault}
 use Rattle.fr_route.proofs.RoundEnds.{round_listed}
 use Rattle.fr_route.proofs.session.opened.Goals as goal
 
@@ -22,6 +22,4 @@ returns-clause-accepted g c =
 
 pub returns-clause-refused : goal.returns-clause-refused
 returns-clause-refused g c =
-    let made = c.in_ok-net.ensures.ok in
-    let nodes : c.in_ok-net.net.nodes ≡ c.args.nodes = ap (λ (m : Network). m.nodes) made.is in
-    IfErr-weaker c.open_by.result _ _ (λ fault why. open_fault c.args.nodes c.in_ok-net.net.nodes c.args.dest c.args.links.now fault nodes made.faultless why) c.open_by.ensures.fault
+    opening_fault c.args.nodes c.args.dest c.args.links.now c.in_ok-net.net c.open_by.result c.in_ok-net.ensures.ok c.open_by.ensures.fault c.open_by.ensures.still

@@ -1,4 +1,4 @@
-use Rattle.std.proofs.Common.{◌≡◌, ◌∙◌, ◌<◌, IfSome, List, ap, arith, length, refl, replicate, rules, subst, sym, vec_len, ℕ}
+use Rattle.std.proofs.Common.{◌≡◌, ◌≢◌, ◌∙◌, ◌<◌, IfSome, List, ap, arith, length, refl, replicate, rules, subst, sym, vec_len, ℕ}
 use Rattle.std.proofs.lemmas.List.{with_items_is}
 use Rattle.std.proofs.lemmas.Result.{err_from_is_err_and}
 use Rattle.std.specs.Vec.{with_items}
@@ -7,17 +7,20 @@ use Rattle.fr_net.specs.Network.{Network}
 use Rattle.fr_crew.specs.Settlements.{HoldsSinks}
 use Rattle.fr_net.specs.declared.fault.NotEdited.{NotEdited}
 use Rattle.fr_net.specs.declared.fault.NotEdited.TheVariants.{Fault, Refused}
-use Rattle.fr_route.specs.Changes.{IsOpenFault}
+use Rattle.fr_route.specs.Changes.{IsOpenFault, IsStill}
 use Rattle.fr_route.specs.Faults.{of_not_edited}
 use Rattle.fr_route.specs.Outcomes.{HoldsMoved, IsEditingFault, IsOutcome, movable, state_after}
+use Rattle.fr_route.specs.Reroutes.{AreRerouted}
 use Rattle.fr_route.specs.Routes.{AreHops}
 use Rattle.fr_route.specs.RouterInside.{state_of}
 use Rattle.fr_route.specs.States.{State, net_at}
 use Rattle.fr_route.specs.declared.fault.RouteFault.{RouteFault}
+use Rattle.fr_route.specs.declared.fault.RouteFault.TheVariants.{Start}
 use Rattle.fr_route.proofs.CutNodes.{ended}
 use Rattle.fr_route.proofs.Changing.{made_nodes, refused_fault, round_fault}
 use Rattle.fr_route.proofs.Inside.{sound_after}
 use Rattle.fr_route.proofs.Moving.{made_net, movable_sinks, unmoved_hops}
+use Rattle.fr_route.proofs.Noting.{rerouted_by}
 use Rattle.fr_route.proofs.router.Router.edit_by.Given.{Over}
 use Rattle.fr_route.proofs.router.Router.edit_by.Goals as goal
 use Rattle.fr_route.proofs.router.Router.edit_by.Goals.{After-self, In_ok-outcome}
@@ -69,16 +72,18 @@ returns-in_err-outcome-clause-fault g c =
     let at = (goal.at.returns-in_err-outcome-clause-fault g c).After-self in
     let below = in_range g at in
     let reason = c.in_err-outcome.field-0.0 in
-    let fault : (r : NotEdited RouteFault) → c.in_err-outcome.field-0.0 ≡ r → IsEditingFault s edits (of_not_edited r) =
-    λ r. elim r as (λ (r : NotEdited RouteFault). c.in_err-outcome.field-0.0 ≡ r → IsEditingFault s edits (of_not_edited r)) [
-      | Refused refused ↦ λ is. refused_fault s edits refused (rw is at c.in_err-outcome.ensures.refused)
+    let fault : (r : NotEdited RouteFault) → c.in_err-outcome.field-0.0 ≡ r → IsEditingFault s edits c.args.dest (of_not_edited r) =
+    λ r. elim r as (λ (r : NotEdited RouteFault). c.in_err-outcome.field-0.0 ≡ r → IsEditingFault s edits c.args.dest (of_not_edited r)) [
+      | Refused refused ↦ λ is. refused_fault s edits c.args.dest refused (rw is at c.in_err-outcome.ensures.refused)
       | Fault fault ↦ λ is.
           let why = rw is at c.in_err-outcome.ensures.refused in
-          round_fault s edits why.0.nodes c.args.dest fault (omega (arith, below, made_nodes c.self.inside.net edits why.0 why.1.0))
-          (subst (λ (m : Network). IsOpenFault m.nodes c.args.dest fault) {y = why.0} why.1.1.1.2 why.1.1.1.1.1.1.0)
+          let told = why.1.1.1.1.1.1 in
+          round_fault s edits why.0 c.args.dest fault below why.1.1.0 why.1.0
+          (subst (λ (m : Network). IsOpenFault m.nodes c.args.dest fault) {y = why.0} why.1.1.1.2 told.0)
+          (subst (λ (m : Network). IsStill m c.args.dest → fault ≢ Start) {y = why.0} why.1.1.1.2 told.1.0)
     ] in
     let p = err_from_is_err_and c.from_residual-in_err-outcome.result c.from_residual-in_err-outcome.ensures.1 in
-    rw (p.1, p.2) (subst (λ (now : State). IsEditingFault now edits (of_not_edited reason)) (now_is g at) (fault reason refl))
+    rw (p.1, p.2) (subst (λ (now : State). IsEditingFault now edits c.args.dest (of_not_edited reason)) (now_is g at) (fault reason refl))
 
 pub put_in_place-requires-clause-one_each : goal.put_in_place-requires-clause-one_each
 put_in_place-requires-clause-one_each g c =
@@ -132,3 +137,18 @@ pub returns-clause-told : goal.returns-clause-told
 returns-clause-told g c =
     let at = goal.at.returns-clause-told g c in
     (c.in_ok-outcome.outcome.report, rw (c.keep_turns.ensures.last, c.put_in_place.ensures.net) (outcome_is g at.In_ok-outcome).report, search rules)
+
+pub returns-clause-rerouted : goal.returns-clause-rerouted
+returns-clause-rerouted g c = λ room.
+    let at = goal.at.returns-clause-rerouted g c in
+    let s : State = state_of c.self.inside in
+    let net : Network = c.edit_if.new.self in
+    let after : State = state_after net c.args.dest c.in_ok-outcome.outcome.turns in
+    let nodes : net.nodes ≡ s.nodes = made_nodes c.self.inside.net c.args.edits.now net (edits_made g at.In_ok-outcome) in
+    let before : AreHops s s.nodes c.deref_mut.result.now = rw c.deref_mut.ensures.value c.self.invariant.hops in
+    let hops : AreHops after s.nodes c.put_in_place.new.hops = subst (λ (n : ℕ). AreHops after n c.put_in_place.new.hops) nodes c.put_in_place.ensures.hops in
+    let as_many : s.nodes ≡ c.args.self.now.nodes = ap (λ (now : State). now.nodes) (now_is g at.After-self) in
+    let others = c.put_in_place.ensures.rerouted (omega (arith, room, nodes, as_many)) in
+    rw (c.keep_turns.ensures.last, c.put_in_place.ensures.net)
+    (subst (λ (now : State). AreRerouted now after c.put_in_place.new.rerouted.items) (now_is g at.After-self)
+    (rerouted_by s after s.nodes c.deref_mut.result.now c.put_in_place.new.hops c.put_in_place.new.rerouted.items before hops nodes others))

@@ -1,9 +1,10 @@
 use Rattle.std.proofs.Common.{◌≡◌, ◌∙◌, Option, Some, string_bytes, subst, sym}
-use Rattle.std.proofs.lemmas.Result.{IfOk-weaker}
-use Rattle.fr_route.specs.Answers.{IsAnswer}
+use Rattle.std.proofs.lemmas.Result.{IfErr-weaker, IfOk-weaker}
+use Rattle.fr_route.specs.Answers.{IsAnswer, MayStartFor}
+use Rattle.fr_route.specs.Changes.{IsRouteFault}
 use Rattle.fr_route.specs.Refusals.{request_of_change}
 use Rattle.fr_route.specs.States.{State}
-use Rattle.fr_route.proofs.Changing.{refused_change}
+use Rattle.fr_route.proofs.Changing.{refused_change, start_for}
 use Rattle.fr_route.proofs.session.Session.change.Goals as goal
 
 pub returns-clause-text : goal.returns-clause-text
@@ -17,3 +18,13 @@ returns-clause-text g c =
     (subst (λ (s : Option State). IsAnswer s (request_of_change c.args.change) (string_bytes text) (Some router)) (sym here)
     (refused_change router c.args.change c.in-Err.fault (string_bytes text) c.in-Err.ensures.fault is)))
     c.refusal.ensures.text
+
+pub returns-clause-start : goal.returns-clause-start
+returns-clause-start g c =
+    let router = c.in-Some.router in
+    let here : c.args.self.now ≡ Some router = sym c.self.view_is ∙ c.in-Some.is in
+    IfErr-weaker c.refusal.result _ _
+    (λ why told is.
+    subst (λ (s : Option State). MayStartFor s (request_of_change c.args.change)) (sym here)
+    (start_for router c.args.change (subst (IsRouteFault router c.args.change) (told.0 is) c.in-Err.ensures.fault)))
+    c.refusal.ensures.start

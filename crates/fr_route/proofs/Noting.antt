@@ -1,0 +1,143 @@
+-- Which hops are other ones once some are made anew, and the list that notes where.
+use Rattle.std.proofs.Common.{Contains, false, true, List, [], Some, ap, arith, eqb, get_or, inl, inr, length, length-set, refl, set, slice_get, subst, sym, vec_capacity, ℕ, ⊎_elim, ◌++◌, ◌<◌, ◌∙◌, ◌∷◌, ◌≡◌, ◌⊎◌}
+use Rattle.std.specs.List.{IsDistinct, list_any}
+use Rattle.std.specs.List.Sorted.{IsPermutation, IsSorted}
+use Rattle.std.specs.Cmp.{nat_eq_equiv}
+use Rattle.std.specs.Ordering.{nat_cmp}
+use Rattle.std.specs.declared.alloc.Global.{Global}
+use Rattle.std.specs.declared.vec.Vec.{Vec}
+use Rattle.std.proofs.lemmas.Bool.{cases_Bool, cases_eq, cases_lt, eqb-true}
+use Rattle.std.proofs.lemmas.List.{get_or-set_other, get_or-set_same, length_push}
+use Rattle.std.proofs.lemmas.List.Elements.{Contains-append_left, Contains-push, Contains-push_cases}
+use Rattle.std.proofs.lemmas.List.Sorted.{Contains-permutation, IsNonDecreasingBy-from_sort, IsPermutation-sym}
+use Rattle.std.proofs.lemmas.Map.Keys.{IsDistinct-IsPermutation, IsDistinct-push, IsStrictlyIncreasing-from_distinct}
+use Rattle.std.proofs.lemmas.Map.Steps.{length-le_from_distinct_below}
+use Rattle.std.proofs.lemmas.Map.Views.{Contains-from_any}
+use Rattle.std.proofs.lemmas.Option.{get_or_from_slice_get, slice_get-get_or, slice_get_past, slice_get_within}
+use Rattle.fr_net.proofs.Members.{Contains-none, cases_some}
+use Rattle.fr_route.specs.Outcomes.{AreNoted, AreOthers, NotesMore}
+use Rattle.fr_route.specs.Reroutes.{AreRerouted}
+use Rattle.fr_route.specs.Routes.{AreHops, IsHop}
+use Rattle.fr_route.specs.States.{State}
+use Rattle.fr_route.specs.declared.hops.Hop.{Hop}
+use Rattle.fr_route.specs.declared.hops.Hop.TheVariants.{Here}
+use Rattle.fr_route.proofs.Determined.{one_hop}
+
+-- no hop is made anew
+pub notes_none : (s : State) (hops : List Hop) (nodes : Vec ℕ Global) → NotesMore s hops nodes hops nodes
+notes_none s hops nodes = record { room = refl; noted = λ room before noted. noted }
+
+-- one after the other
+pub notes_then : (s : State) (a b c : List Hop) (l m n : Vec ℕ Global) → length b ≡ length a → NotesMore s a l b m → NotesMore s b m c n → NotesMore s a l c n
+notes_then s a b c l m n same h g = record {
+  room = g.room ∙ h.room;
+  noted = λ room before noted. g.noted (omega (arith, same, room, h.room)) before (h.noted room before noted);
+}
+
+-- no hop is another one yet
+pub noted_first : (s : State) (hops : List Hop) → AreNoted s hops hops []
+unfolding IsDistinct
+noted_first s hops = record { once = tt; these = λ x h. absurd (Contains-none x h); others = λ x out. refl }
+
+in_or_out : (x : ℕ) (nodes : List ℕ) → Contains nodes x ⊎ ¬ Contains nodes x
+in_or_out x nodes = ⊎_elim
+    (λ (y, found, is). inl (subst (Contains nodes) is found))
+    (λ none. inr (λ found. none x found refl))
+    (cases_some (λ (y : ℕ). y ≡ x) (λ y. cases_eq y x) nodes)
+
+not_any : (x : ℕ) (nodes : List ℕ) → ¬ Contains nodes x → list_any (eqb x) nodes ≡ false
+not_any x nodes out = ⊎_elim
+    (λ t. absurd (out (Contains-from_any {eq = eqb} eqb-true x nodes t)))
+    (λ f. f)
+    (cases_Bool (list_any (eqb x) nodes))
+
+-- another hop is right for x than stands there
+module _ (s : State) (x : ℕ) (hop : Hop) (right : IsHop s x hop) (old : List Hop) (low : x < length old) (another : ¬ (slice_get old x ≡ Some hop)) (before : List Hop) (nodes : List ℕ) (noted : AreNoted s before old nodes) where
+  here : slice_get (set old x hop) x ≡ Some hop
+  here = slice_get-get_or (set old x hop) x hop (omega (arith, low, length-set old x hop)) ∙ ap Some (get_or-set_same old x hop hop low)
+
+  there : (y : ℕ) → ¬ (y ≡ x) → slice_get (set old x hop) y ≡ slice_get old y
+  there y apart = ⊎_elim
+      (λ inside. slice_get-get_or (set old x hop) y hop (omega (arith, inside, length-set old x hop)) ∙ (ap Some (get_or-set_other old x y hop hop apart) ∙ sym (slice_get-get_or old y hop inside)))
+      (λ past. slice_get_past (set old x hop) y (omega (arith, past, length-set old x hop)) ∙ sym (slice_get_past old y past))
+      (cases_lt y (length old))
+
+  -- it is not noted yet, since it would be right then
+  fresh : ¬ Contains nodes x
+  fresh found = let at = noted.these x found in another (at.1.0 ∙ ap Some (one_hop s x at.0 hop at.1.1 right))
+
+  once_more : IsDistinct eqb (nodes ++ x ∷ [])
+  once_more = IsDistinct-push {eq = eqb} nat_eq_equiv nodes x noted.once (not_any x nodes fresh)
+
+  -- there is a place left for it
+  place_left : length nodes < length old
+  place_left =
+      let below : (y : ℕ) → list_any (eqb y) (nodes ++ x ∷ []) ≡ true → y < length old =
+      λ y found. ⊎_elim
+      (λ earlier. let at = noted.these y earlier in slice_get_within old y at.0 at.1.0)
+      (λ it. omega (arith, it, low))
+      (Contains-push_cases nodes x y (Contains-from_any {eq = eqb} eqb-true y (nodes ++ x ∷ []) found)) in
+      omega (arith, length-le_from_distinct_below (nodes ++ x ∷ []) (length old) once_more below, length_push nodes x)
+
+  noted_also : AreNoted s before (set old x hop) (nodes ++ x ∷ [])
+  noted_also = record {
+    once = once_more;
+    these = λ y found. ⊎_elim
+        (λ earlier.
+        let at = noted.these y earlier in
+        (at.0, (there y (λ it. fresh (subst (Contains nodes) it earlier)) ∙ at.1.0, at.1.1, at.1.2)))
+        (λ it. subst (λ (z : ℕ). (h : Hop) × ((slice_get (set old x hop) z ≡ Some h) × IsHop s z h × ¬ (slice_get before z ≡ Some h))) it
+        (hop, (here, right, (λ was. another (noted.others x fresh ∙ was)))))
+        (Contains-push_cases nodes x y found);
+    others = λ y out. there y (λ it. out (subst (Contains (nodes ++ x ∷ [])) (sym it) (Contains-push nodes x))) ∙ noted.others y (λ h. out (Contains-append_left nodes (x ∷ []) y h));
+  }
+
+-- the hop of x is made anew and noted
+pub notes_one : (s : State) (x : ℕ) (hop d : Hop) (old : List Hop) (nodes more : Vec ℕ Global) → IsHop s x hop → x < length old → ¬ (get_or old x d ≡ hop)
+    → vec_capacity more ≡ vec_capacity nodes → (length nodes.items < vec_capacity nodes → more.items ≡ nodes.items ++ x ∷ []) → NotesMore s old nodes (set old x hop) more
+notes_one s x hop d old nodes more right low apart same put = record {
+  room = same;
+  noted = λ room before noted.
+      let another : ¬ (slice_get old x ≡ Some hop) = λ is. apart (get_or_from_slice_get old x hop d is) in
+      let left = place_left s x hop right old low another before nodes.items noted in
+      subst (AreNoted s before (set old x hop)) (sym (put (omega (arith, left, room)))) (noted_also s x hop right old low another before nodes.items noted);
+}
+
+-- the list in rising order
+pub others_sorted : (s : State) (before hops : List Hop) (nodes sorted : List ℕ) → AreNoted s before hops nodes → IsPermutation nodes sorted → IsSorted nat_cmp sorted → AreOthers before hops sorted
+others_sorted s before hops nodes sorted noted moved rising = record {
+  rising = IsStrictlyIncreasing-from_distinct sorted (IsNonDecreasingBy-from_sort (λ (x : ℕ). x) sorted rising) (IsDistinct-IsPermutation eqb nat_eq_equiv.symm nodes sorted moved noted.once);
+  these = λ x found.
+      let at = noted.these x (Contains-permutation sorted nodes x (IsPermutation-sym nodes sorted moved) found) in
+      (slice_get_within hops x at.0 at.1.0, (λ same. at.1.2 (sym same ∙ at.1.0)));
+  others = λ x out. noted.others x (λ found. out (Contains-permutation nodes sorted x moved found));
+}
+
+-- just these nodes are rerouted
+pub rerouted_by : (s t : State) (n : ℕ) (old new : List Hop) (nodes : List ℕ) → AreHops s n old → AreHops t n new → t.nodes ≡ n → AreOthers old new nodes → AreRerouted s t nodes
+rerouted_by s t n old new nodes h g same others = record {
+  rising = others.rising;
+  just = λ x. (
+    λ found.
+        let at = others.these x found in
+        let was : slice_get old x ≡ Some (get_or old x Here) = slice_get-get_or old x Here (omega (arith, at.0, h.one_each, g.one_each)) in
+        let is : slice_get new x ≡ Some (get_or new x Here) = slice_get-get_or new x Here at.0 in (
+          omega (arith, at.0, g.one_each, same),
+          record {
+            before = get_or old x Here;
+            after = get_or new x Here;
+            was = h.each x (get_or old x Here) was;
+            is = g.each x (get_or new x Here) is;
+            another = λ e. at.1 (is ∙ (ap Some (sym e) ∙ sym was));
+          },
+        ),
+    λ (below, r). ⊎_elim
+        (λ found. found)
+        (λ out.
+        let hop = get_or old x Here in
+        let was : slice_get old x ≡ Some hop = slice_get-get_or old x Here (omega (arith, below, h.one_each, same)) in
+        let stays : IsHop t x hop = g.each x hop (others.others x out ∙ was) in
+        absurd (r.another (one_hop s x r.before hop r.was (h.each x hop was) ∙ one_hop t x hop r.after stays r.is)))
+        (in_or_out x nodes),
+  );
+}

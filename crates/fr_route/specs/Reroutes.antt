@@ -1,0 +1,19 @@
+-- Which nodes a round reroutes: those that send on to another node than before it.
+use Rattle.std.specs.Prelude.{◌≡◌, ℕ, ◌<◌, ◌↔◌, List, Contains}
+use Rattle.std.specs.List.Sorted.{IsStrictlyIncreasing}
+use Rattle.fr_route.specs.Routes.{IsHop}
+use Rattle.fr_route.specs.States.{State}
+use Rattle.fr_route.specs.declared.hops.Hop.{Hop}
+
+-- the hop of x in the new state is another one than in the old state
+pub record IsRerouted (old new : State) (x : ℕ) : Type 0 where
+  pub before : Hop
+  pub after : Hop
+  pub was : IsHop old x before
+  pub is : IsHop new x after
+  pub another : ¬ (before ≡ after)
+
+-- these nodes are rerouted and no others, in rising order
+pub record AreRerouted (old new : State) (nodes : List ℕ) : Type 0 where
+  pub rising : IsStrictlyIncreasing nodes
+  pub just : (x : ℕ) → Contains nodes x ↔ ((x < new.nodes) × IsRerouted old new x)
