@@ -18,7 +18,7 @@ use crate::outcome::{
     Outcome, alone_nodes, outcome_of, push_capped, put_in_place, report_of, touched_nodes,
 };
 use fr_crew::{CrewFault, Gate, Plan, settled_counts, settled_counts_alone, settled_counts_by};
-use fr_net::{Edit, Net, Turns};
+use fr_net::{Edit, MAX_EDITS, Net, NetFault, Turns};
 use std::alloc::{AllocError, Global};
 use std::marker::Model;
 use std::mem;
@@ -83,8 +83,9 @@ fn keep_turns(last: &mut Turns, spare: &mut Option<Turns>, turns: Turns)
 
 impl Router {
     /// Settles a network by a crew, by the plan and under the gate. `Range` where the destination is no node, `Start` where a thread
-    /// could not be started, which with the budget 0 never comes, `Memory` where no room could be had; never `Net`. On a fault the
-    /// network is given up. It waits for the threads of the crew, which end where the calls of the gate return.
+    /// could not be started, `Memory` where no room could be had; never `Net`. `Start` never comes with the budget 0, by one worker, or
+    /// where no node can turn. On a fault the network is given up. It waits for the threads of the crew, which end where the calls of
+    /// the gate return.
     pub fn open<R: Threads + Wait + Sync, G: Gate + Sync>(
         rt: &R,
         alloc: Global,
@@ -166,7 +167,7 @@ impl Router {
     /// the round reports. A batch is one round, after its last edit. `Net` with the fault for which the change is refused: a cut
     /// for `NoLink` alone, an added link for what `Net::with_link` names, a join for what `Net::with_join` names, and a batch for the
     /// first edit that `Net::with_edits` refuses, or its length; `Range` for a destination that is no node, and only there; `Start` and
-    /// `Memory` as in `open`. Any fault leaves the router as it was.
+    /// `Memory` as in `open`, and `Start` never for what is refused. Any fault leaves the router as it was.
     ///
     /// The change is made where the network stands, and all that can fail is done before any of it stays. Only the ends of the
     /// links, the two destinations, and the nodes with a link that the last round cut off are looked at for what can turn; where none
@@ -418,16 +419,22 @@ impl Router {
     }
 
     /// What a change needs before its edits are made: the nodes that can be sinks after it, and a table in which no node has turned.
+    /// Too many edits are refused before they take memory.
     fn before_edits(
         &mut self,
         alloc: Global,
         edits: &[Edit],
         dest: u32,
-    ) -> Result<(Vec<u32>, Turns), AllocError>
+    ) -> Result<(Vec<u32>, Turns), RouteFault>
         ensures same { self.new ≡ self.old }
         ensures movable { IfOk result (λ made. made.0.items ≡ movable self.old dest edits.now) }
         ensures none { IfOk result (λ made. made.1 ≡ replicate self.old.nodes 0) }
+        ensures fault { IfErr result (IsEditingFault self.old edits.now dest) }
+        ensures no_start { IfErr result (λ fault. fault ≢ Start) }
     {
+        if edits.len() > MAX_EDITS {
+            return Err(RouteFault::Net(NetFault::TooMany));
+        }
         let movable = self.movable(alloc, edits, dest)?;
         let turns = self.spare_turns(alloc)?;
         Ok((movable, turns))

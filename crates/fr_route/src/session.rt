@@ -65,8 +65,9 @@ impl Session {
 
     /// The answer to a line, or None for a blank one; `specs/Answers.antt` says what the answer to a line is. The session is
     /// then in the state after the line, which for a refused line is the state before it. A fault says that a thread could
-    /// not be started, which with the budget 0 never comes, or that memory ran out, and leaves the session as it was. Networks are
-    /// settled by the plan and under the gate, on which no answer depends.
+    /// not be started, or that memory ran out, and leaves the session as it was. `Start` comes only where a network or a change is
+    /// accepted and a node can turn on it, and never with the budget 0 or by one worker. Networks are settled by the plan and under
+    /// the gate, on which no answer depends.
     pub fn answer_line<R: Threads + Wait + Sync, G: Gate + Sync>(
         &mut self,
         rt: &R,
