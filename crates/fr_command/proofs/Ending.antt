@@ -1,11 +1,12 @@
 -- Which lines end in the bytes of an input, and what has begun behind the last of them.
-use Rattle.std.proofs.Common.{◌≡◌, ◌∙◌, ℕ, ◌+◌, ◌<◌, ◌≤◌, ◌==◌, Bool, true, false, List, [], ◌∷◌, ◌++◌, length, get_or, take, refl, sym, ap, subst, inl, inr, ◌⊎◌, ⊎_elim, arith}
+use Rattle.std.proofs.Common.{◌≡◌, ◌∙◌, ℕ, ◌+◌, ◌<◌, ◌≤◌, ◌==◌, Bool, true, false, List, [], ◌∷◌, ◌++◌, length, get_or, take, refl, sym, ap, subst, Some, inl, inr, ◌⊎◌, ⊎_elim, arith}
 use Rattle.std.proofs.lemmas.Bool.{cases_lt}
 use Rattle.std.proofs.lemmas.Grind.{common_steps, take_at_read}
-use Rattle.std.proofs.lemmas.List.{same_from_push}
-use Rattle.std.proofs.lemmas.List.Sums.{fails_before_first, passes_at_first, prefix_len-le-length}
+use Rattle.std.proofs.lemmas.List.{same_from_push, take_all}
+use Rattle.std.proofs.lemmas.List.Quantifiers.{position-Some}
+use Rattle.std.proofs.lemmas.List.Sums.{fails_before_first, passes_at_first, position_or_len_is}
 use Rattle.std.proofs.lemmas.List.Splits.{slice_split-cons_yes, slice_split-cons_no, slice_split_none, slice_split_at, slice_split_first}
-use Rattle.std.specs.List.{All, onto_first, before_first, after_first, position_or_len}
+use Rattle.std.specs.List.{All, onto_first, before_first, after_first, position, position_or_len}
 use Rattle.fr_command.specs.Lines.{lines_of}
 
 abbrev pub ends_line : ℕ → Bool
@@ -114,18 +115,27 @@ line_goes_on (x ∷ begun) piece front behind alone lines =
 none_before : (xs : List ℕ) → All (λ x. ends_line x ≡ false) (before_first ends_line xs)
 none_before xs = λ k d h. let k' = fails_before_first ends_line xs k d (grind (arith, common_steps)) in grind (arith, common_steps)
 
--- where no byte 10 is, all is one line
+-- what stands before the first byte 10 is one line,
+pub front_alone : (xs : List ℕ) → lines_of (before_first ends_line xs) ≡ before_first ends_line xs ∷ []
+front_alone xs = slice_split_none ends_line (before_first ends_line xs) (none_before xs)
+
+-- and all where no byte 10 is
+pub front_whole : (xs : List ℕ) → length xs ≤ position_or_len ends_line xs → before_first ends_line xs ≡ xs
+front_whole xs none = take_all (position_or_len ends_line xs) xs none
+
 pub one_line : (xs : List ℕ) → length xs ≤ position_or_len ends_line xs → lines_of xs ≡ xs ∷ []
-one_line xs none =
-    let all : before_first ends_line xs ≡ xs = grind (arith, common_steps) in
-    subst (λ (l : List ℕ). lines_of l ≡ l ∷ []) all (slice_split_none ends_line (before_first ends_line xs) (none_before xs))
+one_line xs none = subst (λ (l : List ℕ). lines_of l ≡ l ∷ []) (front_whole xs none) (front_alone xs)
+
+-- where the first byte 10 was found
+pub end_at : (xs : List ℕ) (i : ℕ) → position ends_line xs ≡ Some i → (position_or_len ends_line xs ≡ i) × (i < length xs)
+end_at xs i found = let at = position-Some ends_line xs i 0 found in (position_or_len_is ends_line xs i 0 (omega arith) at.2 (λ _. at.1), at.0)
 
 -- the first line is what stands before the first byte 10
 pub first_line_is : (xs : List ℕ) → (behind : List (List ℕ)) × (lines_of xs ≡ before_first ends_line xs ∷ behind)
 first_line_is xs =
     ⊎_elim
     (λ some. (lines_of (after_first ends_line xs), slice_split_first ends_line xs 0 some))
-    (λ none. let all : before_first ends_line xs ≡ xs = grind (arith, common_steps) in ([], one_line xs none ∙ ap (λ (l : List ℕ). l ∷ []) (sym all)))
+    (λ none. ([], one_line xs none ∙ ap (λ (l : List ℕ). l ∷ []) (sym (front_whole xs none))))
     (cases_lt (position_or_len ends_line xs) (length xs))
 
 -- with the byte 10 it has ended

@@ -2,7 +2,7 @@ pub mod Pieces
 pub mod Cutting
 pub mod Ending
 pub mod Taking
-pub mod Serving
+pub mod Served
 pub mod Determined
 pub mod EachOutput
 pub mod Asking

@@ -1,15 +1,12 @@
 -- What a conversation has taken, and the text that it has answered.
-use Rattle.std.proofs.Common.{◌≡◌, ◌∙◌, ℕ, List, [], ◌∷◌, ◌++◌, append_assoc, refl, sym, ap, subst, Option, Some, None, IfSome, IfNone, true, false, String, string_bytes}
+use Rattle.std.proofs.Common.{◌≡◌, ◌∙◌, ℕ, List, [], ◌∷◌, ◌++◌, append_assoc, refl, sym, ap, subst, Option, None}
 use Rattle.std.proofs.lemmas.List.{same_from_push}
-use Rattle.fr_net.specs.Requests.{reading}
-use Rattle.fr_route.specs.Answers.{IsLineAnswer}
-use Rattle.fr_route.specs.Blank.{is_blank}
 use Rattle.fr_route.specs.States.{State}
 use Rattle.fr_command.specs.Lines.{lines_of}
 use Rattle.fr_command.specs.Answers.{AreAnswers, IsOutput}
-use Rattle.fr_command.specs.Conversations.{Talk, Takes, Ends, silence, text_of}
+use Rattle.fr_command.specs.Conversations.{Talk, Takes, Ends, silence}
 use Rattle.fr_command.specs.Outputs.{IsBeginning}
-use Rattle.fr_command.proofs.Asking.{answers_append, answered_line, blank_line}
+use Rattle.fr_command.proofs.Asking.{answers_append}
 use Rattle.fr_command.proofs.Determined.{answers_begin, answers_unique}
 use Rattle.fr_command.proofs.EachOutput.{each_answers}
 use Rattle.fr_command.proofs.Ending.{parted, lines_go_on, line_goes_on}
@@ -68,9 +65,3 @@ takes_line old held new bytes front text alone ended begun state end = record {
   cut = line_goes_on old.begun bytes front ([] ∷ []) alone ended ∙ (λ i. sym begun i ∷ sym end.1 i ∷ []);
   are_answers = subst (λ (s : Option State). AreAnswers s (held.begun ∷ []) text new.state) state end.0;
 }
-
--- what is answered to a line
-pub answer_said : {Z : Type 0} (line : List ℕ) (now next : Option State) (answer : Option (String Z)) → IfNone answer ((is_blank line ≡ true) × (next ≡ now))
-    → IfSome answer (λ text. (is_blank line ≡ false) × IsLineAnswer now (reading line) (string_bytes text) next) → AreAnswers now (line ∷ []) (text_of answer) next
-answer_said line now next None blank said = blank_line line now next blank.0 blank.1
-answer_said line now next (Some text) blank said = answered_line line (string_bytes text) now next said.0 said.1

@@ -131,7 +131,8 @@ fn answer_piece<T: Threads + Wait + Sync, W: Write, G: Gate + Sync>(
 {
     let mut done = 0;
     while done < piece.len() {
-        done += answer_front(rt, alloc, conversation, &piece[done..], writer, plan, gate)?;
+        let count = answer_front(rt, alloc, conversation, &piece[done..], writer, plan, gate)?;
+        done += count;
     }
     flush(writer)
 }
@@ -149,10 +150,12 @@ fn answer_front<T: Threads + Wait + Sync, W: Write, G: Gate + Sync>(
     ensures count { IfOk result (λ count. count ≡ line_size piece.now) }
     ensures ok { IfOk result (λ count. Says conversation.old (take count piece.now) conversation.new (W.contents writer.old) (W.contents writer.new)) }
     ensures write { result ≡ Err RunFault.Write → BeginsInPiece conversation.old piece.now (W.contents writer.old) (W.contents writer.new) }
-    ensures unchanged { IfErr result (λ fault. fault ≢ RunFault.Write → (conversation.new ≡ conversation.old) × Keeps (W.contents writer.old) (W.contents writer.new)) }
-    ensures too_long { result ≡ Err RunFault.TooLong → most_bytes < length (carried conversation.old piece.now) }
-    ensures start { result ≡ Err RunFault.Start → is_blank (carried conversation.old piece.now) ≡ false }
-    ensures memory { result ≡ Err RunFault.Memory → carried conversation.old piece.now ≢ [] }
+    ensures too_long { result ≡ Err RunFault.TooLong → (conversation.new ≡ conversation.old)
+        × Keeps (W.contents writer.old) (W.contents writer.new) × (most_bytes < length (carried conversation.old piece.now)) }
+    ensures start { result ≡ Err RunFault.Start → (conversation.new ≡ conversation.old)
+        × Keeps (W.contents writer.old) (W.contents writer.new) × (is_blank (carried conversation.old piece.now) ≡ false) }
+    ensures memory { result ≡ Err RunFault.Memory → (conversation.new ≡ conversation.old)
+        × Keeps (W.contents writer.old) (W.contents writer.new) × (carried conversation.old piece.now ≢ []) }
     ensures no_start { plan.now.budget ≡ 0 → result ≢ Err RunFault.Start }
     ensures no_read { result ≢ Err RunFault.Read }
 {
@@ -175,8 +178,8 @@ fn answer_end<T: Threads + Wait + Sync, W: Write, G: Gate + Sync>(
     ensures write { result ≡ Err RunFault.Write → (text : List ℕ) × (last : Talk) × (out : List ℕ)
         × Ends conversation.old text last × IsBeginning out text
         × Appends (W.contents writer.old) (W.contents writer.new) out }
-    ensures unchanged { IfErr result (λ fault. fault ≢ RunFault.Write →
-        (is_blank conversation.old.begun ≡ false) × Keeps (W.contents writer.old) (W.contents writer.new)) }
+    ensures start { result ≡ Err RunFault.Start → (is_blank conversation.old.begun ≡ false) × Keeps (W.contents writer.old) (W.contents writer.new) }
+    ensures memory { result ≡ Err RunFault.Memory → (is_blank conversation.old.begun ≡ false) × Keeps (W.contents writer.old) (W.contents writer.new) }
     ensures no_start { plan.now.budget ≡ 0 → result ≢ Err RunFault.Start }
     ensures no_read { result ≢ Err RunFault.Read }
     ensures no_length { result ≢ Err RunFault.TooLong }

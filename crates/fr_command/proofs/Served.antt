@@ -45,6 +45,13 @@ says_kept first last xs u v w h kept = record {
 begins_behind : (front out whole : List ℕ) → IsBeginning out whole → IsBeginning (front ++ out) (front ++ whole)
 begins_behind front out whole h = (h.0, ap (λ (l : List ℕ). front ++ l) h.1 ∙ sym (append_assoc front out h.0))
 
+-- of a text and its end
+pub text_begun : (text end : List ℕ) (n : ℕ) → IsBeginning (take n text) (text ++ end)
+text_begun text end n = (drop n text ++ end, ap (λ (l : List ℕ). l ++ end) (sym (take-append-drop n text)) ∙ append_assoc (take n text) (drop n text) end)
+
+pub end_begun : (text end : List ℕ) (n : ℕ) → IsBeginning (text ++ take n end) (text ++ end)
+end_begun text end n = begins_behind text (take n end) end (drop n end, sym (take-append-drop n end))
+
 module _ (first mid : Talk) (piece : List ℕ) (done : ℕ) (u v : Option (List ℕ)) (h : Says first (take done piece) mid u v) where
   -- the answer to more bytes of a piece was begun
   pub begins_later : (w : Option (List ℕ)) → BeginsInPiece mid (drop done piece) v w → BeginsInPiece first piece u w
