@@ -1,10 +1,11 @@
 -- How far an input was served.
-use Rattle.std.proofs.Common.{◌≡◌, ◌≢◌, ◌∙◌, ℕ, ◌+◌, ◌<◌, ◌≤◌, List, [], ◌∷◌, ◌++◌, length, take, drop, take-append-drop, length-append, append_assoc, append-nil, refl, sym, ap, subst, Option, false, not, arith}
+use Rattle.std.proofs.Common.{◌≡◌, ◌≢◌, ◌∙◌, ℕ, ◌+◌, ◌<◌, ◌≤◌, List, [], ◌∷◌, ◌++◌, length, take, drop, take-append-drop, length-append, append_assoc, append-nil, refl, sym, ap, subst, Option, Result, Ok, Err, OnOk, OnErr, false, not, arith}
 use Rattle.std.proofs.Math.Seq.{take-add}
+use Rattle.std.proofs.lemmas.List.{take-append-le}
 use Rattle.std.proofs.lemmas.List.Folds.{length-prefix_len}
 use Rattle.std.proofs.lemmas.List.Sums.{prefix_len-le-length}
-use Rattle.std.proofs.KnownBytes.{Appends-trans, Appends-nil, Appends-kept}
-use Rattle.std.specs.Io.KnownBytes.{Appends, Keeps}
+use Rattle.std.proofs.KnownBytes.{Appends-trans, Appends-nil, Appends-kept, Consumes-nil, Consumes-trans}
+use Rattle.std.specs.Io.KnownBytes.{Appends, Consumes, Keeps}
 use Rattle.std.specs.List.{before_first}
 use Rattle.fr_route.specs.Blank.{is_blank}
 use Rattle.fr_command.specs.Lines.{lines_of, asking_count}
@@ -16,6 +17,15 @@ use Rattle.fr_command.proofs.Determined.{output_unique, begins-trans}
 use Rattle.fr_command.proofs.EachOutput.{each_output}
 use Rattle.fr_command.proofs.Ending.{lines_go_on, line_goes_on, begun_alone, begun_short, first_line_is, one_line, ends_line}
 use Rattle.fr_command.proofs.Taking.{takes_on, takes_none, answer_stands, output_ends}
+
+-- a fact is one for each result
+pub on_ok : {T E : Type 0} (r : Result T E) (P : Type 0) → P → OnOk r P
+on_ok (Ok x) P h = h
+on_ok (Err e) P h = tt
+
+pub on_err : {T E : Type 0} (r : Result T E) (P : Type 0) → P → OnErr r P
+on_err (Ok x) P h = tt
+on_err (Err e) P h = h
 
 -- nothing was taken yet
 pub says_nothing : (talk : Talk) (w : Option (List ℕ)) → lines_of talk.begun ≡ talk.begun ∷ [] → Says talk [] talk w w
@@ -34,7 +44,7 @@ says_on first mid last xs ys u v w h k = record {
 }
 
 -- and what came then wrote nothing
-says_kept : (first last : Talk) (xs : List ℕ) (u v w : Option (List ℕ)) → Says first xs last u v → Keeps v w → Says first xs last u w
+pub says_kept : (first last : Talk) (xs : List ℕ) (u v w : Option (List ℕ)) → Says first xs last u v → Keeps v w → Says first xs last u w
 says_kept first last xs u v w h kept = record {
   text = h.text;
   takes = h.takes;
@@ -44,6 +54,18 @@ says_kept first last xs u v w h kept = record {
 -- a beginning of what comes behind
 begins_behind : (front out whole : List ℕ) → IsBeginning out whole → IsBeginning (front ++ out) (front ++ whole)
 begins_behind front out whole h = (h.0, ap (λ (l : List ℕ). front ++ l) h.1 ∙ sym (append_assoc front out h.0))
+
+-- all that was written is a beginning too
+pub says_begins : (first last : Talk) (piece : List ℕ) (done : ℕ) (u v : Option (List ℕ)) → Says first (take done piece) last u v → BeginsInPiece first piece u v
+says_begins first last piece done u v h = record {
+  count = done;
+  new = last;
+  whole = h.text;
+  out = h.text;
+  takes = h.takes;
+  begins = ([], sym (append-nil h.text));
+  writes = h.writes;
+}
 
 -- of a text and its end
 pub text_begun : (text end : List ℕ) (n : ℕ) → IsBeginning (take n text) (text ++ end)
@@ -78,6 +100,29 @@ module _ (first mid : Talk) (piece : List ℕ) (done : ℕ) (u v : Option (List 
 pub blank_or_some : (line : List ℕ) → is_blank line ≡ false → line ≢ []
 blank_or_some [] asks = cc
 blank_or_some (x ∷ xs) asks = λ e. cc
+
+-- the lines that ended in what was read were answered
+pub record HasServed (r s u v : Option (List ℕ)) (talk : Talk) : Type 0 where
+  pub bytes : List ℕ
+  pub reads : Consumes r s bytes
+  pub says : Says silence bytes talk u v
+
+pub nothing_served : (r u : Option (List ℕ)) (talk : Talk) → talk ≡ silence → HasServed r r u u talk
+nothing_served r u talk same = record {
+  bytes = [];
+  reads = Consumes-nil r;
+  says = subst (λ (t : Talk). Says silence [] t u u) (sym same) (says_nothing silence u refl);
+}
+
+-- a read brought no byte
+pub read_nothing : (r s t : Option (List ℕ)) (bytes piece : List ℕ) (count : ℕ) → count ≡ 0 → Consumes r s bytes → Consumes s t (take count piece) → Consumes r t bytes
+read_nothing r s t bytes piece count none h k =
+    let both : Consumes r t (bytes ++ []) = Consumes-trans r s t bytes [] h (subst (λ (n : ℕ). Consumes s t (take n piece)) none k) in
+    subst (λ (l : List ℕ). Consumes r t l) (append-nil bytes) both
+
+-- or some, to the front of the room for a piece
+pub read_on : (r s t : Option (List ℕ)) (bytes piece room : List ℕ) (count : ℕ) → count ≤ length piece → Consumes r s bytes → Consumes s t (take count piece) → Consumes r t (bytes ++ take count (piece ++ room))
+read_on r s t bytes piece room count few h k = Consumes-trans r s t bytes (take count (piece ++ room)) h (subst (λ (l : List ℕ). Consumes s t l) (sym (take-append-le count piece room few)) k)
 
 module _ (bytes : List ℕ) (talk : Talk) (u v : Option (List ℕ)) (h : Says silence bytes talk u v) where
   -- the answers to the lines before the one that has begun

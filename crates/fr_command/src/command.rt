@@ -29,8 +29,7 @@ const RUN_EXAMPLE: &str =
 const SERVE_ABOUT: &str =
     "Answers requests as run does, but each line as soon as it has come, and input of any length";
 
-const SERVE_EXAMPLE: &str =
-    "Example:\n  tail -f requests | revroute serve --budget 0";
+const SERVE_EXAMPLE: &str = "Example:\n  tail -f requests | revroute serve --budget 0";
 
 const PLAY_ABOUT: &str =
     "Plays a drawn schedule: a line with a network on standard input, what each call came to on standard output, and then the links and the counts";
