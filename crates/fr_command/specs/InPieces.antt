@@ -1,5 +1,5 @@
 -- How far a piece of an input was answered where something failed.
-use Rattle.std.specs.Prelude.{◌≡◌, ℕ, List, take, drop, Option}
+use Rattle.std.specs.Prelude.{ℕ, List, take, drop, Option}
 use Rattle.std.specs.Io.KnownBytes.{Appends}
 use Rattle.fr_command.specs.Conversations.{Talk, Takes, Says, carried}
 use Rattle.fr_command.specs.Outputs.{IsBeginning}

@@ -1,10 +1,10 @@
-use Rattle.std.proofs.Common.{◌≡◌, ◌≢◌, ◌<◌, ◌≤◌, ◌+◌, ◌++◌, ◌∷◌, [], Err, ℕ, List, length, length-take, take, drop, false, ap, sym, arith}
+use Rattle.std.proofs.Common.{◌≡◌, ◌≢◌, ◌<◌, ◌≤◌, ◌+◌, ◌++◌, [], Err, ℕ, List, length, length-take, take, drop, false, ap, sym, arith}
 use Rattle.std.proofs.lemmas.Result.{on_ok_weaker}
-use Rattle.std.specs.Io.KnownBytes.{Appends, Consumes}
+use Rattle.std.specs.Io.KnownBytes.{Appends}
 use Rattle.fr_route.specs.Blank.{is_blank}
 use Rattle.fr_command.specs.Conversations.{Ends, silence}
 use Rattle.fr_command.specs.Outputs.{most_bytes}
-use Rattle.fr_command.proofs.Served.{HasServed, nothing_served, read_nothing, read_on, before_begun, output_written, output_begun, piece_begun, piece_stopped, stopped_at_last, says_on, blank_or_some}
+use Rattle.fr_command.proofs.Served.{nothing_served, read_nothing, read_on, before_begun, output_written, output_begun, piece_begun, piece_stopped, stopped_at_last, says_on, blank_or_some}
 use Rattle.fr_command.proofs.serving.converse.Goals as goal
 
 pub reads-init : goal.reads-init

@@ -1,4 +1,4 @@
-use Rattle.std.proofs.Common.{◌≡◌, ◌≤◌, ◌∙◌, ◌++◌, ◌∷◌, [], List, ℕ, length, length-append, ap, sym, subst, arith}
+use Rattle.std.proofs.Common.{◌≡◌, ◌≤◌, ◌∙◌, ◌++◌, ◌∷◌, [], List, ℕ, length, length-append, sym, subst, arith}
 use Rattle.fr_command.specs.Lines.{lines_of}
 use Rattle.fr_command.specs.Outputs.{most_bytes}
 use Rattle.fr_command.proofs.Ending.{line_goes_on}
