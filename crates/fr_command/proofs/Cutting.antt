@@ -27,7 +27,8 @@ none_false : (b : Bool) (m : ℕ) → cond b (Some m) None ≡ None → b ≡ fa
 none_false true m e = cc
 none_false false m e = refl
 
-past_end : (xs : List ℕ) → position ends_line xs ≡ None → length xs ≤ position_or_len ends_line xs
+-- which leads past the end
+pub past_end : (xs : List ℕ) → position ends_line xs ≡ None → length xs ≤ position_or_len ends_line xs
 past_end xs e = let no = none_false _ _ e in grind (arith, nat_tests)
 
 -- where there is none, all is one line

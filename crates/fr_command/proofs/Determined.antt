@@ -36,7 +36,7 @@ pub output_unique : (bytes a b : List ℕ) → IsOutput bytes a → IsOutput byt
 output_unique bytes a b h k = (answers_unique None (lines_of bytes) a b h.0 k.0 h.1 k.1).0
 
 -- the answers to some lines are a beginning of the answers to these and more
-answers_begin : (s : Option State) (xs ys : List (List ℕ)) (a b : List ℕ) (p q : Option State) → AreAnswers s xs a p → AreAnswers s (xs ++ ys) b q → IsBeginning a b
+pub answers_begin : (s : Option State) (xs ys : List (List ℕ)) (a b : List ℕ) (p q : Option State) → AreAnswers s xs a p → AreAnswers s (xs ++ ys) b q → IsBeginning a b
 answers_begin s [] ys a b p q h k = (b, ap (λ (o : List ℕ). o ++ b) (sym h.0))
 answers_begin s (line ∷ rest) ys a b p q h k =
     by_blank (is_blank line) (AreAnswers s rest a p) (Answered s line rest a p) (AreAnswers s (rest ++ ys) b q) (Answered s line (rest ++ ys) b q) (IsBeginning a b)

@@ -12,7 +12,7 @@ either : (b : Bool) (P Q : List ℕ → Option State → Type 0) → (out : List
 either true P Q p q = p
 either false P Q p q = q
 
-each_answers : (s : Option State) → IsReached s → (lines : List (List ℕ)) → (out : List ℕ) × (last : Option State) × AreAnswers s lines out last
+pub each_answers : (s : Option State) → IsReached s → (lines : List (List ℕ)) → (out : List ℕ) × (last : Option State) × AreAnswers s lines out last
 each_answers s reached [] = ([], s, (refl, refl))
 each_answers s reached (line ∷ rest) =
     let answer = each_line s reached line in

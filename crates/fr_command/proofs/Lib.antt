@@ -1,5 +1,8 @@
 pub mod Pieces
 pub mod Cutting
+pub mod Ending
+pub mod Taking
+pub mod Served
 pub mod Determined
 pub mod EachOutput
 pub mod Asking

@@ -1,5 +1,6 @@
 -- The command line, as `clap` reads it:
 --     revroute run [--workers N] [--seed S] [--budget B]
+--     revroute serve [--workers N] [--seed S] [--budget B]
 --     revroute play [--workers N] [--seed S] [--steps M]
 use Rattle.std.specs.Prelude.{ℕ, List, [], ◌∷◌, Option, Some, true, pos, codes, option_map}
 use Rattle.std.specs.Str.Parse.{digits_value, without_leading_plus}
@@ -33,8 +34,15 @@ budget_option = option (codes "budget") (codes "1000000") (Signed (pos 0) (pos m
 abbrev pub steps_option : Rule
 steps_option = option (codes "steps") (codes "100") (Signed (pos 0) (pos most_steps))
 
+-- a subcommand of this name that settles networks by a plan
+abbrev pub answering : Text → App
+answering name = with_rule (with_rule (with_rule (new_app name) (workers_option (codes "4"))) seed_option) budget_option
+
 abbrev pub run_command : App
-run_command = with_rule (with_rule (with_rule (new_app (codes "run")) (workers_option (codes "4"))) seed_option) budget_option
+run_command = answering (codes "run")
+
+abbrev pub serve_command : App
+serve_command = answering (codes "serve")
 
 abbrev pub play_command : App
 play_command = with_rule (with_rule (with_rule (new_app (codes "play")) (workers_option (codes "2"))) seed_option) steps_option
@@ -45,7 +53,8 @@ program s = record s { has_version = true; subcommand_required = true }
 
 -- the program's command
 abbrev pub command : App
-command = with_subcommand (with_subcommand (on_top program (new_app (codes "revroute"))) run_command.top) play_command.top
+command =
+    with_subcommand (with_subcommand (with_subcommand (on_top program (new_app (codes "revroute"))) run_command.top) serve_command.top) play_command.top
 
 -- the number that an option of the words has
 abbrev pub number_of : Text → List Row → Option ℕ

@@ -1,6 +1,8 @@
 pub mod Lines
 pub mod Answers
 pub mod Outputs
+pub mod Conversations
+pub mod InPieces
 pub mod Laws
 pub mod Draws
 pub mod Plays

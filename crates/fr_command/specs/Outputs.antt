@@ -1,6 +1,6 @@
 -- What a run reads and writes. Where a reader or a writer does not tell its bytes, as standard input and output do not, the
 -- words of std about them say nothing.
-use Rattle.std.specs.Prelude.{◌≡◌, ℕ, ◌+◌, ◌≤◌, List, ◌++◌, length, take, Option, None, Some, false, slice_get}
+use Rattle.std.specs.Prelude.{◌≡◌, ℕ, ◌+◌, ◌<◌, ◌≤◌, List, ◌++◌, length, take, Option, None, Some, false, slice_get}
 use Rattle.std.specs.Io.KnownBytes.{Consumes, IsAtEnd, Appends}
 use Rattle.fr_route.specs.Blank.{is_blank}
 use Rattle.fr_route.specs.States.{State}
@@ -14,6 +14,10 @@ most_bytes = 16777216
 -- these bytes were all that the reader had, and no more than an input may have
 abbrev pub ReadsInput : Option (List ℕ) → Option (List ℕ) → List ℕ → Type 0
 ReadsInput before after bytes = Consumes before after bytes × IsAtEnd after × (length bytes ≤ most_bytes)
+
+-- the reader has given a byte
+abbrev pub ReadsSome : Option (List ℕ) → Option (List ℕ) → Type 0
+ReadsSome before after = (bytes : List ℕ) × Consumes before after bytes × (0 < length bytes)
 
 -- the reader has given more bytes than an input may have, and that by one
 abbrev pub ReadsOneTooMany : Option (List ℕ) → Option (List ℕ) → Type 0

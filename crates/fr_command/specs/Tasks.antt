@@ -7,25 +7,34 @@ use Rattle.clap.specs.Kinds.{IsAmong}
 use Rattle.clap.specs.declared.error.kind.ErrorKind.{ErrorKind}
 use Rattle.clap.specs.declared.error.kind.ErrorKind.TheVariants.{DisplayHelp, DisplayVersion, OutOfMemory}
 use Rattle.fr_core.specs.Limits.{most_workers}
+use Rattle.fr_crew.specs.declared.plan.Plan.{Plan}
 use Rattle.fr_command.specs.Draws.{most_steps}
 use Rattle.fr_command.specs.Commands.{command, most_budget, number_of}
+use Rattle.fr_command.specs.declared.draws.Draw.{Draw}
 use Rattle.fr_command.specs.declared.task.Task.{Task}
-use Rattle.fr_command.specs.declared.task.Task.TheVariants.{Run, Play}
+use Rattle.fr_command.specs.declared.task.Task.TheVariants.{Run, Serve, Play}
 use Rattle.fr_command.specs.declared.task.TaskFault.{TaskFault}
 use Rattle.fr_command.specs.declared.task.TaskFault.TheVariants.{Usage, Memory}
 
--- the task is that of the subcommand of this name, with the numbers of its options, each in its range
-abbrev pub IsTaskOf : Text → List Row → Task → Type 0
-IsTaskOf name rows (Run plan) =
-    (name ≡ codes "run")
-    × (number_of (codes "workers") rows ≡ Some plan.workers) × (1 ≤ plan.workers) × (plan.workers ≤ most_workers)
+-- the plan has the numbers of these options, each in its range
+abbrev pub IsPlanIn : List Row → Plan → Type 0
+IsPlanIn rows plan =
+    (number_of (codes "workers") rows ≡ Some plan.workers) × (1 ≤ plan.workers) × (plan.workers ≤ most_workers)
     × (number_of (codes "seed") rows ≡ Some plan.seed)
     × (number_of (codes "budget") rows ≡ Some plan.budget) × (plan.budget ≤ most_budget)
-IsTaskOf name rows (Play draw) =
-    (name ≡ codes "play")
-    × (number_of (codes "workers") rows ≡ Some draw.workers) × (1 ≤ draw.workers) × (draw.workers ≤ most_workers)
+
+-- and so the draw
+abbrev pub IsDrawIn : List Row → Draw → Type 0
+IsDrawIn rows draw =
+    (number_of (codes "workers") rows ≡ Some draw.workers) × (1 ≤ draw.workers) × (draw.workers ≤ most_workers)
     × (number_of (codes "seed") rows ≡ Some draw.seed)
     × (number_of (codes "steps") rows ≡ Some draw.steps) × (draw.steps ≤ most_steps)
+
+-- the task is that of the subcommand of this name, with the numbers of its options
+abbrev pub IsTaskOf : Text → List Row → Task → Type 0
+IsTaskOf name rows (Run plan) = (name ≡ codes "run") × IsPlanIn rows plan
+IsTaskOf name rows (Serve plan) = (name ≡ codes "serve") × IsPlanIn rows plan
+IsTaskOf name rows (Play draw) = (name ≡ codes "play") × IsDrawIn rows draw
 
 -- the task is that of the words, in which `clap` finds no fault, as it reads them: where an option is not given, its number is
 -- the default

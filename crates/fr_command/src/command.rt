@@ -6,7 +6,7 @@ ghost use Rattle.clap.specs.Words.{HasKind, app_of, fault_of, new_app, rule_of, 
 ghost use Rattle.clap.specs.declared.builder.command.Command.TheViews.{out-Command};
 ghost use Rattle.fr_core.specs.Limits.{most_workers};
 ghost use Rattle.fr_command.specs.Draws.{most_steps};
-ghost use Rattle.fr_command.specs.Commands.{command, most_budget, program, run_command as run_command_of, play_command as play_command_of, option as option_of};
+ghost use Rattle.fr_command.specs.Commands.{command, most_budget, program, run_command as run_command_of, serve_command as serve_command_of, play_command as play_command_of, answering as answering_of, option as option_of};
 
 use crate::draws::MAX_STEPS;
 use clap::builder::ValueParser;
@@ -25,6 +25,11 @@ const RUN_ABOUT: &str =
 
 const RUN_EXAMPLE: &str =
     "Example:\n  echo '[\"net\",3,0,[[0,1],[1,2]]]' | revroute run --workers 2";
+
+const SERVE_ABOUT: &str =
+    "Answers requests as run does, but each line as soon as it has come, and input of any length";
+
+const SERVE_EXAMPLE: &str = "Example:\n  tail -f requests | revroute serve --budget 0";
 
 const PLAY_ABOUT: &str =
     "Plays a drawn schedule: a line with a network on standard input, what each call came to on standard output, and then the links and the counts";
@@ -70,8 +75,12 @@ fn whole_command<'a>(alloc: Global) -> Result<Command<'a>, AllocError>
     ensures { IfOk result (λ c. app_of c ≡ command) }
 {
     let run = run_command(alloc)?;
+    let serve = serve_command(alloc)?;
     let play = play_command(alloc)?;
-    bare_command(alloc).subcommand(run)?.subcommand(play)
+    bare_command(alloc)
+        .subcommand(run)?
+        .subcommand(serve)?
+        .subcommand(play)
 }
 
 /// The program, before its subcommands: one of them has to be given, and it tells its version.
@@ -88,7 +97,26 @@ fn bare_command<'a>(alloc: Global) -> Command<'a>
 fn run_command<'a>(alloc: Global) -> Result<Command<'a>, AllocError>
     ensures { IfOk result (λ c. (app_of c ≡ run_command_of) × ((out-Command c).has_globals ≡ false)) }
 {
-    described(alloc, "run", RUN_ABOUT, RUN_EXAMPLE)
+    answering(alloc, "run", RUN_ABOUT, RUN_EXAMPLE)
+}
+
+/// The subcommand that answers each request as it comes.
+fn serve_command<'a>(alloc: Global) -> Result<Command<'a>, AllocError>
+    ensures { IfOk result (λ c. (app_of c ≡ serve_command_of) × ((out-Command c).has_globals ≡ false)) }
+{
+    answering(alloc, "serve", SERVE_ABOUT, SERVE_EXAMPLE)
+}
+
+/// A subcommand that settles networks by a plan.
+fn answering<'a>(
+    alloc: Global,
+    name: &'a str,
+    about: &'a str,
+    example: &'a str,
+) -> Result<Command<'a>, AllocError>
+    ensures { IfOk result (λ c. (app_of c ≡ answering_of name.entry.now) × ((out-Command c).has_globals ≡ false)) }
+{
+    described(alloc, name, about, example)
         .arg(option(alloc, "workers", "4", worker_numbers(), RUN_WORKERS))?
         .arg(option(alloc, "seed", "0", value_parser!(u64), RUN_SEED))?
         .arg(option(alloc, "budget", "1000000", budget_numbers(), BUDGET))

@@ -1,25 +1,26 @@
-//! Why a run, a play or a drawing stopped.
+//! Why a run, a service, a play or a drawing stopped.
 
 use thiserror::Error;
 
-/// Why a run, a play or a drawing stopped. Plays and drawings write at their end alone, so a fault other than `Write` has written
-/// nothing.
+/// Why a run, a service, a play or a drawing stopped. Plays and drawings write at their end alone, so a fault other than `Write` has
+/// written nothing.
 #[derive(Debug, Drop, Error, PartialEq, Eq)]
 pub enum RunFault {
-    /// A read failed. Nothing was written.
+    /// A read failed. A service has written the answers to the lines that had ended, and all others nothing.
     #[error("read fault")]
     Read,
     /// A write or the flush failed, or a write took no byte. What went out is a beginning of the output.
     #[error("write fault")]
     Write,
-    /// The input has more than [`MAX_BYTES`](crate::MAX_BYTES) bytes. Nothing was written.
+    /// The input has more than [`MAX_BYTES`](crate::MAX_BYTES) bytes, and nothing was written; or one line of a service has, and what it
+    /// wrote is the answers to the lines before that.
     #[error("input too long")]
     TooLong,
-    /// A thread could not be started. What a run wrote is the answers to the lines before the one that failed.
+    /// A thread could not be started. What was written is the answers to the lines before the one that failed.
     #[error("no thread")]
     Start,
-    /// An allocation was refused. What a run wrote is the answers to the lines before the one that failed, or nothing where the
-    /// input found no room.
+    /// An allocation was refused. What was written is the answers to the lines before the one that failed, or nothing where the
+    /// input of a run found no room.
     #[error("no memory")]
     Memory,
 }

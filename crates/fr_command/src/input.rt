@@ -3,7 +3,7 @@
 ghost use Rattle.fr_command.specs.declared.input.TheConstants.{MAX_BYTES};
 ghost use Rattle.std.specs.Prelude.{◌≡◌, ◌≢◌, ◌<◌, ◌≤◌, length, take, IfOk, IfErr, OnErr};
 ghost use Rattle.std.specs.Io.KnownBytes.{Consumes, Keeps, IsAtEnd};
-ghost use Rattle.fr_command.specs.Outputs.{ReadsInput, ReadsOneTooMany, ReadsAtMostOneTooMany};
+ghost use Rattle.fr_command.specs.Outputs.{ReadsInput, ReadsSome, ReadsOneTooMany, ReadsAtMostOneTooMany};
 
 use crate::fault::RunFault;
 use std::alloc::Global;
@@ -13,14 +13,15 @@ use std::io::Read;
 pub const MAX_BYTES: usize = 16_777_216;
 
 /// How many bytes are asked for at once.
-const PIECE: usize = 65_536;
+pub(crate) const PIECE: usize = 65_536;
 
 /// All that the reader has, if that is at most [`MAX_BYTES`]; whatever the result, at most one byte more is read. `Read` where a
-/// read failed, `TooLong` where the reader has more, `Memory` where no room could be had; never `Write` or `Start`.
+/// read failed, `TooLong` where the reader has more, `Memory` where bytes that it gave found no room; never `Write` or `Start`.
 pub fn read_input<R: Read>(alloc: Global, reader: &mut R) -> Result<Vec<u8>, RunFault>
     ensures ok { IfOk result (λ input. ReadsInput (R.remaining reader.old) (R.remaining reader.new) input.items) }
     ensures limit { ReadsAtMostOneTooMany (R.remaining reader.old) (R.remaining reader.new) }
     ensures too_long { result ≡ Err RunFault.TooLong → ReadsOneTooMany (R.remaining reader.old) (R.remaining reader.new) }
+    ensures memory { result ≡ Err RunFault.Memory → ReadsSome (R.remaining reader.old) (R.remaining reader.new) }
     ensures no_write { result ≢ Err RunFault.Write }
     ensures no_start { result ≢ Err RunFault.Start }
 {
@@ -38,6 +39,7 @@ fn read_by_pieces<R: Read>(
     ensures ok { IfOk result (λ input. ReadsInput (R.remaining reader.old) (R.remaining reader.new) input.items) }
     ensures limit { ReadsAtMostOneTooMany (R.remaining reader.old) (R.remaining reader.new) }
     ensures too_long { result ≡ Err RunFault.TooLong → ReadsOneTooMany (R.remaining reader.old) (R.remaining reader.new) }
+    ensures memory { result ≡ Err RunFault.Memory → ReadsSome (R.remaining reader.old) (R.remaining reader.new) }
     ensures no_write { result ≢ Err RunFault.Write }
     ensures no_start { result ≢ Err RunFault.Start }
 {
@@ -57,7 +59,7 @@ fn read_by_pieces<R: Read>(
 
 /// Reads once, into a piece with room, and tells how many bytes came. A read that succeeds brings a byte, or the reader is at its
 /// end; any other is `Read`.
-fn read_piece<R: Read>(reader: &mut R, piece: &mut [u8]) -> Result<usize, RunFault>
+pub(crate) fn read_piece<R: Read>(reader: &mut R, piece: &mut [u8]) -> Result<usize, RunFault>
     requires { 0 < length piece.old }
     ensures brings { IfOk result (λ count. count ≡ 0 → IsAtEnd (R.remaining reader.new)) }
     ensures bytes { IfOk result (λ count. Consumes (R.remaining reader.old) (R.remaining reader.new) (take count piece.new)) }

@@ -1,12 +1,14 @@
 //! What the commands of the program do, over whatever readers and writers a caller has.
 //!
-//! [`run`] answers the lines of an input, and [`play_drawn`] plays the schedule of a [`Draw`] on its network. Their parts serve
-//! whoever reads an input to write another text: [`read_input`], [`Lines`], [`first_line`] and [`write_whole`]. [`task_of`] reads the words of
-//! a command line, and [`task_end`] says how the program ends where they ask for no task.
+//! [`run`] answers the lines of an input, and [`play_drawn`] plays the schedule of a [`Draw`] on its network. [`serve`] answers each
+//! line as soon as it has come, and stands on a [`Conversation`], for which the bytes come from wherever a caller has them. The parts of
+//! [`run`] serve whoever reads an input to write another text: [`read_input`], [`Lines`], [`first_line`] and [`write_whole`].
+//! [`task_of`] reads the words of a command line, and [`task_end`] says how the program ends where they ask for no task.
 #![tactic(auto)]
 
 mod answers;
 mod command;
+mod conversation;
 mod draws;
 mod entries;
 mod fault;
@@ -16,8 +18,10 @@ mod lines;
 mod output;
 mod play;
 mod runs;
+mod serving;
 mod task;
 
+pub use conversation::{Conversation, Taken};
 pub use draws::{Draw, MAX_STEPS};
 pub use fault::{RunFault, run_end};
 pub use input::{MAX_BYTES, read_input};
@@ -25,4 +29,5 @@ pub use lines::{Lines, first_line};
 pub use output::write_whole;
 pub use play::play_drawn;
 pub use runs::run;
+pub use serving::serve;
 pub use task::{Task, TaskFault, task_end, task_of};

@@ -45,7 +45,8 @@ pub fn first_line(text: &[u8]) -> (&[u8], Option<&[u8]>)
     }
 }
 
-fn line_end(text: &[u8]) -> Option<usize>
+/// Where the first line of a text ends, if there is a byte 10.
+pub(crate) fn line_end(text: &[u8]) -> Option<usize>
     ensures { result ≡ position (λ x. x == 10) text.now }
 {
     text.iter().position(|byte| *byte == b'\n')

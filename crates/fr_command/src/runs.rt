@@ -2,7 +2,7 @@
 
 ghost use Rattle.std.specs.Prelude.{◌≡◌, ◌≢◌, ◌⊎◌, List, ℕ, IfOk};
 ghost use Rattle.std.specs.Io.KnownBytes.{Keeps};
-ghost use Rattle.fr_command.specs.Outputs.{ReadsInput, ReadsOneTooMany, ReadsAtMostOneTooMany, WritesOutput, WritesBeginning, StopsAtLine};
+ghost use Rattle.fr_command.specs.Outputs.{ReadsInput, ReadsSome, ReadsOneTooMany, ReadsAtMostOneTooMany, WritesOutput, WritesBeginning, StopsAtLine};
 
 use crate::answers::answer_all;
 use crate::fault::RunFault;
@@ -43,8 +43,9 @@ pub fn run<T: Threads + Wait + Sync, R: Read, W: Write, G: Gate + Sync>(
         × StopsAtLine bytes (W.contents writer.old) (W.contents writer.new) }
     ensures no_start { plan.now.budget ≡ 0 → result ≢ Err RunFault.Start }
 
-    // Memory ran out while reading, or at a line.
-    ensures memory { result ≡ Err RunFault.Memory → Keeps (W.contents writer.old) (W.contents writer.new)
+    // Memory ran out while reading, once a byte had come, or at a line.
+    ensures memory { result ≡ Err RunFault.Memory →
+        (Keeps (W.contents writer.old) (W.contents writer.new) × ReadsSome (R.remaining reader.old) (R.remaining reader.new))
         ⊎ ((bytes : List ℕ) × ReadsInput (R.remaining reader.old) (R.remaining reader.new) bytes
         × StopsAtLine bytes (W.contents writer.old) (W.contents writer.new)) }
 {

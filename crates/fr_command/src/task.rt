@@ -4,7 +4,7 @@ ghost use Rattle.std.specs.Prelude.{◌≡◌, ◌≤◌, Some, IfOk, IfErr, IfS
 ghost use Rattle.clap.specs.Values.{kind_of};
 ghost use Rattle.clap.specs.Words.{found_of, rows_of};
 ghost use Rattle.fr_command.specs.Commands.{number_of};
-ghost use Rattle.fr_command.specs.Tasks.{IsTaskIn, IsTaskOf, IsUsageOf, IsFaultOf};
+ghost use Rattle.fr_command.specs.Tasks.{IsPlanIn, IsDrawIn, IsTaskIn, IsTaskOf, IsUsageOf, IsFaultOf};
 
 use crate::command::{MAX_BUDGET, matches_of};
 use crate::draws::{Draw, MAX_STEPS};
@@ -20,6 +20,8 @@ use thiserror::Error as FaultError;
 pub enum Task {
     /// Answer the requests of the input, each round by this plan.
     Run(Plan),
+    /// Answer each request as it comes, each round by this plan.
+    Serve(Plan),
     /// Play the schedule of this draw on the network of the input.
     Play(Draw),
 }
@@ -36,8 +38,8 @@ pub enum TaskFault {
     Memory,
 }
 
-/// The task that the words of a command line ask for, the program's name first: `run`, with 1 to 16 workers, 4 if no number
-/// is given, any seed, or 0, and a budget of at most 1,000,000,000 calls, or 1,000,000; or `play`, with 1 to 16 workers, or
+/// The task that the words of a command line ask for, the program's name first: `run` or `serve`, with 1 to 16 workers, 4 if no
+/// number is given, any seed, or 0, and a budget of at most 1,000,000,000 calls, or 1,000,000; or `play`, with 1 to 16 workers, or
 /// 2, any seed, or 0, and at most 10,000 steps, or 100. `specs/Commands.antt` has the command line as `clap` reads it. `Usage`
 /// where `clap` does not take the words: because they ask for help or the version, or are not those of the command line.
 pub fn task_of<'a>(alloc: Global, words: &'a [&'a str]) -> Result<Task, TaskFault>
@@ -59,19 +61,30 @@ pub fn task_of<'a>(alloc: Global, words: &'a [&'a str]) -> Result<Task, TaskFaul
 fn task_in(name: &str, options: &ArgMatches) -> Option<Task>
     ensures { IfSome result (IsTaskOf name.now (rows_of (found_of options.now))) }
 {
-    let workers = number_in(options, "workers", MAX_WORKERS)?;
-    let seed = seed_in(options)?;
     match name {
-        "run" => {
-            let budget = number_in(options, "budget", MAX_BUDGET)?;
-            Some(Task::Run(Plan::new(workers, seed, u64::from(budget))?))
-        }
-        "play" => {
-            let steps = number_in(options, "steps", MAX_STEPS)?;
-            Some(Task::Play(Draw::new(workers, seed, steps)?))
-        }
+        "run" => plan_in(options).map(Task::Run),
+        "serve" => plan_in(options).map(Task::Serve),
+        "play" => draw_in(options).map(Task::Play),
         _ => None,
     }
+}
+
+/// The plan that the options give.
+fn plan_in(options: &ArgMatches) -> Option<Plan>
+    ensures { IfSome result (IsPlanIn (rows_of (found_of options.now))) }
+{
+    let workers = number_in(options, "workers", MAX_WORKERS)?;
+    let budget = number_in(options, "budget", MAX_BUDGET)?;
+    Plan::new(workers, seed_in(options)?, u64::from(budget))
+}
+
+/// The draw that the options give.
+fn draw_in(options: &ArgMatches) -> Option<Draw>
+    ensures { IfSome result (IsDrawIn (rows_of (found_of options.now))) }
+{
+    let workers = number_in(options, "workers", MAX_WORKERS)?;
+    let steps = number_in(options, "steps", MAX_STEPS)?;
+    Draw::new(workers, seed_in(options)?, steps)
 }
 
 /// The number of an option, where it is at most `most`.

@@ -2,6 +2,7 @@
 //! them; `examples/check` compares the pages with these files.
 
 pub mod answers;
+pub mod conversations;
 pub mod crews;
 pub mod histories;
 pub mod networks;

@@ -1,7 +1,10 @@
-//! The program `revroute`: answers the lines of standard input on standard output, or plays full reversal step by step.
+//! The program `revroute`: answers the lines of standard input on standard output, all of them at its end or each as it comes, or plays
+//! full reversal step by step.
 #![tactic(auto)]
 
-use fr_command::{RunFault, Task, TaskFault, play_drawn, run, run_end, task_end, task_of};
+use fr_command::{
+    RunFault, Task, TaskFault, play_drawn, run, run_end, serve, task_end, task_of,
+};
 use fr_crew::OpenGate;
 use std::alloc::Global;
 use std::io::{BufWriter, ErrorKind};
@@ -21,7 +24,7 @@ fn main(rt: HostRuntime) -> ExitCode {
         Err(fault) => return tell(&rt, &fault),
     };
     match perform(&rt, task) {
-        Ok(_) => ExitCode::SUCCESS,
+        Ok(()) => ExitCode::SUCCESS,
         Err(fault) => end(&rt, &fault),
     }
 }
@@ -73,13 +76,19 @@ fn task_in(alloc: Global, words: &[String]) -> Result<Task, TaskFault> {
 fn perform<R: Threads + Wait + Sync + Alloc<A = Global> + Input + Print>(
     rt: &R,
     task: Task,
-) -> Result<u64, RunFault> {
+) -> Result<(), RunFault> {
     let alloc = rt.alloc();
     let Ok(mut out) = BufWriter::new(alloc, io::writer(rt)) else {
         return Err(RunFault::Memory);
     };
     match task {
-        Task::Run(plan) => run(rt, alloc, &mut rt.reader(), &mut out, &plan, &OpenGate),
-        Task::Play(draw) => play_drawn(alloc, &mut rt.reader(), &mut out, draw),
+        Task::Run(plan) => {
+            let _answered = run(rt, alloc, &mut rt.reader(), &mut out, &plan, &OpenGate)?;
+        }
+        Task::Serve(plan) => serve(rt, alloc, &mut rt.reader(), &mut out, &plan, &OpenGate)?,
+        Task::Play(draw) => {
+            let _decided = play_drawn(alloc, &mut rt.reader(), &mut out, draw)?;
+        }
     }
+    Ok(())
 }

@@ -1,0 +1,221 @@
+-- How far an input was served.
+use Rattle.std.proofs.Common.{◌≡◌, ◌≢◌, ◌∙◌, ℕ, ◌+◌, ◌<◌, ◌≤◌, List, [], ◌∷◌, ◌++◌, length, take, drop, take-append-drop, length-append, append_assoc, append-nil, refl, sym, ap, subst, Option, Result, Ok, Err, OnOk, OnErr, false, not, arith}
+use Rattle.std.proofs.Math.Seq.{take-add}
+use Rattle.std.proofs.lemmas.List.{take-append-le}
+use Rattle.std.proofs.lemmas.List.Folds.{length-prefix_len}
+use Rattle.std.proofs.lemmas.List.Sums.{prefix_len-le-length}
+use Rattle.std.proofs.KnownBytes.{Appends-trans, Appends-nil, Appends-kept, Consumes-nil, Consumes-trans}
+use Rattle.std.specs.Io.KnownBytes.{Appends, Consumes, Keeps}
+use Rattle.std.specs.List.{before_first}
+use Rattle.fr_route.specs.Blank.{is_blank}
+use Rattle.fr_command.specs.Lines.{lines_of, asking_count}
+use Rattle.fr_command.specs.Answers.{IsOutput}
+use Rattle.fr_command.specs.Conversations.{Talk, Takes, Ends, Says, AnswersBefore, silence, carried}
+use Rattle.fr_command.specs.InPieces.{StopsInPiece, BeginsInPiece}
+use Rattle.fr_command.specs.Outputs.{IsBeginning, WritesOutput, WritesBeginning, most_bytes}
+use Rattle.fr_command.proofs.Determined.{output_unique, begins-trans}
+use Rattle.fr_command.proofs.EachOutput.{each_output}
+use Rattle.fr_command.proofs.Ending.{lines_go_on, line_goes_on, begun_alone, begun_short, first_line_is, one_line, ends_line}
+use Rattle.fr_command.proofs.Taking.{takes_on, takes_none, answer_stands, output_ends}
+
+-- a fact is one for each result
+pub on_ok : {T E : Type 0} (r : Result T E) (P : Type 0) → P → OnOk r P
+on_ok (Ok x) P h = h
+on_ok (Err e) P h = tt
+
+pub on_err : {T E : Type 0} (r : Result T E) (P : Type 0) → P → OnErr r P
+on_err (Ok x) P h = tt
+on_err (Err e) P h = h
+
+-- nothing was taken yet
+pub says_nothing : (talk : Talk) (w : Option (List ℕ)) → lines_of talk.begun ≡ talk.begun ∷ [] → Says talk [] talk w w
+says_nothing talk w alone = record {
+  text = [];
+  takes = takes_none talk talk [] alone refl (sym (append-nil talk.begun)) refl;
+  writes = Appends-nil w;
+}
+
+-- more bytes were taken
+pub says_on : (first mid last : Talk) (xs ys : List ℕ) (u v w : Option (List ℕ)) → Says first xs mid u v → Says mid ys last v w → Says first (xs ++ ys) last u w
+says_on first mid last xs ys u v w h k = record {
+  text = h.text ++ k.text;
+  takes = takes_on first mid last xs ys h.text k.text h.takes k.takes;
+  writes = Appends-trans u v w h.text k.text h.writes k.writes;
+}
+
+-- and what came then wrote nothing
+pub says_kept : (first last : Talk) (xs : List ℕ) (u v w : Option (List ℕ)) → Says first xs last u v → Keeps v w → Says first xs last u w
+says_kept first last xs u v w h kept = record {
+  text = h.text;
+  takes = h.takes;
+  writes = Appends-kept u v w h.text h.writes kept;
+}
+
+-- a beginning of what comes behind
+begins_behind : (front out whole : List ℕ) → IsBeginning out whole → IsBeginning (front ++ out) (front ++ whole)
+begins_behind front out whole h = (h.0, ap (λ (l : List ℕ). front ++ l) h.1 ∙ sym (append_assoc front out h.0))
+
+-- all that was written is a beginning too
+pub says_begins : (first last : Talk) (piece : List ℕ) (done : ℕ) (u v : Option (List ℕ)) → Says first (take done piece) last u v → BeginsInPiece first piece u v
+says_begins first last piece done u v h = record {
+  count = done;
+  new = last;
+  whole = h.text;
+  out = h.text;
+  takes = h.takes;
+  begins = ([], sym (append-nil h.text));
+  writes = h.writes;
+}
+
+-- of a text and its end
+pub text_begun : (text end : List ℕ) (n : ℕ) → IsBeginning (take n text) (text ++ end)
+text_begun text end n = (drop n text ++ end, ap (λ (l : List ℕ). l ++ end) (sym (take-append-drop n text)) ∙ append_assoc (take n text) (drop n text) end)
+
+pub end_begun : (text end : List ℕ) (n : ℕ) → IsBeginning (text ++ take n end) (text ++ end)
+end_begun text end n = begins_behind text (take n end) end (drop n end, sym (take-append-drop n end))
+
+module _ (first mid : Talk) (piece : List ℕ) (done : ℕ) (u v : Option (List ℕ)) (h : Says first (take done piece) mid u v) where
+  -- the answer to more bytes of a piece was begun
+  pub begins_later : (w : Option (List ℕ)) → BeginsInPiece mid (drop done piece) v w → BeginsInPiece first piece u w
+  begins_later w k = record {
+    count = done + k.count;
+    new = k.new;
+    whole = h.text ++ k.whole;
+    out = h.text ++ k.out;
+    takes = subst (λ (l : List ℕ). Takes first l (h.text ++ k.whole) k.new) (sym (take-add done k.count piece))
+        (takes_on first mid k.new (take done piece) (take k.count (drop done piece)) h.text k.whole h.takes k.takes);
+    begins = begins_behind h.text k.out k.whole k.begins;
+    writes = Appends-trans u v w h.text k.out h.writes k.writes;
+  }
+
+  -- or it stops there
+  pub stops_later : (Holds : List ℕ → Type 0) (new : Talk) (w : Option (List ℕ)) → new ≡ mid → Keeps v w → Holds (carried mid (drop done piece)) → StopsInPiece Holds first piece new u w
+  stops_later Holds new w same kept holds = record {
+    count = done;
+    says = subst (λ (t : Talk). Says first (take done piece) t u w) (sym same) (says_kept first mid (take done piece) u v w h kept);
+    holds = subst (λ (t : Talk). Holds (carried t (drop done piece))) (sym same) holds;
+  }
+
+-- a line that is not blank has a byte
+pub blank_or_some : (line : List ℕ) → is_blank line ≡ false → line ≢ []
+blank_or_some [] asks = cc
+blank_or_some (x ∷ xs) asks = λ e. cc
+
+-- the lines that ended in what was read were answered
+pub record HasServed (r s u v : Option (List ℕ)) (talk : Talk) : Type 0 where
+  pub bytes : List ℕ
+  pub reads : Consumes r s bytes
+  pub says : Says silence bytes talk u v
+
+pub nothing_served : (r u : Option (List ℕ)) (talk : Talk) → talk ≡ silence → HasServed r r u u talk
+nothing_served r u talk same = record {
+  bytes = [];
+  reads = Consumes-nil r;
+  says = subst (λ (t : Talk). Says silence [] t u u) (sym same) (says_nothing silence u refl);
+}
+
+-- a read brought no byte
+pub read_nothing : (r s t : Option (List ℕ)) (bytes piece : List ℕ) (count : ℕ) → count ≡ 0 → Consumes r s bytes → Consumes s t (take count piece) → Consumes r t bytes
+read_nothing r s t bytes piece count none h k =
+    let both : Consumes r t (bytes ++ []) = Consumes-trans r s t bytes [] h (subst (λ (n : ℕ). Consumes s t (take n piece)) none k) in
+    subst (λ (l : List ℕ). Consumes r t l) (append-nil bytes) both
+
+-- or some, to the front of the room for a piece
+pub read_on : (r s t : Option (List ℕ)) (bytes piece room : List ℕ) (count : ℕ) → count ≤ length piece → Consumes r s bytes → Consumes s t (take count piece) → Consumes r t (bytes ++ take count (piece ++ room))
+read_on r s t bytes piece room count few h k = Consumes-trans r s t bytes (take count (piece ++ room)) h (subst (λ (l : List ℕ). Consumes s t l) (sym (take-append-le count piece room few)) k)
+
+module _ (bytes : List ℕ) (talk : Talk) (u v : Option (List ℕ)) (h : Says silence bytes talk u v) where
+  -- the answers to the lines before the one that has begun
+  pub before_begun : (w : Option (List ℕ)) → Keeps v w → AnswersBefore bytes talk.begun u w
+  before_begun w kept = record {
+    before = h.takes.ended;
+    behind = [];
+    text = h.text;
+    last = talk.state;
+    cut = h.takes.cut;
+    are_answers = h.takes.are_answers;
+    writes = Appends-kept u v w h.text h.writes kept;
+  }
+
+  -- the end of the input ended that line, and its answer was written,
+  pub output_written : (last : Talk) (text : List ℕ) (w : Option (List ℕ)) → Ends talk text last → Appends v w text → WritesOutput bytes u w (asking_count (lines_of bytes))
+  output_written last text w end more =
+      let output = output_ends bytes h.text text talk last h.takes end in
+      record {
+        out = h.text ++ text;
+        output = output;
+        only = λ other is. output_unique bytes other (h.text ++ text) is output;
+        writes = Appends-trans u v w h.text text h.writes more;
+        counted = refl;
+      }
+
+  -- or a beginning of it
+  pub output_begun : (last : Talk) (text out : List ℕ) (w : Option (List ℕ)) → Ends talk text last → IsBeginning out text → Appends v w out → WritesBeginning bytes u w
+  output_begun last text out w end begins more =
+      let output = output_ends bytes h.text text talk last h.takes end in
+      record {
+        whole = h.text ++ text;
+        out = h.text ++ out;
+        output = output;
+        only = λ other is. output_unique bytes other (h.text ++ text) is output;
+        begins = begins_behind h.text out text begins;
+        writes = Appends-trans u v w h.text out h.writes more;
+      }
+
+  module _ (piece : List ℕ) (w : Option (List ℕ)) where
+    -- the answer to a piece behind was begun,
+    pub piece_begun : BeginsInPiece talk piece v w → WritesBeginning (bytes ++ piece) u w
+    piece_begun k =
+        let output = each_output (bytes ++ piece) in
+        let front = take k.count piece in
+        let whole : bytes ++ piece ≡ (bytes ++ front) ++ drop k.count piece = sym (append_assoc bytes front (drop k.count piece) ∙ ap (λ (l : List ℕ). bytes ++ l) (take-append-drop k.count piece)) in
+        let takes = takes_on silence talk k.new bytes front h.text k.whole h.takes k.takes in
+        let stands = answer_stands (bytes ++ front) (drop k.count piece) (h.text ++ k.whole) output.0 k.new takes (subst (λ (l : List ℕ). IsOutput l output.0) whole output.1) in
+        record {
+          whole = output.0;
+          out = h.text ++ k.out;
+          output = output.1;
+          only = λ other is. output_unique (bytes ++ piece) other output.0 is output.1;
+          begins = begins-trans (h.text ++ k.out) (h.text ++ k.whole) output.0 (begins_behind h.text k.out k.whole k.begins) stands;
+          writes = Appends-trans u v w h.text k.out h.writes k.writes;
+        }
+
+    module _ (Holds : List ℕ → Type 0) (new : Talk) (k : StopsInPiece Holds talk piece new v w) where
+      -- or it stops at a line
+      pub piece_stopped : (line : List ℕ) × AnswersBefore (bytes ++ piece) line u w × Holds line
+      piece_stopped =
+          let front = take k.count piece in
+          let rest = drop k.count piece in
+          let said = says_on silence talk new bytes front u v w h k.says in
+          let whole : bytes ++ piece ≡ (bytes ++ front) ++ rest = sym (append_assoc bytes front rest ∙ ap (λ (l : List ℕ). bytes ++ l) (take-append-drop k.count piece)) in
+          let first = first_line_is rest in
+          let onward = lines_go_on (bytes ++ front) new.begun said.takes.ended said.takes.cut rest in
+          let alone = begun_alone (bytes ++ front) new.begun said.takes.ended said.takes.cut in
+          let line = line_goes_on new.begun rest (before_first ends_line rest) first.0 alone first.1 in
+          let answers : AnswersBefore (bytes ++ piece) (carried new rest) u w = record {
+            before = said.takes.ended;
+            behind = first.0;
+            text = said.text;
+            last = new.state;
+            cut = ap lines_of whole ∙ (onward ∙ ap (λ (ls : List (List ℕ)). said.takes.ended ++ ls) line);
+            are_answers = said.takes.are_answers;
+            writes = said.writes;
+          } in
+          (carried new rest, answers, k.holds)
+
+      -- which is all that the bytes have behind the last end, where these were few
+      pub stopped_at_last : length talk.begun + length piece ≤ most_bytes + 1 → most_bytes < length (carried new (drop k.count piece))
+          → (last : Talk) × Says silence (bytes ++ piece) last u w × (length last.begun ≡ most_bytes + 1)
+      stopped_at_last few long =
+          let front = take k.count piece in
+          let rest = drop k.count piece in
+          let alone = begun_alone (talk.begun ++ front) new.begun k.says.takes.ended k.says.takes.cut in
+          let short = begun_short (talk.begun ++ front) new.begun k.says.takes.ended k.says.takes.cut in
+          let parts : length front + length rest ≡ length piece = sym (length-append front rest) ∙ ap length (take-append-drop k.count piece) in
+          let bound : length new.begun + length rest ≤ most_bytes + 1 = omega (arith, length-append talk.begun front) in
+          let one : lines_of rest ≡ rest ∷ [] = one_line rest (omega (arith, length-append new.begun (before_first ends_line rest), length-prefix_len (λ x. not (ends_line x)) rest)) in
+          let last : Talk = record { state = new.state; begun = new.begun ++ rest } in
+          let tail : Says new rest last w w = record { text = []; takes = takes_none new last rest alone one refl refl; writes = Appends-nil w } in
+          let said = says_on silence talk last bytes (front ++ rest) u v w h (says_on talk new last front rest v w w k.says tail) in
+          let exact : length (new.begun ++ rest) ≡ most_bytes + 1 = omega (arith, length-append new.begun rest, length-append new.begun (before_first ends_line rest), length-prefix_len (λ x. not (ends_line x)) rest, prefix_len-le-length (λ x. not (ends_line x)) rest) in
+          (last, subst (λ (l : List ℕ). Says silence (bytes ++ l) last u w) (take-append-drop k.count piece) said, exact)

@@ -1,0 +1,5 @@
+use Rattle.fr_command.proofs.Served.{HasServed}
+use Rattle.fr_command.proofs.serving.converse.Given as goal
+
+abbrev pub invariant-reads : goal.invariant-reads
+invariant-reads g l = HasServed (g.R.Read.remaining l.fn.reader) (g.R.Read.remaining l.reader) (g.W.Write.contents l.fn.writer) (g.W.Write.contents l.writer) l.conversation

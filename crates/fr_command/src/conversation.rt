@@ -1,0 +1,165 @@
+//! A conversation: the bytes of an input come in pieces that are cut anywhere, and each line is answered once its end has come.
+
+ghost use Rattle.std.specs.Prelude.{◌≡◌, ◌≢◌, ◌<◌, ◌≤◌, ◌+◌, ◌++◌, ◌∷◌, [], length, take, false, IfOk, OnOk, OnErr};
+ghost use Rattle.fr_route.specs.Blank.{is_blank};
+ghost use Rattle.fr_command.specs.Lines.{lines_of};
+ghost use Rattle.fr_command.specs.Outputs.{most_bytes};
+ghost use Rattle.fr_command.specs.Conversations.{Takes, Ends, silence, carried, line_size, text_of};
+
+use crate::fault::RunFault;
+use crate::input::MAX_BYTES;
+use crate::lines::line_end;
+use fr_crew::{Gate, Plan};
+use fr_route::{AnswerFault, Session};
+use std::alloc::Global;
+use std::marker::Model;
+use std::sync::Wait;
+use std::thread::Threads;
+
+/// How far a piece was taken, and the answer to the line that ended there.
+#[derive(Debug, Drop)]
+pub struct Taken {
+    /// How many bytes of the piece were taken.
+    pub count: usize,
+    /// The answer, without a line end; None for a blank line, and where no line has ended.
+    pub answer: Option<String>,
+}
+
+/// A session, and the line that has begun. Contracts see the state of the session with the bytes of that line.
+#[derive(Debug, Drop)]
+pub struct Conversation {
+    session: Session,
+    begun: Vec<u8>,
+}
+
+impl Model for Conversation {
+    ghost use Rattle.std.specs.Prelude.{◌≡◌, ◌≤◌, ◌∷◌, [], length};
+    ghost use Rattle.fr_command.specs.Lines.{lines_of};
+    ghost use Rattle.fr_command.specs.Outputs.{most_bytes};
+    ghost use Rattle.fr_command.specs.Conversations.{Talk};
+
+    ghost Value = { Talk };
+
+    ghost view = { λ c. record { state = c.session; begun = c.begun.items } };
+
+    ghost invariant = { λ c. (lines_of c.begun.items ≡ c.begun.items ∷ []) × (length c.begun.items ≤ most_bytes) };
+}
+
+impl Conversation {
+    /// A conversation in which nothing was said yet.
+    pub fn new(alloc: Global) -> Conversation
+        ensures { result ≡ silence }
+    {
+        Conversation {
+            session: Session::new(),
+            begun: Vec::new(alloc),
+        }
+    }
+
+    /// The session, in the state after the lines that have ended.
+    pub fn session(&self) -> &Session
+        ensures { result.now ≡ self.now.state }
+    {
+        &self.session
+    }
+
+    /// The line that has begun: what was taken behind the last line end.
+    pub fn begun(&self) -> &[u8]
+        ensures line { result.now ≡ self.now.begun }
+        ensures alone { lines_of result.now ≡ result.now ∷ [] }
+        ensures within { length result.now ≤ most_bytes }
+    {
+        &self.begun
+    }
+
+    /// Takes the front of a piece, up to its first byte 10 and with it, and answers the line that ends there; without one, all of the
+    /// piece goes to the line that has begun. Whatever the fault, nothing was taken, and the piece can be handed in again: `TooLong`
+    /// where the line has more than [`MAX_BYTES`] bytes, `Start` where a thread could not be started, which with the budget 0
+    /// never comes, and `Memory` where the line or its answer found no room; never `Read` or `Write`.
+    pub fn take<T: Threads + Wait + Sync, G: Gate + Sync>(
+        &mut self,
+        rt: &T,
+        alloc: Global,
+        piece: &[u8],
+        plan: &Plan,
+        gate: &G,
+    ) -> Result<Taken, RunFault>
+        ensures count { IfOk result (λ taken. taken.count ≡ line_size piece.now) }
+        ensures takes { IfOk result (λ taken. Takes self.old (take taken.count piece.now) (text_of taken.answer) self.new) }
+        ensures within { OnOk result (length (carried self.old piece.now) ≤ most_bytes) }
+        ensures unchanged { OnErr result (self.new ≡ self.old) }
+        ensures too_long { result ≡ Err RunFault.TooLong → most_bytes < length (carried self.old piece.now) }
+        ensures start { result ≡ Err RunFault.Start → is_blank (carried self.old piece.now) ≡ false }
+        ensures memory { result ≡ Err RunFault.Memory → carried self.old piece.now ≢ [] }
+        ensures no_start { plan.now.budget ≡ 0 → result ≢ Err RunFault.Start }
+        ensures no_read { result ≢ Err RunFault.Read }
+        ensures no_write { result ≢ Err RunFault.Write }
+    {
+        let kept = self.begun.len();
+        let Some(end) = line_end(piece) else {
+            self.hold(piece)?;
+            return Ok(Taken {
+                count: piece.len(),
+                answer: None,
+            });
+        };
+        self.hold(&piece[..end])?;
+        match self.finish(rt, alloc, plan, gate) {
+            Ok(answer) => Ok(Taken {
+                count: end + 1,
+                answer,
+            }),
+            Err(fault) => {
+                self.begun.truncate(kept);
+                Err(fault)
+            }
+        }
+    }
+
+    /// Ends the line that has begun, as the end of an input does, and answers it; None where it is blank. Whatever the fault, `Start`
+    /// or `Memory` as [`take`](Conversation::take) has them, nothing has changed.
+    pub fn finish<T: Threads + Wait + Sync, G: Gate + Sync>(
+        &mut self,
+        rt: &T,
+        alloc: Global,
+        plan: &Plan,
+        gate: &G,
+    ) -> Result<Option<String>, RunFault>
+        ensures ends { IfOk result (λ answer. Ends self.old (text_of answer) self.new) }
+        ensures unchanged { OnErr result ((is_blank self.old.begun ≡ false) × (self.new ≡ self.old)) }
+        ensures no_start { plan.now.budget ≡ 0 → result ≢ Err RunFault.Start }
+        ensures no_read { result ≢ Err RunFault.Read }
+        ensures no_write { result ≢ Err RunFault.Write }
+        ensures no_length { result ≢ Err RunFault.TooLong }
+    {
+        match self.session.answer_line(rt, alloc, &self.begun, plan, gate) {
+            Ok(answer) => {
+                self.begun.clear();
+                Ok(answer)
+            }
+            Err(AnswerFault::Start) => Err(RunFault::Start),
+            Err(AnswerFault::Memory) => Err(RunFault::Memory),
+        }
+    }
+
+    /// Holds bytes without a line end behind those of the line that has begun.
+    fn hold(&mut self, bytes: &[u8]) -> Result<(), RunFault>
+        requires { lines_of bytes.now ≡ bytes.now ∷ [] }
+        ensures ok { OnOk result ((self.new.begun ≡ self.old.begun ++ bytes.now) × (self.new.state ≡ self.old.state)) }
+        ensures within { OnOk result (length self.old.begun + length bytes.now ≤ most_bytes) }
+        ensures unchanged { OnErr result (self.new ≡ self.old) }
+        ensures too_long { result ≡ Err RunFault.TooLong → most_bytes < length self.old.begun + length bytes.now }
+        ensures memory { result ≡ Err RunFault.Memory → bytes.now ≢ [] }
+        ensures no_read { result ≢ Err RunFault.Read }
+        ensures no_write { result ≢ Err RunFault.Write }
+        ensures no_start { result ≢ Err RunFault.Start }
+    {
+        if bytes.len() > MAX_BYTES - self.begun.len() {
+            return Err(RunFault::TooLong);
+        }
+        if bytes.is_empty() || self.begun.extend_from_slice(bytes).is_ok() {
+            return Ok(());
+        }
+        Err(RunFault::Memory)
+    }
+}

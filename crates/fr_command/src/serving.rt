@@ -1,0 +1,214 @@
+//! Serving: each line of an input is answered before more is read.
+
+ghost use Rattle.std.specs.Prelude.{◌≡◌, ◌≢◌, ◌<◌, ◌≤◌, ◌+◌, ◌++◌, ◌∷◌, [], ℕ, List, length, take, false, IfOk, OnOk, OnErr, IfErr};
+ghost use Rattle.std.specs.Io.KnownBytes.{Appends, Consumes, IsAtEnd, Keeps};
+ghost use Rattle.fr_route.specs.Blank.{is_blank};
+ghost use Rattle.fr_command.specs.Lines.{asking_count, lines_of};
+ghost use Rattle.fr_command.specs.Outputs.{most_bytes, IsBeginning, WritesOutput, WritesBeginning};
+ghost use Rattle.fr_command.specs.Conversations.{Talk, Takes, Ends, Says, AnswersBefore, silence, carried, line_size, text_of};
+ghost use Rattle.fr_command.specs.InPieces.{StopsInPiece, BeginsInPiece};
+
+use crate::conversation::Conversation;
+use crate::fault::RunFault;
+use crate::input::{MAX_BYTES, PIECE, read_piece};
+use crate::output::write_whole;
+use fr_crew::{Gate, Plan};
+use std::alloc::Global;
+use std::io::{Read, Write};
+use std::sync::Wait;
+use std::thread::Threads;
+
+/// Answers each line of the input that is not blank, and writes its answer and flushes before it reads on; at the end, what it has
+/// written is what [`run`](crate::run) writes. The input may be of any length, and each of its lines has at most
+/// [`MAX_BYTES`] bytes: `TooLong` comes with the byte that makes one longer, and no byte behind it is read. It waits for the reader,
+/// and for the threads that settle networks, as [`run`](crate::run) does.
+pub fn serve<T: Threads + Wait + Sync, R: Read, W: Write, G: Gate + Sync>(
+    rt: &T,
+    alloc: Global,
+    reader: &mut R,
+    writer: &mut W,
+    plan: &Plan,
+    gate: &G,
+) -> Result<(), RunFault>
+    ensures ok { OnOk result ((bytes : List ℕ)
+        × Consumes (R.remaining reader.old) (R.remaining reader.new) bytes × IsAtEnd (R.remaining reader.new)
+        × WritesOutput bytes (W.contents writer.old) (W.contents writer.new) (asking_count (lines_of bytes))) }
+
+    // Whichever read failed, the lines that had ended by then were answered, and no other.
+    ensures read { result ≡ Err RunFault.Read → (bytes : List ℕ) × (talk : Talk)
+        × Consumes (R.remaining reader.old) (R.remaining reader.new) bytes
+        × Says silence bytes talk (W.contents writer.old) (W.contents writer.new) }
+    ensures too_long { result ≡ Err RunFault.TooLong → (bytes : List ℕ) × (talk : Talk)
+        × Consumes (R.remaining reader.old) (R.remaining reader.new) bytes
+        × Says silence bytes talk (W.contents writer.old) (W.contents writer.new)
+        × (length talk.begun ≡ most_bytes + 1) }
+    ensures write { result ≡ Err RunFault.Write → (bytes : List ℕ)
+        × Consumes (R.remaining reader.old) (R.remaining reader.new) bytes
+        × WritesBeginning bytes (W.contents writer.old) (W.contents writer.new) }
+
+    // A thread was missing at this line, or memory.
+    ensures start { result ≡ Err RunFault.Start → (bytes : List ℕ) × (line : List ℕ)
+        × Consumes (R.remaining reader.old) (R.remaining reader.new) bytes
+        × AnswersBefore bytes line (W.contents writer.old) (W.contents writer.new)
+        × (is_blank line ≡ false) }
+    ensures no_start { plan.now.budget ≡ 0 → result ≢ Err RunFault.Start }
+    ensures memory { result ≡ Err RunFault.Memory → (bytes : List ℕ) × (line : List ℕ)
+        × Consumes (R.remaining reader.old) (R.remaining reader.new) bytes
+        × AnswersBefore bytes line (W.contents writer.old) (W.contents writer.new)
+        × (line ≢ []) }
+{
+    let mut conversation = Conversation::new(alloc);
+    converse(rt, alloc, &mut conversation, reader, writer, plan, gate)
+}
+
+/// The same, of a conversation in which nothing was said yet.
+fn converse<T: Threads + Wait + Sync, R: Read, W: Write, G: Gate + Sync>(
+    rt: &T,
+    alloc: Global,
+    conversation: &mut Conversation,
+    reader: &mut R,
+    writer: &mut W,
+    plan: &Plan,
+    gate: &G,
+) -> Result<(), RunFault>
+    requires { conversation.old ≡ silence }
+    ensures ok { OnOk result ((bytes : List ℕ)
+        × Consumes (R.remaining reader.old) (R.remaining reader.new) bytes × IsAtEnd (R.remaining reader.new)
+        × WritesOutput bytes (W.contents writer.old) (W.contents writer.new) (asking_count (lines_of bytes))) }
+    ensures read { result ≡ Err RunFault.Read → (bytes : List ℕ) × (talk : Talk)
+        × Consumes (R.remaining reader.old) (R.remaining reader.new) bytes
+        × Says silence bytes talk (W.contents writer.old) (W.contents writer.new) }
+    ensures too_long { result ≡ Err RunFault.TooLong → (bytes : List ℕ) × (talk : Talk)
+        × Consumes (R.remaining reader.old) (R.remaining reader.new) bytes
+        × Says silence bytes talk (W.contents writer.old) (W.contents writer.new)
+        × (length talk.begun ≡ most_bytes + 1) }
+    ensures write { result ≡ Err RunFault.Write → (bytes : List ℕ)
+        × Consumes (R.remaining reader.old) (R.remaining reader.new) bytes
+        × WritesBeginning bytes (W.contents writer.old) (W.contents writer.new) }
+    ensures start { result ≡ Err RunFault.Start → (bytes : List ℕ) × (line : List ℕ)
+        × Consumes (R.remaining reader.old) (R.remaining reader.new) bytes
+        × AnswersBefore bytes line (W.contents writer.old) (W.contents writer.new)
+        × (is_blank line ≡ false) }
+    ensures no_start { plan.now.budget ≡ 0 → result ≢ Err RunFault.Start }
+    ensures memory { result ≡ Err RunFault.Memory → (bytes : List ℕ) × (line : List ℕ)
+        × Consumes (R.remaining reader.old) (R.remaining reader.new) bytes
+        × AnswersBefore bytes line (W.contents writer.old) (W.contents writer.new)
+        × (line ≢ []) }
+{
+    let mut piece = [0u8; PIECE];
+    'reads: for _ in rt.forever() {
+        let room = PIECE.min(MAX_BYTES + 1 - conversation.begun().len());
+        let count = read_piece(reader, &mut piece[..room])?;
+        if count == 0 {
+            return answer_end(rt, alloc, conversation, writer, plan, gate);
+        }
+        answer_piece(rt, alloc, conversation, &piece[..count], writer, plan, gate)?;
+    }
+    unreachable!()
+}
+
+/// Answers the lines that end in a piece, and flushes.
+fn answer_piece<T: Threads + Wait + Sync, W: Write, G: Gate + Sync>(
+    rt: &T,
+    alloc: Global,
+    conversation: &mut Conversation,
+    piece: &[u8],
+    writer: &mut W,
+    plan: &Plan,
+    gate: &G,
+) -> Result<(), RunFault>
+    requires { lines_of conversation.old.begun ≡ conversation.old.begun ∷ [] }
+    ensures ok { OnOk result (Says conversation.old piece.now conversation.new (W.contents writer.old) (W.contents writer.new)) }
+    ensures write { result ≡ Err RunFault.Write → BeginsInPiece conversation.old piece.now (W.contents writer.old) (W.contents writer.new) }
+    ensures too_long { result ≡ Err RunFault.TooLong →
+        StopsInPiece (λ line. most_bytes < length line) conversation.old piece.now conversation.new (W.contents writer.old) (W.contents writer.new) }
+    ensures start { result ≡ Err RunFault.Start →
+        StopsInPiece (λ line. is_blank line ≡ false) conversation.old piece.now conversation.new (W.contents writer.old) (W.contents writer.new) }
+    ensures memory { result ≡ Err RunFault.Memory →
+        StopsInPiece (λ line. line ≢ []) conversation.old piece.now conversation.new (W.contents writer.old) (W.contents writer.new) }
+    ensures no_start { plan.now.budget ≡ 0 → result ≢ Err RunFault.Start }
+    ensures no_read { result ≢ Err RunFault.Read }
+{
+    let mut done = 0;
+    while done < piece.len() {
+        let count = answer_front(rt, alloc, conversation, &piece[done..], writer, plan, gate)?;
+        done += count;
+    }
+    flush(writer)
+}
+
+/// Answers the line that ends in the front of a piece, if one does, and tells how many bytes were taken.
+fn answer_front<T: Threads + Wait + Sync, W: Write, G: Gate + Sync>(
+    rt: &T,
+    alloc: Global,
+    conversation: &mut Conversation,
+    piece: &[u8],
+    writer: &mut W,
+    plan: &Plan,
+    gate: &G,
+) -> Result<usize, RunFault>
+    ensures count { IfOk result (λ count. count ≡ line_size piece.now) }
+    ensures ok { IfOk result (λ count. Says conversation.old (take count piece.now) conversation.new (W.contents writer.old) (W.contents writer.new)) }
+    ensures write { result ≡ Err RunFault.Write → BeginsInPiece conversation.old piece.now (W.contents writer.old) (W.contents writer.new) }
+    ensures too_long { result ≡ Err RunFault.TooLong → (conversation.new ≡ conversation.old)
+        × Keeps (W.contents writer.old) (W.contents writer.new) × (most_bytes < length (carried conversation.old piece.now)) }
+    ensures start { result ≡ Err RunFault.Start → (conversation.new ≡ conversation.old)
+        × Keeps (W.contents writer.old) (W.contents writer.new) × (is_blank (carried conversation.old piece.now) ≡ false) }
+    ensures memory { result ≡ Err RunFault.Memory → (conversation.new ≡ conversation.old)
+        × Keeps (W.contents writer.old) (W.contents writer.new) × (carried conversation.old piece.now ≢ []) }
+    ensures no_start { plan.now.budget ≡ 0 → result ≢ Err RunFault.Start }
+    ensures no_read { result ≢ Err RunFault.Read }
+{
+    let taken = conversation.take(rt, alloc, piece, plan, gate)?;
+    write_answer(writer, taken.answer)?;
+    Ok(taken.count)
+}
+
+/// Answers the line that the end of the input ends, and flushes.
+fn answer_end<T: Threads + Wait + Sync, W: Write, G: Gate + Sync>(
+    rt: &T,
+    alloc: Global,
+    conversation: &mut Conversation,
+    writer: &mut W,
+    plan: &Plan,
+    gate: &G,
+) -> Result<(), RunFault>
+    ensures ok { OnOk result ((text : List ℕ) × Ends conversation.old text conversation.new
+        × Appends (W.contents writer.old) (W.contents writer.new) text) }
+    ensures write { result ≡ Err RunFault.Write → (text : List ℕ) × (last : Talk) × (out : List ℕ)
+        × Ends conversation.old text last × IsBeginning out text
+        × Appends (W.contents writer.old) (W.contents writer.new) out }
+    ensures start { result ≡ Err RunFault.Start → (is_blank conversation.old.begun ≡ false) × Keeps (W.contents writer.old) (W.contents writer.new) }
+    ensures memory { result ≡ Err RunFault.Memory → (is_blank conversation.old.begun ≡ false) × Keeps (W.contents writer.old) (W.contents writer.new) }
+    ensures no_start { plan.now.budget ≡ 0 → result ≢ Err RunFault.Start }
+    ensures no_read { result ≢ Err RunFault.Read }
+    ensures no_length { result ≢ Err RunFault.TooLong }
+{
+    let answer = conversation.finish(rt, alloc, plan, gate)?;
+    write_answer(writer, answer)?;
+    flush(writer)
+}
+
+/// Writes an answer with byte 10 behind it, if there is one.
+fn write_answer<W: Write>(writer: &mut W, answer: Option<String>) -> Result<(), RunFault>
+    ensures ok { OnOk result (Appends (W.contents writer.old) (W.contents writer.new) (text_of answer)) }
+    ensures err { OnErr result ((out : List ℕ) × IsBeginning out (text_of answer)
+        × Appends (W.contents writer.old) (W.contents writer.new) out) }
+    ensures kind { IfErr result (λ fault. fault ≡ RunFault.Write) }
+{
+    let Some(text) = answer else {
+        return Ok(());
+    };
+    write_whole(writer, text.as_bytes())?;
+    write_whole(writer, b"\n")
+}
+
+fn flush<W: Write>(writer: &mut W) -> Result<(), RunFault>
+    ensures kept { Keeps (W.contents writer.old) (W.contents writer.new) }
+    ensures kind { IfErr result (λ fault. fault ≡ RunFault.Write) }
+{
+    match writer.flush() {
+        Ok(()) => Ok(()),
+        Err(_) => Err(RunFault::Write),
+    }
+}
