@@ -1,4 +1,4 @@
-//! Readers and writers that fail, and what runs and plays make of them.
+//! Readers and writers that fail, and what runs, services and plays make of them.
 
 use crate::outcomes::{Outcome, tell_outcome};
 use crate::tasks::{outcome_of, perform};
@@ -81,7 +81,7 @@ impl NarrowWriter {
         }
     }
 
-    /// Whether all was written and flushed where all went well, and else a beginning, with no flush.
+    /// Whether all was written and then flushed where all went well, and else a beginning, with no flush after the failure.
     fn fits(&self, end: &Result<u64, RunFault>, whole: &Outcome) -> bool {
         match end {
             Err(RunFault::Write) => {
@@ -94,6 +94,7 @@ impl NarrowWriter {
 
 impl Write for NarrowWriter {
     fn write(&mut self, buf: &[u8]) -> io::Result<usize> {
+        self.flushed = false;
         if self.good == 0 {
             self.good = u32::MAX;
             self.failed = true;
@@ -110,11 +111,11 @@ impl Write for NarrowWriter {
     }
 
     fn flush(&mut self) -> io::Result<()> {
+        self.flushed = self.good > 0;
         if self.good == 0 {
             self.failed = true;
             return Err(io::Error::from(io::ErrorKind::Interrupted));
         }
-        self.flushed = true;
         Ok(())
     }
 }
