@@ -5,13 +5,13 @@ use Rattle.std.proofs.Math.Nat.{zero-mul, suc-mul, mod-eq_of_lt, mod-eq-sub-mod,
 use Rattle.std.proofs.Math.ListN.{get_or-append}
 use Rattle.std.proofs.lemmas.Bool.{cases_lt, or_cases, or_left, or_right}
 use Rattle.std.proofs.lemmas.List.{get_or-append_right, take_more, map-append}
-use Rattle.std.proofs.lemmas.List.Elements.{filter-append}
 use Rattle.std.proofs.lemmas.List.Folds.{list_any_at}
 use Rattle.fr_net.specs.Links.{IsNet, Points, Joins}
 use Rattle.fr_net.specs.Rows.{row}
 use Rattle.fr_net.proofs.Neighbours.{row_linked, row_alone}
 use Rattle.fr_core.specs.declared.targets.Target.{Target}
 use Rattle.fr_core.specs.declared.targets.Target.TheVariants.{Turn}
+use Rattle.fr_route.proofs.CutNodes.{filtered_more}
 use Rattle.fr_command.specs.Plays.{is_linked, turnable_nodes}
 
 length-repeat : (m : ℕ) (xs : List ℕ) → length (repeat m xs) ≡ m * length xs
@@ -93,18 +93,10 @@ alone_by_row n links x net none = unlinked (is_linked links x) refl
     unlinked true e = let j = linked_joined links x e in absurd (row_alone n links x net none j.0 j.1)
     unlinked false e = e
 
-range_more : (a n j : ℕ) → a + n ≡ j → range_with_len a (n + 1) ≡ range_with_len a n ++ j ∷ []
-range_more a zero j e = ap (λ (k : ℕ). k ∷ []) (omega (arith, e))
-range_more a (suc n) j e =
-    let longer : suc n + 1 ≡ suc (n + 1) = omega arith in
-    ap (λ (m : ℕ). range_with_len a m) longer ∙ ap (λ (xs : List ℕ). a ∷ xs) (range_more (a + 1) n j (omega (arith, e)))
-
 -- one node more
 one_node_seen : (d : ℕ) (links : List (ℕ × ℕ)) (x : ℕ) (b : Bool) → (not (x == d) && is_linked links x) ≡ b → turnable_nodes (x + 1) d links ≡ turnable_nodes x d links ++ cond b (x ∷ []) []
 one_node_seen d links x b is =
-    let wanted : ℕ → Bool = λ y. not (y == d) && is_linked links y in
-    ap (filter wanted) (range_more 0 x x (omega arith))
-    ∙ (filter-append wanted (range_with_len 0 x) (x ∷ []) ∙ ap (λ (t : Bool). turnable_nodes x d links ++ cond t (x ∷ []) []) is)
+    sym (filtered_more (λ y. not (y == d) && is_linked links y) x b [] (turnable_nodes x d links) is refl)
 
 -- which has links and is not the destination,
 pub wanted_node : (d : ℕ) (links : List (ℕ × ℕ)) (x : ℕ) → ¬ (x ≡ d) → is_linked links x ≡ true → turnable_nodes (x + 1) d links ≡ turnable_nodes x d links ++ x ∷ []

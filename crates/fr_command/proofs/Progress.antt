@@ -42,7 +42,7 @@ asking_count-more done line =
     let weight : List ℕ → ℕ = λ l. cond (not (is_blank l)) 1 0 in
     omega (arith, sum_by-append weight done (line ∷ []), sum_by-cons weight line [])
 
-weight-le : (b : Bool) → cond {A = ℕ} b 1 0 ≤ 1
+pub weight-le : (b : Bool) → cond {A = ℕ} b 1 0 ≤ 1
 weight-le true = omega arith
 weight-le false = omega arith
 
@@ -50,30 +50,23 @@ slice_get-at : (xs : List (List ℕ)) (y : List ℕ) (ys : List (List ℕ)) → 
 slice_get-at [] y ys = refl
 slice_get-at (x ∷ xs) y ys = slice_get-at xs y ys
 
+-- the next line is the first of those that are left
+pub next_line : (whole line : List ℕ) (all left : List (List ℕ)) (now : Option State) (old mid : Option (List ℕ)) (count : ℕ) → all ≡ line ∷ left → HasAnswered whole all now old mid count
+    → HasAnswered whole (line ∷ left) now old mid count
+next_line whole line all left now old mid count is h = subst (λ (ls : List (List ℕ)). HasAnswered whole ls now old mid count) is h
+
 module _ (whole line : List ℕ) (left : List (List ℕ)) (now : Option State) (old mid : Option (List ℕ)) (count : ℕ) (h : HasAnswered whole (line ∷ left) now old mid count) where
-  -- one line more is asked
-  one_line_more : (next : Option State) (new : Option (List ℕ)) (out : List ℕ) → AreAnswers now (line ∷ []) out next → Appends mid new out
-      → HasAnswered whole left next old new (count + cond (not (is_blank line)) 1 0)
+  -- one line more is answered, or was blank
+  pub one_line_more : (next : Option State) (new : Option (List ℕ)) (out : List ℕ) (answered : ℕ) → answered ≡ cond (not (is_blank line)) 1 0 → AreAnswers now (line ∷ []) out next → Appends mid new out
+      → HasAnswered whole left next old new (count + answered)
   unfolding asked_more
-  one_line_more next new out are more = record {
+  one_line_more next new out answered asks are more = record {
     out = h.out ++ out;
     asked = asked_more whole line left now next h.out out h.asked are;
     writes = Appends-trans old mid new h.out out h.writes more;
-    counted = ap (λ (k : ℕ). k + cond (not (is_blank line)) 1 0) h.counted ∙ sym (asking_count-more h.asked.done line);
-    within = omega (arith, h.within, weight-le (not (is_blank line)));
+    counted = (λ i. h.counted i + asks i) ∙ sym (asking_count-more h.asked.done line);
+    within = omega (arith, asks, h.within, weight-le (not (is_blank line)));
   }
-
-  -- and answered,
-  pub one_answer_more : (next : Option State) (new : Option (List ℕ)) (out : List ℕ) → true ≡ not (is_blank line) → AreAnswers now (line ∷ []) out next → Appends mid new out
-      → HasAnswered whole left next old new (count + 1)
-  one_answer_more next new out asks are more = subst (λ (b : Bool). HasAnswered whole left next old new (count + cond b 1 0)) (sym asks) (one_line_more next new out are more)
-
-  -- or it was blank
-  pub no_answer_more : (next : Option State) (new : Option (List ℕ)) (out : List ℕ) → false ≡ not (is_blank line) → AreAnswers now (line ∷ []) out next → Appends mid new out
-      → HasAnswered whole left next old new count
-  no_answer_more next new out asks are more =
-      let same : count + cond (not (is_blank line)) 1 0 ≡ count = rw (← asks) (omega arith) in
-      subst (λ (k : ℕ). HasAnswered whole left next old new k) same (one_line_more next new out are more)
 
   -- a write failed within the line's answer
   pub stops_writing : (last : Option State) (new : Option (List ℕ)) (answer out : List ℕ) → AreAnswers now (line ∷ []) answer last → IsBeginning out answer → Appends mid new out → WritesBeginning whole old new

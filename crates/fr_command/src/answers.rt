@@ -1,6 +1,6 @@
 //! Answering the lines of an input.
 
-ghost use Rattle.std.specs.Prelude.{◌≡◌, ◌≢◌, [], ◌∷◌, List, ℕ, IfErr, IfNone, IfOk, IfSome, None, Option, false, not, string_bytes, true};
+ghost use Rattle.std.specs.Prelude.{◌≡◌, ◌≢◌, [], ◌∷◌, List, ℕ, IfErr, IfNone, IfOk, IfSome, None, Option, false, if◌then◌else◌, not, string_bytes, true};
 ghost use Rattle.std.specs.Io.KnownBytes.{Appends, Keeps};
 ghost use Rattle.fr_route.specs.Blank.{is_blank};
 ghost use Rattle.fr_route.specs.States.{State};
@@ -59,14 +59,13 @@ fn answer_each<T: Threads + Wait + Sync, W: Write, G: Gate + Sync>(
 {
     let mut count = 0;
     for line in Lines::new(input) {
-        if answer_one(rt, alloc, session, line, writer, plan, gate)? {
-            count += 1;
-        }
+        let answered = answer_one(rt, alloc, session, line, writer, plan, gate)?;
+        count += answered;
     }
     Ok(count)
 }
 
-/// Writes the answer to a line, with byte 10 behind it, and tells whether there is one: a blank line has none.
+/// Writes the answer to a line, with byte 10 behind it, and tells how many there are: a blank line has none, and any other one.
 fn answer_one<T: Threads + Wait + Sync, W: Write, G: Gate + Sync>(
     rt: &T,
     alloc: Global,
@@ -75,8 +74,8 @@ fn answer_one<T: Threads + Wait + Sync, W: Write, G: Gate + Sync>(
     writer: &mut W,
     plan: &Plan,
     gate: &G,
-) -> Result<bool, RunFault>
-    ensures asks { IfOk result (λ asks. asks ≡ not (is_blank line.now)) }
+) -> Result<u64, RunFault>
+    ensures asks { IfOk result (λ answered. answered ≡ (if not (is_blank line.now) then 1 else 0)) }
     ensures ok { IfOk result (λ asks. (out : List ℕ) × AreAnswers session.old (line.now ∷ []) out session.new
         × Appends (W.contents writer.old) (W.contents writer.new) out) }
     ensures write { result ≡ Err RunFault.Write → (answer : List ℕ) × (last : Option State) × (out : List ℕ)
@@ -91,9 +90,9 @@ fn answer_one<T: Threads + Wait + Sync, W: Write, G: Gate + Sync>(
     match answer_text(rt, alloc, session, line, plan, gate) {
         Ok(Some(text)) => {
             write_whole(writer, text.as_bytes())?;
-            Ok(true)
+            Ok(1)
         }
-        Ok(None) => Ok(false),
+        Ok(None) => Ok(0),
         Err(AnswerFault::Start) => Err(RunFault::Start),
         Err(AnswerFault::Memory) => Err(RunFault::Memory),
     }
