@@ -20,11 +20,6 @@ new_workers_length : (round : OpenRound) (k : ℕ) → length (new_workers round
 new_workers_length round zero = refl
 new_workers_length round (suc k) = omega (arith, length-append (new_workers round.table round.setup k) (new_worker round.table round.setup k ∷ []), new_workers_length round k)
 
--- what holds of each holds of the last
-pub each_last : {X : Type 0} (P : X → Type 0) (xs : List X) (x : X) → Each P (xs ++ x ∷ []) → P x
-each_last P [] x each = each.0
-each_last P (y ∷ xs) x each = each_last P xs x each.1
-
 -- there is a worker where one was opened
 pub some_worker : (round : OpenRound) (k : ℕ) (workers : List Knowledge) → 1 ≤ k → workers ≡ new_workers round.table round.setup k → 0 < length workers
 some_worker round k workers some are_new = omega (arith, some, ap length are_new, new_workers_length round k)

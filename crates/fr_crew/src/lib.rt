@@ -1,5 +1,5 @@
 //! A crew that settles a network: many workers in threads of their own turn sinks at once, and whatever the schedule, the
-//! answer is the same.
+//! links and counts come out the same.
 //!
 //! [`settle`] opens a round, runs it by the workers of a [`Plan`], and finishes on one thread what these leave. A [`Gate`] is
 //! called round each call of a worker. [`settle_alone`] needs no thread and comes to the same. [`settled_counts`] and

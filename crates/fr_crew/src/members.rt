@@ -60,7 +60,8 @@ pub(crate) fn room_for(round: &Round, from: Option<&[u32]>) -> usize
     }
 }
 
-/// Deals a node to the member whose turn it is, where the node is a candidate: it has a link, and is not the destination.
+/// Deals a node to the member whose number is `turn` modulo the number of members, where the node is a candidate: it has a link, and is
+/// not the destination.
 fn deal_node<J: Naming>(round: &Round, members: &mut [Member<J>], turn: usize, x: u32)
     requires named { round.now.setup ≡ J.setup }
     requires some { 0 < length members.old }
@@ -84,7 +85,7 @@ fn deal_all<J: Naming>(round: &Round, members: &mut [Member<J>])
     }
 }
 
-/// Deals the candidates among these nodes, to the members in turn.
+/// Deals the candidates among these nodes, each to the member whose number is the node's place modulo the number of members.
 fn deal_each<J: Naming>(round: &Round, members: &mut [Member<J>], nodes: &[u32])
     requires named { round.now.setup ≡ J.setup }
     requires some { 0 < length members.old }

@@ -6,7 +6,7 @@ ghost use Rattle.fr_core.specs.Limits.{most_workers};
 use fr_core::MAX_WORKERS;
 
 /// How many workers turn a network, a seed for their draws, and how many calls each of them may make. It says who does the work
-/// and changes no answer. Whoever only wants answers is served fastest by a budget of 0, or by a call that takes no plan, as
+/// and changes no link and no count. Whoever only wants these is served fastest by a budget of 0, or by a call that takes no plan, as
 /// [`settle_alone`](crate::settle_alone): a few turns or one search settle the network, and no thread is started.
 #[derive(Clone, Copy, Debug, PartialEq, Eq)]
 pub struct Plan {
@@ -18,7 +18,7 @@ pub struct Plan {
 
 impl Plan {
     /// The plan with 1 to [`MAX_WORKERS`] workers, each of which makes at most `budget` calls; with another number of workers there is
-    /// none. From the seed each worker draws where it looks first for work when it has none of its own; no answer depends on it.
+    /// none. From the seed each worker draws where it looks first for work when it has none of its own; no link or count depends on it.
     pub fn new(workers: u32, seed: u64, budget: u64) -> Option<Plan>
         ensures none { IsNone result ↔ ((workers ≡ 0) ⊎ (most_workers < workers)) }
         ensures some { IfSome result (λ plan. (plan.workers ≡ workers) × (plan.seed ≡ seed) × (plan.budget ≡ budget)) }

@@ -1,4 +1,4 @@
-use Rattle.std.proofs.Common.{arith, length, rules, ◌<◌, ◌≡◌}
+use Rattle.std.proofs.Common.{arith, length, rules, ◌<◌, ◌∙◌, ◌≡◌}
 use Rattle.std.proofs.lemmas.Result.{err_from_is_err_and}
 use Rattle.fr_crew.proofs.Workers.{all_came_back, as_many_as_asked, new_workers_own, some_worker}
 use Rattle.fr_crew.proofs.settlement.turned_by_crew.Given.{Over}
@@ -30,4 +30,4 @@ returns-in_err-round-clause-no_start g c = λ one.
     let workers = c.in-Ok.workers in
     let asked = as_many_as_asked c.in-Ok.round c.workers.result workers.items c.in-Ok.ensures.workers in
     let fault = err_from_is_err_and c.from_residual.result c.from_residual.ensures.1 in
-    rw (fault.1, fault.2) (c.in_err-round.ensures.no_start (omega (arith, workers.ok.0, asked, one)))
+    rw (fault.1, fault.2) (c.in_err-round.ensures.no_start (workers.ok.0 ∙ (asked ∙ (c.workers.ensures ∙ one))))
