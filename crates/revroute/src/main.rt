@@ -2,9 +2,7 @@
 //! full reversal step by step.
 #![tactic(auto)]
 
-use fr_command::{
-    RunFault, Task, TaskFault, play_drawn, run, run_end, serve, task_end, task_of,
-};
+use fr_command::{RunFault, Task, TaskFault, play_drawn, run, run_end, serve, task_end, task_of};
 use fr_crew::OpenGate;
 use std::alloc::Global;
 use std::io::{BufWriter, ErrorKind};
