@@ -7,9 +7,9 @@ use Rattle.fr_net.proofs.Counting.{at_most_one, one_passes, weigh}
 use Rattle.fr_net.proofs.HalfLinks.{rising_pair, shows_row}
 use Rattle.fr_net.proofs.Linking.{is_between_itself, one_way, walk_carries}
 use Rattle.fr_net.specs.Faults.{IsFaultless, IsInRange}
-use Rattle.fr_net.specs.Halves.{AreHalvesRising, AreStarts, ShowsRow, entry_of, halves_of, is_at}
+use Rattle.fr_net.specs.Halves.{AreHalvesOf, AreHalvesRising, ShowsRow, entry_of, halves_of, is_at}
 use Rattle.fr_net.specs.Limits.{IsWithinLimits}
-use Rattle.fr_net.specs.Links.{AreBelow, AreSingle, HasNoSelfLink, IsAcyclic, IsCycle, IsNet, is_between}
+use Rattle.fr_net.specs.Links.{AreBelow, AreSingle, HasNoSelfLink, IsAcyclic, IsCycle, IsNet, Points, is_between}
 use Rattle.fr_net.specs.Order.{IsBefore}
 use Rattle.fr_net.specs.declared.rows.First.TheVariants.{Inward, Outward}
 use Rattle.fr_net.specs.declared.rows.HalfLink.{HalfLink}
@@ -86,14 +86,15 @@ single_sorted listed sorted same single =
     let g : ℕ × ℕ → ℕ = λ y. weigh (is_between link.0 link.1 y) in
     sum_by-IsPermutation g listed sorted same ∙ all k d l
 
-pub cycle_stands : (listed sorted : List (ℕ × ℕ)) (walk : List ℕ) → IsPermutation listed sorted → IsCycle sorted walk → IsCycle listed walk
-cycle_stands listed sorted [] same p = p
-cycle_stands listed sorted (u ∷ vs) same p =
-    walk_carries sorted listed (λ x y h. Contains-permutation sorted listed (x, y) (IsPermutation-sym listed sorted same) h) u vs p
+pub cycle_stands : (some other : List (ℕ × ℕ)) (walk : List ℕ) → ((u v : ℕ) → Points some u v → Points other u v) → IsCycle some walk → IsCycle other walk
+cycle_stands some other [] same p = p
+cycle_stands some other (u ∷ vs) same p = walk_carries some other same u vs p
+
+pub acyclic_fewer : (some fewer : List (ℕ × ℕ)) → ((u v : ℕ) → Points fewer u v → Points some u v) → IsAcyclic some → IsAcyclic fewer
+acyclic_fewer some fewer same a u vs p = a u vs (walk_carries fewer some same u vs p)
 
 pub acyclic_listed : (listed sorted : List (ℕ × ℕ)) → IsPermutation listed sorted → IsAcyclic sorted → IsAcyclic listed
-acyclic_listed listed sorted same a u vs p =
-    a u vs (walk_carries listed sorted (λ x y h. Contains-permutation listed sorted (x, y) same h) u vs p)
+acyclic_listed listed sorted same = acyclic_fewer sorted listed (λ x y h. Contains-permutation listed sorted (x, y) same h)
 
 pub below_sorted : (n : ℕ) (listed sorted : List (ℕ × ℕ)) → IsPermutation listed sorted → AreBelow n listed → AreBelow n sorted
 below_sorted n listed sorted same below = All-permutation (λ (l : ℕ × ℕ). (l.0 < n) × (l.1 < n)) listed sorted same below
@@ -106,16 +107,16 @@ net_sorted n listed sorted same a net = record {
   acyclic = a;
 }
 
--- links in range and no self link among them have no fault where their halves rise and no closed walk follows them in order
-pub faultless_listed : (n : ℕ) (listed sorted : List (ℕ × ℕ)) (halves : List HalfLink) → IsWithinLimits n listed → IsInRange n listed → HasNoSelfLink listed → IsPermutation (halves_of listed) halves → AreHalvesRising halves → IsPermutation listed sorted → IsAcyclic sorted → IsFaultless n listed
-faultless_listed n listed sorted halves limits range bar both rising same a = record {
+-- links in range and no self link among them have no fault where their halves rise and no closed walk follows them
+pub faultless_listed : (n : ℕ) (listed : List (ℕ × ℕ)) (halves : List HalfLink) → IsWithinLimits n listed → IsInRange n listed → HasNoSelfLink listed → IsPermutation (halves_of listed) halves → AreHalvesRising halves → IsAcyclic listed → IsFaultless n listed
+faultless_listed n listed halves limits range bar both rising a = record {
   limits = limits;
   some = range.some;
   is_net = record {
     in_range = range.below;
     no_self = bar;
     single = single_from_rising listed halves both bar rising;
-    acyclic = acyclic_listed listed sorted same a;
+    acyclic = a;
   };
 }
 
@@ -126,15 +127,15 @@ faultless_sorted n listed sorted same a f = record {
   is_net = net_sorted n listed sorted same a f.is_net;
 }
 
-pub rows_shown : (n : ℕ) (listed : List (ℕ × ℕ)) (halves : List HalfLink) (starts : List ℕ) → IsNet n listed → IsPermutation (halves_of listed) halves → AreHalvesRising halves → AreStarts n halves starts → (x : ℕ) → x < n → ShowsRow n listed starts (map entry_of halves) x
-rows_shown n listed halves starts net both rising at x lt =
-    shows_row n listed halves starts x lt (one_way listed net.no_self net.single)
+pub rows_shown : (n : ℕ) (listed : List (ℕ × ℕ)) (halves : List HalfLink) (starts : List ℕ) → AreHalvesOf n listed halves starts → (x : ℕ) → x < n → ShowsRow n listed starts (map entry_of halves) x
+rows_shown n listed halves starts of x lt =
+    shows_row n listed halves starts x lt (one_way listed of.no_self (single_from_rising listed halves of.same of.no_self of.rising))
     (λ u v p.
-    let b = net.in_range p.0 (u, v) p.1 in
+    let b = of.below p.0 (u, v) p.1 in
     let f = ap (λ (l : ℕ × ℕ). l.0) p.2 in
     let g = ap (λ (l : ℕ × ℕ). l.1) p.2 in
     (omega (arith, b.0, f), omega (arith, b.1, g)))
-    both rising at
+    of.same of.rising of.start_each
 
 -- another order of the links of a network is a network
 pub permuted_net : (n : ℕ) (a b : List (ℕ × ℕ)) → IsPermutation a b → IsNet n a → IsNet n b

@@ -5,32 +5,17 @@ use Rattle.std.proofs.lemmas.List.{get_or-drop, get_or-set_other, get_or-set_sam
 use Rattle.std.proofs.lemmas.List.Elements.{Contains-append_left, Contains-push}
 use Rattle.std.proofs.lemmas.List.Sums.{sum_by-set}
 use Rattle.std.specs.List.{count_by}
-use Rattle.fr_net.specs.CycleSearch.{AreTailStarts, HasRisingTails, IsCycleSearch, IsOrder, IsPassed, IsSearch, IsStart, LeadsTo, LeadsToDone, fresh_count, is_fresh, mark_of}
-use Rattle.fr_net.specs.Links.{AreBelow, IsClosedWalk, IsCycle, IsPath, Points, end_of}
+use Rattle.fr_net.specs.CycleSearch.{IsCycleSearch, LeadsTo, LeadsToDone, fresh_count, is_fresh, mark_of}
+use Rattle.fr_net.specs.Links.{IsClosedWalk, IsCycle, IsPath, Points, end_of}
 use Rattle.fr_net.specs.Rows.{has_link}
 use Rattle.fr_net.specs.declared.cycle.Mark.{Mark}
 use Rattle.fr_net.specs.declared.cycle.Mark.TheVariants.{Done, Fresh, Open}
-use Rattle.fr_net.specs.declared.cycle.Search.{Search}
-
--- what has as many marks as there are nodes
-pub searched : (n : ℕ) (links : List (ℕ × ℕ)) (search : Search) → HasRisingTails links → AreBelow n links → IsCycleSearch n links search.marks.items search.places.items search.path.items → IsOrder links search.marks.items search.order.items → IsSearch links search
-searched n links search rising below steps order = record {
-  rising = rising;
-  below = rw steps.marks_length below;
-  steps = rw steps.marks_length steps;
-  order = order;
-}
 
 -- a mark after one mark was set
 pub mark_set : (marks : List Mark) (x y : ℕ) (m : Mark) → x < length marks → ((y ≡ x) × (mark_of (set marks x m) y ≡ m)) ⊎ ((y ≢ x) × (mark_of (set marks x m) y ≡ mark_of marks y))
 mark_set marks x y m l =
     elim (cases_eq y x) as (λ _. ((y ≡ x) × (mark_of (set marks x m) y ≡ m)) ⊎ ((y ≢ x) × (mark_of (set marks x m) y ≡ mark_of marks y)))
     [ inl e ↦ inl (e, rw e (get_or-set_same marks x m Fresh l)) | inr ne ↦ inr (ne, get_or-set_other marks x y m Fresh ne) ]
-
-place_set : (places : List ℕ) (x y p : ℕ) → x < length places → ((y ≡ x) × (get_or (set places x p) y 0 ≡ p)) ⊎ ((y ≢ x) × (get_or (set places x p) y 0 ≡ get_or places y 0))
-place_set places x y p l =
-    elim (cases_eq y x) as (λ _. ((y ≡ x) × (get_or (set places x p) y 0 ≡ p)) ⊎ ((y ≢ x) × (get_or (set places x p) y 0 ≡ get_or places y 0)))
-    [ inl e ↦ inl (e, rw e (get_or-set_same places x p 0 l)) | inr ne ↦ inr (ne, get_or-set_other places x y p 0 ne) ]
 
 -- a node of the longer path: one of the path, or the new one
 pub node_cases : (path : List ℕ) (x k : ℕ) → k < length (path ++ x ∷ []) → ((k < length path) × (get_or (path ++ x ∷ []) k 0 ≡ get_or path k 0)) ⊎ ((k ≡ length path) × (get_or (path ++ x ∷ []) k 0 ≡ x))
@@ -41,8 +26,8 @@ node_cases path x k h =
       | inr g ↦ let q : length path ≡ k = omega (arith, e) in inr (sym q, get_or_push path x 0 k q)
     ]
 
-pub opened : (n : ℕ) (links : List (ℕ × ℕ)) (marks : List Mark) (places path : List ℕ) (x : ℕ) → IsCycleSearch n links marks places path → x < n → mark_of marks x ≡ Fresh → LeadsTo links path x → IsCycleSearch n links (set marks x Open) places (path ++ x ∷ [])
-opened n links marks places path x s below fresh leads =
+pub opened : (n : ℕ) (links : List (ℕ × ℕ)) (marks : List Mark) (path : List ℕ) (x : ℕ) → IsCycleSearch n links marks path → x < n → mark_of marks x ≡ Fresh → LeadsTo links path x → IsCycleSearch n links (set marks x Open) (path ++ x ∷ [])
+opened n links marks path x s below fresh leads =
     let lm : x < length marks = omega (arith, s.marks_length) in
     let len = length_push path x in
     let done_stays : (y : ℕ) → mark_of marks y ≡ Done → mark_of (set marks x Open) y ≡ Done =
@@ -51,8 +36,6 @@ opened n links marks places path x s below fresh leads =
     λ y done. elim (mark_set marks x y Open lm) [ inl w ↦ cc (w.1, done) | inr w ↦ sym w.1 ∙ done ] in
     record {
       marks_length = length-set marks x Open ∙ s.marks_length;
-      places_length = s.places_length;
-      places_inside = s.places_inside;
       path_below = λ k h. elim (node_cases path x k h) [ inl w ↦ rw w.1 (s.path_below k w.0) | inr w ↦ rw w.1 below ];
       path_follows = λ k h.
           let l : k < length path = omega (arith, len) in
@@ -75,39 +58,8 @@ opened n links marks places path x s below fresh leads =
         | inl w ↦ rw w.0 (Contains-push path x)
         | inr w ↦ Contains-append_left path (x ∷ []) y (s.open_on_path y (sym w.1 ∙ o))
       ];
-      passed = λ y i d before inside tail. done_stays _ (s.passed y i d before inside tail);
-      ahead = s.ahead;
       done_closed = λ u v done has_link. done_stays v (s.done_closed u v (was_done u done) has_link);
       done_safe = λ u vs done. s.done_safe u vs (was_done u done);
-    }
-
-pub advanced : (n : ℕ) (links : List (ℕ × ℕ)) (marks : List Mark) (places path : List ℕ) (x p : ℕ) → IsCycleSearch n links marks places path → x < n → get_or places x 0 ≤ p → p ≤ length links → ((i : ℕ) → get_or places x 0 ≤ i → i < p → IsPassed links marks x i) → IsCycleSearch n links marks (set places x p) path
-advanced n links marks places path x p s below up inside_p passes =
-    let lp : x < length places = omega (arith, s.places_length) in
-    record {
-      marks_length = s.marks_length;
-      places_length = length-set places x p ∙ s.places_length;
-      places_inside = λ y. elim (place_set places x y p lp) [ inl w ↦ rw w.1 inside_p | inr w ↦ rw w.1 (s.places_inside y) ];
-      path_below = s.path_below;
-      path_follows = s.path_follows;
-      path_open = s.path_open;
-      path_once = s.path_once;
-      open_on_path = s.open_on_path;
-      passed = λ y i d before inside tail.
-          elim (place_set places x y p lp) [
-            | inl w ↦ elim (cases_lt i (get_or places x 0)) [
-              | inl l ↦ s.passed y i d (rw w.0 l) inside tail
-              | inr g ↦ (passes i g (omega (arith, before, w.1)) d).1
-            ]
-            | inr w ↦ s.passed y i d (omega (arith, w.1)) inside tail
-          ];
-      ahead = λ y i d node from inside.
-          elim (place_set places x y p lp) [
-            | inl w ↦ s.ahead y i d node (rw w.0 (omega (arith, from, w.1, up))) inside
-            | inr w ↦ s.ahead y i d node (omega (arith, w.1)) inside
-          ];
-      done_closed = s.done_closed;
-      done_safe = s.done_safe;
     }
 
 -- where links from nodes with P lead to nodes with P, a path from one of these ends at one
@@ -115,22 +67,15 @@ pub path_keeps : (links : List (ℕ × ℕ)) (P : ℕ → Type 0) → ((u v : �
 path_keeps links P closed u [] here path = here
 path_keeps links P closed u (v ∷ vs) here path = path_keeps links P closed v vs (closed u v here path.0) path.1
 
-pub points_to_done : (links : List (ℕ × ℕ)) (marks : List Mark) (x v : ℕ) → LeadsToDone links marks x → Points links x v → mark_of marks v ≡ Done
-points_to_done links marks x v leads at =
-    let e = at.2 in
-    let t : (get_or links at.0 (x, v)).0 ≡ x = ap (λ (l : ℕ × ℕ). l.0) e in
-    let h : (get_or links at.0 (x, v)).1 ≡ v = ap (λ (l : ℕ × ℕ). l.1) e in
-    subst (λ (y : ℕ). mark_of marks y ≡ Done) h (leads at.0 (x, v) at.1 t)
-
 -- no closed walk leaves a node that is not done and leads to done nodes only
 no_closed_walk : (links : List (ℕ × ℕ)) (marks : List Mark) → ((u v : ℕ) → mark_of marks u ≡ Done → Points links u v → mark_of marks v ≡ Done) → (x : ℕ) (vs : List ℕ) → ¬ (mark_of marks x ≡ Done) → LeadsToDone links marks x → ¬ IsClosedWalk links x vs
 no_closed_walk links marks closed x [] not_done leads walk = walk
 no_closed_walk links marks closed x (v ∷ vs) not_done leads walk =
-    let first : mark_of marks v ≡ Done = points_to_done links marks x v leads walk.0.0 in
+    let first : mark_of marks v ≡ Done = leads v walk.0.0 in
     not_done (subst (λ (y : ℕ). mark_of marks y ≡ Done) walk.1 (path_keeps links (λ (y : ℕ). mark_of marks y ≡ Done) closed v vs first walk.0.1))
 
-pub left : (n : ℕ) (links : List (ℕ × ℕ)) (marks : List Mark) (places path : List ℕ) (x last : ℕ) → IsCycleSearch n links marks places path → last + 1 ≡ length path → x ≡ get_or path last 0 → LeadsToDone links marks x → IsCycleSearch n links (set marks x Done) places (take last path)
-left n links marks places path x last s full top leads =
+pub left : (n : ℕ) (links : List (ℕ × ℕ)) (marks : List Mark) (path : List ℕ) (x last : ℕ) → IsCycleSearch n links marks path → last + 1 ≡ length path → x ≡ get_or path last 0 → LeadsToDone links marks x → IsCycleSearch n links (set marks x Done) (take last path)
+left n links marks path x last s full top leads =
     let below : x < n = rw top (s.path_below last (omega arith)) in
     let lm : x < length marks = omega (arith, s.marks_length) in
     let len = length-take-le last path (omega arith) in
@@ -139,8 +84,6 @@ left n links marks places path x last s full top leads =
     λ y h. elim (mark_set marks x y Done lm) [ inl w ↦ w.1 | inr w ↦ w.1 ∙ h ] in
     record {
       marks_length = length-set marks x Done ∙ s.marks_length;
-      places_length = s.places_length;
-      places_inside = s.places_inside;
       path_below = λ k h. rw (get_or-take last path k 0 (omega (arith, len))) (s.path_below k (omega (arith, len)));
       path_follows = λ k h. rw (get_or-take last path k 0 (omega (arith, len)), get_or-take last path (k + 1) 0 (omega (arith, len))) (s.path_follows k (omega (arith, len)));
       path_open = λ k h. rw (get_or-take last path k 0 (omega (arith, len)))
@@ -158,10 +101,8 @@ left n links marks places path x last s full top leads =
                   absurd (w.0 (sym was.2 ∙ get_or_default path was.0 y 0 was.1 ∙ ap (λ (k : ℕ). get_or path k 0) i ∙ sym top))
             ]
       ];
-      passed = λ y i d before inside tail. done_stays _ (s.passed y i d before inside tail);
-      ahead = s.ahead;
       done_closed = λ u v done has_link. elim (mark_set marks x u Done lm) [
-        | inl w ↦ done_stays v (points_to_done links marks u v (rw w.0 leads) has_link)
+        | inl w ↦ done_stays v (leads v (rw w.0 at has_link))
         | inr w ↦ done_stays v (s.done_closed u v (sym w.1 ∙ done) has_link)
       ];
       done_safe = λ u vs done. elim (mark_set marks x u Done lm) [
@@ -183,47 +124,6 @@ fewer_fresh marks x l f =
 
 pub no_more_fresh : (marks : List Mark) (x : ℕ) → x < length marks → fresh_count (set marks x Done) ≤ fresh_count marks
 no_more_fresh marks x l = omega (arith, count_by-set is_fresh marks x Done l)
-
--- a place between links of tails below x and a link whose tail is not is where the links of x start
-pub start_found : (links : List (ℕ × ℕ)) (x p : ℕ) (e : ℕ × ℕ) → HasRisingTails links → ((k : ℕ) (d : ℕ × ℕ) → k < p → (get_or links k d).0 < x) → (p < length links → x ≤ (get_or links p e).0) → IsStart links x p
-start_found links x p e rising before stops i d l = (
-  λ b. before i d b,
-  λ b.
-      let same = ap (λ (l : ℕ × ℕ). l.0) (get_or_default links p d e (omega (arith, b, l))) in
-      omega (arith, same, stops (omega (arith, b, l)), rising p i d b l),
-)
-
--- the starts with one more
-pub starts_more : (links : List (ℕ × ℕ)) (starts : List ℕ) (x p : ℕ) → AreTailStarts x links starts → p ≤ length links → IsStart links x p → AreTailStarts (x + 1) links (starts ++ p ∷ [])
-starts_more links starts x p are inside here = record {
-  one_each = omega (arith, length_push starts p, are.one_each);
-  inside = λ y l. elim (cases_lt y x) [
-    | inl lt ↦ rw (get_or_append_left starts (p ∷ []) 0 y (omega (arith, are.one_each))) (are.inside y lt)
-    | inr ge ↦ rw (get_or_push starts p 0 y (omega (arith, are.one_each))) inside
-  ];
-  start = λ y l. elim (cases_lt y x) [
-    | inl lt ↦ rw (get_or_append_left starts (p ∷ []) 0 y (omega (arith, are.one_each))) (are.start y lt)
-    | inr ge ↦ let e : y ≡ x = omega arith in rw (get_or_push starts p 0 y (omega (arith, are.one_each)), e) here
-  ];
-}
-
--- once the place of x is past its links, each of them leads to a done node
-pub all_done : (n : ℕ) (links : List (ℕ × ℕ)) (marks : List Mark) (places path : List ℕ) (x place : ℕ) → IsCycleSearch n links marks places path → HasRisingTails links → x < n → place ≡ get_or places x 0 → ((d : ℕ × ℕ) → place < length links → (get_or links place d).0 ≢ x) → LeadsToDone links marks x
-all_done n links marks places path x place s rising node at past i d inside tail =
-    elim (cases_lt i place) [
-      | inl l ↦ s.passed x i d (omega (arith, at)) inside tail
-      | inr g ↦
-          let within : place < length links = omega arith in
-          let ahead = s.ahead x place d node (omega (arith, at)) within in
-          let up = rising place i d g inside in
-          absurd (past d within (omega (arith, ahead, up, tail)))
-    ]
-
--- a link of the last node of the path
-pub leads_from_top : (links : List (ℕ × ℕ)) (path same_path : List ℕ) (last top x : ℕ) → same_path ≡ path → last + 1 ≡ length path → top ≡ get_or path last 0 → Points links top x → LeadsTo links same_path x
-leads_from_top links path same_path last top x same full is points k l =
-    let at : k ≡ last = omega (arith, ap length same) in
-    rw (same, at, ← is) points
 
 shifted : (u : ℕ) (xs : List ℕ) (k : ℕ) → get_or (u ∷ xs) (k + 1) 0 ≡ get_or xs k 0
 shifted u xs k = rw add-one refl

@@ -1,18 +1,22 @@
 -- The order in which the search leaves nodes.
-use Rattle.std.proofs.Common.{List, [], arith, cond, get_or, inl, inr, length, refl, replicate, set, subst, sym, ℕ, ◌⊎◌, ◌++◌, ◌<◌, ◌∙◌, ◌∷◌, ◌≡◌, ◌≢◌, ◌≤◌}
+use Rattle.std.proofs.Common.{List, [], arith, cond, get_or, inl, inr, length, refl, replicate, set, subst, sym, ℕ, ◌⊎◌, ◌++◌, ◌<◌, ◌∙◌, ◌∷◌, ◌≡◌, ◌≢◌}
 use Rattle.std.proofs.lemmas.Bool.{cases_lt}
 use Rattle.std.proofs.lemmas.List.{get_or-replicate, get_or_past, length-replicate, length_push}
-use Rattle.std.proofs.lemmas.List.Elements.{All-contains, All-from_get_or, All-get_or, All-nil, All-push, Contains-append_left, Contains-push}
+use Rattle.std.proofs.lemmas.List.Elements.{All-from_get_or, All-get_or, All-nil, All-push, Contains-append_left, Contains-push}
 use Rattle.std.proofs.lemmas.List.Folds.{sum_by-replicate}
 use Rattle.std.proofs.lemmas.List.Sums.{count_by-le-length}
 use Rattle.std.specs.List.{All, count_by}
-use Rattle.fr_net.proofs.Cycles.{count_by-set, mark_set, node_cases, points_to_done}
-use Rattle.fr_net.specs.CycleSearch.{AreTailStarts, IsCycleSearch, IsOrder, IsSearch, LeadsToDone, is_done, mark_of}
+use Rattle.fr_net.proofs.Cycles.{count_by-set, mark_set, node_cases}
+use Rattle.fr_net.proofs.ShownLinks.{row_of_points}
+use Rattle.fr_net.specs.CycleSearch.{AreEntriesBelow, IsCycleSearch, IsOrder, IsSearch, LeadsToDone, is_done, mark_of, nodes_of}
 use Rattle.fr_net.specs.Heights.{HasHeadsFirst}
-use Rattle.fr_net.specs.Links.{AreBelow, IsAcyclic, IsClosedWalk}
+use Rattle.fr_net.specs.KeptRows.{net_in}
+use Rattle.fr_net.specs.Links.{IsAcyclic, IsClosedWalk, Points}
+use Rattle.fr_net.specs.Tables.{Table}
 use Rattle.fr_net.specs.declared.cycle.Mark.{Mark}
 use Rattle.fr_net.specs.declared.cycle.Mark.TheVariants.{Done, Fresh, Open}
 use Rattle.fr_net.specs.declared.cycle.Search.{Search}
+use Rattle.fr_net.specs.declared.cycle.Step.{Step}
 
 abbrev IsDone : List Mark → ℕ → Type 0
 IsDone marks x = mark_of marks x ≡ Done
@@ -37,23 +41,15 @@ mark_cases Open = inr (inl refl)
 mark_cases Done = inr (inr refl)
 
 -- no node is met at first
-pub search_begins : (n : ℕ) (links : List (ℕ × ℕ)) (starts : List ℕ) → AreTailStarts n links starts → IsCycleSearch n links (replicate n Fresh) starts []
-search_begins n links starts are =
-    let past : (x : ℕ) → n ≤ x → get_or starts x 0 ≡ 0 = λ x g. get_or_past starts x 0 (omega (arith, g, are.one_each)) in
+pub search_begins : (n : ℕ) (links : List (ℕ × ℕ)) → IsCycleSearch n links (replicate n Fresh) []
+search_begins n links =
     record {
       marks_length = length-replicate n Fresh;
-      places_length = are.one_each;
-      places_inside = λ x. elim (cases_lt x n) [ inl l ↦ are.inside x l | inr g ↦ omega (arith, past x g) ];
       path_below = λ k l. absurd (omega (arith, l));
       path_follows = λ k l. absurd (omega (arith, l));
       path_open = λ k l. absurd (omega (arith, l));
       path_once = λ i j lt l. absurd (omega (arith, l));
       open_on_path = λ x is. cc (mark_unmet n x, is);
-      passed = λ x i d before inside tail. absurd (elim (cases_lt x n) [
-        | inl l ↦ omega (arith, (are.start x l i d inside).0 before, tail)
-        | inr g ↦ omega (arith, before, past x g)
-      ]);
-      ahead = λ x i d node from inside. (are.start x node i d inside).1 from;
       done_closed = λ u v done. cc (mark_unmet n u, done);
       done_safe = λ u vs done. cc (mark_unmet n u, done);
     }
@@ -67,6 +63,17 @@ unmet_order links n = record {
   heads = λ i j l. absurd (omega (arith, l));
 }
 
+pub nothing_met : (n : ℕ) (rows : Table) (search : Search) → search.marks.items ≡ replicate n Fresh → search.path.items ≡ [] → search.order.items ≡ [] → length rows.rows ≡ n → AreEntriesBelow n rows → IsSearch rows search
+nothing_met n rows search fresh path order each below =
+    let links = (net_in rows).links in
+    record {
+      one_each = rw (fresh, length-replicate n Fresh) each;
+      below = rw (fresh, length-replicate n Fresh) below;
+      steps = rw (fresh, path, length-replicate n Fresh) (search_begins n links);
+      read = rw path (λ k d l. absurd (omega (arith, l)));
+      order = rw (fresh, order) (unmet_order links n);
+    }
+
 -- a node that is opened is not left
 pub opened_order : (links : List (ℕ × ℕ)) (marks : List Mark) (order : List ℕ) (x : ℕ) → IsOrder links marks order → x < length marks → mark_of marks x ≢ Done → IsOrder links (set marks x Open) order
 opened_order links marks order x o l not_done = record {
@@ -79,8 +86,8 @@ opened_order links marks order x o l not_done = record {
 }
 
 -- a node is left once its links lead to nodes that are left already
-pub left_order : (n : ℕ) (links : List (ℕ × ℕ)) (marks : List Mark) (places path order : List ℕ) (x : ℕ) → IsCycleSearch n links marks places path → IsOrder links marks order → x < length marks → mark_of marks x ≢ Done → LeadsToDone links marks x → IsOrder links (set marks x Done) (order ++ x ∷ [])
-left_order n links marks places path order x s o l not_done leads =
+pub left_order : (n : ℕ) (links : List (ℕ × ℕ)) (marks : List Mark) (path order : List ℕ) (x : ℕ) → IsCycleSearch n links marks path → IsOrder links marks order → x < length marks → mark_of marks x ≢ Done → LeadsToDone links marks x → IsOrder links (set marks x Done) (order ++ x ∷ [])
+left_order n links marks path order x s o l not_done leads =
     let listed : (i : ℕ) → i < length order → mark_of marks (get_or order i 0) ≡ Done = λ i h. All-get_or (IsDone marks) order i 0 h o.listed in
     record {
       counted = omega (arith, o.counted, count_by-set is_done marks x Done l, count_not_done _ not_done, length_push order x);
@@ -98,20 +105,14 @@ left_order n links marks places path order x s o l not_done leads =
         ]
         | inr v ↦ elim (node_cases order x j lj) [
           | inl w ↦ omega (arith, v.0, w.0)
-          | inr w ↦ absurd (not_done (points_to_done links marks x x leads (rw (v.1, w.1) at step)))
+          | inr w ↦ absurd (not_done (leads x (rw (v.1, w.1) at step)))
         ]
       ];
     }
 
-tail_below : (n : ℕ) (links : List (ℕ × ℕ)) (u : ℕ) (vs : List ℕ) → AreBelow n links → IsClosedWalk links u vs → u < n
-tail_below n links u [] below walk = absurd walk
-tail_below n links u (v ∷ vs) below walk =
-    let both : (u < n) × (v < n) = All-contains (λ (l : ℕ × ℕ). (l.0 < n) × (l.1 < n)) links (u, v) below walk.0.0 in
-    both.0
-
 -- what stands once the search has met each node
-all_left : (n : ℕ) (links : List (ℕ × ℕ)) (marks : List Mark) (places order : List ℕ) → AreBelow n links → IsCycleSearch n links marks places [] → IsOrder links marks order → ((x : ℕ) → x < n → mark_of marks x ≢ Fresh) → IsAcyclic links × HasHeadsFirst n links order
-all_left n links marks places order below s o met =
+all_left : (n : ℕ) (links : List (ℕ × ℕ)) (marks : List Mark) (order : List ℕ) → ((u v : ℕ) → Points links u v → u < n) → IsCycleSearch n links marks [] → IsOrder links marks order → ((x : ℕ) → x < n → mark_of marks x ≢ Fresh) → IsAcyclic links × HasHeadsFirst n links order
+all_left n links marks order tails s o met =
     let done : (x : ℕ) → x < n → mark_of marks x ≡ Done = λ x l. elim (mark_cases (mark_of marks x)) [
       | inl f ↦ absurd (met x l f)
       | inr more ↦ elim more [ inl f ↦ let on = s.open_on_path x f in absurd (omega (arith, on.1)) | inr f ↦ f ]
@@ -120,7 +121,7 @@ all_left n links marks places order below s o met =
       | inl l ↦ l
       | inr g ↦ let past = get_or_past marks x Fresh (omega (arith, g, s.marks_length)) in cc (past, f)
     ] in (
-      λ u vs walk. s.done_safe u vs (done u (tail_below n links u vs below walk)) walk,
+      none_closed (λ u v p. done u (tails u v p)) s.done_safe,
       record {
         few = omega (arith, o.counted, count_by-le-length is_done marks, s.marks_length);
         below = All-weaken (IsDone marks) (λ (x : ℕ). x < n) order inside o.listed;
@@ -128,10 +129,16 @@ all_left n links marks places order below s o met =
         heads = o.heads;
       },
     )
+  where
+    none_closed : ((u v : ℕ) → Points links u v → mark_of marks u ≡ Done) → ((u : ℕ) (vs : List ℕ) → mark_of marks u ≡ Done → ¬ IsClosedWalk links u vs) → IsAcyclic links
+    none_closed done safe u [] walk = walk
+    none_closed done safe u (v ∷ vs) walk = safe u (v ∷ vs) (done u v walk.0.0) walk
 
-pub search_ends : (n : ℕ) (links : List (ℕ × ℕ)) (search : Search) → IsSearch links search → search.path.items ≡ [] → length search.marks.items ≡ n → ((x : ℕ) → x < n → mark_of search.marks.items x ≢ Fresh) → IsAcyclic links × HasHeadsFirst n links search.order.items
-search_ends n links search is empty one_each met =
+pub search_ends : (n : ℕ) (rows : Table) (search : Search) → IsSearch rows search → search.path.items ≡ [] → length search.marks.items ≡ n → ((x : ℕ) → x < n → mark_of search.marks.items x ≢ Fresh) → IsAcyclic (net_in rows).links × HasHeadsFirst n (net_in rows).links search.order.items
+search_ends n rows search is empty one_each met =
     let marks = search.marks.items in
-    let steps : IsCycleSearch (length marks) links marks search.places.items [] = subst (λ (path : List ℕ). IsCycleSearch (length marks) links marks search.places.items path) empty is.steps in
+    let links = (net_in rows).links in
+    let steps : IsCycleSearch (length marks) links marks [] = subst (λ (path : List Step). IsCycleSearch (length marks) links marks (nodes_of path)) empty is.steps in
+    let tails : (u v : ℕ) → Points links u v → u < length marks = λ u v p. omega (arith, (row_of_points rows u v p).0, is.one_each) in
     subst (λ (k : ℕ). IsAcyclic links × HasHeadsFirst k links search.order.items) one_each
-    (all_left (length marks) links marks search.places.items search.order.items is.below steps is.order (λ x l. met x (subst (λ (k : ℕ). x < k) one_each l)))
+    (all_left (length marks) links marks search.order.items tails steps is.order (λ x l. met x (subst (λ (k : ℕ). x < k) one_each l)))

@@ -28,11 +28,12 @@ pub mod Joining
 pub mod Batches
 pub mod ByNode
 pub mod Cycles
+pub mod ShownLinks
+pub mod RowsRead
 pub mod LeavingOrder
 pub mod TwoEnds
 pub mod Meetings
 pub mod Reordering
-pub mod Outward
 pub mod Undoing
 pub mod RowTables
 pub mod LaidOut

@@ -137,8 +137,11 @@ length-row-le zero links x = omega arith
 length-row-le (suc w) links x =
     omega (arith, length-append (row w links x) (option_to_list (row_entry links x w)), length-row-le w links x, option_short (row_entry links x w))
 
+pub row_of_link : (n : ℕ) (links : List (ℕ × ℕ)) (x w : ℕ) → w < n → Points links x w → Contains (row n links x) (w, Outward)
+row_of_link n links x w below p = to_row n links x (w, Outward) below (row_entry_out links x w p)
+
 pub row_of_out : (n : ℕ) (links : List (ℕ × ℕ)) (x w : ℕ) → IsNet n links → Points links x w → Contains (row n links x) (w, Outward)
-row_of_out n links x w net p = to_row n links x (w, Outward) (link_below n links x w net p).1 (row_entry_out links x w p)
+row_of_out n links x w net p = row_of_link n links x w (link_below n links x w net p).1 p
 
 pub row_of_in : (n : ℕ) (links : List (ℕ × ℕ)) (x w : ℕ) → IsNet n links → Points links w x → Contains (row n links x) (w, Inward)
 row_of_in n links x w net p = to_row n links x (w, Inward) (link_below n links w x net p).0 (row_entry_in links x w (one_way links net.no_self net.single) p)

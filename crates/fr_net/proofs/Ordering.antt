@@ -1,22 +1,12 @@
 -- A list of links in rising order is determined by how often it has each link.
 use Rattle.std.proofs.Common.{Bool, Contains, IsPermutation, List, [], add-one, ap, arith, cond, count_by, eq-eqb, eqb, eqb-true, false, get_or, inl, inr, leb, ltb, refl, subst, suc, sym, true, zero, ℕ, ◌&&◌, ◌+◌, ◌∙◌, ◌∷◌, ◌≡◌, ◌≤◌}
 use Rattle.std.proofs.lemmas.Bool.{and_parts, cases_Bool, cases_eq, leb-false, leb-true, ltb-false, ltb-true, or_cases, or_parts}
-use Rattle.std.proofs.lemmas.List.Sorted.{IsNonDecreasingBy-from_all_adjacent, IsPermutation-cons, IsPermutation-middle, IsPermutation-refl, IsPermutation-sym, IsPermutation-trans, sum_by-IsPermutation}
+use Rattle.std.proofs.lemmas.List.Sorted.{IsPermutation-cons, IsPermutation-middle, IsPermutation-refl, IsPermutation-sym, IsPermutation-trans, sum_by-IsPermutation}
 use Rattle.std.proofs.lemmas.List.Sums.{sum_by-cons}
 use Rattle.fr_net.proofs.Booleans.{and_false}
 use Rattle.fr_net.proofs.Counting.{weigh}
 use Rattle.fr_net.proofs.Members.{Contains-cases, Contains-head, Contains-tail}
-use Rattle.fr_net.specs.CycleSearch.{HasRisingTails}
 use Rattle.fr_net.specs.Order.{AreInOrder, IsNotAfter, in_order, is_not_after, with_in_order}
-
--- the first parts of pairs in order never fall
-up_first : {p q : ℕ × ℕ} → IsNotAfter p q → p.0 ≤ q.0
-up_first (inl l) = omega arith
-up_first (inr e) = omega arith
-
--- links in order have rising tails
-pub tails_rise : (links : List (ℕ × ℕ)) → AreInOrder links → HasRisingTails links
-tails_rise links order = IsNonDecreasingBy-from_all_adjacent (λ (l : ℕ × ℕ). l.0) links (λ k d l. up_first (order k d l))
 
 up_trans : {p q r : ℕ × ℕ} → IsNotAfter p q → IsNotAfter q r → IsNotAfter p r
 up_trans (inl a) (inl b) = inl (omega arith)

@@ -152,7 +152,7 @@ rising_links rising links s single to from =
     (λ x. same_times rising links x (rising_once rising x s) (single_once links x single) (to x) (from x) ∙ sym (times-in_order links x))
 
 -- the links that a row shows
-link_shown : (x : ℕ) (e : ℕ × First) (l : ℕ × ℕ) → link_to x e.0 e.1 ≡ Some l → (l ≡ (x, e.0)) × (e ≡ (e.0, Outward))
+pub link_shown : (x : ℕ) (e : ℕ × First) (l : ℕ × ℕ) → link_to x e.0 e.1 ≡ Some l → (l ≡ (x, e.0)) × (e ≡ (e.0, Outward))
 link_shown x (w, Outward) l q = (cc, refl)
 link_shown x (w, Inward) l q = cc
 

@@ -1,11 +1,15 @@
-//! The search for a closed walk along links: depth first, with the path as a stack, so that each link is passed once and
+//! The search for a closed walk along links: depth first over rows, with the path as a stack, so that each entry is passed once and
 //! the evidence is at hand. Where there is none, each link leads to a node that the search left before the tail.
 
-ghost use Rattle.std.specs.Prelude.{◌≡◌, ◌≢◌, ℕ, List, ◌<◌, ◌≤◌, ◌++◌, [], ◌∷◌, length, drop, vec_len, slice_index, slice_index_or, IfOk, IfSome, IfNone, OnOk, IsTrue, Contains, ◌-◌};
+ghost use Rattle.std.specs.Prelude.{◌≡◌, ◌≢◌, ℕ, ◌<◌, ◌≤◌, ◌++◌, [], ◌∷◌, length, drop, vec_len, slice_index, slice_index_or, All, IfOk, IfSome, IfNone, OnOk, IsTrue, Contains, ◌-◌};
 ghost use Rattle.fr_net.specs.Heights.{HasHeadsFirst};
-ghost use Rattle.fr_net.specs.Links.{AreBelow, IsAcyclic, Points};
-ghost use Rattle.fr_net.specs.CycleSearch.{AreTailStarts, HasRisingTails, IsStart, mark_of, IsPassed, IsSearch, KeepsSeen, LeadsBack, LeadsTo, LeadsToDone, left_count, IsFound};
+ghost use Rattle.fr_net.specs.KeptRows.{net_in};
+ghost use Rattle.fr_net.specs.Links.{IsAcyclic};
+ghost use Rattle.fr_net.specs.CycleSearch.{AreEntriesBelow, IsFound, IsPassed, IsSearch, KeepsSeen, LeadsBack, LeadsTo, LeadsToDone, LeadsToOther, left_count, mark_of, nodes_of};
+ghost use Rattle.fr_net.specs.Tables.{Table};
 
+use crate::row_table::RowTable;
+use crate::rows::First;
 use std::alloc::{AllocError, Global};
 
 /// How far the search has come with a node: not met, on the path, or left with no closed walk from it.
@@ -25,95 +29,77 @@ pub(crate) enum Found {
     Order(Vec<u32>),
 }
 
-/// The first place, from `from` on, whose link does not lead from `tail` to a done node.
-fn first_not_passed(links: &[(u32, u32)], marks: &[Mark], tail: u32, from: usize) -> usize
-    requires below { AreBelow (length marks.now) links.now }
-    requires from { from ≤ length links.now }
+/// A node of the path, and how far its row was read: past links that lead to done nodes.
+#[derive(Drop, Clone, Copy)]
+struct Step {
+    node: u32,
+    next: usize,
+}
+
+/// The first place of the row, from `from` on, whose link leads to a node that is not done.
+fn first_not_done(row: &[(u16, First)], marks: &[Mark], from: usize) -> usize
+    requires below { All (λ (e : ℕ × First). e.0 < length marks.now) row.now }
+    requires from { from ≤ length row.now }
     ensures low { from ≤ result }
-    ensures high { result ≤ length links.now }
-    ensures passed { (i : ℕ) → from ≤ i → i < result → IsPassed links.now marks.now tail i }
-    ensures stops { (d : ℕ × ℕ) → result < length links.now → (slice_index_or links.now result d).0 ≡ tail → mark_of marks.now (slice_index_or links.now result d).1 ≢ Mark.Done }
+    ensures high { result ≤ length row.now }
+    ensures passed { (k : ℕ) (d : ℕ × First) → from ≤ k → k < result → IsPassed marks.now (slice_index_or row.now k d) }
+    ensures stops { (d : ℕ × First) → result < length row.now → LeadsToOther marks.now (slice_index_or row.now result d) }
 {
-    for i in from..links.len() {
-        let (start, end) = links[i];
-        if start != tail {
-            return i;
-        }
-        match marks[end as usize] {
-            Mark::Done => {}
-            _ => return i,
+    for place in from..row.len() {
+        let (head, first) = row[place];
+        if first == First::Outward && !matches!(&marks[head as usize], Mark::Done) {
+            return place;
         }
     }
-    links.len()
+    row.len()
+}
+
+/// The place of a node on the path.
+fn place_on(path: &[Step], node: u32) -> usize
+    requires { Contains (nodes_of path.now) node }
+    ensures inside { result < length path.now }
+    ensures is { slice_index (nodes_of path.now) result ≡ node }
+{
+    let mut at = 0;
+    while path[at].node != node {
+        at += 1;
+    }
+    at
 }
 
 /// The walk that closes where the last node of `path` leads back to `node`, which is on it.
-fn closed_at(alloc: Global, path: &[u32], node: u32) -> Result<Vec<u32>, AllocError>
-    requires { Contains path.now node }
-    ensures { IfOk result (λ walk. (k : ℕ) × (k < length path.now) × (slice_index path.now k ≡ node) × (walk.items ≡ drop k path.now ++ node ∷ [])) }
+fn closed_at(alloc: Global, path: &[Step], node: u32) -> Result<Vec<u32>, AllocError>
+    requires { Contains (nodes_of path.now) node }
+    ensures { IfOk result (λ walk. (k : ℕ) × (k < length path.now) × (slice_index (nodes_of path.now) k ≡ node)
+        × (walk.items ≡ drop k (nodes_of path.now) ++ node ∷ [])) }
 {
-    let mut at = 0;
-    while path[at] != node {
-        at += 1;
+    let at = place_on(path, node);
+    let mut walk = Vec::with_capacity(alloc, path.len() - at + 1)?;
+    for step in &path[at..] {
+        walk.push(step.node)?;
     }
-    let mut walk = path[at..].to_vec(alloc)?;
     walk.push(node)?;
     Ok(walk)
-}
-
-/// Where the links of tail `x` start, sought from the place `from` on.
-fn tail_start(links: &[(u32, u32)], x: u32, from: usize) -> usize
-    requires tails { HasRisingTails links.now }
-    requires inside { from ≤ length links.now }
-    requires before { (i : ℕ) (d : ℕ × ℕ) → i < from → (slice_index_or links.now i d).0 < x }
-    ensures inside { result ≤ length links.now }
-    ensures start { IsStart links.now x result }
-{
-    for i in from..links.len() {
-        if links[i].0 >= x {
-            return i;
-        }
-    }
-    links.len()
-}
-
-/// Where the links of each tail start, which are in rising order of their tails.
-fn tail_starts(alloc: Global, nodes: u32, links: &[(u32, u32)]) -> Result<Vec<usize>, AllocError>
-    requires tails { HasRisingTails links.now }
-    ensures { IfOk result (λ starts. AreTailStarts nodes links.now starts.items) }
-{
-    let mut starts = Vec::with_capacity(alloc, nodes as usize)?;
-    let mut start = 0;
-    for x in 0..nodes {
-        start = tail_start(links, x, start);
-        starts.push(start)?;
-    }
-    Ok(starts)
 }
 
 /// The state of the search.
 #[derive(Drop)]
 struct Search {
     marks: Vec<Mark>,
-    // For each node the place of the first of its links that may lead to a node that is not done.
-    places: Vec<usize>,
-    path: Vec<u32>,
+    path: Vec<Step>,
     // The nodes that it has left, in the order in which it left them.
     order: Vec<u32>,
 }
 
 impl Search {
     /// A search that has met no node.
-    fn begun(alloc: Global, nodes: u32, links: &[(u32, u32)]) -> Result<Search, AllocError>
-        requires tails { HasRisingTails links.now }
-        requires below { AreBelow nodes links.now }
-        ensures search { IfOk result (IsSearch links.now) }
+    fn begun(alloc: Global, nodes: u32) -> Result<Search, AllocError>
+        ensures search { IfOk result (λ search. (rows : Table) → length rows.rows ≡ nodes → AreEntriesBelow nodes rows → IsSearch rows search) }
         ensures empty { IfOk result (λ search. search.path.items ≡ []) }
         ensures one_each { IfOk result (λ search. length search.marks.items ≡ nodes) }
     {
         Ok(Search {
             marks: vec![in alloc; Mark::Fresh; nodes as usize]?,
-            places: tail_starts(alloc, nodes, links)?,
             path: Vec::new(alloc),
             order: Vec::with_capacity(alloc, nodes as usize)?,
         })
@@ -132,57 +118,47 @@ impl Search {
     fn open(&mut self, node: u32) -> Result<(), AllocError>
         requires below { node < length self.old.marks.items }
         requires fresh { mark_of self.old.marks.items node ≡ Mark.Fresh }
-        ensures search { OnOk result ((links : List (ℕ × ℕ)) → IsSearch links self.old → LeadsTo links self.old.path.items node → IsSearch links self.new) }
+        ensures search { OnOk result ((rows : Table) → IsSearch rows self.old → LeadsTo (net_in rows).links (nodes_of self.old.path.items) node → IsSearch rows self.new) }
         ensures seen { OnOk result (mark_of self.new.marks.items node ≢ Mark.Fresh) }
         ensures kept { OnOk result (KeepsSeen self.old.marks.items self.new.marks.items) }
         ensures one_each { OnOk result (length self.new.marks.items ≡ length self.old.marks.items) }
         ensures fewer { OnOk result (left_count self.new < left_count self.old) }
     {
-        self.path.push(node)?;
+        self.path.push(Step { node, next: 0 })?;
         self.marks[node as usize] = Mark::Open;
         Ok(())
     }
 
-    /// Moves the place of `top` on, past its links that lead to done nodes.
-    fn advance(&mut self, links: &[(u32, u32)], top: u32) -> usize
-        requires search { IsSearch links.now self.old }
-        requires top { top < length self.old.marks.items }
-        ensures search { IsSearch links.now self.new }
+    /// The head of the next link of the last node of the path that leads to a node that is not done, if there is one.
+    fn next_head(&mut self, rows: &RowTable) -> Option<u32>
+        requires search { IsSearch rows.now self.old }
+        requires full { 0 < vec_len self.old.path }
+        ensures search { IsSearch rows.now self.new }
         ensures marks { self.new.marks ≡ self.old.marks }
-        ensures path { self.new.path ≡ self.old.path }
-        ensures place { result ≡ slice_index self.new.places.items top }
-        ensures stops { (d : ℕ × ℕ) → result < length links.now → (slice_index_or links.now result d).0 ≡ top → mark_of self.new.marks.items (slice_index_or links.now result d).1 ≢ Mark.Done }
-    {
-        let place = first_not_passed(links, &self.marks, top, self.places[top as usize]);
-        self.places[top as usize] = place;
-        place
-    }
-
-    /// The head of the next link of `top` that leads to a node that is not done, if there is one.
-    fn next_head(&mut self, links: &[(u32, u32)], top: u32) -> Option<u32>
-        requires search { IsSearch links.now self.old }
-        requires top { top < length self.old.marks.items }
-        ensures search { IsSearch links.now self.new }
-        ensures marks { self.new.marks ≡ self.old.marks }
-        ensures path { self.new.path ≡ self.old.path }
-        ensures points { IfSome result (Points links.now top) }
+        ensures path { nodes_of self.new.path.items ≡ nodes_of self.old.path.items }
+        ensures leads { IfSome result (LeadsTo (net_in rows.now).links (nodes_of self.old.path.items)) }
+        ensures below { IfSome result (λ head. head < length self.old.marks.items) }
         ensures stops { IfSome result (λ head. mark_of self.new.marks.items head ≢ Mark.Done) }
-        ensures done { IfNone result (LeadsToDone links.now self.new.marks.items top) }
+        ensures done { IfNone result (LeadsToDone (net_in rows.now).links self.new.marks.items (slice_index (nodes_of self.old.path.items) (vec_len self.old.path - 1))) }
     {
-        let place = self.advance(links, top);
-        if place < links.len() && links[place].0 == top {
-            Some(links[place].1)
-        } else {
-            None
-        }
+        let last = self.path.len() - 1;
+        let top = self.path[last];
+        let row = rows.row(top.node);
+        let place = first_not_done(row, &self.marks, top.next);
+        self.path[last] = Step {
+            node: top.node,
+            next: place,
+        };
+        let (head, _) = *row.get(place)?;
+        Some(head as u32)
     }
 
     /// Takes the last node off the path, once all its links lead to done nodes.
     fn leave(&mut self, top: u32) -> Result<(), AllocError>
         requires full { 0 < vec_len self.old.path }
-        requires top { top ≡ slice_index self.old.path.items (vec_len self.old.path - 1) }
+        requires top { top ≡ slice_index (nodes_of self.old.path.items) (vec_len self.old.path - 1) }
         requires below { top < length self.old.marks.items }
-        ensures search { OnOk result ((links : List (ℕ × ℕ)) → IsSearch links self.old → LeadsToDone links self.old.marks.items top → IsSearch links self.new) }
+        ensures search { OnOk result ((rows : Table) → IsSearch rows self.old → LeadsToDone (net_in rows).links self.old.marks.items top → IsSearch rows self.new) }
         ensures kept { OnOk result (KeepsSeen self.old.marks.items self.new.marks.items) }
         ensures one_each { OnOk result (length self.new.marks.items ≡ length self.old.marks.items) }
         ensures fewer { OnOk result (left_count self.new < left_count self.old) }
@@ -195,17 +171,17 @@ impl Search {
 
     /// A step from the last node of the path: on to a node that was not met, or back where there is none. Where a link leads back to a node of the
     /// path instead, it answers that node.
-    fn step(&mut self, links: &[(u32, u32)]) -> Result<Option<u32>, AllocError>
-        requires search { IsSearch links.now self.old }
+    fn step(&mut self, rows: &RowTable) -> Result<Option<u32>, AllocError>
+        requires search { IsSearch rows.now self.old }
         requires full { 0 < vec_len self.old.path }
-        ensures back { IfOk result (λ back. IfSome back (LeadsBack links.now self.new.path.items)) }
-        ensures search { OnOk result (IsSearch links.now self.new) }
+        ensures back { IfOk result (λ back. IfSome back (LeadsBack (net_in rows.now).links (nodes_of self.new.path.items))) }
+        ensures search { OnOk result (IsSearch rows.now self.new) }
         ensures kept { OnOk result (KeepsSeen self.old.marks.items self.new.marks.items) }
         ensures one_each { OnOk result (length self.new.marks.items ≡ length self.old.marks.items) }
         ensures fewer { IfOk result (λ back. IfNone back (left_count self.new < left_count self.old)) }
     {
-        let top = self.path[self.path.len() - 1];
-        let Some(head) = self.next_head(links, top) else {
+        let top = self.path[self.path.len() - 1].node;
+        let Some(head) = self.next_head(rows) else {
             self.leave(top)?;
             return Ok(None);
         };
@@ -217,16 +193,16 @@ impl Search {
     }
 
     /// Goes on until the path is empty, or a link closes a walk with it: then it answers the node of the path that the link leads back to.
-    fn go_on(&mut self, links: &[(u32, u32)]) -> Result<Option<u32>, AllocError>
-        requires { IsSearch links.now self.old }
-        ensures back { IfOk result (λ back. IfSome back (LeadsBack links.now self.new.path.items)) }
-        ensures search { OnOk result (IsSearch links.now self.new) }
+    fn go_on(&mut self, rows: &RowTable) -> Result<Option<u32>, AllocError>
+        requires { IsSearch rows.now self.old }
+        ensures back { IfOk result (λ back. IfSome back (LeadsBack (net_in rows.now).links (nodes_of self.new.path.items))) }
+        ensures search { OnOk result (IsSearch rows.now self.new) }
         ensures empty { IfOk result (λ back. IfNone back (self.new.path.items ≡ [])) }
         ensures kept { OnOk result (KeepsSeen self.old.marks.items self.new.marks.items) }
         ensures one_each { OnOk result (length self.new.marks.items ≡ length self.old.marks.items) }
     {
         'walk: while !self.path.is_empty() {
-            if let Some(node) = self.step(links)? {
+            if let Some(node) = self.step(rows)? {
                 return Ok(Some(node));
             }
         }
@@ -235,12 +211,12 @@ impl Search {
 
     /// Searches from `root`, unless the search has met it. Where a link closes a walk with the path, it answers the node of the path that
     /// the link leads back to.
-    fn visit(&mut self, links: &[(u32, u32)], root: u32) -> Result<Option<u32>, AllocError>
-        requires search { IsSearch links.now self.old }
+    fn visit(&mut self, rows: &RowTable, root: u32) -> Result<Option<u32>, AllocError>
+        requires search { IsSearch rows.now self.old }
         requires empty { self.old.path.items ≡ [] }
         requires root { root < length self.old.marks.items }
-        ensures back { IfOk result (λ back. IfSome back (LeadsBack links.now self.new.path.items)) }
-        ensures search { OnOk result (IsSearch links.now self.new) }
+        ensures back { IfOk result (λ back. IfSome back (LeadsBack (net_in rows.now).links (nodes_of self.new.path.items))) }
+        ensures search { OnOk result (IsSearch rows.now self.new) }
         ensures empty { IfOk result (λ back. IfNone back (self.new.path.items ≡ [])) }
         ensures seen { OnOk result (mark_of self.new.marks.items root ≢ Mark.Fresh) }
         ensures kept { OnOk result (KeepsSeen self.old.marks.items self.new.marks.items) }
@@ -250,21 +226,21 @@ impl Search {
             return Ok(None);
         }
         self.open(root)?;
-        self.go_on(links)
+        self.go_on(rows)
     }
 
     /// Searches from each node, up to where a link closes a walk with the path.
-    fn visit_all(&mut self, nodes: u32, links: &[(u32, u32)]) -> Result<Option<u32>, AllocError>
-        requires search { IsSearch links.now self.old }
+    fn visit_all(&mut self, nodes: u32, rows: &RowTable) -> Result<Option<u32>, AllocError>
+        requires search { IsSearch rows.now self.old }
         requires empty { self.old.path.items ≡ [] }
         requires one_each { length self.old.marks.items ≡ nodes }
-        ensures search { OnOk result (IsSearch links.now self.new) }
-        ensures back { IfOk result (λ back. IfSome back (LeadsBack links.now self.new.path.items)) }
-        ensures acyclic { IfOk result (λ back. IfNone back (IsAcyclic links.now)) }
-        ensures order { IfOk result (λ back. IfNone back (HasHeadsFirst nodes links.now self.new.order.items)) }
+        ensures search { OnOk result (IsSearch rows.now self.new) }
+        ensures back { IfOk result (λ back. IfSome back (LeadsBack (net_in rows.now).links (nodes_of self.new.path.items))) }
+        ensures acyclic { IfOk result (λ back. IfNone back (IsAcyclic (net_in rows.now).links)) }
+        ensures order { IfOk result (λ back. IfNone back (HasHeadsFirst nodes (net_in rows.now).links self.new.order.items)) }
     {
         for root in 0..nodes {
-            if let Some(node) = self.visit(links, root)? {
+            if let Some(node) = self.visit(rows, root)? {
                 return Ok(Some(node));
             }
         }
@@ -272,19 +248,15 @@ impl Search {
     }
 }
 
-/// A closed walk along the links, which are in rising order of their tails; or, where there is none, an order of the nodes along which
+/// A closed walk along the links that these rows of so many nodes show; or, where there is none, an order of the nodes along which
 /// all links lead back.
-pub(crate) fn find_cycle(
-    alloc: Global,
-    nodes: u32,
-    links: &[(u32, u32)],
-) -> Result<Found, AllocError>
-    requires tails { HasRisingTails links.now }
-    requires below { AreBelow nodes links.now }
-    ensures { IfOk result (IsFound nodes links.now) }
+pub(crate) fn find_cycle(alloc: Global, nodes: u32, rows: &RowTable) -> Result<Found, AllocError>
+    requires one_each { length rows.now.rows ≡ nodes }
+    requires below { AreEntriesBelow nodes rows.now }
+    ensures { IfOk result (IsFound nodes (net_in rows.now).links) }
 {
-    let mut search = Search::begun(alloc, nodes, links)?;
-    match search.visit_all(nodes, links)? {
+    let mut search = Search::begun(alloc, nodes)?;
+    match search.visit_all(nodes, rows)? {
         Some(node) => Ok(Found::Walk(closed_at(alloc, &search.path, node)?)),
         None => Ok(Found::Order(search.order)),
     }

@@ -26,7 +26,6 @@ use crate::path_search::{Meeting, Way, way_between};
 use crate::row::place_in_row;
 use crate::row_table::RowTable;
 use crate::rows::First;
-use crate::turned::links_of_rows;
 use std::alloc::{AllocError, Global};
 
 /// The rows of a network's nodes, which show its links, and heights along which these fall.
@@ -174,8 +173,7 @@ impl Graph {
         if self.heights.are_known() {
             return Ok(());
         }
-        let links = links_of_rows(alloc, &self.rows, self.nodes, self.link_count)?;
-        let Found::Order(order) = find_cycle(alloc, self.nodes, &links)? else {
+        let Found::Order(order) = find_cycle(alloc, self.nodes, &self.rows)? else {
             unreachable!();
         };
         self.heights.put_in_order(&order);

@@ -1,16 +1,16 @@
 //! A network: how it is made of links, read by nodes and rows, and made into another by edits and by counts.
 
-ghost use Rattle.std.specs.Prelude.{◌≡◌, ◌≢◌, ℕ, ◌<◌, ◌≤◌, ◌+◌, ◌++◌, List, [], ◌∷◌, length, slice_get, slice_index, Some, Ok, IfOk, IfErr, IfSome, IfNone, MatchOption, OnOk, OnErr, All, IsPermutation, ◌⊎◌};
+ghost use Rattle.std.specs.Prelude.{◌≡◌, ◌≢◌, ℕ, ◌<◌, ◌≤◌, ◌+◌, ◌++◌, List, [], ◌∷◌, length, slice_get, slice_index, Some, Ok, IfOk, IfErr, IfSome, IfNone, MatchOption, OnOk, OnErr, All, ◌⊎◌};
 ghost use Rattle.std.specs.List.{HoldsAt};
 ghost use Rattle.std.specs.Borrow.{Bor};
 ghost use Rattle.std.specs.Fn.{FnOnceReturnsAt};
 ghost use Rattle.fr_net.specs.Network.{Network};
-ghost use Rattle.fr_net.specs.CycleSearch.{IsFound};
 ghost use Rattle.fr_net.specs.Graph.{IsGraph, shown};
-ghost use Rattle.fr_net.specs.Halves.{AreHalvesRising, AreStarts, halves_of};
+ghost use Rattle.fr_net.specs.Halves.{AreHalvesOf};
 ghost use Rattle.fr_net.specs.Heights.{HasHeadsFirst};
-ghost use Rattle.fr_net.specs.Links.{AreBelow, HasNoSelfLink, Joins};
-ghost use Rattle.fr_net.specs.Order.{AreRising, in_order};
+ghost use Rattle.fr_net.specs.KeptRows.{AreRows, net_in};
+ghost use Rattle.fr_net.specs.Links.{HasNoSelfLink, Joins};
+ghost use Rattle.fr_net.specs.Order.{AreRising};
 ghost use Rattle.fr_net.specs.Counts.{IsKept, links_at};
 ghost use Rattle.fr_net.specs.Rows.{alone_count, row};
 ghost use Rattle.fr_net.specs.declared.fault.NetFault.TheVariants.{Memory, TooMany};
@@ -27,7 +27,7 @@ use crate::graph::Graph;
 use crate::heights::Heights;
 use crate::limits::{MAX_EDITS, MAX_LINKS, MAX_NODES};
 use crate::row_table::RowTable;
-use crate::rows::{First, HalfLink, entries_of, first_twice, outward_links, sorted_halves};
+use crate::rows::{First, HalfLink, entries_of, first_twice, sorted_halves};
 use crate::turned::{links_of_rows, turn_rows};
 use crate::turns::Turns;
 use std::alloc::{AllocError, Global};
@@ -52,41 +52,33 @@ fn test_ends(nodes: u32, links: &[(u32, u32)]) -> Result<(), NetFault>
     Ok(())
 }
 
-/// What `find_cycle` finds among the links whose halves these are.
-fn search_halves(alloc: Global, nodes: u32, halves: &[HalfLink]) -> Result<Found, AllocError>
-    requires rising { AreHalvesRising halves.now }
-    requires below { (links : List (ℕ × ℕ)) × IsPermutation (halves_of links) halves.now × AreBelow nodes links }
-    ensures { IfOk result (λ found. (links : List (ℕ × ℕ)) → IsPermutation (halves_of links) halves.now → IsFound nodes (in_order links) found) }
+/// The rows of links, of their halves, with where those of each node start.
+fn rows_of(alloc: Global, halves: &[HalfLink], starts: Vec<usize>) -> Result<RowTable, AllocError>
+    requires { (nodes : ℕ) × (links : List (ℕ × ℕ)) × AreHalvesOf nodes links halves.now starts.items }
+    ensures { IfOk result (λ rows. (nodes : ℕ) (links : List (ℕ × ℕ)) → AreHalvesOf nodes links halves.now starts.items → AreRows nodes links rows) }
 {
-    let sorted = outward_links(alloc, halves)?;
-    find_cycle(alloc, nodes, &sorted)
+    RowTable::packed(alloc, starts, entries_of(alloc, halves)?)
 }
 
-/// The graph of links without a fault, of their halves, which are in order, with where those of each node start, and of an order of the
-/// nodes along which the links lead back.
+/// The graph of the rows of so many links, which have no fault, and of an order of the nodes along which they lead back.
 fn graph_of(
     alloc: Global,
     nodes: u32,
-    links: &[(u32, u32)],
-    halves: &[HalfLink],
-    starts: Vec<usize>,
+    link_count: usize,
+    rows: RowTable,
     order: &[u32],
 ) -> Result<Graph, AllocError>
-    requires faultless { IsFaultless nodes links.now }
-    requires same { IsPermutation (halves_of links.now) halves.now }
-    requires rising { AreHalvesRising halves.now }
-    requires starts { AreStarts nodes halves.now starts.items }
-    requires order { HasHeadsFirst nodes (in_order links.now) order.now }
+    requires links { (links : List (ℕ × ℕ)) × IsFaultless nodes links × AreRows nodes links rows × (link_count ≡ length links) }
+    requires order { HasHeadsFirst nodes (net_in rows).links order.now }
     ensures graph { IfOk result IsGraph }
-    ensures shown { IfOk result (λ graph. IsNetworkOf nodes links.now (shown graph)) }
+    ensures shown { IfOk result (λ graph. (links : List (ℕ × ℕ)) → IsFaultless nodes links → AreRows nodes links rows → IsNetworkOf nodes links (shown graph)) }
 {
-    let entries = entries_of(alloc, halves)?;
     let mut heights = Heights::unknown(alloc, nodes)?;
     heights.put_in_order(order);
     Ok(Graph {
         nodes,
-        link_count: links.len(),
-        rows: RowTable::packed(alloc, starts, entries)?,
+        link_count,
+        rows,
         heights,
     })
 }
@@ -137,10 +129,11 @@ impl Net {
         if let Some((u, v)) = first_twice(&halves) {
             return Err(NetFault::Twice(u, v));
         }
-        match search_halves(alloc, nodes, &halves)? {
+        let rows = rows_of(alloc, &halves, starts)?;
+        match find_cycle(alloc, nodes, &rows)? {
             Found::Walk(walk) => Err(NetFault::Cycle(walk)),
             Found::Order(order) => Ok(Net {
-                graph: graph_of(alloc, nodes, links, &halves, starts, &order)?,
+                graph: graph_of(alloc, nodes, links.len(), rows, &order)?,
             }),
         }
     }

@@ -1,8 +1,6 @@
-use Rattle.std.proofs.Common.{get_or, length, ℕ, ◌-◌, ◌<◌, ◌≡◌, ◌≤◌}
+use Rattle.std.proofs.Common.{drop, take, ◌≡◌}
+use Rattle.fr_net.specs.CycleSearch.{nodes_of}
 use Rattle.fr_net.proofs.cycle.closed_at.Given as goal
 
-abbrev pub invariant-loop-at : goal.invariant-loop-at
-invariant-loop-at l = (k : ℕ) × (l.at ≤ k) × (k < length l.path) × (get_or l.path k l.node ≡ l.node)
-
-abbrev pub decreases-loop-at : goal.decreases-loop-at
-decreases-loop-at l = length l.path - l.at
+abbrev pub invariant-loop-step : goal.invariant-loop-step
+invariant-loop-step l = l.walk.items ≡ nodes_of (take l.step-index (drop l.at l.path))

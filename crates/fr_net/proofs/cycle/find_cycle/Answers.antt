@@ -1,13 +1,18 @@
 use Rattle.std.proofs.Common.{arith, drop, length, slice_index, ℕ, [], ◌++◌, ◌+◌, ◌-◌, ◌<◌, ◌∷◌, ◌≡◌}
+use Rattle.std.proofs.lemmas.List.{length-map}
 use Rattle.fr_net.proofs.Cycles.{closes}
+use Rattle.fr_net.specs.CycleSearch.{nodes_of}
+use Rattle.fr_net.specs.declared.cycle.Step.{Step}
 use Rattle.fr_net.proofs.cycle.find_cycle.Goals as goal
 
 pub returns-in_ok-closed_at-in-Some : goal.returns-in_ok-closed_at-in-Some
 returns-in_ok-closed_at-in-Some c =
-    let path = c.visit_all.new.self.path.items in
+    let steps = c.visit_all.new.self.path.items in
+    let path = nodes_of steps in
     let node = c.in-Some.node in
-    let made : (k : ℕ) × (k < length path) × (slice_index path k ≡ node) × (c.in_ok-closed_at-in-Some.field-0.items ≡ drop k path ++ node ∷ []) = rw c.deref.ensures.value at c.in_ok-closed_at-in-Some.ensures in
+    let made : (k : ℕ) × (k < length steps) × (slice_index path k ≡ node) × (c.in_ok-closed_at-in-Some.field-0.items ≡ drop k path ++ node ∷ []) = rw c.deref.ensures.value at c.in_ok-closed_at-in-Some.ensures in
     let last = length path - 1 in
-    let full : last + 1 ≡ length path = omega (arith, made.1) in
+    let inside : made.0 < length path = omega (arith, made.1, length-map steps (λ (s : Step). s.node)) in
+    let full : last + 1 ≡ length path = omega (arith, inside) in
     let back = rw c.in-Some.is at c.in_ok-node.ensures.back in
-    closes _ path _ last made.0 node c.in_ok-node.ensures.search.steps.path_follows full (back.leads last full) made.1 made.2 made.3
+    closes _ path _ last made.0 node c.in_ok-node.ensures.search.steps.path_follows full (back.leads last full) inside made.2 made.3

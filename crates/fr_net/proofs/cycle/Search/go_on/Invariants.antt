@@ -4,7 +4,7 @@ use Rattle.fr_net.proofs.cycle.Search.go_on.Given as goal
 
 abbrev pub invariant-walk : goal.invariant-walk
 invariant-walk l = record {
-  search : IsSearch l.links l.self;
+  search : IsSearch l.rows l.self;
   kept : KeepsSeen l.fn.self.marks.items l.self.marks.items;
   one_each : length l.self.marks.items ≡ length l.fn.self.marks.items;
 }

@@ -1,38 +1,43 @@
-use Rattle.std.proofs.Common.{ap, arith, get_or, length, ◌+◌, ◌-◌, ◌∙◌, ◌≡◌}
+use Rattle.std.proofs.Common.{ap, arith, get_or, length, sym, ◌+◌, ◌-◌, ◌∙◌, ◌≡◌}
 use Rattle.std.proofs.lemmas.List.{get_or_read}
-use Rattle.fr_net.proofs.Cycles.{leads_from_top}
-use Rattle.fr_net.specs.CycleSearch.{LeadsTo}
+use Rattle.fr_net.proofs.RowsRead.{nodes_counted, top_is}
+use Rattle.fr_net.specs.CycleSearch.{LeadsTo, mark_of, nodes_of}
+use Rattle.fr_net.specs.KeptRows.{net_in}
+use Rattle.fr_net.specs.declared.cycle.Mark.TheVariants.{Fresh, Open}
 use Rattle.fr_net.proofs.cycle.Search.step.Goals as goal
-use Rattle.fr_net.proofs.cycle.Search.step.Goals.{In-Some}
+use Rattle.fr_net.proofs.cycle.Search.step.Goals.{After-index, In-Some}
 
-leads : (c : In-Some) → LeadsTo c.args.links.now c.next_head.new.self.path.items c.in-Some.head
-leads c =
-    let path = c.args.self.now.path.items in
-    let last = c.args.self.now.path.len - 1 in
-    let full : last + 1 ≡ length path = omega (arith, c.requires.full, c.args.self.now.path.ok.0) in
-    let top : c.index-top.result.now ≡ get_or path last 0 = get_or_read path last _ (omega (arith, full)) (rw c.len.ensures at c.index-top.ensures) 0 in
-    leads_from_top _ path _ last _ _ (ap (λ p. p.items) c.next_head.ensures.path) full top c.in-Some.ensures.points
+top : (c : After-index) → get_or (nodes_of c.args.self.now.path.items) (c.args.self.now.path.len - 1) 0 ≡ c.index.result.now.node
+top c =
+    let path = c.args.self.now.path in
+    let full : path.len - 1 + 1 ≡ length path.items = omega (arith, c.requires.full, path.ok.0) in
+    top_is path.items (path.len - 1) c.index.result.now full (rw c.len.ensures at c.index.ensures)
 
-pub returns-in_default : goal.returns-in_default
-returns-in_default c =
+leads : (c : In-Some) → LeadsTo (net_in c.args.rows.now).links (nodes_of c.next_head.new.self.path.items) c.in-Some.head
+leads c = rw c.next_head.ensures.path c.in-Some.ensures.leads
+
+pub returns-in_default-clause-search : goal.returns-in_default-clause-search
+returns-in_default-clause-search c =
     let e = c.next_head.ensures in
-    let left = c.in_ok-leave.ensures in
-    record {
-      back = tt;
-      search = left.search c.args.links.now e.search (rw c.in_default.is at e.done);
-      kept = λ x seen. left.kept x (rw e.marks seen);
-      one_each = left.one_each ∙ ap (λ m. length m.items) e.marks;
-      fewer = rw (e.marks, e.path) at left.fewer;
-    }
+    c.in_ok-leave.ensures.search c.args.rows.now e.search (rw (c.in_default.is, top (goal.at.returns-in_default-clause-search c).After-index) at e.done)
+
+pub returns-in-Open-clause-back : goal.returns-in-Open-clause-back
+returns-in-Open-clause-back c =
+    let marks = c.next_head.new.self.marks.items in
+    let head = c.in-Some.head in
+    let here = rw (← c.next_head.ensures.marks) at c.in-Some.ensures.below in
+    let on : mark_of marks head ≡ Open = sym (get_or_read marks head c.index-2.result.now here c.index-2.ensures Fresh) ∙ c.in-Open.is in
+    record { on_path = c.next_head.ensures.search.steps.open_on_path head on; leads = leads (goal.at.returns-in-Open-clause-back c).In-Some }
 
 pub returns : goal.returns
 returns c =
     let e = c.next_head.ensures in
     let opened = c.in_ok-open-in_default-index.ensures in
+    let same : length c.next_head.new.self.path.items ≡ length c.args.self.now.path.items = nodes_counted c.next_head.new.self.path.items c.args.self.now.path.items e.path in
     record {
       back = tt;
-      search = opened.search c.args.links.now e.search (leads (goal.at.returns c).In-Some);
+      search = opened.search c.args.rows.now e.search (leads (goal.at.returns c).In-Some);
       kept = λ x seen. opened.kept x (rw e.marks seen);
       one_each = opened.one_each ∙ ap (λ m. length m.items) e.marks;
-      fewer = rw (e.marks, e.path) at opened.fewer;
+      fewer = rw (e.marks, same) at opened.fewer;
     }

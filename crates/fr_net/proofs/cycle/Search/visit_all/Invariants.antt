@@ -5,7 +5,7 @@ use Rattle.fr_net.proofs.cycle.Search.visit_all.Given as goal
 
 abbrev pub invariant-loop-root : goal.invariant-loop-root
 invariant-loop-root l = record {
-  search : IsSearch l.links l.self;
+  search : IsSearch l.rows l.self;
   empty : l.self.path.items ≡ [];
   one_each : length l.self.marks.items ≡ l.nodes;
   seen : (x : ℕ) → x < l.root → mark_of l.self.marks.items x ≢ Fresh;
