@@ -14,4 +14,5 @@ pub mod Moving
 pub mod Written
 pub mod Renewing
 pub mod Noting
+pub mod Joining
 pub mod Inside

@@ -1,5 +1,5 @@
 -- What a round on a network comes to, and the nodes at which edits change links.
-use Rattle.std.specs.Prelude.{◌≡◌, ℕ, ◌<◌, ◌≤◌, ◌⊎◌, not, ◌==◌, ◌&&◌, List, [], ◌∷◌, ◌++◌, count_by, length, nat_eq, slice_get, slice_index, vec_capacity, Some}
+use Rattle.std.specs.Prelude.{◌≡◌, ℕ, ◌<◌, ◌≤◌, ◌⊎◌, ◌↔◌, not, ◌==◌, ◌&&◌, List, [], ◌∷◌, ◌++◌, count_by, length, nat_eq, slice_get, slice_index, vec_capacity, Some}
 use Rattle.std.specs.List.{All, Contains, IsDistinct, filter, range_with_len}
 use Rattle.std.specs.List.Sorted.{IsStrictlyIncreasing}
 use Rattle.std.specs.declared.alloc.Global.{Global}
@@ -20,7 +20,7 @@ use Rattle.fr_route.specs.States.{State, IsReport, IsRound, net_at, state_with}
 use Rattle.fr_route.specs.declared.fault.RouteFault.{RouteFault}
 use Rattle.fr_route.specs.declared.fault.RouteFault.TheVariants.{Net, Range, Start, Memory}
 use Rattle.fr_route.specs.declared.hops.Hop.{Hop}
-use Rattle.fr_route.specs.declared.hops.Hop.TheVariants.{To}
+use Rattle.fr_route.specs.declared.hops.Hop.TheVariants.{CutOff, To}
 use Rattle.fr_route.specs.declared.outcome.Outcome.{Outcome}
 
 -- the state after a round with these counts on a network
@@ -88,6 +88,11 @@ pub record AreOthers (old new : List Hop) (nodes : List ℕ) : Type 0 where
   pub rising : IsStrictlyIncreasing nodes
   pub these : (x : ℕ) → Contains nodes x → (x < length new) × ¬ (slice_get new x ≡ slice_get old x)
   pub others : (x : ℕ) → ¬ Contains nodes x → slice_get new x ≡ slice_get old x
+
+-- the hops of these nodes below k do not say that they are cut off, and those of the others do, in rising order
+pub record AreJoinedBelow (hops : List Hop) (k : ℕ) (nodes : List ℕ) : Type 0 where
+  pub rising : IsStrictlyIncreasing nodes
+  pub just : (x : ℕ) → Contains nodes x ↔ ((x < k) × ¬ (slice_get hops x ≡ Some CutOff))
 
 -- the edits are made, and this is the state after the round on the network that they make, toward d
 abbrev pub IsEdited : State → List Edit → ℕ → State → Type 0

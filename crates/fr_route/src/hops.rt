@@ -1,9 +1,9 @@
 //! Where each node sends on to.
 
-ghost use Rattle.std.specs.Prelude.{◌≡◌, ℕ, ◌<◌, ◌↔◌, [], ◌∷◌, ◌++◌, All, Contains, IsTrue, length, sum, vec_capacity, IfOk, MatchOption};
+ghost use Rattle.std.specs.Prelude.{◌≡◌, ℕ, ◌<◌, ◌≤◌, ◌↔◌, [], ◌∷◌, ◌++◌, All, Contains, IsTrue, length, sum, vec_capacity, IfOk, MatchOption};
 ghost use Rattle.fr_net.specs.Links.{Points};
 ghost use Rattle.fr_route.specs.Routes.{IsNextHop, IsHop, AreHops};
-ghost use Rattle.fr_route.specs.Outcomes.{AreRenewed, HoldsMoved, IsStale, NotesMore, SendsTo};
+ghost use Rattle.fr_route.specs.Outcomes.{AreJoinedBelow, AreRenewed, HoldsMoved, IsStale, NotesMore, SendsTo};
 ghost use Rattle.fr_route.specs.States.{IsAfterRound, state_with};
 
 use fr_net::{First, Net, Turns};
@@ -214,6 +214,20 @@ fn note(rerouted: &mut Vec<u32>, x: u32)
 {
     if rerouted.len() < rerouted.capacity() {
         rerouted.push_reserved(x);
+    }
+}
+
+/// Lists the nodes that are not cut off, in rising order, where the list has a place for each node.
+pub(crate) fn list_joined(nodes: &mut Vec<u32>, hops: &[Hop], count: u32)
+    requires one_each { length hops.now ≡ count }
+    requires room { count ≤ vec_capacity nodes.old }
+    ensures { AreJoinedBelow hops.now count nodes.new.items }
+{
+    nodes.clear();
+    for x in 0..count {
+        if !is_same(hops[x as usize], Hop::CutOff) {
+            nodes.push_reserved(x);
+        }
     }
 }
 

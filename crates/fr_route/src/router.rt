@@ -1,6 +1,6 @@
 //! A router: a settled network with its next hops and routes, and the changes after which it is settled anew.
 
-ghost use Rattle.std.specs.Prelude.{◌≡◌, ◌≢◌, ◌<◌, ◌≤◌, length, replicate, vec_capacity, Ok, Some, IfOk, IfErr, IfSome, OnErr};
+ghost use Rattle.std.specs.Prelude.{◌≡◌, ◌≢◌, ◌<◌, ◌≤◌, length, replicate, vec_capacity, Ok, Some, IfOk, IfErr, IfSome, OnErr, OnOk};
 ghost use Rattle.fr_crew.specs.Settlements.{HoldsSinks, IsCounted};
 ghost use Rattle.fr_crew.specs.Ways.{Settles, NeverStarts};
 ghost use Rattle.fr_route.specs.declared.change.Report.{Report};
@@ -8,12 +8,12 @@ ghost use Rattle.fr_route.specs.declared.fault.RouteFault.TheVariants.{Start, Me
 ghost use Rattle.fr_route.specs.States.{IsRound, IsReport};
 ghost use Rattle.fr_route.specs.Routes.{IsHop, AreHops, IsWalked};
 ghost use Rattle.fr_route.specs.Changes.{IsOpenFault, IsChanged, IsRouteFault, IsStill};
-ghost use Rattle.fr_route.specs.Reroutes.{AreRerouted};
+ghost use Rattle.fr_route.specs.Reroutes.{AreJoined, AreRerouted};
 ghost use Rattle.fr_route.specs.Outcomes.{IsEdited, IsEditingFault, IsOutcome, cut_off_nodes, movable};
 
 use crate::change::{Change, Report};
 use crate::fault::RouteFault;
-use crate::hops::{Hop, Walked, hop_table};
+use crate::hops::{Hop, Walked, hop_table, list_joined};
 use crate::outcome::{
     Outcome, alone_nodes, outcome_of, push_capped, put_in_place, report_of, touched_nodes,
 };
@@ -511,6 +511,18 @@ impl Router {
         ensures { AreHops self.now self.now.nodes result.now }
     {
         &self.hops
+    }
+
+    /// The nodes that are not cut off, in rising order, in a list of the caller's: those whose hops a caller reads first that keeps the
+    /// hops of all nodes, and begins with a table that says `CutOff` of each. A fault leaves the list as it was. Linear in nodes.
+    pub fn joined(&self, nodes: &mut Vec<u32>) -> Result<(), AllocError>
+        ensures joined { OnOk result (AreJoined self.now nodes.new.items) }
+        ensures untold { OnErr result (nodes.new.items ≡ nodes.old.items) }
+    {
+        let count = self.net.nodes();
+        nodes.reserve((count as usize).saturating_sub(nodes.len()))?;
+        list_joined(nodes, &self.hops, count);
+        Ok(())
     }
 
     /// Where node `x` sends on to, which has to be a node. It takes the same time for each.
