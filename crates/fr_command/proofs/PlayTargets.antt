@@ -1,6 +1,6 @@
 -- Which nodes a play turns, again and again; and links that a test finds.
 use Rattle.std.proofs.Common.{◌≡◌, ◌∙◌, ℕ, zero, suc, ◌+◌, ◌*◌, ◌-◌, ◌%◌, ◌<◌, ◌==◌, ◌&&◌, ◌||◌, Bool, true, false, cond, not, List, [], ◌∷◌, ◌++◌, length, get_or, take, map, refl, sym, ap, subst, inl, inr, arith, ⊎_elim, length-append, append-nil, eq-eqb, ne_eqb, eqb-true}
-use Rattle.std.specs.List.{repeat, list_any, filter, Contains}
+use Rattle.std.specs.List.{repeat, list_any, Contains}
 use Rattle.std.proofs.Math.Nat.{zero-mul, suc-mul, mod-eq_of_lt, mod-eq-sub-mod, le-mul_of_pos_right}
 use Rattle.std.proofs.Math.ListN.{get_or-append}
 use Rattle.std.proofs.lemmas.Bool.{cases_lt, or_cases, or_left, or_right}
