@@ -70,10 +70,11 @@ pub enum Call {
     EditedInPlace,
     Counted,
     CountedAlone,
+    Rerouted,
 }
 
 /// The calls in the order in which they are made.
-pub const CALLS: [Call; 22] = [
+pub const CALLS: [Call; 23] = [
     Call::Network,
     Call::CutNetwork,
     Call::LinkedNetwork,
@@ -96,6 +97,7 @@ pub const CALLS: [Call; 22] = [
     Call::EditedInPlace,
     Call::Counted,
     Call::CountedAlone,
+    Call::Rerouted,
 ];
 
 /// The answer of a call, or `None` where memory or a thread was missing, which is told.
@@ -126,6 +128,7 @@ pub fn answer_of<R: Threads + Wait + Sync + Alloc<A = Global> + Print + Eprint>(
         Call::EditedInPlace => edited_in_place(rt),
         Call::Counted => counted(rt),
         Call::CountedAlone => counted_alone(rt),
+        Call::Rerouted => rerouted(rt),
     }
 }
 
@@ -445,6 +448,21 @@ fn routed_alone<R: Alloc<A = Global> + Print + Eprint>(rt: &R) -> Option<String>
         return None;
     }
     links_told(rt, router.net())
+}
+
+/// The nodes that a cut reroutes. Where it finds no memory, the router has to be as it was.
+fn rerouted<R: Alloc<A = Global> + Print + Eprint>(rt: &R) -> Option<String> {
+    let alloc = rt.alloc();
+    let net = chain(rt)?;
+    let mut router = told(rt, Router::open_alone(alloc, net, 0))?;
+    let mut nodes = Vec::new(alloc);
+    told(rt, router.joined(&mut nodes))?;
+    let cut = Change::Cut { u: 2, v: 1 };
+    if told(rt, router.change_telling_alone(alloc, cut, &mut nodes)).is_none() {
+        look_for_change(rt, &router);
+        return None;
+    }
+    told(rt, debug_text(alloc, &nodes))
 }
 
 /// A line and a request, answered on the calling thread alone.
