@@ -1,4 +1,4 @@
-//! Counts: which are lawful, where `finish`, `finish_from` and `finish_soon` end, which nodes are sinks, and where a link points.
+//! Counts: which are lawful, where `finish`, `finish_counts`, `finish_from` and `finish_soon` end, which nodes are sinks, and where a link points.
 
 ghost use Rattle.std.specs.Prelude.{◌≡◌, ℕ, ◌<◌, IsTrue, All, false};
 ghost use Rattle.std.specs.List.{Contains};
@@ -11,7 +11,9 @@ use crate::answers::Answer;
 use crate::cases::{counts, number, numbers};
 use crate::networks::network;
 use crate::tables::none;
-use fr_core::{are_settled, can_turn, finish, finish_from, finish_soon, is_sink, lawful, sense};
+use fr_core::{
+    are_settled, can_turn, finish, finish_counts, finish_from, finish_soon, is_sink, lawful, sense,
+};
 use fr_net::{First, Net, Turns};
 use serde_json::Value;
 use std::alloc::Global;
@@ -22,6 +24,13 @@ pub fn answer(alloc: Global, answer: &mut Answer, word: &str, given: &[Value]) -
         ("finish", [nodes, links]) => finished(alloc, answer, &network(alloc, nodes, links)?, true),
         ("turn_count", [nodes, links]) => {
             finished(alloc, answer, &network(alloc, nodes, links)?, false)
+        }
+        ("finish_counts", [nodes, links, given]) => {
+            finished_counts(
+                answer,
+                &network(alloc, nodes, links)?,
+                counts(alloc, given)?,
+            )
         }
         ("finishes", [nodes, links, steps]) => {
             finishes(alloc, answer, &network(alloc, nodes, links)?, steps)
@@ -64,6 +73,17 @@ fn finished(alloc: Global, answer: &mut Answer, net: &Net, with_counts: bool) ->
         answer.say(" ");
         answer.put(&turns.counts());
     }
+    Some(())
+}
+
+/// How many turns `finish_counts` makes from these counts, and where it ends.
+fn finished_counts(answer: &mut Answer, net: &Net, mut counts: Vec<u64>) -> Option<()> {
+    if !is_lawful(net, 0, &counts) {
+        return None;
+    }
+    answer.put(&finish_counts(net, 0, &mut counts));
+    answer.say(" ");
+    answer.put(&counts);
     Some(())
 }
 
