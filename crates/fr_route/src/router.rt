@@ -1,6 +1,6 @@
 //! A router: a settled network with its next hops and routes, and the changes after which it is settled anew.
 
-ghost use Rattle.std.specs.Prelude.{◌≡◌, ◌≢◌, ◌<◌, ◌≤◌, length, replicate, vec_capacity, Ok, Some, IfOk, IfErr, IfSome, OnErr, OnOk};
+ghost use Rattle.std.specs.Prelude.{◌≡◌, ◌≢◌, ◌<◌, ◌≤◌, [], ◌∷◌, length, replicate, vec_capacity, Ok, Some, IfOk, IfErr, IfSome, OnErr, OnOk};
 ghost use Rattle.fr_crew.specs.Settlements.{HoldsSinks, IsCounted};
 ghost use Rattle.fr_crew.specs.Ways.{Settles, NeverStarts};
 ghost use Rattle.fr_route.specs.declared.change.Report.{Report};
@@ -325,34 +325,13 @@ impl Router {
     {
         match change {
             Change::Cut { u, v } => {
-                self.edit_by(
-                    alloc,
-                    &[Edit::Cut { u: *u, v: *v }],
-                    self.dest,
-                    way,
-                    tell,
-                    rerouted,
-                )
+                self.one_edit_by(alloc, Edit::Cut { u: *u, v: *v }, way, tell, rerouted)
             }
             Change::Add { u, v } => {
-                self.edit_by(
-                    alloc,
-                    &[Edit::Add { u: *u, v: *v }],
-                    self.dest,
-                    way,
-                    tell,
-                    rerouted,
-                )
+                self.one_edit_by(alloc, Edit::Add { u: *u, v: *v }, way, tell, rerouted)
             }
             Change::Join { u, v } => {
-                self.edit_by(
-                    alloc,
-                    &[Edit::Join { u: *u, v: *v }],
-                    self.dest,
-                    way,
-                    tell,
-                    rerouted,
-                )
+                self.one_edit_by(alloc, Edit::Join { u: *u, v: *v }, way, tell, rerouted)
             }
             Change::Batch(edits) => self.edit_by(alloc, edits, self.dest, way, tell, rerouted),
             Change::Destination { dest } => {
@@ -362,6 +341,32 @@ impl Router {
                 self.edit_by(alloc, &[], *dest, way, tell, rerouted)
             }
         }
+    }
+
+    /// Makes this edit where the network stands, and settles it anew toward its destination.
+    fn one_edit_by<
+        T,
+        F: Fn(&Net, u32, Option<&[u32]>, Turns) -> Result<Turns, CrewFault>,
+        K: Fn(Report) -> Result<T, AllocError>,
+    >(
+        &mut self,
+        alloc: Global,
+        edit: Edit,
+        way: &F,
+        tell: &K,
+        rerouted: &mut Vec<u32>,
+    ) -> Result<T, RouteFault>
+        requires settles { Settles F.pre F.post way.now }
+        requires tells { K.IsAlwaysCallable tell.now }
+        ensures edited { IfOk result (λ _. IsEdited self.old (edit ∷ []) self.old.dest self.new) }
+        ensures told { IfOk result (λ told. (report : Report) × IsReport self.new report.turned report.cut × K.post tell.now report (Ok told)) }
+        ensures rerouted { IfOk result (λ _. self.old.nodes ≤ vec_capacity rerouted.old → AreRerouted self.old self.new rerouted.new.items) }
+        ensures fault { IfErr result (IsEditingFault self.old (edit ∷ []) self.old.dest) }
+        ensures unchanged { OnErr result (self.new ≡ self.old) }
+        ensures untold { OnErr result (rerouted.new.items ≡ rerouted.old.items) }
+        ensures no_start { NeverStarts F.post way.now → IfErr result (λ fault. fault ≢ Start) }
+    {
+        self.edit_by(alloc, &[edit], self.dest, way, tell, rerouted)
     }
 
     /// Makes these edits where the network stands, and settles it anew toward `dest`.
