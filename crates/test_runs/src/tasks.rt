@@ -1,17 +1,18 @@
-//! Runs and plays by any reader and writer.
+//! Runs, services and plays by any reader and writer.
 
 use crate::cases::Case;
 use crate::outcomes::Outcome;
-use fr_command::{Draw, RunFault, Task, play_drawn, run};
+use fr_command::{Draw, RunFault, Task, play_drawn, run, serve};
 use fr_crew::{OpenGate, Plan};
 use std::io::{Read, Write};
 use std::sync::Wait;
 use std::thread::Threads;
 
-/// The task that a case says from a place on: a run on one thread, or a play by the numbers of a draw.
+/// The task that a case says from a place on: a run or a service on one thread, or a play by the numbers of a draw.
 pub fn task_at(case: &Case<'_>, place: usize) -> Option<Task> {
     match case.text(place)? {
         "run" => Some(Task::Run(Plan::new(1, 0, 0)?)),
+        "serve" => Some(Task::Serve(Plan::new(1, 0, 0)?)),
         "play" => Some(Task::Play(draw_at(case, place)?)),
         _ => None,
     }
@@ -29,7 +30,7 @@ pub fn draw_at(case: &Case<'_>, place: usize) -> Option<Draw> {
     )
 }
 
-/// Does a task, with the gate open.
+/// Does a task, with the gate open. A service tells no number.
 pub fn perform<T: Threads + Wait + Sync + AllocGlobal, R: Read, W: Write>(
     rt: &T,
     task: Task,
@@ -38,6 +39,7 @@ pub fn perform<T: Threads + Wait + Sync + AllocGlobal, R: Read, W: Write>(
 ) -> Result<u64, RunFault> {
     match task {
         Task::Run(plan) => run(rt, rt.alloc(), reader, writer, &plan, &OpenGate),
+        Task::Serve(plan) => serve(rt, rt.alloc(), reader, writer, &plan, &OpenGate).map(|()| 0),
         Task::Play(draw) => play_drawn(rt.alloc(), reader, writer, draw),
     }
 }
