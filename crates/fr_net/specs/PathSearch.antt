@@ -1,4 +1,4 @@
--- The state of the search for a way between two nodes from both ends. For `way_between` alone.
+-- The state of the search for a way between two nodes from both ends, and what its sides tell where they meet. For `path_search` alone.
 use Rattle.std.specs.Prelude.{◌≡◌, ℕ, ◌<◌, ◌≤◌, ◌+◌, ◌-◌, ◌++◌, ◌⊎◌, Bool, true, false, List, [], ◌∷◌, length, slice_index, slice_index_or, slice_set, vec_capacity, count_by}
 use Rattle.std.specs.List.{All, Contains}
 use Rattle.fr_net.specs.Heights.{FitBetween}

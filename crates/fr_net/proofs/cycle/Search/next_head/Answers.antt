@@ -88,3 +88,15 @@ returns-clause-leads c =
     λ k last.
     let at : k ≡ c.len-last.result - 1 = omega (arith, last, full b.After-index-top, length-map c.args.self.now.path.items (λ (s : Step). s.node)) in
     rw (at, node_is b.After-index-top) (shown_of_row (length table.rows) table x e.0 (below b.After-index-top) listed)
+
+pub returns-clause-below : goal.returns-clause-below
+returns-clause-below c =
+    let e = c.in_ok-head.field-0.now in
+    let seen = rw c.row-row.ensures at c.in_ok-head.ensures.lookup in
+    rw (sym seen.1) at (c.requires.search.below c.index-top.result.now.node c.first_not_done-place.result e seen.3.0)
+
+pub returns-clause-stops : goal.returns-clause-stops
+returns-clause-stops c =
+    let e = c.in_ok-head.field-0.now in
+    let seen = rw c.row-row.ensures at c.in_ok-head.ensures.lookup in
+    (rw (c.row-row.ensures, sym seen.1, c.deref.ensures.value) at (c.first_not_done-place.ensures.stops e (rw c.row-row.ensures seen.3.0))).1
