@@ -1,7 +1,9 @@
 //! The plain Rust beside `revroute`, for time alone. `plain run` answers the same lines: it settles a network by turning sink
 //! after sink on one thread. `plain run --workers N` turns sinks by a crew of N threads, and on one thread what these leave.
-//! `plain run --search` finds the settled counts by a search and turns no node.
+//! `plain run --search` finds the settled counts by a search and turns no node. `plain serve` answers each line as it comes, by turns on
+//! one thread; `plain ask PROGRAM WORDS..` asks a program that does so, in lock step, and prints its answers.
 
+mod ask;
 mod crew;
 mod net;
 mod request;
@@ -11,12 +13,13 @@ mod settle;
 #[cfg(test)]
 mod tests;
 
-use session::answer_lines;
+use session::{answer_as_they_come, answer_lines};
 use settle::Method;
 use std::env;
-use std::io::{self, BufWriter, Read, Write};
+use std::io::{self, BufReader, BufWriter, Read, Write};
 
 const MOST_BYTES: u64 = 16_777_216;
+const ROOM: usize = 1 << 16;
 
 fn main() -> io::Result<()> {
     let words: Vec<String> = env::args().skip(1).collect();
@@ -27,7 +30,11 @@ fn main() -> io::Result<()> {
             Ok(workers @ 1..=16) => run(Method::Crew(workers)),
             _ => Err(io::Error::other("1 to 16 workers")),
         },
-        _ => Err(io::Error::other("usage: plain run [--workers N | --search]")),
+        ["serve"] => serve(),
+        ["ask", program, ref words @ ..] => ask::ask(program, words),
+        _ => Err(io::Error::other(
+            "usage: plain run [--workers N | --search], plain serve, plain ask PROGRAM WORDS..",
+        )),
     }
 }
 
@@ -40,7 +47,14 @@ fn run(method: Method) -> io::Result<()> {
     if input.len() as u64 > MOST_BYTES {
         return Err(io::Error::other("input too long"));
     }
-    let mut out = BufWriter::with_capacity(1 << 16, io::stdout().lock());
+    let mut out = BufWriter::with_capacity(ROOM, io::stdout().lock());
     answer_lines(&input, method, &mut out)?;
+    out.flush()
+}
+
+fn serve() -> io::Result<()> {
+    let mut out = BufWriter::with_capacity(ROOM, io::stdout().lock());
+    let mut input = BufReader::with_capacity(ROOM, io::stdin().lock());
+    answer_as_they_come(&mut input, Method::Turns, &mut out)?;
     out.flush()
 }

@@ -4,22 +4,50 @@ use crate::net::Net;
 use crate::request::{read_line, Refusal, Request};
 use crate::round::{Hop, Round};
 use crate::settle::Method;
-use std::io::{self, Write};
+use std::io::{self, BufRead, BufReader, Read, Write};
 
 /// Answers each line of the input that is not blank.
 pub fn answer_lines(input: &[u8], method: Method, out: &mut impl Write) -> io::Result<()> {
     let mut round = None;
     for line in input.split(|&byte| byte == b'\n') {
-        if line.iter().all(|byte| b"\t\r ".contains(byte)) {
-            continue;
-        }
-        match read_line(line) {
-            Ok(request) => answer(&mut round, request, method, out)?,
-            Err(refusal) => refused(refusal, out)?,
-        }
-        out.write_all(b"\n")?;
+        answer_line(&mut round, line, method, out)?;
     }
     Ok(())
+}
+
+/// Answers each line that comes, and flushes once no more than the beginning of another has come.
+pub fn answer_as_they_come<R: Read>(
+    input: &mut BufReader<R>,
+    method: Method,
+    out: &mut impl Write,
+) -> io::Result<()> {
+    let (mut round, mut line) = (None, Vec::new());
+    while input.read_until(b'\n', &mut line)? > 0 {
+        let text = line.strip_suffix(b"\n").unwrap_or(&line);
+        answer_line(&mut round, text, method, out)?;
+        line.clear();
+        if !input.buffer().contains(&b'\n') {
+            out.flush()?;
+        }
+    }
+    Ok(())
+}
+
+/// Answers a line, without its line end, that is not blank.
+fn answer_line(
+    round: &mut Option<Round>,
+    line: &[u8],
+    method: Method,
+    out: &mut impl Write,
+) -> io::Result<()> {
+    if line.iter().all(|byte| b"\t\r ".contains(byte)) {
+        return Ok(());
+    }
+    match read_line(line) {
+        Ok(request) => answer(round, request, method, out)?,
+        Err(refusal) => refused(refusal, out)?,
+    }
+    out.write_all(b"\n")
 }
 
 fn answer(

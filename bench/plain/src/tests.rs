@@ -1,7 +1,8 @@
 //! Whole inputs and their answers, worked by hand, by either method.
 
-use crate::session::answer_lines;
+use crate::session::{answer_as_they_come, answer_lines};
 use crate::settle::Method;
+use std::io::BufReader;
 
 fn answers(input: &[u8], method: Method) -> String {
     let mut out = Vec::new();
@@ -16,6 +17,11 @@ fn check(input: &str, expected: &str) {
     let expected = expected.replace(" / ", "\n") + "\n";
     for method in [Method::Turns, Method::Crew(1), Method::Crew(3), Method::Search] {
         assert_eq!(answers(input.as_bytes(), method), expected, "{method:?}");
+    }
+    for room in [1, 7, 1 << 16] {
+        let (mut out, mut come) = (Vec::new(), BufReader::with_capacity(room, input.as_bytes()));
+        answer_as_they_come(&mut come, Method::Turns, &mut out).expect("a list takes all");
+        assert_eq!(String::from_utf8(out).expect("answers are text"), expected, "{room} bytes a read");
     }
 }
 
