@@ -1,4 +1,4 @@
-use Rattle.std.proofs.Common.{◌≡◌, ◌∙◌, Some, ap, rules, string_bytes, sym}
+use Rattle.std.proofs.Common.{◌∙◌, Some, ap, rules, string_bytes, sym}
 use Rattle.std.proofs.lemmas.Result.{IfOk-weaker}
 use Rattle.fr_route.specs.States.{State}
 use Rattle.fr_route.proofs.Telling.{edits_before, told_of_edits}
