@@ -9,7 +9,7 @@
 #include <revroute.h>
 #include <stdbool.h>
 
-enum { MOST = 9, NETWORKS = 2500, CHANGES = 80, TEXT = 4096 };
+enum { MOST = 9, NETWORKS = 3600, CHANGES = 80, TEXT = 4096 };
 
 static uint64_t drawn = 20261125;
 
