@@ -11,6 +11,7 @@ ghost use Rattle.revroute_c.specs.Replies.{least_room, IsAnswered, IsWanted, IsW
 
 mod handle;
 mod loose;
+mod pieces;
 mod replies;
 
 use fr_route::{VERSION, is_blank};
