@@ -16,3 +16,4 @@ pub mod Renewing
 pub mod Noting
 pub mod Joining
 pub mod Inside
+pub mod Telling

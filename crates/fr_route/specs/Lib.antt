@@ -8,5 +8,6 @@ pub mod RouterInside
 pub mod Blank
 pub mod Texts
 pub mod Answers
+pub mod Told
 pub mod Refusals
 pub mod Laws

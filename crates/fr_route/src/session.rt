@@ -1,12 +1,14 @@
 //! What the requests so far have made, and the answer to the next one.
 
-ghost use Rattle.std.specs.Prelude.{◌≡◌, ◌≢◌, ℕ, ◌<◌, ◌≤◌, ◌⊎◌, ◌↔◌, length, replicate, true, false, Some, None, IfOk, IfErr, OnErr, IfSome, IfNone, string_bytes};
+ghost use Rattle.std.specs.Prelude.{◌≡◌, ◌≢◌, ℕ, ◌<◌, ◌≤◌, ◌⊎◌, ◌↔◌, length, replicate, true, false, Some, None, IfOk, IfErr, OnErr, OnOk, IfSome, IfNone, string_bytes, vec_capacity};
 ghost use Rattle.std.specs.Option.{option_copied};
 ghost use Rattle.fr_net.specs.Requests.{ask, make_edits, new_network, walk_from, plain, reading};
 ghost use Rattle.fr_crew.specs.Settlements.{HoldsSinks};
 ghost use Rattle.fr_crew.specs.Ways.{Settles, NeverStarts};
 ghost use Rattle.fr_route.specs.Blank.{is_blank as is_blank_line};
 ghost use Rattle.fr_route.specs.Answers.{IsAccepted, IsAnswer, IsLineAnswer, IsReportLine, MayStartFor, MayStartForLine};
+ghost use Rattle.fr_route.specs.Told.{IsTold, IsLineTold};
+ghost use Rattle.fr_route.specs.Reroutes.{AreJoined};
 ghost use Rattle.fr_route.specs.Texts.{longest_report, refusal_text};
 ghost use Rattle.fr_route.specs.Refusals.{number_of, request_of_change, IsNewFault, IsRefusalOf};
 ghost use Rattle.fr_route.specs.declared.fault.AnswerFault.TheVariants.{Start, Memory};
@@ -23,7 +25,7 @@ use crate::texts::{
 };
 use fr_crew::{CrewFault, Gate, Plan, settled_counts, settled_counts_alone};
 use fr_net::{Edit, LineFault, LineReader, Net, Question, Request, Turns};
-use std::alloc::Global;
+use std::alloc::{AllocError, Global};
 use std::marker::Model;
 use std::sync::Wait;
 use std::thread::Threads;
@@ -91,6 +93,8 @@ impl Session {
                 requires from { IfSome from (λ from. HoldsSinks net.now dest from.now) }
                 requires none { turns ≡ replicate net.now.nodes 0 }
             { settled_counts(rt, alloc, net, dest, from, plan, gate, turns) },
+            false,
+            &mut Vec::new(alloc),
         )
     }
 
@@ -111,6 +115,35 @@ impl Session {
             alloc,
             line,
             &|net, dest, from, turns| settled_counts_alone(net, dest, from, turns),
+            false,
+            &mut Vec::new(alloc),
+        )
+    }
+
+    /// The same, and tells which nodes the line reroutes, in a list of the caller's, in rising order: a change those that send on to
+    /// another node than before, that are cut off now or that are no longer, and a new network those that are not cut off. Whatever
+    /// else is answered leaves the list, and so does a fault. The list gets room for all nodes before anything is changed, and keeps it.
+    pub fn answer_line_telling_alone(
+        &mut self,
+        alloc: Global,
+        line: &[u8],
+        rerouted: &mut Vec<u32>,
+    ) -> Result<Option<String>, AnswerFault>
+        ensures blank { IfOk result (λ answer. IfNone answer ((is_blank_line line.now ≡ true) × (self.new ≡ self.old) × (rerouted.new.items ≡ rerouted.old.items))) }
+        ensures text { IfOk result (λ answer. IfSome answer (λ text. (is_blank_line line.now ≡ false)
+            × IsLineAnswer self.old (reading line.now) (string_bytes text) self.new)) }
+        ensures told { IfOk result (λ answer. IfSome answer (λ _. IsLineTold self.old (reading line.now) self.new rerouted.old.items rerouted.new.items)) }
+        ensures unchanged { OnErr result ((is_blank_line line.now ≡ false) × (self.new ≡ self.old)) }
+        ensures untold { OnErr result (rerouted.new.items ≡ rerouted.old.items) }
+        ensures short { IfOk result (λ answer. IfSome answer (λ text. ((self.new ≡ self.old) × (rerouted.new.items ≡ rerouted.old.items)) ⊎ (length (string_bytes text) ≤ longest_report))) }
+        ensures no_start { IfErr result (λ fault. fault ≢ Start) }
+    {
+        self.answer_line_by(
+            alloc,
+            line,
+            &|net, dest, from, turns| settled_counts_alone(net, dest, from, turns),
+            true,
+            rerouted,
         )
     }
 
@@ -120,20 +153,25 @@ impl Session {
         alloc: Global,
         line: &[u8],
         way: &F,
+        telling: bool,
+        rerouted: &mut Vec<u32>,
     ) -> Result<Option<String>, AnswerFault>
         requires { Settles F.pre F.post way.now }
         ensures blank { IfOk result (λ answer. IfNone answer ((is_blank_line line.now ≡ true) × (self.new ≡ self.old))) }
         ensures text { IfOk result (λ answer. IfSome answer (λ text. (is_blank_line line.now ≡ false)
             × IsLineAnswer self.old (reading line.now) (string_bytes text) self.new)) }
+        ensures told { telling ≡ true → IfOk result (λ answer. IfSome answer (λ _. IsLineTold self.old (reading line.now) self.new rerouted.old.items rerouted.new.items)) }
+        ensures blank_told { IfOk result (λ answer. IfNone answer (rerouted.new.items ≡ rerouted.old.items)) }
         ensures unchanged { OnErr result ((is_blank_line line.now ≡ false) × (self.new ≡ self.old)) }
-        ensures short { IfOk result (λ answer. IfSome answer (λ text. (self.new ≡ self.old) ⊎ (length (string_bytes text) ≤ longest_report))) }
+        ensures untold { OnErr result (rerouted.new.items ≡ rerouted.old.items) }
+        ensures short { IfOk result (λ answer. IfSome answer (λ text. ((self.new ≡ self.old) × (rerouted.new.items ≡ rerouted.old.items)) ⊎ (length (string_bytes text) ≤ longest_report))) }
         ensures start { IfErr result (λ fault. fault ≡ Start → MayStartForLine self.old (reading line.now)) }
         ensures no_start { NeverStarts F.post way.now → IfErr result (λ fault. fault ≢ Start) }
     {
         if is_blank(line) {
             return Ok(None);
         }
-        Ok(Some(self.answer_words_by(alloc, line, way)?))
+        Ok(Some(self.answer_words_by(alloc, line, way, telling, rerouted)?))
     }
 
     /// The answer to a line that is not blank.
@@ -142,16 +180,20 @@ impl Session {
         alloc: Global,
         line: &[u8],
         way: &F,
+        telling: bool,
+        rerouted: &mut Vec<u32>,
     ) -> Result<String, AnswerFault>
         requires { Settles F.pre F.post way.now }
         ensures text { IfOk result (λ text. IsLineAnswer self.old (reading line.now) (string_bytes text) self.new) }
+        ensures told { telling ≡ true → IfOk result (λ _. IsLineTold self.old (reading line.now) self.new rerouted.old.items rerouted.new.items) }
         ensures unchanged { OnErr result (self.new ≡ self.old) }
-        ensures short { IfOk result (λ text. (self.new ≡ self.old) ⊎ (length (string_bytes text) ≤ longest_report)) }
+        ensures untold { OnErr result (rerouted.new.items ≡ rerouted.old.items) }
+        ensures short { IfOk result (λ text. ((self.new ≡ self.old) × (rerouted.new.items ≡ rerouted.old.items)) ⊎ (length (string_bytes text) ≤ longest_report)) }
         ensures start { IfErr result (λ fault. fault ≡ Start → MayStartForLine self.old (reading line.now)) }
         ensures no_start { NeverStarts F.post way.now → IfErr result (λ fault. fault ≢ Start) }
     {
         match self.reader.read(alloc, line) {
-            Ok(request) => self.answer_by(alloc, &request, way),
+            Ok(request) => self.answer_by(alloc, &request, way, telling, rerouted),
             Err(LineFault::NotJson) => refuse(alloc, Refusal::NotJson),
             Err(LineFault::NotRequest) => refuse(alloc, Refusal::NotRequest),
             Err(LineFault::Memory) => Err(AnswerFault::Memory),
@@ -180,6 +222,8 @@ impl Session {
                 requires from { IfSome from (λ from. HoldsSinks net.now dest from.now) }
                 requires none { turns ≡ replicate net.now.nodes 0 }
             { settled_counts(rt, alloc, net, dest, from, plan, gate, turns) },
+            false,
+            &mut Vec::new(alloc),
         )
     }
 
@@ -194,6 +238,8 @@ impl Session {
             alloc,
             request,
             &|net, dest, from, turns| settled_counts_alone(net, dest, from, turns),
+            false,
+            &mut Vec::new(alloc),
         )
     }
 
@@ -203,22 +249,26 @@ impl Session {
         alloc: Global,
         request: &Request,
         way: &F,
+        telling: bool,
+        rerouted: &mut Vec<u32>,
     ) -> Result<String, AnswerFault>
         requires { Settles F.pre F.post way.now }
         ensures text { IfOk result (λ text. IsAnswer self.old (plain request.now) (string_bytes text) self.new) }
+        ensures told { telling ≡ true → IfOk result (λ _. IsTold self.old (plain request.now) self.new rerouted.old.items rerouted.new.items) }
         ensures unchanged { OnErr result (self.new ≡ self.old) }
-        ensures short { IfOk result (λ text. (self.new ≡ self.old) ⊎ (length (string_bytes text) ≤ longest_report)) }
+        ensures untold { OnErr result (rerouted.new.items ≡ rerouted.old.items) }
+        ensures short { IfOk result (λ text. ((self.new ≡ self.old) × (rerouted.new.items ≡ rerouted.old.items)) ⊎ (length (string_bytes text) ≤ longest_report)) }
         ensures start { IfErr result (λ fault. fault ≡ Start → MayStartFor self.old (plain request.now)) }
         ensures no_start { NeverStarts F.post way.now → IfErr result (λ fault. fault ≢ Start) }
     {
         match request {
-            Request::Network { nodes, dest, links } => self.open(alloc, *nodes, *dest, links, way),
-            Request::Cut { u, v } => self.change(alloc, Change::Cut { u: *u, v: *v }, way),
-            Request::Add { u, v } => self.change(alloc, Change::Add { u: *u, v: *v }, way),
-            Request::Join { u, v } => self.change(alloc, Change::Join { u: *u, v: *v }, way),
-            Request::Batch { edits } => self.edit(alloc, edits, way),
+            Request::Network { nodes, dest, links } => self.open(alloc, *nodes, *dest, links, way, telling, rerouted),
+            Request::Cut { u, v } => self.change(alloc, Change::Cut { u: *u, v: *v }, way, telling, rerouted),
+            Request::Add { u, v } => self.change(alloc, Change::Add { u: *u, v: *v }, way, telling, rerouted),
+            Request::Join { u, v } => self.change(alloc, Change::Join { u: *u, v: *v }, way, telling, rerouted),
+            Request::Batch { edits } => self.edit(alloc, edits, way, telling, rerouted),
             Request::Destination { dest } => {
-                self.change(alloc, Change::Destination { dest: *dest }, way)
+                self.change(alloc, Change::Destination { dest: *dest }, way, telling, rerouted)
             }
             Request::Walk { x } => self.walk(alloc, *x),
             Request::Ask(question) => self.tell(alloc, *question),
@@ -233,16 +283,20 @@ impl Session {
         dest: u32,
         links: &[(u32, u32)],
         way: &F,
+        telling: bool,
+        rerouted: &mut Vec<u32>,
     ) -> Result<String, AnswerFault>
         requires { Settles F.pre F.post way.now }
         ensures text { IfOk result (λ text. IsAnswer self.old (new_network nodes dest links.now) (string_bytes text) self.new) }
+        ensures told { telling ≡ true → IfOk result (λ _. IsTold self.old (new_network nodes dest links.now) self.new rerouted.old.items rerouted.new.items) }
         ensures unchanged { OnErr result (self.new ≡ self.old) }
-        ensures short { IfOk result (λ text. (self.new ≡ self.old) ⊎ (length (string_bytes text) ≤ longest_report)) }
+        ensures untold { OnErr result (rerouted.new.items ≡ rerouted.old.items) }
+        ensures short { IfOk result (λ text. ((self.new ≡ self.old) × (rerouted.new.items ≡ rerouted.old.items)) ⊎ (length (string_bytes text) ≤ longest_report)) }
         ensures start { IfErr result (λ fault. fault ≡ Start → MayStartFor self.old (new_network nodes dest links.now)) }
         ensures no_start { NeverStarts F.post way.now → IfErr result (λ fault. fault ≢ Start) }
     {
         match opened(alloc, nodes, dest, links, way) {
-            Ok(router) => self.put(alloc, router),
+            Ok(router) => self.put(alloc, router, telling, rerouted),
             Err(fault) => refusal(alloc, &fault),
         }
     }
@@ -253,23 +307,28 @@ impl Session {
         alloc: Global,
         change: Change,
         way: &F,
+        telling: bool,
+        rerouted: &mut Vec<u32>,
     ) -> Result<String, AnswerFault>
         requires { Settles F.pre F.post way.now }
         ensures text { IfOk result (λ text. IsAnswer self.old (request_of_change change) (string_bytes text) self.new) }
+        ensures told { telling ≡ true → IfOk result (λ _. IsTold self.old (request_of_change change) self.new rerouted.old.items rerouted.new.items) }
         ensures unchanged { OnErr result (self.new ≡ self.old) }
-        ensures short { IfOk result (λ text. (self.new ≡ self.old) ⊎ (length (string_bytes text) ≤ longest_report)) }
+        ensures untold { OnErr result (rerouted.new.items ≡ rerouted.old.items) }
+        ensures short { IfOk result (λ text. ((self.new ≡ self.old) × (rerouted.new.items ≡ rerouted.old.items)) ⊎ (length (string_bytes text) ≤ longest_report)) }
         ensures start { IfErr result (λ fault. fault ≡ Start → MayStartFor self.old (request_of_change change)) }
         ensures no_start { NeverStarts F.post way.now → IfErr result (λ fault. fault ≢ Start) }
     {
         let Some(router) = &mut self.router else {
             return refuse(alloc, Refusal::NoNetwork);
         };
+        make_room(rerouted, router.net().nodes(), telling)?;
         match router.change_by(
             alloc,
             &change,
             way,
             &|report| report_line(alloc, report),
-            &mut Vec::new(alloc),
+            rerouted,
         ) {
             Ok(text) => Ok(text),
             Err(fault) => refusal(alloc, &fault),
@@ -282,11 +341,15 @@ impl Session {
         alloc: Global,
         edits: &[Edit],
         way: &F,
+        telling: bool,
+        rerouted: &mut Vec<u32>,
     ) -> Result<String, AnswerFault>
         requires { Settles F.pre F.post way.now }
         ensures text { IfOk result (λ text. IsAnswer self.old (make_edits edits.now) (string_bytes text) self.new) }
+        ensures told { telling ≡ true → IfOk result (λ _. IsTold self.old (make_edits edits.now) self.new rerouted.old.items rerouted.new.items) }
         ensures unchanged { OnErr result (self.new ≡ self.old) }
-        ensures short { IfOk result (λ text. (self.new ≡ self.old) ⊎ (length (string_bytes text) ≤ longest_report)) }
+        ensures untold { OnErr result (rerouted.new.items ≡ rerouted.old.items) }
+        ensures short { IfOk result (λ text. ((self.new ≡ self.old) × (rerouted.new.items ≡ rerouted.old.items)) ⊎ (length (string_bytes text) ≤ longest_report)) }
         ensures start { IfErr result (λ fault. fault ≡ Start → MayStartFor self.old (make_edits edits.now)) }
         ensures no_start { NeverStarts F.post way.now → IfErr result (λ fault. fault ≢ Start) }
     {
@@ -294,27 +357,39 @@ impl Session {
             return refuse(alloc, Refusal::NoNetwork);
         };
         let dest = router.dest();
+        make_room(rerouted, router.net().nodes(), telling)?;
         match router.edit_by(
             alloc,
             edits,
             dest,
             way,
             &|report| report_line(alloc, report),
-            &mut Vec::new(alloc),
+            rerouted,
         ) {
             Ok(line) => Ok(line),
             Err(fault) => refusal(alloc, &fault),
         }
     }
 
-    /// Puts a router in place, once the line that reports its round is made.
-    fn put(&mut self, alloc: Global, router: Router) -> Result<String, AnswerFault>
+    /// Puts a router in place, once the line that reports its round is made, and tells which nodes are not cut off if that is asked.
+    fn put(
+        &mut self,
+        alloc: Global,
+        router: Router,
+        telling: bool,
+        rerouted: &mut Vec<u32>,
+    ) -> Result<String, AnswerFault>
         ensures text { IfOk result (λ text. IsReportLine router (string_bytes text) × (self.new ≡ Some router)) }
+        ensures told { telling ≡ true → OnOk result (AreJoined router rerouted.new.items) }
         ensures unchanged { OnErr result (self.new ≡ self.old) }
+        ensures untold { OnErr result (rerouted.new.items ≡ rerouted.old.items) }
         ensures short { IfOk result (λ text. length (string_bytes text) ≤ longest_report) }
         ensures memory { IfErr result (λ fault. fault ≡ Memory) }
     {
         let text = report_line(alloc, router.report())?;
+        if telling {
+            router.joined(rerouted)?;
+        }
         self.router = Some(router);
         Ok(text)
     }
@@ -351,6 +426,17 @@ impl Session {
             Question::Hops => Ok(hops_line(alloc, router.hops())?),
         }
     }
+}
+
+/// Makes room for all nodes in a list that is to tell some of them.
+fn make_room(list: &mut Vec<u32>, nodes: u32, telling: bool) -> Result<(), AllocError>
+    ensures room { telling ≡ true → OnOk result (nodes ≤ vec_capacity list.new) }
+    ensures same { list.new.items ≡ list.old.items }
+{
+    if !telling {
+        return Ok(());
+    }
+    list.reserve((nodes as usize).saturating_sub(list.len()))
 }
 
 /// The answer to a line that is refused.

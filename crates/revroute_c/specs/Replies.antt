@@ -9,9 +9,9 @@ use Rattle.fr_route.specs.States.{State}
 abbrev pub least_room : ℕ
 least_room = 64
 
--- the bytes stand at the front of the buffer, and the rest of it is as it was
-abbrev pub IsWritten : List ℕ → List ℕ → List ℕ → Type 0
-IsWritten bytes before after = (length bytes ≤ length before) × (after ≡ bytes ++ drop (length bytes) before)
+-- the items stand at the front of the buffer, and the rest of it is as it was
+abbrev pub IsWritten : {X : Type 0} → List X → List X → List X → Type 0
+IsWritten items before after = (length items ≤ length before) × (after ≡ items ++ drop (length items) before)
 
 -- the line is answered, the session is then in this state, the answer stands in the buffer, and this is its length
 pub record IsAnswered (old : Option State) (line : List ℕ) (new : Option State) (before after : List ℕ) (size : ℕ) : Type 0 where

@@ -1,13 +1,14 @@
 //! What C holds of a session.
 
-ghost use Rattle.std.specs.Prelude.{◌≡◌, MatchOption, Option, None};
+ghost use Rattle.std.specs.Prelude.{◌≡◌, ℕ, List, MatchOption, Option, None};
 ghost use Rattle.std.specs.Borrow.{sem};
 ghost use denote.RawPtr.{null_ptr};
 ghost use Rattle.fr_route.specs.States.{State};
-ghost use Rattle.revroute_c.specs.Holding.{holds};
+ghost use Rattle.revroute_c.specs.Engines.{no_engine, held};
+ghost use Rattle.revroute_c.specs.Holding.{holds, shares_held};
 
+use crate::engine::Engine;
 use crate::loose::Loose;
-use fr_route::Session;
 use std::alloc::Global;
 use std::marker::{Model, Send};
 use std::mem::replace;
@@ -20,29 +21,33 @@ use std::ptr::null_mut;
 pub struct Handle {
     at: *mut u8,
     pub ghost session: { Option State },
+    pub ghost rerouted: { List ℕ },
+    pub ghost begun: { List ℕ },
 }
 
 impl Model for Handle {
-    ghost also_owns = { λ handle. holds handle.at handle.session };
+    ghost also_owns = { λ handle. holds handle.at (held handle.session handle.rerouted handle.begun) };
+
+    ghost also_shares = { λ handle _ κ. shares_held handle.at (held handle.session handle.rerouted handle.begun) κ };
 }
 
-// What a handle owns is the session, and that may go to another thread.
+// What a handle owns is the engine, and that may go to another thread.
 unsafe impl Send for Handle {}
 
 impl Handle {
-    ghost use Rattle.revroute_c.specs.Lending.{LendsSession};
+    ghost use Rattle.revroute_c.specs.Lending.{LendsEngine, held_by};
 
     /// The null handle, of a session that holds no network.
     fn empty() -> Handle
-        ensures session { result.session ≡ None }
+        ensures held { held_by result ≡ no_engine }
         ensures null { result.at ≡ null_ptr }
     {
         Handle { at: null_mut() }
     }
 
-    /// The handle of a session.
-    fn of(loose: Loose<Session, Global>) -> Handle
-        ensures { result.session ≡ loose.value }
+    /// The handle of an engine.
+    fn of(loose: Loose<Engine, Global>) -> Handle
+        ensures { held_by result ≡ loose.value }
     {
         let Loose { at, alloc: _ } = loose;
         Handle {
@@ -50,25 +55,25 @@ impl Handle {
         }
     }
 
-    /// The session of a handle, where it is not null.
-    fn into_loose(self, alloc: Global) -> Option<Loose<Session, Global>>
-        ensures { MatchOption result (self.session ≡ None) (λ loose. self.session ≡ loose.value) }
+    /// The engine of a handle, where it is not null.
+    fn into_loose(self, alloc: Global) -> Option<Loose<Engine, Global>>
+        ensures { MatchOption result (held_by self ≡ no_engine) (λ loose. held_by self ≡ loose.value) }
     {
         let Handle { at } = self;
         if at.is_null() {
             None
         } else {
             Some(Loose {
-                at: at.cast::<Session>(),
+                at: at.cast::<Engine>(),
                 alloc,
             })
         }
     }
 
-    /// Takes the session out of a handle, which is then null; there is none if it was null before.
-    pub(crate) fn taken(handle: &mut Handle, alloc: Global) -> Option<Box<Session>>
-        ensures session { MatchOption result (handle.old.session ≡ None) (λ session. handle.old.session ≡ session.value) }
-        ensures left { handle.new.session ≡ None }
+    /// Takes the engine out of a handle, which is then null; there is none if it was null before.
+    pub(crate) fn taken(handle: &mut Handle, alloc: Global) -> Option<Box<Engine>>
+        ensures held { MatchOption result (held_by handle.old ≡ no_engine) (λ engine. held_by handle.old ≡ engine.value) }
+        ensures left { held_by handle.new ≡ no_engine }
         ensures null { handle.new.at ≡ null_ptr }
     {
         let held = replace(handle, Handle::empty());
@@ -78,23 +83,33 @@ impl Handle {
         }
     }
 
-    /// The session of a handle, where it stands; none where the handle is null.
-    pub(crate) fn session_mut(&mut self) -> Option<&mut Session>
-        ensures* writes_back { sem 𝓛 (LendsSession self.entry result) }
-        ensures value { MatchOption result ((self.old.at ≡ null_ptr) × (self.old.session ≡ None)) (λ session. session.now ≡ self.old.session) }
+    /// The engine of a handle, where it stands; none where the handle is null.
+    pub(crate) fn engine_mut(&mut self) -> Option<&mut Engine>
+        ensures* writes_back { sem 𝓛 (LendsEngine self.entry result) }
+        ensures value { MatchOption result ((self.old.at ≡ null_ptr) × (held_by self.old ≡ no_engine)) (λ engine. engine.now ≡ held_by self.old) }
     {
         if self.at.is_null() {
             return None;
         }
-        unsafe { Some(&mut *self.at.cast::<Session>()) }
+        unsafe { Some(&mut *self.at.cast::<Engine>()) }
     }
 
-    /// Puts a session into a null handle.
-    pub(crate) fn put(handle: &mut Handle, session: Box<Session>)
-        requires { handle.old.at ≡ null_ptr }
-        ensures { handle.new.session ≡ session.value }
+    /// The engine of a handle that others may read at the same time; none where the handle is null.
+    pub(crate) fn engine(&self) -> Option<&Engine>
+        ensures { MatchOption result (held_by self.now ≡ no_engine) (λ engine. engine.now ≡ held_by self.now) }
     {
-        *handle = Handle::of(Loose::of(session));
+        if self.at.is_null() {
+            return None;
+        }
+        unsafe { Some(&*self.at.cast::<Engine>()) }
+    }
+
+    /// Puts an engine into a null handle.
+    pub(crate) fn put(handle: &mut Handle, engine: Box<Engine>)
+        requires { handle.old.at ≡ null_ptr }
+        ensures { held_by handle.new ≡ engine.value }
+    {
+        *handle = Handle::of(Loose::of(engine));
     }
 }
 

@@ -4,18 +4,28 @@
 //! allocator takes no bytes, so C passes nothing for it.
 #![tactic(auto)]
 
-ghost use Rattle.std.specs.Prelude.{◌≡◌, ◌≤◌, ◌<◌, ◌⊎◌, true, None, length};
+ghost use Rattle.std.specs.Prelude.{◌≡◌, ◌==◌, ◌≢◌, ◌≤◌, ◌<◌, ◌++◌, ◌⊎◌, ◌↔◌, ℕ, List, true, [], None, length, position, IfSome};
 ghost use denote.RawPtr.{null_ptr};
+ghost use Rattle.fr_net.specs.Requests.{reading};
 ghost use Rattle.fr_route.specs.Blank.{is_blank as is_blank_line};
+ghost use Rattle.fr_route.specs.Told.{IsLineTold};
 ghost use Rattle.revroute_c.specs.Replies.{least_room, IsAnswered, IsWanted, IsWritten};
+ghost use Rattle.revroute_c.specs.Pieces.{EndsLine, IsTooLong, IsWantedAtEnd};
+ghost use Rattle.revroute_c.specs.Questions.{AreHopsWritten, TellsHop};
 
+mod engine;
 mod handle;
 mod loose;
 mod pieces;
+mod questions;
 mod replies;
 
 use fr_route::{VERSION, is_blank};
 use handle::Handle;
+use pieces::{BEGUN, TOO_LONG, finish_line, take_anew, take_front};
+use questions::{
+    HOP_OF_NO_NETWORK, HOP_OF_NO_NODE, NO_NETWORK, hand_out_hops, hop_number, router_of,
+};
 use replies::{ANSWERED, BLANK, LEAST_ROOM, NO_MEMORY, TOO_SHORT, hand_out, reply, reply_anew};
 use std::alloc::Global;
 
@@ -33,11 +43,14 @@ pub extern "C" fn revroute_answer(
     size: &mut usize,
 ) -> u32
     ensures answered { result ≡ ANSWERED → IsAnswered handle.old.session line.now handle.new.session answer.old answer.new size.new }
+    ensures told { result ≡ ANSWERED → IsLineTold handle.old.session (reading line.now) handle.new.session handle.old.rerouted handle.new.rerouted }
     ensures blank { result ≡ BLANK → (is_blank_line line.now ≡ true) × (size.new ≡ 0) }
     ensures blank_line { is_blank_line line.now ≡ true → least_room ≤ length answer.old → result ≡ BLANK }
     ensures too_short { result ≡ TOO_SHORT → (length answer.old < size.new) × IsWanted handle.old.session line.now (length answer.old) size.new }
     ensures no_memory { result ≡ NO_MEMORY → size.new ≡ 0 }
     ensures unchanged { ¬ (result ≡ ANSWERED) → (handle.new.session ≡ handle.old.session) × (answer.new ≡ answer.old) }
+    ensures untold { ¬ (result ≡ ANSWERED) → handle.new.rerouted ≡ handle.old.rerouted }
+    ensures begun { handle.new.begun ≡ handle.old.begun }
     ensures kept { ¬ (result ≡ ANSWERED) → handle.new.at ≡ handle.old.at }
     ensures room { length answer.old < least_room → result ≡ TOO_SHORT }
     ensures status { result ≤ NO_MEMORY }
@@ -50,9 +63,81 @@ pub extern "C" fn revroute_answer(
     if is_blank(line) {
         return BLANK;
     }
-    match handle.session_mut() {
-        Some(session) => reply(session, alloc, line, answer, size),
+    match handle.engine_mut() {
+        Some(engine) => reply(engine, alloc, line, answer, size),
         None => reply_anew(handle, alloc, line, answer, size),
+    }
+}
+
+/// Takes the front of a piece, up to its first byte 10 and with it, and answers the line that ends there, of what had begun and this
+/// front; without one, all of the piece is kept behind what has begun, and `BEGUN` says so. How many bytes were taken goes to `taken`. The
+/// answer and its length are as [`revroute_answer`]'s. `TOO_LONG` says that the line has more than 16,777,216 bytes. After it,
+/// `TOO_SHORT` and `NO_MEMORY` nothing was taken, and all is as it was: the piece can be handed in again.
+#[unsafe(no_mangle)]
+pub extern "C" fn revroute_take(
+    alloc: Global,
+    handle: &mut Handle,
+    piece: &[u8],
+    answer: &mut [u8],
+    size: &mut usize,
+    taken: &mut usize,
+) -> u32
+    ensures answered { result ≡ ANSWERED → (line : List ℕ) × EndsLine handle.old.begun piece.now line taken.new
+        × IsAnswered handle.old.session line handle.new.session answer.old answer.new size.new
+        × IsLineTold handle.old.session (reading line) handle.new.session handle.old.rerouted handle.new.rerouted }
+    ensures blank { result ≡ BLANK → (line : List ℕ) × EndsLine handle.old.begun piece.now line taken.new
+        × (is_blank_line line ≡ true) × (size.new ≡ 0) }
+    ensures ended { result ≤ BLANK → handle.new.begun ≡ [] }
+    ensures kept { result ≡ BEGUN → (position (λ x. x == 10) piece.now ≡ None) × (handle.new.begun ≡ handle.old.begun ++ piece.now)
+        × (taken.new ≡ length piece.now) × (size.new ≡ 0) }
+    ensures too_short { result ≡ TOO_SHORT → (length answer.old < size.new)
+        × IsWantedAtEnd handle.old.session handle.old.begun piece.now (length answer.old) size.new }
+    ensures no_memory { result ≡ NO_MEMORY → size.new ≡ 0 }
+    ensures too_long { result ≡ TOO_LONG → IsTooLong handle.old.begun piece.now × (size.new ≡ 0) }
+    ensures unchanged { ¬ (result ≡ ANSWERED) → (handle.new.session ≡ handle.old.session) × (handle.new.rerouted ≡ handle.old.rerouted) × (answer.new ≡ answer.old) }
+    ensures untaken { BLANK < result → result ≢ BEGUN → (handle.new.begun ≡ handle.old.begun) × (taken.new ≡ 0) }
+    ensures room { length answer.old < least_room → result ≡ TOO_SHORT }
+    ensures status { (result ≤ NO_MEMORY) ⊎ (result ≡ BEGUN) ⊎ (result ≡ TOO_LONG) }
+{
+    *size = 0;
+    *taken = 0;
+    if answer.len() < LEAST_ROOM {
+        *size = LEAST_ROOM;
+        return TOO_SHORT;
+    }
+    match handle.engine_mut() {
+        Some(engine) => take_front(engine, alloc, piece, answer, size, taken),
+        None => take_anew(handle, alloc, piece, answer, size, taken),
+    }
+}
+
+/// Ends the line that has begun, as the end of an input does, and answers it as [`revroute_answer`] does.
+#[unsafe(no_mangle)]
+pub extern "C" fn revroute_finish(
+    alloc: Global,
+    handle: &mut Handle,
+    answer: &mut [u8],
+    size: &mut usize,
+) -> u32
+    ensures answered { result ≡ ANSWERED → IsAnswered handle.old.session handle.old.begun handle.new.session answer.old answer.new size.new
+        × IsLineTold handle.old.session (reading handle.old.begun) handle.new.session handle.old.rerouted handle.new.rerouted }
+    ensures blank { result ≡ BLANK → (is_blank_line handle.old.begun ≡ true) × (size.new ≡ 0) }
+    ensures ended { result ≤ BLANK → handle.new.begun ≡ [] }
+    ensures too_short { result ≡ TOO_SHORT → (length answer.old < size.new) × IsWanted handle.old.session handle.old.begun (length answer.old) size.new }
+    ensures no_memory { result ≡ NO_MEMORY → size.new ≡ 0 }
+    ensures unchanged { ¬ (result ≡ ANSWERED) → (handle.new.session ≡ handle.old.session) × (handle.new.rerouted ≡ handle.old.rerouted) × (answer.new ≡ answer.old) }
+    ensures still { BLANK < result → handle.new.begun ≡ handle.old.begun }
+    ensures room { length answer.old < least_room → result ≡ TOO_SHORT }
+    ensures status { result ≤ NO_MEMORY }
+{
+    *size = 0;
+    if answer.len() < LEAST_ROOM {
+        *size = LEAST_ROOM;
+        return TOO_SHORT;
+    }
+    match handle.engine_mut() {
+        Some(engine) => finish_line(engine, alloc, answer, size),
+        None => BLANK,
     }
 }
 
@@ -60,6 +145,8 @@ pub extern "C" fn revroute_answer(
 #[unsafe(no_mangle)]
 pub extern "C" fn revroute_close(alloc: Global, handle: &mut Handle)
     ensures session { handle.new.session ≡ None }
+    ensures rerouted { handle.new.rerouted ≡ [] }
+    ensures begun { handle.new.begun ≡ [] }
     ensures null { handle.new.at ≡ null_ptr }
 {
     drop(Handle::taken(handle, alloc));
@@ -75,4 +162,70 @@ pub extern "C" fn revroute_version(text: &mut [u8], size: &mut usize) -> u32
     ensures status { (result ≡ ANSWERED) ⊎ (result ≡ TOO_SHORT) }
 {
     hand_out(VERSION.as_bytes(), text, size)
+}
+
+/// Where a node sends on to: the node to which it does, or one of the named values, which are above all nodes. It answers for any number
+/// and any session, and takes the same few steps for each.
+#[unsafe(no_mangle)]
+pub extern "C" fn revroute_next_hop(handle: &Handle, node: u32) -> u32
+    ensures { TellsHop handle.now.session node result }
+{
+    match router_of(handle) {
+        Some(router) if node < router.net().nodes() => hop_number(router, node),
+        Some(_) => HOP_OF_NO_NODE,
+        None => HOP_OF_NO_NETWORK,
+    }
+}
+
+/// Writes where each node sends on to, in the order of the nodes, into the front of the place, and how many there are to `size`. `TOO_SHORT`
+/// says that the place has less room, and `NO_NETWORK` that there is no network yet; `size` is then 0. After both the place is as it was.
+/// Linear in nodes.
+#[unsafe(no_mangle)]
+pub extern "C" fn revroute_next_hops(handle: &Handle, hops: &mut [u32], size: &mut usize) -> u32
+    ensures written { result ≡ ANSWERED → IfSome handle.now.session (λ s. AreHopsWritten s hops.old hops.new) }
+    ensures too_short { result ≡ TOO_SHORT → length hops.old < size.new }
+    ensures size { IfSome handle.now.session (λ s. size.new ≡ s.nodes) }
+    ensures no_network { (result ≡ NO_NETWORK) ↔ (handle.now.session ≡ None) }
+    ensures unchanged { ¬ (result ≡ ANSWERED) → hops.new ≡ hops.old }
+    ensures none { result ≡ NO_NETWORK → size.new ≡ 0 }
+    ensures status { (result ≡ ANSWERED) ⊎ (result ≡ TOO_SHORT) ⊎ (result ≡ NO_NETWORK) }
+{
+    *size = 0;
+    match router_of(handle) {
+        Some(router) => hand_out_hops(router, hops, size),
+        None => NO_NETWORK,
+    }
+}
+
+/// Writes the nodes that the last accepted round rerouted, in rising order, into the front of the place, and how many there are to `size`.
+/// `TOO_SHORT` says that the place is as it was, and has less room.
+#[unsafe(no_mangle)]
+pub extern "C" fn revroute_rerouted(handle: &Handle, nodes: &mut [u32], size: &mut usize) -> u32
+    ensures written { result ≡ ANSWERED → IsWritten handle.now.rerouted nodes.old nodes.new }
+    ensures too_short { result ≡ TOO_SHORT → (length nodes.old < size.new) × (nodes.new ≡ nodes.old) }
+    ensures size { size.new ≡ length handle.now.rerouted }
+    ensures status { (result ≡ ANSWERED) ⊎ (result ≡ TOO_SHORT) }
+{
+    match handle.engine() {
+        Some(engine) => hand_out(&engine.rerouted, nodes, size),
+        None => hand_out(&[], nodes, size),
+    }
+}
+
+/// Writes how often each node turned in the last round, in the order of the nodes, as [`revroute_next_hops`] does the hops.
+#[unsafe(no_mangle)]
+pub extern "C" fn revroute_counts(handle: &Handle, counts: &mut [u64], size: &mut usize) -> u32
+    ensures written { result ≡ ANSWERED → IfSome handle.now.session (λ s. IsWritten s.counts counts.old counts.new) }
+    ensures too_short { result ≡ TOO_SHORT → length counts.old < size.new }
+    ensures size { IfSome handle.now.session (λ s. size.new ≡ length s.counts) }
+    ensures no_network { (result ≡ NO_NETWORK) ↔ (handle.now.session ≡ None) }
+    ensures unchanged { ¬ (result ≡ ANSWERED) → counts.new ≡ counts.old }
+    ensures none { result ≡ NO_NETWORK → size.new ≡ 0 }
+    ensures status { (result ≡ ANSWERED) ⊎ (result ≡ TOO_SHORT) ⊎ (result ≡ NO_NETWORK) }
+{
+    *size = 0;
+    match router_of(handle) {
+        Some(router) => hand_out(router.counts(), counts, size),
+        None => NO_NETWORK,
+    }
 }

@@ -1,12 +1,17 @@
 //! Answers in the buffer of a caller.
 
-ghost use Rattle.std.specs.Prelude.{◌≡◌, ◌≢◌, ◌≤◌, ◌<◌, ◌⊎◌, false, length, None};
+ghost use Rattle.std.specs.Prelude.{◌≡◌, ◌≢◌, ◌≤◌, ◌<◌, ◌⊎◌, false, length};
 ghost use denote.RawPtr.{null_ptr};
+ghost use Rattle.fr_net.specs.Requests.{reading};
 ghost use Rattle.fr_route.specs.Blank.{is_blank};
+ghost use Rattle.fr_route.specs.Told.{IsLineTold};
+ghost use Rattle.revroute_c.specs.Engines.{no_engine};
+ghost use Rattle.revroute_c.specs.Lending.{held_by};
 ghost use Rattle.revroute_c.specs.Replies.{least_room, IsAnswered, IsAnswerLength, IsWritten};
 
+use crate::engine::Engine;
 use crate::handle::Handle;
-use fr_route::{AnswerFault, Session};
+use fr_route::AnswerFault;
 use std::alloc::Global;
 
 /// What was asked for stands in the buffer.
@@ -25,25 +30,25 @@ pub(crate) const NO_MEMORY: u32 = 3;
 /// buffer of this room, it changes nothing.
 pub(crate) const LEAST_ROOM: usize = 64;
 
-/// Writes bytes to the front of a buffer that has room for them, and tells how many they are in any case.
-pub(crate) fn hand_out(bytes: &[u8], buffer: &mut [u8], size: &mut usize) -> u32
-    ensures written { result ≡ ANSWERED → IsWritten bytes.now buffer.old buffer.new }
-    ensures too_short { result ≡ TOO_SHORT → (length buffer.old < length bytes.now) × (buffer.new ≡ buffer.old) }
-    ensures size { size.new ≡ length bytes.now }
+/// Writes items to the front of a buffer that has room for them, and tells how many they are in any case.
+pub(crate) fn hand_out<T: Copy>(items: &[T], buffer: &mut [T], size: &mut usize) -> u32
+    ensures written { result ≡ ANSWERED → IsWritten items.now buffer.old buffer.new }
+    ensures too_short { result ≡ TOO_SHORT → (length buffer.old < length items.now) × (buffer.new ≡ buffer.old) }
+    ensures size { size.new ≡ length items.now }
     ensures status { (result ≡ ANSWERED) ⊎ (result ≡ TOO_SHORT) }
 {
-    *size = bytes.len();
-    if bytes.len() > buffer.len() {
+    *size = items.len();
+    if items.len() > buffer.len() {
         return TOO_SHORT;
     }
-    buffer[..bytes.len()].copy_from_slice(bytes);
+    buffer[..items.len()].copy_from_slice(items);
     ANSWERED
 }
 
 /// Answers a line that is not blank, in a buffer of at least [`LEAST_ROOM`] bytes. `size` has to be 0, and stays so where there is
 /// no memory.
 pub(crate) fn reply(
-    session: &mut Session,
+    engine: &mut Engine,
     alloc: Global,
     line: &[u8],
     answer: &mut [u8],
@@ -52,13 +57,18 @@ pub(crate) fn reply(
     requires asks { is_blank line.now ≡ false }
     requires room { least_room ≤ length answer.old }
     requires size { size.old ≡ 0 }
-    ensures answered { result ≡ ANSWERED → IsAnswered session.old line.now session.new answer.old answer.new size.new }
-    ensures too_short { result ≡ TOO_SHORT → (length answer.old < size.new) × IsAnswerLength session.old line.now size.new }
+    ensures answered { result ≡ ANSWERED → IsAnswered engine.old.session line.now engine.new.session answer.old answer.new size.new }
+    ensures told { result ≡ ANSWERED → IsLineTold engine.old.session (reading line.now) engine.new.session engine.old.rerouted engine.new.rerouted }
+    ensures begun { engine.new.begun ≡ engine.old.begun }
+    ensures too_short { result ≡ TOO_SHORT → (length answer.old < size.new) × IsAnswerLength engine.old.session line.now size.new }
     ensures no_memory { result ≡ NO_MEMORY → size.new ≡ 0 }
-    ensures unchanged { ¬ (result ≡ ANSWERED) → (session.new ≡ session.old) × (answer.new ≡ answer.old) }
+    ensures unchanged { ¬ (result ≡ ANSWERED) → (engine.new ≡ engine.old) × (answer.new ≡ answer.old) }
     ensures status { (result ≢ BLANK) × (result ≤ NO_MEMORY) }
 {
-    match session.answer_line_alone(alloc, line) {
+    match engine
+        .session
+        .answer_line_telling_alone(alloc, line, &mut engine.rerouted)
+    {
         Ok(Some(text)) => hand_out(text.as_bytes(), answer, size),
         Err(AnswerFault::Memory) => NO_MEMORY,
         Ok(None) | Err(AnswerFault::Start) => unreachable!(),
@@ -74,22 +84,24 @@ pub(crate) fn reply_anew(
     size: &mut usize,
 ) -> u32
     requires null { handle.old.at ≡ null_ptr }
-    requires session { handle.old.session ≡ None }
+    requires held { held_by handle.old ≡ no_engine }
     requires asks { is_blank line.now ≡ false }
     requires room { least_room ≤ length answer.old }
     requires size { size.old ≡ 0 }
     ensures answered { result ≡ ANSWERED → IsAnswered handle.old.session line.now handle.new.session answer.old answer.new size.new }
+    ensures told { result ≡ ANSWERED → IsLineTold handle.old.session (reading line.now) handle.new.session handle.old.rerouted handle.new.rerouted }
+    ensures begun { handle.new.begun ≡ handle.old.begun }
     ensures too_short { result ≡ TOO_SHORT → (length answer.old < size.new) × IsAnswerLength handle.old.session line.now size.new }
     ensures no_memory { result ≡ NO_MEMORY → size.new ≡ 0 }
     ensures unchanged { ¬ (result ≡ ANSWERED) → (handle.new ≡ handle.old) × (answer.new ≡ answer.old) }
     ensures status { (result ≢ BLANK) × (result ≤ NO_MEMORY) }
 {
-    let Ok(mut session) = Box::new(alloc, Session::new()) else {
+    let Ok(mut engine) = Box::new(alloc, Engine::new(alloc)) else {
         return NO_MEMORY;
     };
-    let status = reply(&mut session, alloc, line, answer, size);
+    let status = reply(&mut engine, alloc, line, answer, size);
     if status == ANSWERED {
-        Handle::put(handle, session);
+        Handle::put(handle, engine);
     }
     status
 }

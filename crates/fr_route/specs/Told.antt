@@ -1,0 +1,31 @@
+-- Which nodes an answered request tells of, to a caller that keeps the hops of all nodes.
+use Rattle.std.specs.Prelude.{◌≡◌, ℕ, ◌⊎◌, List, Option, Some, None, Result, Ok, Err}
+use Rattle.fr_net.specs.Requests.{PlainRequest, new_network, cut_link, add_link, join_nodes, make_edits, move_dest, walk_from, ask}
+use Rattle.fr_net.specs.declared.lines.requests.LineFault.{LineFault}
+use Rattle.fr_route.specs.Answers.{IsAccepted, IsRefused}
+use Rattle.fr_route.specs.Reroutes.{AreJoined, AreRerouted}
+use Rattle.fr_route.specs.States.{State}
+
+-- an accepted request tells of these nodes, where the list had others before: a network of those that are not cut off, a change of
+-- those that it reroutes, and all else leaves the list
+abbrev pub TellsOf : Option State → PlainRequest → State → List ℕ → List ℕ → Type 0
+TellsOf s (new_network n d links) new before after = AreJoined new after
+TellsOf None request new before after = ⊥
+TellsOf (Some s) (cut_link u v) new before after = AreRerouted s new after
+TellsOf (Some s) (add_link u v) new before after = AreRerouted s new after
+TellsOf (Some s) (join_nodes u v) new before after = AreRerouted s new after
+TellsOf (Some s) (make_edits edits) new before after = AreRerouted s new after
+TellsOf (Some s) (move_dest d) new before after = AreRerouted s new after
+TellsOf (Some s) (walk_from x) new before after = after ≡ before
+TellsOf (Some s) (ask question) new before after = after ≡ before
+
+-- what is told of a request, and the state after it: a refusal leaves the list
+abbrev pub IsTold : Option State → PlainRequest → Option State → List ℕ → List ℕ → Type 0
+IsTold s request next before after =
+    ((number : ℕ) × IsRefused s request number × (next ≡ s) × (after ≡ before))
+    ⊎ ((new : State) × IsAccepted s request new × (next ≡ Some new) × TellsOf s request new before after)
+
+-- what is told of a line as it is read
+abbrev pub IsLineTold : Option State → Result PlainRequest LineFault → Option State → List ℕ → List ℕ → Type 0
+IsLineTold s (Ok request) next before after = IsTold s request next before after
+IsLineTold s (Err fault) next before after = (next ≡ s) × (after ≡ before)

@@ -1,0 +1,6 @@
+-- What an `Engine` keeps.
+use Rattle.revroute_c.specs.Engines.{Held, held}
+use Rattle.revroute_c.specs.declared.engine.Engine.TheInside.{Inside}
+
+abbrev pub held_in : Inside → Held
+held_in e = held e.session e.rerouted.items e.begun.items

@@ -1,0 +1,44 @@
+-- What a question is answered.
+use Rattle.std.specs.Prelude.{◌≡◌, ℕ, ◌<◌, ◌≤◌, ◌⊎◌, List, length, slice_get, Option, Some, None}
+use Rattle.fr_route.specs.Routes.{IsHop}
+use Rattle.fr_route.specs.States.{State}
+use Rattle.fr_route.specs.declared.hops.Hop.{Hop}
+use Rattle.fr_route.specs.declared.hops.Hop.TheVariants.{Here, To, CutOff}
+use Rattle.revroute_c.specs.Replies.{IsWritten}
+
+-- the values that are no node, above all nodes: the node is the destination, it is cut off, it is none, and there is no network
+abbrev pub here : ℕ
+here = 4294967295
+
+abbrev pub cut_off : ℕ
+cut_off = 4294967294
+
+abbrev pub no_node : ℕ
+no_node = 4294967293
+
+abbrev pub no_network : ℕ
+no_network = 4294967292
+
+-- a hop as a number
+abbrev pub number_of : Hop → ℕ
+number_of Here = here
+number_of (To y) = y
+number_of CutOff = cut_off
+
+-- the number that tells where x sends on to
+abbrev pub IsHopNumber : State → ℕ → ℕ → Type 0
+IsHopNumber s x number = (hop : Hop) × (IsHop s x hop × (number ≡ number_of hop))
+
+-- and the number that answers for any x, whatever the session holds
+abbrev pub TellsHop : Option State → ℕ → ℕ → Type 0
+TellsHop None x number = number ≡ no_network
+TellsHop (Some s) x number = ((s.nodes ≤ x) × (number ≡ no_node)) ⊎ ((x < s.nodes) × IsHopNumber s x number)
+
+-- the numbers that tell where each node sends on to, in order
+pub record AreHopNumbers (s : State) (numbers : List ℕ) : Type 0 where
+  pub one_each : length numbers ≡ s.nodes
+  pub each : (x number : ℕ) → slice_get numbers x ≡ Some number → IsHopNumber s x number
+
+-- these numbers stand at the front of the place
+abbrev pub AreHopsWritten : State → List ℕ → List ℕ → Type 0
+AreHopsWritten s before after = (numbers : List ℕ) × (AreHopNumbers s numbers × IsWritten numbers before after)

@@ -1,0 +1,203 @@
+/* Compares the typed questions with the lines' answers, on drawn networks and changes.
+ *
+ * After each line the hops and counts are asked both ways, each hop by its own call too, and the nodes that are said to be rerouted have to
+ * be just those whose hop differs from what it was, found by comparing all. Each array ends where its room does, so that a
+ * sanitizer sees a number written too far; one with a place too few has to stay as it was. Then many threads ask one session at once.
+ * Printed is how many lines were accepted.
+ */
+#include "lines.h"
+
+#include <pthread.h>
+#include <revroute.h>
+#include <stdbool.h>
+
+enum { MOST = 9, NETWORKS = 2500, CHANGES = 80, ASKERS = 4, TURNS = 20000, TEXT = 4096 };
+
+static uint64_t drawn = 20261125;
+
+static uint32_t draw(uint32_t below) {
+    drawn = drawn * 6364136223846793005u + 1442695040888963407u;
+    return (uint32_t)(drawn >> 33) % below;
+}
+
+static size_t ask(revroute *session, const char *line, char *answer) {
+    size_t length;
+    if (revroute_answer(session, (const uint8_t *)line, strlen(line), (uint8_t *)answer, TEXT - 1, &length) != REVROUTE_ANSWERED)
+        stop("a line has no answer");
+    answer[length] = '\0';
+    return length;
+}
+
+/* The hops as the line tells them. */
+static void tell_hops(const uint32_t *hops, size_t count, char *text) {
+    text += sprintf(text, "hops");
+    for (size_t x = 0; x < count; x++) {
+        if (hops[x] == REVROUTE_HERE) text += sprintf(text, " here");
+        else if (hops[x] == REVROUTE_CUT_OFF) text += sprintf(text, " cut");
+        else text += sprintf(text, " %lu", (unsigned long)hops[x]);
+    }
+}
+
+static void tell_counts(const uint64_t *counts, size_t count, char *text) {
+    text += sprintf(text, "counts");
+    for (size_t x = 0; x < count; x++) text += sprintf(text, " %llu", (unsigned long long)counts[x]);
+}
+
+static uint32_t *hops_of(const revroute *session, size_t *count) {
+    uint32_t status = revroute_next_hops(session, (uint32_t[1]){0}, 0, count);
+    if (status == REVROUTE_NO_NETWORK && *count == 0) return NULL;
+    if (status != REVROUTE_TOO_SHORT) stop("no room was enough for the hops");
+    uint32_t *hops = grown(NULL, *count * sizeof *hops);
+    hops[0] = 77;
+    if (revroute_next_hops(session, hops, *count - 1, count) != REVROUTE_TOO_SHORT || hops[0] != 77) stop("hops were written though not asked");
+    if (revroute_next_hops(session, hops, *count, count) != REVROUTE_ANSWERED) stop("there are no hops");
+    for (uint32_t x = 0; x < *count; x++)
+        if (revroute_next_hop(session, x) != hops[x]) stop("a hop differs from that of all");
+    if (revroute_next_hop(session, (uint32_t)*count) != REVROUTE_NO_SUCH_NODE) stop("there is a hop behind the last node");
+    return hops;
+}
+
+static void compare(revroute *session, const uint32_t *hops, size_t count) {
+    char told[TEXT], made[TEXT];
+    ask(session, "[\"hops\"]", told);
+    tell_hops(hops, count, made);
+    if (strcmp(told, made)) stop("the hops differ from the line's");
+    size_t length;
+    uint64_t *counts = grown(NULL, count * sizeof *counts);
+    if (revroute_counts(session, counts, count - 1, &length) != REVROUTE_TOO_SHORT || length != count) stop("counts fit where they do not");
+    if (revroute_counts(session, counts, count, &length) != REVROUTE_ANSWERED) stop("there are no counts");
+    ask(session, "[\"counts\"]", told);
+    tell_counts(counts, count, made);
+    if (strcmp(told, made)) stop("the counts differ from the line's");
+    free(counts);
+}
+
+static uint32_t *rerouted_of(const revroute *session, size_t *count) {
+    uint32_t status = revroute_rerouted(session, (uint32_t[1]){0}, 0, count);
+    if ((status == REVROUTE_ANSWERED) != (*count == 0)) stop("no room was enough for the nodes that are rerouted");
+    uint32_t *nodes = grown(NULL, (*count + 1) * sizeof *nodes);
+    if (revroute_rerouted(session, nodes, *count, count) != REVROUTE_ANSWERED) stop("rerouted nodes cannot be told");
+    return nodes;
+}
+
+/* The nodes whose hop is another one than before; before a network all are cut off. */
+static void look_at_rerouted(const revroute *session, const uint32_t *before, const uint32_t *hops, size_t count) {
+    size_t told, next = 0;
+    uint32_t *nodes = rerouted_of(session, &told);
+    for (uint32_t x = 0; x < count; x++) {
+        if (hops[x] == (before ? before[x] : REVROUTE_CUT_OFF)) continue;
+        if (next == told || nodes[next++] != x) stop("a rerouted node is not told");
+    }
+    if (next != told) stop("a node is told that is not rerouted");
+    free(nodes);
+}
+
+static void draw_network(uint32_t count, char *line) {
+    char *at = line + sprintf(line, "[\"net\",%u,%u,[", (unsigned)count, (unsigned)draw(count));
+    bool any = false;
+    for (uint32_t u = 0; u < count; u++)
+        for (uint32_t v = 0; v < u; v++)
+            if (draw(3) == 0) {
+                at += sprintf(at, "%s[%u,%u]", any ? "," : "", (unsigned)u, (unsigned)v);
+                any = true;
+            }
+    sprintf(at, "]]");
+}
+
+static void draw_edit(uint32_t count, char *line) {
+    static const char *const kinds[] = {"cut", "add", "join"};
+    sprintf(line, "[\"%s\",%u,%u]", kinds[draw(3)], (unsigned)draw(count), (unsigned)draw(count));
+}
+
+static void draw_change(uint32_t count, char *line) {
+    char some[64], others[64];
+    draw_edit(count, some);
+    draw_edit(count, others);
+    uint32_t kind = draw(8);
+    if (kind == 0) sprintf(line, "[\"dest\",%u]", (unsigned)draw(count));
+    else if (kind == 1) sprintf(line, "[\"batch\",[%s,%s]]", some, others);
+    else strcpy(line, some);
+}
+
+/* One line, with a look at what it changed. */
+static size_t step(revroute *session, const char *line, bool is_network) {
+    size_t count, after, told, still;
+    uint32_t *before = hops_of(session, &count), *nodes = rerouted_of(session, &told);
+    char answer[TEXT];
+    ask(session, line, answer);
+    bool accepted = !strncmp(answer, "turned ", 7);
+    uint32_t *hops = hops_of(session, &after);
+    if (accepted) {
+        look_at_rerouted(session, is_network ? NULL : before, hops, after);
+        compare(session, hops, after);
+        look_at_rerouted(session, is_network ? NULL : before, hops, after);
+    } else {
+        uint32_t *same = rerouted_of(session, &still);
+        if (still != told || memcmp(same, nodes, told * sizeof *nodes)) stop("a refusal changed the rerouted nodes");
+        if (after != count || memcmp(hops, before, count * sizeof *hops)) stop("a refusal changed a hop");
+        free(same);
+    }
+    free(before);
+    free(nodes);
+    free(hops);
+    return accepted;
+}
+
+typedef struct {
+    const revroute *session;
+    const uint32_t *hops;
+    size_t count;
+    bool wrong;
+} asker;
+
+static void *ask_often(void *given) {
+    asker *it = given;
+    uint32_t hops[MOST], nodes[MOST];
+    size_t length;
+    for (int turn = 0; turn < TURNS; turn++) {
+        uint32_t x = (uint32_t)turn % (uint32_t)it->count;
+        if (revroute_next_hop(it->session, x) != it->hops[x]) it->wrong = true;
+        if (revroute_next_hops(it->session, hops, MOST, &length) != REVROUTE_ANSWERED) it->wrong = true;
+        if (memcmp(hops, it->hops, it->count * sizeof *hops)) it->wrong = true;
+        if (revroute_rerouted(it->session, nodes, MOST, &length) != REVROUTE_ANSWERED) it->wrong = true;
+    }
+    return NULL;
+}
+
+static void ask_at_once(const revroute *session) {
+    asker askers[ASKERS];
+    pthread_t threads[ASKERS];
+    size_t count;
+    uint32_t *hops = hops_of(session, &count);
+    for (int each = 0; each < ASKERS; each++) {
+        askers[each] = (asker){session, hops, count, false};
+        if (pthread_create(&threads[each], NULL, ask_often, &askers[each])) stop("no thread");
+    }
+    for (int each = 0; each < ASKERS; each++) {
+        pthread_join(threads[each], NULL);
+        if (askers[each].wrong) stop("a thread that asks beside others has another answer");
+    }
+    free(hops);
+}
+
+int main(void) {
+    size_t accepted = 0;
+    char line[TEXT];
+    for (int network = 0; network < NETWORKS; network++) {
+        revroute session = REVROUTE_NEW;
+        if (revroute_next_hop(&session, 0) != REVROUTE_NO_HOP) stop("there is a hop before there is a network");
+        for (int change = 0; change < CHANGES; change++) {
+            size_t count;
+            free(hops_of(&session, &count));
+            bool is_network = count == 0 || draw(40) == 0;
+            if (is_network) draw_network(1 + draw(MOST), line);
+            else draw_change((uint32_t)count, line);
+            accepted += step(&session, line, is_network);
+        }
+        if (network == 0) ask_at_once(&session);
+        revroute_close(&session);
+        if (revroute_next_hop(&session, 0) != REVROUTE_NO_HOP) stop("there is a hop behind the end");
+    }
+    printf("%lu\n", (unsigned long)accepted);
+    return 0;
+}
