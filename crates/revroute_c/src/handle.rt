@@ -5,7 +5,7 @@ ghost use Rattle.std.specs.Borrow.{sem};
 ghost use denote.RawPtr.{null_ptr};
 ghost use Rattle.fr_route.specs.States.{State};
 ghost use Rattle.revroute_c.specs.Engines.{no_engine, held};
-ghost use Rattle.revroute_c.specs.Holding.{holds, shares_held};
+ghost use Rattle.revroute_c.specs.Holding.{holds};
 
 use crate::engine::Engine;
 use crate::loose::Loose;
@@ -27,8 +27,6 @@ pub struct Handle {
 
 impl Model for Handle {
     ghost also_owns = { λ handle. holds handle.at (held handle.session handle.rerouted handle.begun) };
-
-    ghost also_shares = { λ handle _ κ. shares_held handle.at (held handle.session handle.rerouted handle.begun) κ };
 }
 
 // What a handle owns is the engine, and that may go to another thread.
@@ -92,16 +90,6 @@ impl Handle {
             return None;
         }
         unsafe { Some(&mut *self.at.cast::<Engine>()) }
-    }
-
-    /// The engine of a handle that others may read at the same time; none where the handle is null.
-    pub(crate) fn engine(&self) -> Option<&Engine>
-        ensures { MatchOption result (held_by self.now ≡ no_engine) (λ engine. engine.now ≡ held_by self.now) }
-    {
-        if self.at.is_null() {
-            return None;
-        }
-        unsafe { Some(&*self.at.cast::<Engine>()) }
     }
 
     /// Puts an engine into a null handle.

@@ -4,7 +4,7 @@
 //! allocator takes no bytes, so C passes nothing for it.
 #![tactic(auto)]
 
-ghost use Rattle.std.specs.Prelude.{◌≡◌, ◌==◌, ◌≢◌, ◌≤◌, ◌<◌, ◌++◌, ◌⊎◌, ◌↔◌, ℕ, List, true, [], None, length, position, IfSome};
+ghost use Rattle.std.specs.Prelude.{◌≡◌, ◌≤◌, ◌<◌, ◌⊎◌, ◌↔◌, true, [], None, length, IfSome, ◌==◌, ◌≢◌, ◌++◌, ℕ, List, position};
 ghost use denote.RawPtr.{null_ptr};
 ghost use Rattle.fr_net.specs.Requests.{reading};
 ghost use Rattle.fr_route.specs.Blank.{is_blank as is_blank_line};
@@ -23,9 +23,7 @@ mod replies;
 use fr_route::{VERSION, is_blank};
 use handle::Handle;
 use pieces::{BEGUN, TOO_LONG, finish_line, take_anew, take_front};
-use questions::{
-    HOP_OF_NO_NETWORK, HOP_OF_NO_NODE, NO_NETWORK, hand_out_hops, hop_number, router_of,
-};
+use questions::{HOP_OF_NO_NETWORK, NO_NETWORK, counts_in, hop_in, hops_in};
 use replies::{ANSWERED, BLANK, LEAST_ROOM, NO_MEMORY, TOO_SHORT, hand_out, reply, reply_anew};
 use std::alloc::Global;
 
@@ -167,12 +165,13 @@ pub extern "C" fn revroute_version(text: &mut [u8], size: &mut usize) -> u32
 /// Where a node sends on to: the node to which it does, or one of the named values, which are above all nodes. It answers for any number
 /// and any session, and takes the same few steps for each.
 #[unsafe(no_mangle)]
-pub extern "C" fn revroute_next_hop(handle: &Handle, node: u32) -> u32
-    ensures { TellsHop handle.now.session node result }
+pub extern "C" fn revroute_next_hop(handle: &mut Handle, node: u32) -> u32
+    ensures hop { TellsHop handle.old.session node result }
+    ensures same { (handle.new.session ≡ handle.old.session) × (handle.new.rerouted ≡ handle.old.rerouted) × (handle.new.begun ≡ handle.old.begun) }
+    ensures kept { handle.new.at ≡ handle.old.at }
 {
-    match router_of(handle) {
-        Some(router) if node < router.net().nodes() => hop_number(router, node),
-        Some(_) => HOP_OF_NO_NODE,
+    match handle.engine_mut() {
+        Some(engine) => hop_in(&engine.session, node),
         None => HOP_OF_NO_NETWORK,
     }
 }
@@ -181,18 +180,20 @@ pub extern "C" fn revroute_next_hop(handle: &Handle, node: u32) -> u32
 /// says that the place has less room, and `NO_NETWORK` that there is no network yet; `size` is then 0. After both the place is as it was.
 /// Linear in nodes.
 #[unsafe(no_mangle)]
-pub extern "C" fn revroute_next_hops(handle: &Handle, hops: &mut [u32], size: &mut usize) -> u32
-    ensures written { result ≡ ANSWERED → IfSome handle.now.session (λ s. AreHopsWritten s hops.old hops.new) }
+pub extern "C" fn revroute_next_hops(handle: &mut Handle, hops: &mut [u32], size: &mut usize) -> u32
+    ensures same { (handle.new.session ≡ handle.old.session) × (handle.new.rerouted ≡ handle.old.rerouted) × (handle.new.begun ≡ handle.old.begun) }
+    ensures kept { handle.new.at ≡ handle.old.at }
+    ensures written { result ≡ ANSWERED → IfSome handle.old.session (λ s. AreHopsWritten s hops.old hops.new) }
     ensures too_short { result ≡ TOO_SHORT → length hops.old < size.new }
-    ensures size { IfSome handle.now.session (λ s. size.new ≡ s.nodes) }
-    ensures no_network { (result ≡ NO_NETWORK) ↔ (handle.now.session ≡ None) }
+    ensures size { IfSome handle.old.session (λ s. size.new ≡ s.nodes) }
+    ensures no_network { (result ≡ NO_NETWORK) ↔ (handle.old.session ≡ None) }
     ensures unchanged { ¬ (result ≡ ANSWERED) → hops.new ≡ hops.old }
     ensures none { result ≡ NO_NETWORK → size.new ≡ 0 }
     ensures status { (result ≡ ANSWERED) ⊎ (result ≡ TOO_SHORT) ⊎ (result ≡ NO_NETWORK) }
 {
     *size = 0;
-    match router_of(handle) {
-        Some(router) => hand_out_hops(router, hops, size),
+    match handle.engine_mut() {
+        Some(engine) => hops_in(&engine.session, hops, size),
         None => NO_NETWORK,
     }
 }
@@ -200,13 +201,15 @@ pub extern "C" fn revroute_next_hops(handle: &Handle, hops: &mut [u32], size: &m
 /// Writes the nodes that the last accepted round rerouted, in rising order, into the front of the place, and how many there are to `size`.
 /// `TOO_SHORT` says that the place is as it was, and has less room.
 #[unsafe(no_mangle)]
-pub extern "C" fn revroute_rerouted(handle: &Handle, nodes: &mut [u32], size: &mut usize) -> u32
-    ensures written { result ≡ ANSWERED → IsWritten handle.now.rerouted nodes.old nodes.new }
+pub extern "C" fn revroute_rerouted(handle: &mut Handle, nodes: &mut [u32], size: &mut usize) -> u32
+    ensures same { (handle.new.session ≡ handle.old.session) × (handle.new.rerouted ≡ handle.old.rerouted) × (handle.new.begun ≡ handle.old.begun) }
+    ensures kept { handle.new.at ≡ handle.old.at }
+    ensures written { result ≡ ANSWERED → IsWritten handle.old.rerouted nodes.old nodes.new }
     ensures too_short { result ≡ TOO_SHORT → (length nodes.old < size.new) × (nodes.new ≡ nodes.old) }
-    ensures size { size.new ≡ length handle.now.rerouted }
+    ensures size { size.new ≡ length handle.old.rerouted }
     ensures status { (result ≡ ANSWERED) ⊎ (result ≡ TOO_SHORT) }
 {
-    match handle.engine() {
+    match handle.engine_mut() {
         Some(engine) => hand_out(&engine.rerouted, nodes, size),
         None => hand_out(&[], nodes, size),
     }
@@ -214,18 +217,20 @@ pub extern "C" fn revroute_rerouted(handle: &Handle, nodes: &mut [u32], size: &m
 
 /// Writes how often each node turned in the last round, in the order of the nodes, as [`revroute_next_hops`] does the hops.
 #[unsafe(no_mangle)]
-pub extern "C" fn revroute_counts(handle: &Handle, counts: &mut [u64], size: &mut usize) -> u32
-    ensures written { result ≡ ANSWERED → IfSome handle.now.session (λ s. IsWritten s.counts counts.old counts.new) }
+pub extern "C" fn revroute_counts(handle: &mut Handle, counts: &mut [u64], size: &mut usize) -> u32
+    ensures same { (handle.new.session ≡ handle.old.session) × (handle.new.rerouted ≡ handle.old.rerouted) × (handle.new.begun ≡ handle.old.begun) }
+    ensures kept { handle.new.at ≡ handle.old.at }
+    ensures written { result ≡ ANSWERED → IfSome handle.old.session (λ s. IsWritten s.counts counts.old counts.new) }
     ensures too_short { result ≡ TOO_SHORT → length counts.old < size.new }
-    ensures size { IfSome handle.now.session (λ s. size.new ≡ length s.counts) }
-    ensures no_network { (result ≡ NO_NETWORK) ↔ (handle.now.session ≡ None) }
+    ensures size { IfSome handle.old.session (λ s. size.new ≡ length s.counts) }
+    ensures no_network { (result ≡ NO_NETWORK) ↔ (handle.old.session ≡ None) }
     ensures unchanged { ¬ (result ≡ ANSWERED) → counts.new ≡ counts.old }
     ensures none { result ≡ NO_NETWORK → size.new ≡ 0 }
     ensures status { (result ≡ ANSWERED) ⊎ (result ≡ TOO_SHORT) ⊎ (result ≡ NO_NETWORK) }
 {
     *size = 0;
-    match router_of(handle) {
-        Some(router) => hand_out(router.counts(), counts, size),
+    match handle.engine_mut() {
+        Some(engine) => counts_in(&engine.session, counts, size),
         None => NO_NETWORK,
     }
 }

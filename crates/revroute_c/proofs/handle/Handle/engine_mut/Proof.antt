@@ -1,4 +1,4 @@
--- `engine_mut` tests the pointer, and lends the session behind it where it is not null.
+-- `engine_mut` tests the pointer, and lends the engine behind it where it is not null.
 use Rattle.std.proofs.Common.{◌≡◌, ℕ, List, [], ◌∷◌, refl, sym, lit<}
 use seplogic.Ra.Ura.{Ura}
 use mir.Syntax.{named}
@@ -20,16 +20,17 @@ use contract.Running.{tables}
 use denote.Exit.{no}
 use denote.RattleType.{RattleType}
 use denote.Memory.{cell_at, part_at, mem, part_of, lone}
-use denote.RawPtr.{Ptr, block_ptr, null_ptr, tests_null, Testable}
+use denote.RawPtr.{Ptr, block_ptr, null_ptr, tests_null}
 use denote.Ref.{MutRef, mut_vals, mut_Tells}
 use denote.Follow.{follows, follows_by, Part, lends_Part}
 use denote.Signature.{plain, mut_ref_to}
 use denote.Steps.{nothing, opens, closes}
 use denote.Triple.Clauses.{Clauses}
 use denote.Triple.Walked.{Stays, stay_dropped, walk_of, Goes-spent_ref}
-use Rattle.libc.specs.Heap.{chunk}
+use Rattle.std.specs.declared.alloc.Global.{Global}
 use Rattle.std.specs.declared.option.Option.TheVariants.{None, Some}
 use Rattle.std.specs.contracts.option.Option as option
+use Rattle.std.specs.contracts.impls.GlobalAllocator.TheImpl.{ghosts}
 use Rattle.std.proofs.VecSteps.Shapes.{after}
 use Rattle.std.proofs.option.Made.{Some-of, none_of}
 use Rattle.std.proofs.raw_atomic.Walks.{proved, leaves}
@@ -37,7 +38,7 @@ use Rattle.revroute_c.specs.contracts.engine.Engine.{the_row as S}
 use Rattle.revroute_c.specs.Holding.{holds}
 use Rattle.revroute_c.specs.Engines.{Held, no_engine}
 use Rattle.revroute_c.specs.Lending.{held_by, with_engine}
-use Rattle.revroute_c.proofs.Handles.{word, box_in, handle_out, handle_in, either_held}
+use Rattle.revroute_c.proofs.Handles.{word, boxed, handle_out, handle_in, either_held}
 use Rattle.revroute_c.specs.declared.handle.Handle.{Handle}
 use Rattle.revroute_c.specs.contracts.handle.Handle.{the_row as H'}
 use Rattle.revroute_c.specs.contracts.handle.Handle.engine_mut.{ended, clauses}
@@ -67,15 +68,15 @@ module _ {M : Type 1} {𝓤 : Ura M} (𝓛 : Logic 𝓤) (at_mem : Memory → SP
   abbrev cell : Ptr → Fml
   cell p = cell_at full_share H'.mir (word p ∷ []) b o
 
-  -- what is left of the handle where its session is lent
-  abbrev Rest : ℕ → ℕ → Fml
-  Rest x y = fsep (chunk (bare (lone S.mir)) (block_ptr x y)) (cell (block_ptr x y))
+  -- what is left of the handle where its engine is lent
+  abbrev Rest : Global → ℕ → ℕ → Fml
+  Rest a x y = fsep (ghosts.dealloc_token a (bare (lone S.mir)) (block_ptr x y)) (cell (block_ptr x y))
 
-  back : (x y : ℕ) → h.at ≡ block_ptr x y → Testable (block_ptr x y) → (w : Held) → ent 𝓤 (sep 𝓤 (sem 𝓛 ((mem S).own_at w x y)) (sem 𝓛 (Rest x y))) (sem 𝓛 ((mem H').own_at (with_engine h w) b o))
+  back : (a : Global) (x y : ℕ) → h.at ≡ block_ptr x y → (w : Held) → ent 𝓤 (sep 𝓤 (sem 𝓛 ((mem S).own_at w x y)) (sem 𝓛 (Rest a x y))) (sem 𝓛 ((mem H').own_at (with_engine h w) b o))
   unfolding part_of
-  back x y is u w =
-      qed 𝓛 (‵ (part_at S full_share w x y) ∷ ‵ (Rest x y) ∷ []) ∵ move ! (1 ∷ []) $ fsplit ! $ move ! (2 ∷ 0 ∷ []) $ fjoin ! $
-      box_in ! x y w u $ rewrite ! 0 (λ (p : Ptr). ‵ (holds p w)) (sym is) refl $ rewrite ! 1 (λ (p : Ptr). ‵ (cell p)) (sym is) refl $
+  back a x y is w =
+      qed 𝓛 (‵ (part_at S full_share w x y) ∷ ‵ (Rest a x y) ∷ []) ∵ move ! (1 ∷ []) $ fsplit ! $ move ! (2 ∷ 0 ∷ []) $ fjoin ! $
+      fpack ! Global (λ z. boxed z (block_ptr x y) w) a $ rewrite ! 0 (λ (p : Ptr). ‵ (holds p w)) (sym is) refl $ rewrite ! 1 (λ (p : Ptr). ‵ (cell p)) (sym is) refl $
       handle_in ! h.at w $ move ! (1 ∷ 0 ∷ []) $ fjoin ! $ fpack ! (List Val) (λ us. fsep (cell_at full_share H'.mir us b o) (H'.own_val (with_engine h w) us)) (word h.at ∷ []) $ done !
 
   none_lent : h.at ≡ null_ptr → held_by h ≡ no_engine → ent 𝓤 (sep 𝓤 (A.obs γ (H'.coded.code h)) (A.lft κ q)) (Post (live 0 vnil))
@@ -87,12 +88,12 @@ module _ {M : Type 1} {𝓤 : Ura M} (𝓛 : Logic 𝓤) (at_mem : Memory → SP
       nothing ! $ move ! (3 ∷ 0 ∷ []) $ join ! $ nothing ! $ nothing ! $ fjoin ! $ keep ! (1 ∷ 0 ∷ 2 ∷ 3 ∷ []) $ by ! (leaves 𝓛 ended stayed c bound (live 0 vnil) None (tt, tt) (tt, tt))
 
   one_lent : (x y : ℕ) (γ' : GName)
-      → ent 𝓤 (sep 𝓤 (sem 𝓛 (Lent.own_val (record { ref_ptr = (x, y); ghost_name = γ'; now = held_by h }) (vptr x y ∷ []))) (sep 𝓤 (A.lft κ q) (sem 𝓛 (follows H' S γ γ' (with_engine h))))) (Post (live 1 (vcons (vptr x y) vnil)))
+      → ent 𝓤 (sep 𝓤 (sem 𝓛 (Lent.own_val (record { ref_ptr = (x, y); ghost_name = γ'; now = (held_by h) }) (vptr x y ∷ []))) (sep 𝓤 (A.lft κ q) (sem 𝓛 (follows H' S γ γ' (with_engine h))))) (Post (live 1 (vcons (vptr x y) vnil)))
   unfolding follows_by
   one_lent x y γ' =
-      let r : Lent.Denot = record { ref_ptr = (x, y); ghost_name = γ'; now = held_by h } in let v : Val = live 1 (vcons (vptr x y) vnil) in
+      let r : Lent.Denot = record { ref_ptr = (x, y); ghost_name = γ'; now = (held_by h) } in let v : Val = live 1 (vcons (vptr x y) vnil) in
       qed 𝓛 (‵ (Lent.own_val r (vptr x y ∷ [])) ∷ ‵ (flft κ q) ∷ ‵ (follows H' S γ γ' (with_engine h)) ∷ []) ∵ use1 𝓛 (‵ ((option.the_row Lent).own_val (Some r) (v ∷ []))) (Some-of 𝓛 Lent r (vptr x y)) $
-      use0 𝓛 (raw (fact 𝓤 (held_by h ≡ held_by h))) (fact_i 𝓤 (held_by h ≡ held_by h) (emp 𝓤) refl) $ move ! (3 ∷ 0 ∷ []) $ join ! $
+      use0 𝓛 (raw (fact 𝓤 ((held_by h) ≡ (held_by h)))) (fact_i 𝓤 ((held_by h) ≡ (held_by h)) (emp 𝓤) refl) $ move ! (3 ∷ 0 ∷ []) $ join ! $
       nothing ! $ move ! (3 ∷ 0 ∷ []) $ join ! $ nothing ! $ nothing ! $ fjoin ! $ keep ! (1 ∷ 0 ∷ 3 ∷ 2 ∷ []) $ by ! (leaves 𝓛 ended stayed c bound v (Some r) (tt, tt) (tt, tt))
 
 pub engine_mut_spec : {M : Type 1} → statement M
@@ -113,7 +114,7 @@ engine_mut_spec 𝓤 𝓛 𝓜 𝓡 wired =
     rewrite ! 0 (λ (p : Ptr). ‵ (Cell p)) (sym is) refl $ nothing ! $ fpack ! (held_by h ≡ no_engine) (λ _. ftrue) none $ rewrite ! 0 (λ (p : Ptr). ‵ (holds p (held_by h))) (sym is) refl $
     handle_in ! h.at (held_by h) $ move ! (1 ∷ 0 ∷ []) $ closes ! tt H' h (word h.at ∷ []) b o $
     returns_within ! Ends refl (look_at ! 0 refl) $ free_all ! refl $ keep ! (0 ∷ 2 ∷ []) $ by ! (none_lent 𝓛 𝓜.mem 𝓡.returns κ q b o γ h is none)) (λ wrong. absurd wrong))
-    (λ x y is t. fsplit ! $ rewrite ! 2 (λ (p : Ptr). ‵ (Cell p)) is refl $
+    (λ x y a is t. fsplit ! $ rewrite ! 2 (λ (p : Ptr). ‵ (Cell p)) is refl $
     sets ! (of_opd ! (load ! (through ! refl (fld ! refl (stop !))) (look_in ! 2 (sub ! 0 refl (whole !))))) refl (tt, tt) $
     sets ! (bin ! (get ! refl) (lit ! tt) (tests_null (block_ptr x y) t)) refl (tt, tt) $ first ! $ branches ! (get ! refl) (λ wrong. absurd wrong) (λ _. skips ! $
     exec ! 𝓣.C 𝓣.Λ Ev (after 3 fn.body) (at_ret Ev Ends) $ first ! $ blocks ! $
@@ -121,7 +122,7 @@ engine_mut_spec 𝓤 𝓛 𝓜 𝓡 wired =
     sets ! (addr ! (through ! refl (stop !))) refl (tt, tt) $ sets_last ! (agg ! (and_then ! (lit ! tt) (and_then ! (get ! refl) (no_more !)))) refl (tt, (record { fits = lit< tt }, (tt, tt))) $
     exec ! 𝓣.C 𝓣.Λ Ev (after 4 fn.body) (at_ret Ev Ends) $ sets ! (of_opd ! (get ! refl)) refl (tt, (record { fits = lit< tt }, (tt, tt))) $
     move ! (1 ∷ 2 ∷ []) $ fjoin ! $ move ! (2 ∷ 3 ∷ 4 ∷ 1 ∷ 0 ∷ []) $ group ! 5 $
-    let left : SProp 𝓤 = sem 𝓛 (Rest 𝓛 𝓜.mem 𝓡.returns κ q b o γ h x y) in let again = back 𝓛 𝓜.mem 𝓡.returns κ q b o γ h x y is t in
+    let left : SProp 𝓤 = sem 𝓛 (Rest 𝓛 𝓜.mem 𝓡.returns κ q b o γ h a x y) in let again = back 𝓛 𝓜.mem 𝓡.returns κ q b o γ h a x y is in
     use1 𝓛 (later (some (λ (γ' : GName). raw (Part 𝓛 H' S (with_engine h) (named 0) κ q b o x y γ left again (held_by h) γ'))))
     (lends_Part 𝓛 H' S (with_engine h) (named 0) κ q b o x y γ left again (H'.coded.code h) (H'.coded.code h) (held_by h)) $ await ! tt $ pick ! (λ γ'.
     returns ! (look_at ! 0 refl) $ free_all ! refl $ keep ! (0 ∷ []) $ by ! (one_lent 𝓛 𝓜.mem 𝓡.returns κ q b o γ h x y γ'))))))))
