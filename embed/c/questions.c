@@ -2,16 +2,14 @@
  *
  * After each line the hops and counts are asked both ways, each hop by its own call too, and the nodes that are said to be rerouted have to
  * be just those whose hop differs from what it was, found by comparing all. Each array ends where its room does, so that a
- * sanitizer sees a number written too far; one with a place too few has to stay as it was. Then many threads ask one session at once.
- * Printed is how many lines were accepted.
+ * sanitizer sees a number written too far; one with a place too few has to stay as it was. Printed is how many lines were accepted.
  */
 #include "lines.h"
 
-#include <pthread.h>
 #include <revroute.h>
 #include <stdbool.h>
 
-enum { MOST = 9, NETWORKS = 2500, CHANGES = 80, ASKERS = 4, TURNS = 20000, TEXT = 4096 };
+enum { MOST = 9, NETWORKS = 2500, CHANGES = 80, TEXT = 4096 };
 
 static uint64_t drawn = 20261125;
 
@@ -20,9 +18,9 @@ static uint32_t draw(uint32_t below) {
     return (uint32_t)(drawn >> 33) % below;
 }
 
-static size_t ask(revroute *session, const char *line, char *answer) {
+static size_t ask(revroute *session, const char *asked, char *answer) {
     size_t length;
-    if (revroute_answer(session, (const uint8_t *)line, strlen(line), (uint8_t *)answer, TEXT - 1, &length) != REVROUTE_ANSWERED)
+    if (revroute_answer(session, (const uint8_t *)asked, strlen(asked), (uint8_t *)answer, TEXT - 1, &length) != REVROUTE_ANSWERED)
         stop("a line has no answer");
     answer[length] = '\0';
     return length;
@@ -43,7 +41,7 @@ static void tell_counts(const uint64_t *counts, size_t count, char *text) {
     for (size_t x = 0; x < count; x++) text += sprintf(text, " %llu", (unsigned long long)counts[x]);
 }
 
-static uint32_t *hops_of(const revroute *session, size_t *count) {
+static uint32_t *hops_of(revroute *session, size_t *count) {
     uint32_t status = revroute_next_hops(session, (uint32_t[1]){0}, 0, count);
     if (status == REVROUTE_NO_NETWORK && *count == 0) return NULL;
     if (status != REVROUTE_TOO_SHORT) stop("no room was enough for the hops");
@@ -72,7 +70,7 @@ static void compare(revroute *session, const uint32_t *hops, size_t count) {
     free(counts);
 }
 
-static uint32_t *rerouted_of(const revroute *session, size_t *count) {
+static uint32_t *rerouted_of(revroute *session, size_t *count) {
     uint32_t status = revroute_rerouted(session, (uint32_t[1]){0}, 0, count);
     if ((status == REVROUTE_ANSWERED) != (*count == 0)) stop("no room was enough for the nodes that are rerouted");
     uint32_t *nodes = grown(NULL, (*count + 1) * sizeof *nodes);
@@ -81,7 +79,7 @@ static uint32_t *rerouted_of(const revroute *session, size_t *count) {
 }
 
 /* The nodes whose hop is another one than before; before a network all are cut off. */
-static void look_at_rerouted(const revroute *session, const uint32_t *before, const uint32_t *hops, size_t count) {
+static void look_at_rerouted(revroute *session, const uint32_t *before, const uint32_t *hops, size_t count) {
     size_t told, next = 0;
     uint32_t *nodes = rerouted_of(session, &told);
     for (uint32_t x = 0; x < count; x++) {
@@ -92,8 +90,8 @@ static void look_at_rerouted(const revroute *session, const uint32_t *before, co
     free(nodes);
 }
 
-static void draw_network(uint32_t count, char *line) {
-    char *at = line + sprintf(line, "[\"net\",%u,%u,[", (unsigned)count, (unsigned)draw(count));
+static void draw_network(uint32_t count, char *asked) {
+    char *at = asked + sprintf(asked, "[\"net\",%u,%u,[", (unsigned)count, (unsigned)draw(count));
     bool any = false;
     for (uint32_t u = 0; u < count; u++)
         for (uint32_t v = 0; v < u; v++)
@@ -104,27 +102,27 @@ static void draw_network(uint32_t count, char *line) {
     sprintf(at, "]]");
 }
 
-static void draw_edit(uint32_t count, char *line) {
+static void draw_edit(uint32_t count, char *asked) {
     static const char *const kinds[] = {"cut", "add", "join"};
-    sprintf(line, "[\"%s\",%u,%u]", kinds[draw(3)], (unsigned)draw(count), (unsigned)draw(count));
+    sprintf(asked, "[\"%s\",%u,%u]", kinds[draw(3)], (unsigned)draw(count), (unsigned)draw(count));
 }
 
-static void draw_change(uint32_t count, char *line) {
+static void draw_change(uint32_t count, char *asked) {
     char some[64], others[64];
     draw_edit(count, some);
     draw_edit(count, others);
     uint32_t kind = draw(8);
-    if (kind == 0) sprintf(line, "[\"dest\",%u]", (unsigned)draw(count));
-    else if (kind == 1) sprintf(line, "[\"batch\",[%s,%s]]", some, others);
-    else strcpy(line, some);
+    if (kind == 0) sprintf(asked, "[\"dest\",%u]", (unsigned)draw(count));
+    else if (kind == 1) sprintf(asked, "[\"batch\",[%s,%s]]", some, others);
+    else strcpy(asked, some);
 }
 
 /* One line, with a look at what it changed. */
-static size_t step(revroute *session, const char *line, bool is_network) {
+static size_t step(revroute *session, const char *asked, bool is_network) {
     size_t count, after, told, still;
     uint32_t *before = hops_of(session, &count), *nodes = rerouted_of(session, &told);
     char answer[TEXT];
-    ask(session, line, answer);
+    ask(session, asked, answer);
     bool accepted = !strncmp(answer, "turned ", 7);
     uint32_t *hops = hops_of(session, &after);
     if (accepted) {
@@ -134,7 +132,7 @@ static size_t step(revroute *session, const char *line, bool is_network) {
     } else {
         uint32_t *same = rerouted_of(session, &still);
         if (still != told || memcmp(same, nodes, told * sizeof *nodes)) stop("a refusal changed the rerouted nodes");
-        if (after != count || memcmp(hops, before, count * sizeof *hops)) stop("a refusal changed a hop");
+        if (after != count || (count && memcmp(hops, before, count * sizeof *hops))) stop("a refusal changed a hop");
         free(same);
     }
     free(before);
@@ -143,46 +141,9 @@ static size_t step(revroute *session, const char *line, bool is_network) {
     return accepted;
 }
 
-typedef struct {
-    const revroute *session;
-    const uint32_t *hops;
-    size_t count;
-    bool wrong;
-} asker;
-
-static void *ask_often(void *given) {
-    asker *it = given;
-    uint32_t hops[MOST], nodes[MOST];
-    size_t length;
-    for (int turn = 0; turn < TURNS; turn++) {
-        uint32_t x = (uint32_t)turn % (uint32_t)it->count;
-        if (revroute_next_hop(it->session, x) != it->hops[x]) it->wrong = true;
-        if (revroute_next_hops(it->session, hops, MOST, &length) != REVROUTE_ANSWERED) it->wrong = true;
-        if (memcmp(hops, it->hops, it->count * sizeof *hops)) it->wrong = true;
-        if (revroute_rerouted(it->session, nodes, MOST, &length) != REVROUTE_ANSWERED) it->wrong = true;
-    }
-    return NULL;
-}
-
-static void ask_at_once(const revroute *session) {
-    asker askers[ASKERS];
-    pthread_t threads[ASKERS];
-    size_t count;
-    uint32_t *hops = hops_of(session, &count);
-    for (int each = 0; each < ASKERS; each++) {
-        askers[each] = (asker){session, hops, count, false};
-        if (pthread_create(&threads[each], NULL, ask_often, &askers[each])) stop("no thread");
-    }
-    for (int each = 0; each < ASKERS; each++) {
-        pthread_join(threads[each], NULL);
-        if (askers[each].wrong) stop("a thread that asks beside others has another answer");
-    }
-    free(hops);
-}
-
 int main(void) {
     size_t accepted = 0;
-    char line[TEXT];
+    char asked[TEXT];
     for (int network = 0; network < NETWORKS; network++) {
         revroute session = REVROUTE_NEW;
         if (revroute_next_hop(&session, 0) != REVROUTE_NO_HOP) stop("there is a hop before there is a network");
@@ -190,11 +151,10 @@ int main(void) {
             size_t count;
             free(hops_of(&session, &count));
             bool is_network = count == 0 || draw(40) == 0;
-            if (is_network) draw_network(1 + draw(MOST), line);
-            else draw_change((uint32_t)count, line);
-            accepted += step(&session, line, is_network);
+            if (is_network) draw_network(1 + draw(MOST), asked);
+            else draw_change((uint32_t)count, asked);
+            accepted += step(&session, asked, is_network);
         }
-        if (network == 0) ask_at_once(&session);
         revroute_close(&session);
         if (revroute_next_hop(&session, 0) != REVROUTE_NO_HOP) stop("there is a hop behind the end");
     }

@@ -17,10 +17,9 @@
  * - A pointer to bytes covers as many of them as the length beside it tells, so no length stands for 'unbounded'. Line and buffer may
  *   stand anywhere; a session and a length are aligned, as variables of their types are.
  * - The session, the line, the buffer and the length do not overlap. Until the call returns nobody else uses them; others
- *   may read the line, and what is `const`.
- * - While a call that takes a session without `const` runs, no other call has it. Calls that take it `const` only read it: any number of
- *   threads may make these at once. A session may go from one thread to another, if each call sees what those before it wrote, as behind
- *   a lock or a join. Different sessions share nothing: each thread can have its own.
+ *   may read the line.
+ * - A session is used by one call at a time. It may go from one thread to another, if its calls do not overlap and each sees
+ *   what those before it wrote, as behind a lock or a join. Different sessions share nothing: each thread can have its own.
  * - A session is made by REVROUTE_NEW, and only these calls read or write it then. It is not copied: closing two copies
  *   gives the same memory back twice. Memory that was moved, as by realloc, is no copy if the old place is used no more.
  * - Memory is the process's malloc, realloc and free, of one allocator as long as a session is open. So no call is made from a
@@ -83,23 +82,23 @@ uint32_t revroute_answer(revroute *session, const uint8_t *line, size_t line_len
 /* Gives back all memory of a session, which is then as REVROUTE_NEW made it: it can be closed again, or used. */
 void revroute_close(revroute *session);
 
-/* Questions: they change nothing, take no memory, and many threads may ask at once.
+/* Questions. They change nothing and take no memory; as any call, each has the session for itself while it runs.
  *
  * Those that write into an array of `room` places write to its front, and leave the rest: *length is how many they are, which
  * REVROUTE_TOO_SHORT tells as well. After any end but REVROUTE_ANSWERED the array is as it was. */
 
 /* Where a node sends on to: a node, or one of the values above. */
-uint32_t revroute_next_hop(const revroute *session, uint32_t node);
+uint32_t revroute_next_hop(revroute *session, uint32_t node);
 
 /* The same of all nodes, in their order, by the same values. */
-uint32_t revroute_next_hops(const revroute *session, uint32_t *hops, size_t room, size_t *length);
+uint32_t revroute_next_hops(revroute *session, uint32_t *hops, size_t room, size_t *length);
 
-/* The nodes whose next hop the last accepted line changed, in rising order: after a new network all that are not cut off. Lines that are
+/* The nodes whose next hop the last accepted round changed, in rising order: after a new network all that are not cut off. Lines that are
  * refused, and questions, leave them. There are none before the first network. */
-uint32_t revroute_rerouted(const revroute *session, uint32_t *nodes, size_t room, size_t *length);
+uint32_t revroute_rerouted(revroute *session, uint32_t *nodes, size_t room, size_t *length);
 
 /* How often each node turned in the last round, in the order of the nodes. */
-uint32_t revroute_counts(const revroute *session, uint64_t *counts, size_t room, size_t *length);
+uint32_t revroute_counts(revroute *session, uint64_t *counts, size_t room, size_t *length);
 
 /* Writes the version of the library, as 0.1.0, into the buffer `text` of `room` bytes. Returns REVROUTE_ANSWERED or
  * REVROUTE_TOO_SHORT, and *length is the length of the version in both cases. */

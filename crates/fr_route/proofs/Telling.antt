@@ -1,6 +1,6 @@
 -- What an answered request tells of the nodes that it reroutes.
-use Rattle.std.proofs.Common.{List, Option, Some, None, ap, inl, inr, refl, subst, sym, ℕ, ◌≡◌, ◌∙◌}
-use Rattle.fr_net.specs.Requests.{PlainRequest, make_edits, new_network}
+use Rattle.std.proofs.Common.{List, Option, Some, None, ap, inl, inr, refl, subst, sym, ℕ, ◌≡◌}
+use Rattle.fr_net.specs.Requests.{make_edits, new_network}
 use Rattle.fr_net.specs.declared.edit.Edit.{Edit}
 use Rattle.fr_route.specs.Answers.{fault_number}
 use Rattle.fr_route.specs.Changes.{IsRouteFault}

@@ -262,13 +262,39 @@ impl Session {
         ensures no_start { NeverStarts F.post way.now → IfErr result (λ fault. fault ≢ Start) }
     {
         match request {
-            Request::Network { nodes, dest, links } => self.open(alloc, *nodes, *dest, links, way, telling, rerouted),
-            Request::Cut { u, v } => self.change(alloc, Change::Cut { u: *u, v: *v }, way, telling, rerouted),
-            Request::Add { u, v } => self.change(alloc, Change::Add { u: *u, v: *v }, way, telling, rerouted),
-            Request::Join { u, v } => self.change(alloc, Change::Join { u: *u, v: *v }, way, telling, rerouted),
+            Request::Network { nodes, dest, links } => self.open(
+                alloc, *nodes, *dest, links, way, telling, rerouted,
+            ),
+            Request::Cut { u, v } => self.change(
+                alloc,
+                Change::Cut { u: *u, v: *v },
+                way,
+                telling,
+                rerouted,
+            ),
+            Request::Add { u, v } => self.change(
+                alloc,
+                Change::Add { u: *u, v: *v },
+                way,
+                telling,
+                rerouted,
+            ),
+            Request::Join { u, v } => self.change(
+                alloc,
+                Change::Join { u: *u, v: *v },
+                way,
+                telling,
+                rerouted,
+            ),
             Request::Batch { edits } => self.edit(alloc, edits, way, telling, rerouted),
             Request::Destination { dest } => {
-                self.change(alloc, Change::Destination { dest: *dest }, way, telling, rerouted)
+                self.change(
+                    alloc,
+                    Change::Destination { dest: *dest },
+                    way,
+                    telling,
+                    rerouted,
+                )
             }
             Request::Walk { x } => self.walk(alloc, *x),
             Request::Ask(question) => self.tell(alloc, *question),
