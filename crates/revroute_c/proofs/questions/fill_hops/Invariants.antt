@@ -1,4 +1,4 @@
-use Rattle.std.proofs.Common.{Some, length, slice_get, ℕ, ◌<◌, ◌≡◌}
+use Rattle.std.proofs.Common.{Some, slice_get, ℕ, ◌<◌, ◌≡◌}
 use Rattle.revroute_c.specs.Questions.{IsHopNumber}
 use Rattle.revroute_c.proofs.questions.fill_hops.Given as goal
 
