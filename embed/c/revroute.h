@@ -62,7 +62,11 @@ enum {
     /* Memory ran out: the line can be asked again. *length is 0. */
     REVROUTE_NO_MEMORY = 3,
     /* There is no network yet: no line has given one. *length is 0. */
-    REVROUTE_NO_NETWORK = 4
+    REVROUTE_NO_NETWORK = 4,
+    /* No line has ended: the bytes are kept behind the session. *length is 0. */
+    REVROUTE_BEGUN = 8,
+    /* The line is longer than 16,777,216 bytes: nothing was taken. *length is 0. */
+    REVROUTE_TOO_LONG = 9
 };
 
 /* What stands in place of a next hop. All are above all nodes: a network has at most 4,096. The node is the destination; it is not
@@ -78,6 +82,16 @@ enum {
  * that has answered nothing holds no memory. An answer that changes the session always fits into REVROUTE_LEAST_ROOM. */
 uint32_t revroute_answer(revroute *session, const uint8_t *line, size_t line_length, uint8_t *answer, size_t room,
                          size_t *length);
+
+/* For bytes that come in pieces cut anywhere, as from a socket. Takes the bytes of a piece up to and with its first line end (byte 10),
+ * and answers that line, with what was kept before it, as revroute_answer does; where the piece has no line end it takes all of them, and
+ * keeps them. *taken is how many it took: call it again with the rest until none is left. After REVROUTE_TOO_SHORT, REVROUTE_NO_MEMORY and
+ * REVROUTE_TOO_LONG it is 0, and all is as it was. revroute_answer neither reads nor changes what is kept. */
+uint32_t revroute_take(revroute *session, const uint8_t *piece, size_t piece_length, uint8_t *answer, size_t room,
+                       size_t *length, size_t *taken);
+
+/* The end of the input ends a line that has begun: answers it, as revroute_answer does. */
+uint32_t revroute_finish(revroute *session, uint8_t *answer, size_t room, size_t *length);
 
 /* Gives back all memory of a session, which is then as REVROUTE_NEW made it: it can be closed again, or used. */
 void revroute_close(revroute *session);

@@ -4,22 +4,25 @@
 //! allocator takes no bytes, so C passes nothing for it.
 #![tactic(auto)]
 
-ghost use Rattle.std.specs.Prelude.{◌≡◌, ◌≤◌, ◌<◌, ◌⊎◌, ◌↔◌, true, [], None, length, IfSome};
+ghost use Rattle.std.specs.Prelude.{◌≡◌, ◌≤◌, ◌<◌, ◌⊎◌, ◌↔◌, true, [], None, length, IfSome, ◌==◌, ◌≢◌, ◌++◌, ℕ, List, position};
 ghost use denote.RawPtr.{null_ptr};
 ghost use Rattle.fr_net.specs.Requests.{reading};
 ghost use Rattle.fr_route.specs.Blank.{is_blank as is_blank_line};
 ghost use Rattle.fr_route.specs.Told.{IsLineTold};
 ghost use Rattle.revroute_c.specs.Replies.{least_room, IsAnswered, IsWanted, IsWritten};
+ghost use Rattle.revroute_c.specs.Pieces.{EndsLine, IsTooLong, IsWantedAtEnd};
 ghost use Rattle.revroute_c.specs.Questions.{AreHopsWritten, TellsHop};
 
 mod engine;
 mod handle;
 mod loose;
+mod pieces;
 mod questions;
 mod replies;
 
 use fr_route::{VERSION, is_blank};
 use handle::Handle;
+use pieces::{BEGUN, TOO_LONG, finish_line, take_anew, take_front};
 use questions::{HOP_OF_NO_NETWORK, NO_NETWORK, counts_in, hop_in, hops_in};
 use replies::{ANSWERED, BLANK, LEAST_ROOM, NO_MEMORY, TOO_SHORT, hand_out, reply, reply_anew};
 use std::alloc::Global;
@@ -61,6 +64,78 @@ pub extern "C" fn revroute_answer(
     match handle.engine_mut() {
         Some(engine) => reply(engine, alloc, line, answer, size),
         None => reply_anew(handle, alloc, line, answer, size),
+    }
+}
+
+/// Takes the front of a piece, up to its first byte 10 and with it, and answers the line that ends there, of what had begun and this
+/// front; without one, all of the piece is kept behind what has begun, and `BEGUN` says so. How many bytes were taken goes to `taken`. The
+/// answer and its length are as [`revroute_answer`]'s. `TOO_LONG` says that the line has more than 16,777,216 bytes. After it,
+/// `TOO_SHORT` and `NO_MEMORY` nothing was taken, and all is as it was: the piece can be handed in again.
+#[unsafe(no_mangle)]
+pub extern "C" fn revroute_take(
+    alloc: Global,
+    handle: &mut Handle,
+    piece: &[u8],
+    answer: &mut [u8],
+    size: &mut usize,
+    taken: &mut usize,
+) -> u32
+    ensures answered { result ≡ ANSWERED → (line : List ℕ) × EndsLine handle.old.begun piece.now line taken.new
+        × IsAnswered handle.old.session line handle.new.session answer.old answer.new size.new
+        × IsLineTold handle.old.session (reading line) handle.new.session handle.old.rerouted handle.new.rerouted }
+    ensures blank { result ≡ BLANK → (line : List ℕ) × EndsLine handle.old.begun piece.now line taken.new
+        × (is_blank_line line ≡ true) × (size.new ≡ 0) }
+    ensures ended { result ≤ BLANK → handle.new.begun ≡ [] }
+    ensures kept { result ≡ BEGUN → (position (λ x. x == 10) piece.now ≡ None) × (handle.new.begun ≡ handle.old.begun ++ piece.now)
+        × (taken.new ≡ length piece.now) × (size.new ≡ 0) }
+    ensures too_short { result ≡ TOO_SHORT → (length answer.old < size.new)
+        × IsWantedAtEnd handle.old.session handle.old.begun piece.now (length answer.old) size.new }
+    ensures no_memory { result ≡ NO_MEMORY → size.new ≡ 0 }
+    ensures too_long { result ≡ TOO_LONG → IsTooLong handle.old.begun piece.now × (size.new ≡ 0) }
+    ensures unchanged { ¬ (result ≡ ANSWERED) → (handle.new.session ≡ handle.old.session) × (handle.new.rerouted ≡ handle.old.rerouted) × (answer.new ≡ answer.old) }
+    ensures untaken { BLANK < result → result ≢ BEGUN → (handle.new.begun ≡ handle.old.begun) × (taken.new ≡ 0) }
+    ensures room { length answer.old < least_room → result ≡ TOO_SHORT }
+    ensures status { (result ≤ NO_MEMORY) ⊎ (result ≡ BEGUN) ⊎ (result ≡ TOO_LONG) }
+{
+    *size = 0;
+    *taken = 0;
+    if answer.len() < LEAST_ROOM {
+        *size = LEAST_ROOM;
+        return TOO_SHORT;
+    }
+    match handle.engine_mut() {
+        Some(engine) => take_front(engine, alloc, piece, answer, size, taken),
+        None => take_anew(handle, alloc, piece, answer, size, taken),
+    }
+}
+
+/// Ends the line that has begun, as the end of an input does, and answers it as [`revroute_answer`] does.
+#[unsafe(no_mangle)]
+pub extern "C" fn revroute_finish(
+    alloc: Global,
+    handle: &mut Handle,
+    answer: &mut [u8],
+    size: &mut usize,
+) -> u32
+    ensures answered { result ≡ ANSWERED → IsAnswered handle.old.session handle.old.begun handle.new.session answer.old answer.new size.new
+        × IsLineTold handle.old.session (reading handle.old.begun) handle.new.session handle.old.rerouted handle.new.rerouted }
+    ensures blank { result ≡ BLANK → (is_blank_line handle.old.begun ≡ true) × (size.new ≡ 0) }
+    ensures ended { result ≤ BLANK → handle.new.begun ≡ [] }
+    ensures too_short { result ≡ TOO_SHORT → (length answer.old < size.new) × IsWanted handle.old.session handle.old.begun (length answer.old) size.new }
+    ensures no_memory { result ≡ NO_MEMORY → size.new ≡ 0 }
+    ensures unchanged { ¬ (result ≡ ANSWERED) → (handle.new.session ≡ handle.old.session) × (handle.new.rerouted ≡ handle.old.rerouted) × (answer.new ≡ answer.old) }
+    ensures still { BLANK < result → handle.new.begun ≡ handle.old.begun }
+    ensures room { length answer.old < least_room → result ≡ TOO_SHORT }
+    ensures status { result ≤ NO_MEMORY }
+{
+    *size = 0;
+    if answer.len() < LEAST_ROOM {
+        *size = LEAST_ROOM;
+        return TOO_SHORT;
+    }
+    match handle.engine_mut() {
+        Some(engine) => finish_line(engine, alloc, answer, size),
+        None => BLANK,
     }
 }
 
