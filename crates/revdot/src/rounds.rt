@@ -1,12 +1,12 @@
 //! What a story tells of a round: how it began, its turns one by one, and what it left.
 
-ghost use Rattle.std.specs.Prelude.{◌≡◌, ◌++◌, ◌×◌, ℕ, List, true, Some, IfOk, OnOk, codes, length, string_bytes};
-ghost use Rattle.std.specs.List.{flat_map};
+ghost use Rattle.std.specs.Prelude.{◌≡◌, ◌++◌, ℕ, List, true, Some, IfOk, OnOk, codes, decimal, length, string_bytes};
 ghost use Rattle.fr_net.specs.Links.{AreBelow};
 ghost use Rattle.fr_net.specs.Requests.{ask};
 ghost use Rattle.fr_route.specs.Answers.{IsAnswer};
 ghost use Rattle.revdot.specs.Strips.{AreAllTurns, beginning};
-ghost use Rattle.revdot.specs.Stories.{IsRoundStory, IsWhole, AreSettledLines, beginning_text, first_text, is_short, link_word, most_told_turns, net_text, turn_word, turns_line};
+ghost use Rattle.fr_route.specs.Texts.{spaced, spaced_links};
+ghost use Rattle.revdot.specs.Stories.{IsRoundStory, AreSettledLines, IsAnswerLine, beginning_text, first_text, is_short, most_told_turns, net_text, turns_line};
 
 use crate::turns::{first_links, next_to_turn, turn_node};
 use fr_net::{Question, Request};
@@ -21,7 +21,11 @@ const MOST_NODES: u32 = 256;
 const MOST_TURNS: u64 = 4_096;
 
 /// Adds what is told of the round that led to where a session stands.
-pub fn push_round(story: &mut String, alloc: Global, session: &mut Session) -> Result<(), AllocError>
+pub fn push_round(
+    story: &mut String,
+    alloc: Global,
+    session: &mut Session,
+) -> Result<(), AllocError>
     ensures told { OnOk result ((told : List ℕ) × IsRoundStory true session.old told
         × (string_bytes story.new ≡ string_bytes story.old ++ told)) }
     ensures same { OnOk result (session.new ≡ session.old) }
@@ -75,7 +79,7 @@ fn push_first(story: &mut String, links: &[(u32, u32)]) -> Result<(), AllocError
 }
 
 fn push_links(story: &mut String, links: &[(u32, u32)]) -> Result<(), AllocError>
-    ensures { OnOk result (string_bytes story.new ≡ string_bytes story.old ++ flat_map link_word links.now) }
+    ensures { OnOk result (string_bytes story.new ≡ string_bytes story.old ++ spaced_links links.now) }
 {
     for link in links {
         push_link(story, *link)?;
@@ -84,7 +88,7 @@ fn push_links(story: &mut String, links: &[(u32, u32)]) -> Result<(), AllocError
 }
 
 fn push_link(story: &mut String, link: (u32, u32)) -> Result<(), AllocError>
-    ensures { OnOk result (string_bytes story.new ≡ string_bytes story.old ++ link_word link) }
+    ensures { OnOk result (string_bytes story.new ≡ string_bytes story.old ++ (codes " " ++ (decimal link.0 ++ (codes ">" ++ decimal link.1)))) }
 {
     write!(story, " {}>{}", link.0, link.1)
 }
@@ -99,7 +103,7 @@ fn push_turns(story: &mut String, turns: &[u32]) -> Result<(), AllocError>
 }
 
 fn push_nodes(story: &mut String, nodes: &[u32]) -> Result<(), AllocError>
-    ensures { OnOk result (string_bytes story.new ≡ string_bytes story.old ++ flat_map turn_word nodes.now) }
+    ensures { OnOk result (string_bytes story.new ≡ string_bytes story.old ++ spaced nodes.now) }
 {
     for node in nodes {
         write!(story, " {}", *node)?;
@@ -120,7 +124,7 @@ fn turns_of(
     let nodes = router.net().nodes();
     let mut counts = vec![in alloc; 0u64; nodes as usize]?;
     let mut turns = Vec::new(alloc);
-    for _turn in 0..MOST_TURNS {
+    for turn in 0..MOST_TURNS {
         let Some(x) = next_to_turn(alloc, nodes, router.dest(), &links, &counts)? else {
             return Ok(turns);
         };
@@ -153,8 +157,8 @@ fn push_asked(
     session: &mut Session,
     question: Question,
 ) -> Result<(), AllocError>
-    ensures told { OnOk result ((answer : List ℕ) × IsAnswer session.old (ask question) answer session.old
-        × (string_bytes story.new ≡ string_bytes story.old ++ (answer ++ codes "\n"))) }
+    ensures told { OnOk result ((asked : List ℕ) × IsAnswerLine session.old question asked
+        × (string_bytes story.new ≡ string_bytes story.old ++ asked)) }
     ensures same { OnOk result (session.new ≡ session.old) }
 {
     let Ok(answer) = session.answer_alone(alloc, &Request::Ask(question)) else {
