@@ -1,9 +1,11 @@
 """A headless Chromium, driven over a pipe by the standard library alone."""
+import base64
 import json
 import os
 import shutil
 import subprocess
 import tempfile
+import time
 
 
 def found():
@@ -26,7 +28,7 @@ class Browser:
         os.close(to_read)
         os.close(from_write)
         self.replies = os.fdopen(from_read, 'rb', buffering=0)
-        self.rest, self.number, self.messages, self.events, self.session = b'', 0, [], [], None
+        self.rest, self.number, self.messages, self.session = b'', 0, [], None
         targets = self.call('Target.getTargets')['targetInfos']
         page = next(target['targetId'] for target in targets if target['type'] == 'page')
         self.session = self.call('Target.attachToTarget', targetId=page, flatten=True)['sessionId']
@@ -62,8 +64,6 @@ class Browser:
             self.messages.append('exception: ' + details.get('exception', {}).get('description', details['text']))
         elif method == 'Log.entryAdded':
             self.messages.append('log: ' + message['params']['entry']['text'])
-        elif method:
-            self.events.append(method)
         return message
 
     def call(self, method, **params):
@@ -81,11 +81,12 @@ class Browser:
 
     def open(self, path, fragment=''):
         self.call('Page.navigate', url='about:blank')
-        self.events.clear()
         self.call('Page.navigate', url=f'file://{path}{fragment}')
         # A blank page may still tell of its own end: the page that was asked for is there once its script has run.
+        end = time.monotonic() + 30
         while not self.value("location.protocol === 'file:' && document.readyState === 'complete'"):
-            pass
+            if time.monotonic() > end:
+                raise TimeoutError(f'{path} was not opened')
 
     def value(self, script):
         result = self.call('Runtime.evaluate', expression=script, returnByValue=True, awaitPromise=True)
@@ -99,7 +100,6 @@ class Browser:
             self.call('Input.dispatchKeyEvent', type=kind, key=key)
 
     def screenshot(self, path, width, height, dark, zoom=1):
-        import base64
         self.call('Emulation.setDeviceMetricsOverride', width=width, height=height, deviceScaleFactor=zoom, mobile=width < 600)
         self.call('Emulation.setEmulatedMedia', features=[{'name': 'prefers-color-scheme', 'value': 'dark' if dark else 'light'}])
         data = self.call('Page.captureScreenshot', format='png')['data']
