@@ -20,7 +20,7 @@ class Browser:
         to_read, self.to_write = os.pipe()
         from_read, from_write = os.pipe()
         words = [program, '--headless', '--no-sandbox', '--disable-gpu', '--hide-scrollbars', '--no-first-run', '--disable-extensions',
-                 '--disable-background-networking', '--disable-dev-shm-usage', '--allow-file-access-from-files', f'--user-data-dir={self.profile.name}',
+                 '--disable-background-networking', '--disable-dev-shm-usage', f'--user-data-dir={self.profile.name}',
                  '--remote-debugging-pipe', 'about:blank']
         # The browser reads commands from descriptor 3 and writes replies to 4.
         self.process = subprocess.Popen(['sh', '-c', f'exec 3<&{to_read} 4>&{from_write} "$@"', 'sh', *words],
