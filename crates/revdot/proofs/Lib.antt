@@ -3,3 +3,5 @@ pub mod Sinks
 pub mod Turning
 pub mod Beginnings
 pub mod OneDrawing
+pub mod Telling
+pub mod OnePage

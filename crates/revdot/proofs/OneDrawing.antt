@@ -12,7 +12,7 @@ use Rattle.fr_command.proofs.Determined.{answers_unique}
 use Rattle.revdot.specs.Drawings.{IsDrawing, IsPictureOf}
 use Rattle.revdot.specs.Graphs.{graph_text}
 use Rattle.revdot.specs.Settled.{IsGraphOf, settled_node, settled_link}
-use Rattle.revdot.specs.Strips.{IsNext, IsStripOf, AreTurns, after_turn, after_turns, beginning, most_turns, turns_text}
+use Rattle.revdot.specs.Strips.{IsNext, IsStripOf, AreAllTurns, AreTurns, after_turn, after_turns, beginning, most_turns, turns_text}
 use Rattle.revdot.specs.declared.drawing.Picture.{Picture}
 use Rattle.revdot.specs.declared.drawing.Picture.TheVariants.{Network, Turns}
 
@@ -66,11 +66,12 @@ turns_unique n d k m (x ∷ xs) (y ∷ ys) p q g h =
     let rest = turns_unique n d (k - 1) (after_turn m x) xs ys p.1 turns (one_less n d k x m xs g) most in
     ap (λ (z : ℕ). z ∷ xs) (sym e) ∙ ap (λ (zs : List ℕ). y ∷ zs) rest
 
+pub all_turns_unique : (most n d : ℕ) (m : Moment) (xs ys : List ℕ) → AreAllTurns most n d m xs → AreAllTurns most n d m ys → xs ≡ ys
+all_turns_unique most n d m xs ys p q = turns_unique n d most m xs ys p.turns q.turns (record { few = p.few; all = p.all }) (record { few = q.few; all = q.all })
+
 strip_unique : (s : State) (a b : List ℕ) → IsStripOf s a → IsStripOf s b → a ≡ b
 strip_unique s a b p q =
-    let turns : p.turns ≡ q.turns =
-    turns_unique s.nodes s.dest most_turns (beginning s) p.turns q.turns p.are_all.turns q.are_all.turns
-    (record { few = p.are_all.few; all = p.are_all.all }) (record { few = q.are_all.few; all = q.are_all.all }) in
+    let turns : p.turns ≡ q.turns = all_turns_unique most_turns s.nodes s.dest (beginning s) p.turns q.turns p.are_all q.are_all in
     let last : p.last ≡ q.last = graph_unique s p.last q.last p.settled q.settled in
     let texts : turns_text s (beginning s) 1 p.turns ++ p.last ≡ turns_text s (beginning s) 1 q.turns ++ q.last = (λ i. turns_text s (beginning s) 1 (turns i) ++ last i) in
     p.text ∙ (texts ∙ sym q.text)

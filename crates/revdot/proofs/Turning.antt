@@ -90,3 +90,30 @@ pub written_back : (x len : ℕ) (links new : List (ℕ × ℕ)) → new ≡ tur
 written_back x len links new is long =
     let same : length (turn x links) ≡ length links = length-map links (turned_link x) in
     rw (is, long, ← same) (take-append_seam (turn x links) (drop (length (turn x links)) links))
+
+-- so many turns were made since the round began, of these nodes, and left these links and counts
+pub record HaveTurned (s : State) (number : ℕ) (turns : List ℕ) (links : List (ℕ × ℕ)) (counts : List ℕ) : Type 0 where
+  pub are_turns : AreTurns s.nodes s.dest (beginning s) turns
+  pub now : after_turns (beginning s) turns ≡ moment links counts
+  pub counted : length turns ≡ number
+  pub below : AreBelow s.nodes links
+  pub one_each : length counts ≡ s.nodes
+
+pub none_turned : (s : State) → AreBelow s.nodes s.links → HaveTurned s 0 [] (map (first_link s.counts) s.links) (replicate s.nodes 0)
+none_turned s below = record {
+  are_turns = tt;
+  now = refl;
+  counted = refl;
+  below = below_map s.nodes (first_link s.counts) (first-below s.nodes s.counts) s.links below;
+  one_each = length-replicate s.nodes 0;
+}
+
+pub one_more_turned : (s : State) (number : ℕ) (turns : List ℕ) (links : List (ℕ × ℕ)) (counts : List ℕ) (x : ℕ) → HaveTurned s number turns links counts
+    → IsNext s.nodes s.dest (moment links counts) x → HaveTurned s (number + 1) (turns ++ x ∷ []) (turn x links) (slice_set counts x (slice_index counts x + 1))
+one_more_turned s number turns links counts x h next = record {
+  are_turns = turns_more s.nodes s.dest (beginning s) turns x h.are_turns (subst (λ (m : Moment). IsNext s.nodes s.dest m x) (sym h.now) next);
+  now = after_more (beginning s) turns x ∙ ap (λ (m : Moment). after_turn m x) h.now;
+  counted = length-append turns (x ∷ []) ∙ ap (λ (k : ℕ). k + 1) h.counted;
+  below = below_map s.nodes (turned_link x) (turned-below s.nodes x) links h.below;
+  one_each = length-set counts x (slice_index counts x + 1) ∙ h.one_each;
+}

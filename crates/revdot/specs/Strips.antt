@@ -46,11 +46,11 @@ abbrev pub AreTurns : ℕ → ℕ → Moment → List ℕ → Type 0
 AreTurns n d m [] = Unit {0}
 AreTurns n d m (x ∷ xs) = IsNext n d m x × AreTurns n d (after_turn m x) xs
 
--- these nodes turn one after the other, until none can or the most turns are made
-pub record AreAllTurns (n d : ℕ) (m : Moment) (xs : List ℕ) : Type 0 where
+-- these nodes turn one after the other, until none can or so many turns are made
+pub record AreAllTurns (most n d : ℕ) (m : Moment) (xs : List ℕ) : Type 0 where
   pub turns : AreTurns n d m xs
-  pub few : length xs ≤ most_turns
-  pub all : (length xs ≡ most_turns) ⊎ NoneCanTurn n d (after_turns m xs)
+  pub few : length xs ≤ most
+  pub all : (length xs ≡ most) ⊎ NoneCanTurn n d (after_turns m xs)
 
 -- how the node y is drawn at the turn of x
 abbrev pub turn_look : ℕ → ℕ → ℕ → NodeLook
@@ -87,7 +87,7 @@ BeginsTheRound s = (first : List (ℕ × ℕ)) → IsNet s.nodes first → s.des
 pub record IsStripOf (s : State) (out : List ℕ) : Type 0 where
   pub begins : BeginsTheRound s
   pub turns : List ℕ
-  pub are_all : AreAllTurns s.nodes s.dest (beginning s) turns
+  pub are_all : AreAllTurns most_turns s.nodes s.dest (beginning s) turns
   pub last : List ℕ
   pub settled : IsGraphOf s last
   pub text : out ≡ turns_text s (beginning s) 1 turns ++ last

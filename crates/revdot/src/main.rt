@@ -1,29 +1,38 @@
-//! The program `revdot`: draws the network that the lines of standard input leave, in Graphviz's language.
+//! The program `revdot`: draws the network that the lines of standard input leave, in Graphviz's language, or tells their story in a
+//! page for a browser.
 #![tactic(auto)]
 
 mod drawing;
 mod graphs;
+mod page;
+mod rounds;
 mod settled;
 mod standing;
+mod story;
 mod strips;
 mod turns;
+mod viewer;
 
 use drawing::{Picture, draw};
 use fr_command::RunFault;
 use fr_route::VERSION;
+use page::page;
 use std::alloc::Global;
 use std::io::{BufWriter, ErrorKind};
 use std::process::ExitCode;
 use std::rt::Env;
 use std::{env, io};
+use viewer::{FIRST_PART, LAST_PART};
 
 /// What the program is for, and how it is called.
 const HELP: &str = "\
 Draws the network that the lines of standard input leave, as a graph in Graphviz's language.
 
 usage: revdot [--turns] < LINES | dot -Tsvg > PICTURE
+       revdot --page < LINES > PAGE
 
   --turns        a graph for each turn of the last round, and then the network (dot -Tsvg -O FILE makes a picture of each)
+  --page         a page for a browser, which tells the answer to each line, and each round turn by turn
   -h, --help     this text
   -V, --version  the version
 ";
@@ -33,6 +42,8 @@ usage: revdot [--turns] < LINES | dot -Tsvg > PICTURE
 enum Task {
     /// Draw this picture.
     Draw(Picture),
+    /// Write the page.
+    Page,
     /// Say what it is for.
     Help,
     /// Say its version.
@@ -44,6 +55,7 @@ enum Task {
 fn main(rt: HostRuntime) -> ExitCode {
     let end = match task_of(&rt) {
         Ok(Task::Draw(picture)) => perform(&rt, picture),
+        Ok(Task::Page) => tell(&rt),
         Ok(Task::Help) => told(rt.print(HELP)),
         Ok(Task::Version) => told(println!(rt; "revdot {VERSION}")),
         Ok(Task::Refuse(word)) => {
@@ -77,23 +89,25 @@ fn refuse<R: Eprint>(rt: &R, word: Option<String>) {
     };
 }
 
-/// The task of the command line: without a word the network as it stands. The first word that is help, the version or wrong decides.
+/// The task of the command line: without a word the network as it stands. The first word that is help, the version or wrong decides,
+/// and else the last word.
 fn task_of<R: Env + Alloc<A = Global>>(rt: &R) -> Result<Task, RunFault> {
     let words = match env::args(rt) {
         Ok(words) => words,
         Err(error) if error.kind() == ErrorKind::InvalidData => return Ok(Task::Refuse(None)),
         Err(_) => return Err(RunFault::Memory),
     };
-    let mut picture = Picture::Network;
+    let mut task = Task::Draw(Picture::Network);
     for word in words.skip(1) {
         match word.as_str() {
-            "--turns" => picture = Picture::Turns,
+            "--turns" => task = Task::Draw(Picture::Turns),
+            "--page" => task = Task::Page,
             "-h" | "--help" => return Ok(Task::Help),
             "-V" | "--version" => return Ok(Task::Version),
             _ => return Ok(Task::Refuse(Some(word))),
         }
     }
-    Ok(Task::Draw(picture))
+    Ok(task)
 }
 
 /// Draws the input of the program to its output.
@@ -103,4 +117,13 @@ fn perform<R: Alloc<A = Global> + Input + Print>(rt: &R, picture: Picture) -> Re
         return Err(RunFault::Memory);
     };
     draw(alloc, &mut rt.reader(), &mut out, picture)
+}
+
+/// Writes the page of the input of the program to its output.
+fn tell<R: Alloc<A = Global> + Input + Print>(rt: &R) -> Result<(), RunFault> {
+    let alloc = rt.alloc();
+    let Ok(mut out) = BufWriter::new(alloc, io::writer(rt)) else {
+        return Err(RunFault::Memory);
+    };
+    page(alloc, &mut rt.reader(), &mut out, FIRST_PART, LAST_PART)
 }

@@ -2,7 +2,7 @@
 
 ghost use Rattle.std.specs.Prelude.{◌≡◌, ◌++◌, ◌<◌, ◌≤◌, ℕ, List, length, map, IfOk, OnOk, string_bytes};
 ghost use Rattle.std.specs.List.{range_with_len, zip};
-ghost use Rattle.revdot.specs.Strips.{IsStripOf, AreAllTurns, moment, beginning, turn_look, turn_node as turn_node_of, turn_link, turn_text, turns_text};
+ghost use Rattle.revdot.specs.Strips.{IsStripOf, AreAllTurns, most_turns, moment, beginning, turn_look, turn_node as turn_node_of, turn_link, turn_text, turns_text};
 
 use crate::graphs::{DrawnLink, DrawnNode, LinkLook, NodeLook, Title, push_graph};
 use crate::settled::push_settled;
@@ -23,7 +23,7 @@ pub fn push_strip(text: &mut String, alloc: Global, router: &Router) -> Result<(
 
 /// Adds a graph for each turn of the last round.
 fn push_turns(text: &mut String, alloc: Global, router: &Router) -> Result<(), AllocError>
-    ensures { OnOk result ((turns : List ℕ) × AreAllTurns router.now.nodes router.now.dest (beginning router.now) turns
+    ensures { OnOk result ((turns : List ℕ) × AreAllTurns most_turns router.now.nodes router.now.dest (beginning router.now) turns
         × (string_bytes text.new ≡ string_bytes text.old ++ turns_text router.now (beginning router.now) 1 turns)) }
 {
     let net = router.net();

@@ -1,0 +1,72 @@
+-- The page of an input is determined by the input.
+use Rattle.std.proofs.Common.{◌≡◌, ◌∙◌, ℕ, ◌+◌, Bool, true, false, List, [], ◌∷◌, ◌++◌, Option, None, Some, MatchBool, ap, subst, sym}
+use Rattle.std.specs.Prelude.{codes}
+use Rattle.fr_net.specs.Requests.{ask, reading}
+use Rattle.fr_net.specs.declared.lines.requests.Question.{Question}
+use Rattle.fr_net.specs.declared.lines.requests.Question.TheVariants.{Links, Counts, Hops}
+use Rattle.fr_route.specs.Blank.{is_blank}
+use Rattle.fr_route.specs.States.{State}
+use Rattle.fr_route.proofs.Determined.{answer_unique, line_unique}
+use Rattle.fr_command.specs.Lines.{lines_of}
+use Rattle.revdot.specs.Pages.{IsPage}
+use Rattle.revdot.specs.Stories.{AreBlocks, AreSettledLines, IsAnswerLine, IsAnswered, IsBlock, IsRoundStory, IsToldRound, IsTurnByTurn, answer_text, beginning_text, is_short, most_told_turns, net_text, reports_round}
+use Rattle.revdot.specs.Strips.{beginning}
+use Rattle.revdot.proofs.OneDrawing.{all_turns_unique}
+
+line_text_unique : (s : Option State) (question : Question) (a b : List ℕ) → IsAnswerLine s question a → IsAnswerLine s question b → a ≡ b
+line_text_unique s question a b h k = h.2 ∙ (ap (λ (t : List ℕ). t ++ codes "\n") (answer_unique s (ask question) h.0 k.0 s s h.1 k.1).0 ∙ sym k.2)
+
+settled_unique : (s : Option State) (a b : List ℕ) → AreSettledLines s a → AreSettledLines s b → a ≡ b
+settled_unique s a b h k =
+    let links : h.links ≡ k.links = line_text_unique s Links h.links k.links h.are_links k.are_links in
+    let counts : h.counts ≡ k.counts = line_text_unique s Counts h.counts k.counts h.are_counts k.are_counts in
+    let hops : h.hops ≡ k.hops = line_text_unique s Hops h.hops k.hops h.are_hops k.are_hops in
+    let texts : h.links ++ (h.counts ++ h.hops) ≡ k.links ++ (k.counts ++ k.hops) = (λ i. links i ++ (counts i ++ hops i)) in
+    h.text ∙ (texts ∙ sym k.text)
+
+turn_by_turn_unique : (s : State) (a b : List ℕ) → IsTurnByTurn s a → IsTurnByTurn s b → a ≡ b
+turn_by_turn_unique s a b h k =
+    let turns : h.turns ≡ k.turns = all_turns_unique most_told_turns s.nodes s.dest (beginning s) h.turns k.turns h.are_all k.are_all in
+    let left : h.left ≡ k.left = settled_unique (Some s) h.left k.left h.settled k.settled in
+    let texts : beginning_text s h.turns ++ h.left ≡ beginning_text s k.turns ++ k.left = (λ i. beginning_text s (turns i) ++ left i) in
+    h.text ∙ (texts ∙ sym k.text)
+
+told_round_unique : (s : State) (a b : List ℕ) → IsToldRound s a → IsToldRound s b → a ≡ b
+told_round_unique s a b h k = of (is_short s) h k
+  where
+    of : (short : Bool) → MatchBool short (IsTurnByTurn s a) (a ≡ codes "omitted\n") → MatchBool short (IsTurnByTurn s b) (b ≡ codes "omitted\n") → a ≡ b
+    of true h k = turn_by_turn_unique s a b h k
+    of false h k = h ∙ sym k
+
+round_story_unique : (reports : Bool) (s : Option State) (a b : List ℕ) → IsRoundStory reports s a → IsRoundStory reports s b → a ≡ b
+round_story_unique true (Some s) a b h k = h.2 ∙ (ap (λ (t : List ℕ). net_text s.nodes s.dest ++ t) (told_round_unique s h.0 k.0 h.1 k.1) ∙ sym k.2)
+round_story_unique true None a b h k = h ∙ sym k
+round_story_unique false s a b h k = h ∙ sym k
+
+answered_unique : (s : Option State) (number : ℕ) (line a b : List ℕ) (p q : Option State) → IsAnswered s number line a p → IsAnswered s number line b q → (a ≡ b) × (p ≡ q)
+answered_unique s number line a b p q h k =
+    let one = line_unique s (reading line) h.answer k.answer p q h.is_answer k.is_answer in
+    let of_round : IsRoundStory (reports_round k.answer) q h.told =
+    subst (λ (t : Option State). IsRoundStory (reports_round k.answer) t h.told) one.1 (subst (λ (t : List ℕ). IsRoundStory (reports_round t) p h.told) one.0 h.of_round) in
+    let told : h.told ≡ k.told = round_story_unique (reports_round k.answer) q h.told k.told of_round k.of_round in
+    let texts : answer_text number h.answer ++ h.told ≡ answer_text number k.answer ++ k.told = (λ i. answer_text number (one.0 i) ++ told i) in
+    (h.text ∙ (texts ∙ sym k.text), one.1)
+
+block_unique : (s : Option State) (number : ℕ) (line a b : List ℕ) (p q : Option State) → IsBlock s number line a p → IsBlock s number line b q → (a ≡ b) × (p ≡ q)
+block_unique s number line a b p q h k = of (is_blank line) h k
+  where
+    of : (blank : Bool) → MatchBool blank ((a ≡ []) × (p ≡ s)) (IsAnswered s number line a p) → MatchBool blank ((b ≡ []) × (q ≡ s)) (IsAnswered s number line b q) → (a ≡ b) × (p ≡ q)
+    of true h k = (h.0 ∙ sym k.0, h.1 ∙ sym k.1)
+    of false h k = answered_unique s number line a b p q h k
+
+blocks_unique : (s : Option State) (number : ℕ) (lines : List (List ℕ)) (a b : List ℕ) → AreBlocks s number lines a → AreBlocks s number lines b → a ≡ b
+blocks_unique s number [] a b h k = h ∙ sym k
+blocks_unique s number (line ∷ rest) a b h k =
+    let one = block_unique s number line h.0 k.0 h.1 k.1 h.3 k.3 in
+    let more = blocks_unique k.1 (number + 1) rest h.2 k.2 (subst (λ (t : Option State). AreBlocks t (number + 1) rest h.2) one.1 h.4) k.4 in
+    let texts : h.0 ++ h.2 ≡ k.0 ++ k.2 = (λ i. one.0 i ++ more i) in
+    h.5 ∙ (texts ∙ sym k.5)
+
+-- an input has one page
+pub page_unique : (first last bytes a b : List ℕ) → IsPage first last bytes a → IsPage first last bytes b → a ≡ b
+page_unique first last bytes a b h k = h.2 ∙ (ap (λ (t : List ℕ). first ++ (t ++ last)) (blocks_unique None 1 (lines_of bytes) h.0 k.0 h.1 k.1) ∙ sym k.2)

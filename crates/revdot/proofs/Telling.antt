@@ -1,0 +1,97 @@
+-- How far the story of an input has been told.
+use Rattle.std.proofs.Common.{◌≡◌, ◌∙◌, ℕ, ◌+◌, ◌≤◌, ◌==◌, List, [], ◌∷◌, ◌++◌, length, ap, append_assoc, append-nil, arith, Option, None, Some, Bool, true, false, MatchBool, refl, subst, sym}
+use Rattle.std.proofs.lemmas.List.Splits.{length-slice_split}
+use Rattle.std.proofs.lemmas.List.Sums.{count_by-le-length}
+use Rattle.fr_route.specs.States.{State}
+use Rattle.fr_command.specs.Lines.{lines_of}
+use Rattle.std.specs.Prelude.{codes}
+use Rattle.fr_net.specs.declared.lines.requests.Question.TheVariants.{Links, Counts, Hops}
+use Rattle.revdot.specs.Stories.{AreBlocks, AreSettledLines, IsAnswerLine, IsBlock, IsRoundStory, IsStory, IsTurnByTurn, beginning_text, is_short, most_told_turns, net_text}
+use Rattle.revdot.specs.Strips.{AreAllTurns, beginning}
+use Rattle.revdot.proofs.Beginnings.{begins}
+
+-- three texts that were added one by one
+three : (old a b c one two new : List ℕ) → one ≡ old ++ a → two ≡ one ++ b → new ≡ two ++ c → new ≡ old ++ (a ++ (b ++ c))
+three old a b c one two new e f g =
+    g ∙ (ap (λ (t : List ℕ). t ++ c) (f ∙ (ap (λ (t : List ℕ). t ++ b) e ∙ append_assoc old a b))
+    ∙ (append_assoc old (a ++ b) c ∙ ap (λ (t : List ℕ). old ++ t) (append_assoc a b c)))
+
+short_told : (short : Bool) (P Q : Type 0) → short ≡ true → P → MatchBool short P Q
+short_told true P Q e p = p
+short_told false P Q e p = absurd (false_is_not_true e)
+  where
+    false_is_not_true : false ≡ true → ⊥
+    false_is_not_true e = cc
+
+-- this was told of so many lines, and the story is that and whatever is to be told of those that are left
+pub record HasTold (whole : List ℕ) (left : List (List ℕ)) (now : Option State) (number : ℕ) (old new : List ℕ) : Type 0 where
+  pub told : List ℕ
+  pub text : new ≡ old ++ told
+  pub rest : (more : List ℕ) → AreBlocks now (number + 1) left more → IsStory whole (told ++ more)
+  pub within : number + length left ≤ length whole + 1
+
+-- there is at most one line more than there are bytes
+few_lines : (whole : List ℕ) → length (lines_of whole) ≤ length whole + 1
+few_lines whole = omega (arith, length-slice_split (λ x. x == 10) whole, count_by-le-length (λ x. x == 10) whole)
+
+pub at_start : (whole : List ℕ) (left : List (List ℕ)) (now : Option State) (old : List ℕ) → left ≡ lines_of whole → now ≡ None → HasTold whole left now 0 old old
+at_start whole left now old all none = rw (all, none) record {
+  told = [];
+  text = sym (append-nil old);
+  rest = λ more are. are;
+  within = omega (arith, few_lines whole);
+}
+
+-- the next line is the first of those that are left
+pub next_line : (whole line : List ℕ) (all left : List (List ℕ)) (now : Option State) (number : ℕ) (old new : List ℕ) → all ≡ line ∷ left → HasTold whole all now number old new
+    → HasTold whole (line ∷ left) now number old new
+next_line whole line all left now number old new is h = subst (λ (ls : List (List ℕ)). HasTold whole ls now number old new) is h
+
+-- one line more is told
+pub one_line_more : (whole line : List ℕ) (left : List (List ℕ)) (now next : Option State) (number : ℕ) (old new newer block : List ℕ) → HasTold whole (line ∷ left) now number old new
+    → IsBlock now (number + 1) line block next → newer ≡ new ++ block → HasTold whole left next (number + 1) old newer
+one_line_more whole line left now next number old new newer block h is text = record {
+  told = h.told ++ block;
+  text = text ∙ (ap (λ (t : List ℕ). t ++ block) h.text ∙ append_assoc old h.told block);
+  rest = λ more are. subst (IsStory whole) (sym (append_assoc h.told block more)) (h.rest (block ++ more) (block, next, more, is, are, refl));
+  within = let within = h.within in omega (arith, within);
+}
+
+-- no line is left
+pub all_told : (whole : List ℕ) (left : List (List ℕ)) (now : Option State) (number : ℕ) (old new : List ℕ) → left ≡ [] → HasTold whole left now number old new
+    → (story : List ℕ) × IsStory whole story × (new ≡ old ++ story)
+all_told whole left now number old new none h =
+    let last : AreBlocks now (number + 1) left [] = rw none refl in
+    (h.told ++ [], h.rest [] last, h.text ∙ ap (λ (t : List ℕ). old ++ t) (sym (append-nil h.told)))
+
+-- the three answers behind one another
+pub settled_told : (s : Option State) (links counts hops old one two new : List ℕ) → IsAnswerLine s Links links → IsAnswerLine s Counts counts → IsAnswerLine s Hops hops
+    → one ≡ old ++ links → two ≡ one ++ counts → new ≡ two ++ hops → (out : List ℕ) × AreSettledLines s out × (new ≡ old ++ out)
+settled_told s links counts hops old one two new are_links are_counts are_hops e f g =
+    let lines : AreSettledLines s (links ++ (counts ++ hops)) = record {
+      links = links;
+      counts = counts;
+      hops = hops;
+      are_links = are_links;
+      are_counts = are_counts;
+      are_hops = are_hops;
+      text = refl;
+    } in
+    (links ++ (counts ++ hops), lines, three old links counts hops one two new e f g)
+
+-- a short round, with its net, its beginning and what it left behind one another
+pub round_told : (s : State) (session : Option State) (turns settled old one two new : List ℕ) → Some s ≡ session → is_short s ≡ true → AreAllTurns most_told_turns s.nodes s.dest (beginning s) turns
+    → AreSettledLines session settled → one ≡ old ++ net_text s.nodes s.dest → two ≡ one ++ beginning_text s turns → new ≡ two ++ settled
+    → (out : List ℕ) × IsRoundStory true session out × (new ≡ old ++ out)
+round_told s session turns settled old one two new some short are_all are e f g =
+    let told : IsTurnByTurn s (beginning_text s turns ++ settled) = record {
+      begins = λ first net below round. begins s.nodes s.dest first s net below round;
+      turns = turns;
+      are_all = are_all;
+      left = settled;
+      settled = subst (λ (t : Option State). AreSettledLines t settled) (sym some) are;
+      text = refl;
+    } in
+    let rest = beginning_text s turns ++ settled in
+    let story : IsRoundStory true (Some s) (net_text s.nodes s.dest ++ rest) = (rest, short_told (is_short s) (IsTurnByTurn s rest) (rest ≡ codes "omitted\n") short told, refl) in
+    (net_text s.nodes s.dest ++ rest, subst (λ (t : Option State). IsRoundStory true t (net_text s.nodes s.dest ++ rest)) some story, three old (net_text s.nodes s.dest) (beginning_text s turns) settled one two new e f g)

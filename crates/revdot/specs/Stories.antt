@@ -1,0 +1,99 @@
+-- The story of an input: the answer to each line, and each round turn by turn.
+use Rattle.std.specs.Prelude.{◌≡◌, ℕ, ◌+◌, nat_le, eqb, ◌&&◌, Bool, true, false, List, [], ◌∷◌, ◌++◌, Option, Some, None, MatchBool, codes, decimal, sum}
+use Rattle.std.specs.List.{starts_with}
+use Rattle.fr_net.specs.Requests.{ask, reading}
+use Rattle.fr_net.specs.declared.lines.requests.Question.{Question}
+use Rattle.fr_net.specs.declared.lines.requests.Question.TheVariants.{Links, Counts, Hops}
+use Rattle.fr_route.specs.Answers.{IsAnswer, IsLineAnswer}
+use Rattle.fr_route.specs.Blank.{is_blank}
+use Rattle.fr_route.specs.States.{State}
+use Rattle.fr_route.specs.Texts.{spaced, spaced_links}
+use Rattle.fr_command.specs.Lines.{lines_of}
+use Rattle.revdot.specs.Strips.{AreAllTurns, BeginsTheRound, beginning}
+
+-- the most nodes, and the most turns, of a round that is told turn by turn
+abbrev pub most_told_nodes : ℕ
+most_told_nodes = 256
+
+abbrev pub most_told_turns : ℕ
+most_told_turns = 4096
+
+abbrev pub is_short : State → Bool
+is_short s = nat_le s.nodes most_told_nodes && nat_le (sum s.counts) most_told_turns
+
+abbrev pub net_text : ℕ → ℕ → List ℕ
+net_text n d = codes "net " ++ (decimal n ++ (codes " " ++ (decimal d ++ codes "\n")))
+
+abbrev pub first_text : List (ℕ × ℕ) → List ℕ
+first_text links = codes "first" ++ (spaced_links links ++ codes "\n")
+
+abbrev pub turns_line : List ℕ → List ℕ
+turns_line turns = codes "turns" ++ (spaced turns ++ codes "\n")
+
+-- the links as they began the round, in the order in which they stand now, and its turns
+abbrev pub beginning_text : State → List ℕ → List ℕ
+beginning_text s turns = first_text (beginning s).links ++ turns_line turns
+
+-- the answer to a question, as a line
+abbrev pub IsAnswerLine : Option State → Question → List ℕ → Type 0
+IsAnswerLine s question out = (answer : List ℕ) × IsAnswer s (ask question) answer s × (out ≡ answer ++ codes "\n")
+
+-- what the round left, as it is answered
+pub record AreSettledLines (s : Option State) (out : List ℕ) : Type 0 where
+  pub links : List ℕ
+  pub counts : List ℕ
+  pub hops : List ℕ
+  pub are_links : IsAnswerLine s Links links
+  pub are_counts : IsAnswerLine s Counts counts
+  pub are_hops : IsAnswerLine s Hops hops
+  pub text : out ≡ links ++ (counts ++ hops)
+
+-- how a round began, its turns one by one, and what it left
+pub record IsTurnByTurn (s : State) (out : List ℕ) : Type 0 where
+  pub begins : BeginsTheRound s
+  pub turns : List ℕ
+  pub are_all : AreAllTurns most_told_turns s.nodes s.dest (beginning s) turns
+  pub left : List ℕ
+  pub settled : AreSettledLines (Some s) left
+  pub text : out ≡ beginning_text s turns ++ left
+
+-- what is told behind the net of a round: the whole where it is short
+abbrev pub IsToldRound : State → List ℕ → Type 0
+IsToldRound s out = MatchBool (is_short s) (IsTurnByTurn s out) (out ≡ codes "omitted\n")
+
+-- what is told behind an answer, by the state after it: of a round, if it reports one
+abbrev pub IsRoundStory : Bool → Option State → List ℕ → Type 0
+IsRoundStory true (Some s) told = (out : List ℕ) × IsToldRound s out × (told ≡ net_text s.nodes s.dest ++ out)
+IsRoundStory true None told = told ≡ []
+IsRoundStory false s told = told ≡ []
+
+-- an answer that reports a round, and no other, begins so
+abbrev pub reports_round : List ℕ → Bool
+reports_round answer = starts_with eqb answer (codes "turned")
+
+-- the number of a line, and its answer
+abbrev pub answer_text : ℕ → List ℕ → List ℕ
+answer_text number answer = codes "line " ++ (decimal number ++ (codes "\n" ++ (answer ++ codes "\n")))
+
+-- what is told of a line that is not blank
+pub record IsAnswered (s : Option State) (number : ℕ) (line block : List ℕ) (next : Option State) : Type 0 where
+  pub answer : List ℕ
+  pub is_answer : IsLineAnswer s (reading line) answer next
+  pub told : List ℕ
+  pub of_round : IsRoundStory (reports_round answer) next told
+  pub text : block ≡ answer_text number answer ++ told
+
+-- what is told of a line, and the state after it: a blank line has no answer
+abbrev pub IsBlock : Option State → ℕ → List ℕ → List ℕ → Option State → Type 0
+IsBlock s number line block next = MatchBool (is_blank line) ((block ≡ []) × (next ≡ s)) (IsAnswered s number line block next)
+
+-- what is told of lines, of which the first has this number
+abbrev pub AreBlocks : Option State → ℕ → List (List ℕ) → List ℕ → Type 0
+AreBlocks s number [] out = out ≡ []
+AreBlocks s number (line ∷ rest) out =
+    (block : List ℕ) × (next : Option State) × (more : List ℕ)
+    × IsBlock s number line block next × AreBlocks next (number + 1) rest more × (out ≡ block ++ more)
+
+-- the story of an input
+abbrev pub IsStory : List ℕ → List ℕ → Type 0
+IsStory bytes out = AreBlocks None 1 (lines_of bytes) out

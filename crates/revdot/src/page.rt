@@ -1,0 +1,58 @@
+//! From an input to a page that tells its story.
+
+ghost use Rattle.std.specs.Prelude.{◌≡◌, ◌≢◌, List, ℕ, IfOk, IfErr, string_bytes};
+ghost use Rattle.std.specs.Io.KnownBytes.{Keeps};
+ghost use Rattle.fr_command.specs.Outputs.{ReadsInput, ReadsOneTooMany, ReadsAtMostOneTooMany};
+ghost use Rattle.revdot.specs.Pages.{IsPage, WritesPage, WritesBeginningOfPage};
+
+use crate::story::push_story;
+use fr_command::{RunFault, read_input, write_whole};
+use std::alloc::{AllocError, Global};
+use std::io::{Read, Write};
+
+/// Reads the whole input, asks a session each of its lines, writes the page that tells the story of the input between the
+/// two parts of the viewer, and flushes once. At most one byte past the limit of 16,777,216 bytes is read. A fault other than `Write` has written nothing.
+pub fn page<R: Read, W: Write>(
+    alloc: Global,
+    reader: &mut R,
+    writer: &mut W,
+    first_part: &str,
+    last_part: &str,
+) -> Result<(), RunFault>
+    ensures ok { IfOk result (λ _. (bytes : List ℕ)
+        × ReadsInput (R.remaining reader.old) (R.remaining reader.new) bytes
+        × WritesPage first_part.now last_part.now bytes (W.contents writer.old) (W.contents writer.new)) }
+    ensures limit { ReadsAtMostOneTooMany (R.remaining reader.old) (R.remaining reader.new) }
+    ensures too_long { result ≡ Err RunFault.TooLong → ReadsOneTooMany (R.remaining reader.old) (R.remaining reader.new) }
+    ensures write { result ≡ Err RunFault.Write → (bytes : List ℕ)
+        × ReadsInput (R.remaining reader.old) (R.remaining reader.new) bytes
+        × WritesBeginningOfPage first_part.now last_part.now bytes (W.contents writer.old) (W.contents writer.new) }
+    ensures no_start { result ≢ Err RunFault.Start }
+    ensures nothing { IfErr result (λ fault. fault ≢ RunFault.Write → Keeps (W.contents writer.old) (W.contents writer.new)) }
+{
+    let input = read_input(alloc, reader)?;
+    let Ok(text) = page_of(alloc, &input, first_part, last_part) else {
+        return Err(RunFault::Memory);
+    };
+    write_whole(writer, text.as_bytes())?;
+    match writer.flush() {
+        Ok(()) => Ok(()),
+        Err(_) => Err(RunFault::Write),
+    }
+}
+
+/// The page of an input.
+fn page_of(
+    alloc: Global,
+    input: &[u8],
+    first_part: &str,
+    last_part: &str,
+) -> Result<String, AllocError>
+    ensures { IfOk result (λ text. IsPage first_part.now last_part.now input.now (string_bytes text)) }
+{
+    let mut text = String::new(alloc);
+    text.push_str(first_part)?;
+    push_story(&mut text, alloc, input)?;
+    text.push_str(last_part)?;
+    Ok(text)
+}

@@ -1,0 +1,169 @@
+//! What a story tells of a round: how it began, its turns one by one, and what it left.
+
+ghost use Rattle.std.specs.Prelude.{◌≡◌, ◌++◌, ℕ, List, true, Some, IfOk, OnOk, codes, decimal, length, string_bytes};
+ghost use Rattle.fr_net.specs.Links.{AreBelow};
+ghost use Rattle.fr_net.specs.Requests.{ask};
+ghost use Rattle.fr_route.specs.Answers.{IsAnswer};
+ghost use Rattle.revdot.specs.Strips.{AreAllTurns, beginning};
+ghost use Rattle.fr_route.specs.Texts.{spaced, spaced_links};
+ghost use Rattle.revdot.specs.Stories.{IsRoundStory, AreSettledLines, IsAnswerLine, beginning_text, first_text, is_short, most_told_turns, net_text, turns_line};
+
+use crate::turns::{first_links, next_to_turn, turn_node};
+use fr_net::{Question, Request};
+use fr_route::{Router, Session};
+use std::alloc::{AllocError, Global};
+use std::fmt::Write;
+
+/// The most nodes of a network whose rounds are told turn by turn.
+const MOST_NODES: u32 = 256;
+
+/// The most turns of a round that is told turn by turn.
+const MOST_TURNS: u64 = 4_096;
+
+/// Adds what is told of the round that led to where a session stands.
+pub fn push_round(
+    story: &mut String,
+    alloc: Global,
+    session: &mut Session,
+) -> Result<(), AllocError>
+    ensures told { OnOk result ((told : List ℕ) × IsRoundStory true session.old told
+        × (string_bytes story.new ≡ string_bytes story.old ++ told)) }
+    ensures same { OnOk result (session.new ≡ session.old) }
+{
+    let Some(router) = session.router() else {
+        return Ok(());
+    };
+    push_net(story, router.net().nodes(), router.dest())?;
+    if !is_short_round(router) {
+        return story.push_str("omitted\n");
+    }
+    push_beginning(story, alloc, router)?;
+    push_settled_lines(story, alloc, session)
+}
+
+/// Adds how many nodes there are, and which is the destination.
+fn push_net(story: &mut String, nodes: u32, dest: u32) -> Result<(), AllocError>
+    ensures { OnOk result (string_bytes story.new ≡ string_bytes story.old ++ net_text nodes dest) }
+{
+    writeln!(story, "net {nodes} {dest}")
+}
+
+/// Whether a round is told turn by turn.
+fn is_short_round(router: &Router) -> bool
+    ensures { result ≡ is_short router.now }
+{
+    router.net().nodes() <= MOST_NODES && router.report().turned <= MOST_TURNS
+}
+
+/// Adds the links as they began a round, and its turns.
+fn push_beginning(story: &mut String, alloc: Global, router: &Router) -> Result<(), AllocError>
+    ensures { OnOk result ((turns : List ℕ) × AreAllTurns most_told_turns router.now.nodes router.now.dest (beginning router.now) turns
+        × (string_bytes story.new ≡ string_bytes story.old ++ beginning_text router.now turns)) }
+{
+    let net = router.net();
+    net.network_law();
+    let settled = net.links(alloc)?;
+    let first = first_links(alloc, &settled, router.counts())?;
+    push_first(story, &first)?;
+    let turns = turns_of(alloc, router, first)?;
+    push_turns(story, &turns)
+}
+
+/// Adds the links as they began a round.
+fn push_first(story: &mut String, links: &[(u32, u32)]) -> Result<(), AllocError>
+    ensures { OnOk result (string_bytes story.new ≡ string_bytes story.old ++ first_text links.now) }
+{
+    story.push_str("first")?;
+    push_links(story, links)?;
+    story.push_str("\n")
+}
+
+fn push_links(story: &mut String, links: &[(u32, u32)]) -> Result<(), AllocError>
+    ensures { OnOk result (string_bytes story.new ≡ string_bytes story.old ++ spaced_links links.now) }
+{
+    for link in links {
+        push_link(story, *link)?;
+    }
+    Ok(())
+}
+
+fn push_link(story: &mut String, link: (u32, u32)) -> Result<(), AllocError>
+    ensures { OnOk result (string_bytes story.new ≡ string_bytes story.old ++ (codes " " ++ (decimal link.0 ++ (codes ">" ++ decimal link.1)))) }
+{
+    write!(story, " {}>{}", link.0, link.1)
+}
+
+/// Adds the nodes that turn.
+fn push_turns(story: &mut String, turns: &[u32]) -> Result<(), AllocError>
+    ensures { OnOk result (string_bytes story.new ≡ string_bytes story.old ++ turns_line turns.now) }
+{
+    story.push_str("turns")?;
+    push_nodes(story, turns)?;
+    story.push_str("\n")
+}
+
+fn push_nodes(story: &mut String, nodes: &[u32]) -> Result<(), AllocError>
+    ensures { OnOk result (string_bytes story.new ≡ string_bytes story.old ++ spaced nodes.now) }
+{
+    for node in nodes {
+        write!(story, " {}", *node)?;
+    }
+    Ok(())
+}
+
+/// The nodes that turn in a round on these links, one by one.
+fn turns_of(
+    alloc: Global,
+    router: &Router,
+    mut links: Vec<(u32, u32)>,
+) -> Result<Vec<u32>, AllocError>
+    requires first { links.items ≡ (beginning router.now).links }
+    requires below { AreBelow router.now.nodes router.now.links }
+    ensures { IfOk result (λ turns. AreAllTurns most_told_turns router.now.nodes router.now.dest (beginning router.now) turns.items) }
+{
+    let nodes = router.net().nodes();
+    let mut counts = vec![in alloc; 0u64; nodes as usize]?;
+    let mut turns = Vec::new(alloc);
+    for turn in 0..MOST_TURNS {
+        let Some(x) = next_to_turn(alloc, nodes, router.dest(), &links, &counts)? else {
+            return Ok(turns);
+        };
+        turns.push(x)?;
+        turn_node(&mut links, x);
+        counts[x as usize] += 1;
+    }
+    Ok(turns)
+}
+
+/// Adds the links, the counts and the hops that a round left, as a session answers them.
+fn push_settled_lines(
+    story: &mut String,
+    alloc: Global,
+    session: &mut Session,
+) -> Result<(), AllocError>
+    ensures told { OnOk result ((told : List ℕ) × AreSettledLines session.old told
+        × (string_bytes story.new ≡ string_bytes story.old ++ told)) }
+    ensures same { OnOk result (session.new ≡ session.old) }
+{
+    push_asked(story, alloc, session, Question::Links)?;
+    push_asked(story, alloc, session, Question::Counts)?;
+    push_asked(story, alloc, session, Question::Hops)
+}
+
+/// Adds the answer of a session to a question.
+fn push_asked(
+    story: &mut String,
+    alloc: Global,
+    session: &mut Session,
+    question: Question,
+) -> Result<(), AllocError>
+    ensures told { OnOk result ((asked : List ℕ) × IsAnswerLine session.old question asked
+        × (string_bytes story.new ≡ string_bytes story.old ++ asked)) }
+    ensures same { OnOk result (session.new ≡ session.old) }
+{
+    let Ok(answer) = session.answer_alone(alloc, &Request::Ask(question)) else {
+        return Err(AllocError);
+    };
+    story.push_str(&answer)?;
+    story.push_str("\n")
+}

@@ -1,0 +1,106 @@
+//! The story of an input: the answer to each line, and each round turn by turn.
+
+ghost use Rattle.std.specs.Prelude.{◌≡◌, ◌++◌, ℕ, List, None, IfNone, IfOk, IfSome, OnOk, false, true, codes, string_bytes};
+ghost use Rattle.fr_net.specs.Requests.{ask, reading};
+ghost use Rattle.fr_route.specs.Answers.{IsAnswer, IsLineAnswer};
+ghost use Rattle.fr_route.specs.Blank.{is_blank};
+ghost use Rattle.revdot.specs.Stories.{IsBlock, IsRoundStory, IsStory, answer_text, reports_round as reports_a_round};
+
+use crate::rounds::push_round;
+use fr_command::Lines;
+use fr_route::Session;
+use std::alloc::{AllocError, Global};
+use std::fmt::Write;
+
+/// Adds the story of an input. Networks are settled on this thread alone.
+pub fn push_story(story: &mut String, alloc: Global, input: &[u8]) -> Result<(), AllocError>
+    ensures { OnOk result ((told : List ℕ) × IsStory input.now told × (string_bytes story.new ≡ string_bytes story.old ++ told)) }
+{
+    push_each(story, alloc, &mut Session::new(), input)
+}
+
+/// Adds what is told of each line, asked of a session that was asked nothing yet.
+fn push_each(
+    story: &mut String,
+    alloc: Global,
+    session: &mut Session,
+    input: &[u8],
+) -> Result<(), AllocError>
+    requires { session.old ≡ None }
+    ensures { OnOk result ((told : List ℕ) × IsStory input.now told × (string_bytes story.new ≡ string_bytes story.old ++ told)) }
+{
+    let mut number = 0u64;
+    for line in Lines::new(input) {
+        number += 1;
+        push_line(story, alloc, session, number, line)?;
+    }
+    Ok(())
+}
+
+/// Adds what is told of a line, which is nothing where it is blank.
+fn push_line(
+    story: &mut String,
+    alloc: Global,
+    session: &mut Session,
+    number: u64,
+    line: &[u8],
+) -> Result<(), AllocError>
+    ensures { OnOk result ((block : List ℕ) × IsBlock session.old number line.now block session.new
+        × (string_bytes story.new ≡ string_bytes story.old ++ block)) }
+{
+    let Some(answer) = answer_to(alloc, session, line)? else {
+        return Ok(());
+    };
+    push_answer(story, number, &answer)?;
+    push_report(story, alloc, session, &answer)
+}
+
+/// The answer to a line, if it is not blank.
+fn answer_to(
+    alloc: Global,
+    session: &mut Session,
+    line: &[u8],
+) -> Result<Option<String>, AllocError>
+    ensures blank { IfOk result (λ answer. IfNone answer ((is_blank line.now ≡ true) × (session.new ≡ session.old))) }
+    ensures text { IfOk result (λ answer. IfSome answer (λ text. (is_blank line.now ≡ false)
+        × IsLineAnswer session.old (reading line.now) (string_bytes text) session.new)) }
+{
+    match session.answer_line_alone(alloc, line) {
+        Ok(answer) => Ok(answer),
+        Err(_) => Err(AllocError),
+    }
+}
+
+/// Adds the number of a line and its answer.
+fn push_answer(story: &mut String, number: u64, answer: &str) -> Result<(), AllocError>
+    ensures { OnOk result (string_bytes story.new ≡ string_bytes story.old ++ answer_text number answer.now) }
+{
+    writeln!(story, "line {number}")?;
+    story.push_str(answer)?;
+    story.push_str("\n")
+}
+
+/// Adds what is told of a round, where the answer reports one.
+fn push_report(
+    story: &mut String,
+    alloc: Global,
+    session: &mut Session,
+    answer: &str,
+) -> Result<(), AllocError>
+    ensures told { OnOk result ((told : List ℕ) × IsRoundStory (reports_a_round answer.now) session.old told
+        × (string_bytes story.new ≡ string_bytes story.old ++ told)) }
+    ensures same { OnOk result (session.new ≡ session.old) }
+{
+    if reports_round(answer) {
+        push_round(story, alloc, session)
+    } else {
+        Ok(())
+    }
+}
+
+/// Whether an answer reports a round: its first word is `turned`.
+fn reports_round(answer: &str) -> bool
+    ensures { result ≡ reports_a_round answer.now }
+{
+    answer.starts_with("turned")
+}

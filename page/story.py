@@ -1,0 +1,164 @@
+"""The story that a page tells of an input: a second reading of it, by other means than the program's.
+
+Which lines are accepted is taken from the answers of `revroute run`; the turns are made anew here, link by link, and every answer that
+this gives is compared with the one that came. The text is what `revdot --page` has to write between the fixed parts of a page.
+"""
+import heapq
+import json
+
+NODES = 256
+TURNS = 4096
+
+
+class Network:
+    """Links that point from their tails to their heads, and full reversal among them: the least node that can turn does."""
+
+    def __init__(self, nodes, destination, links):
+        self.nodes, self.destination = nodes, destination
+        self.heads = [set() for _ in range(nodes)]
+        self.tails = [set() for _ in range(nodes)]
+        for tail, head in links:
+            self.add(tail, head)
+
+    def add(self, tail, head):
+        self.heads[tail].add(head)
+        self.tails[head].add(tail)
+
+    def cut(self, tail, head):
+        if head not in self.heads[tail]:
+            tail, head = head, tail
+        self.heads[tail].remove(head)
+        self.tails[head].remove(tail)
+
+    def join(self, tail, head):
+        if self.leads(head, tail):
+            tail, head = head, tail
+        self.add(tail, head)
+
+    def leads(self, start, end):
+        seen, open_nodes = {start}, [start]
+        while open_nodes:
+            for head in self.heads[open_nodes.pop()] - seen:
+                seen.add(head)
+                open_nodes.append(head)
+        return end in seen
+
+    def edit(self, name, tail, head):
+        {'add': self.add, 'cut': self.cut, 'join': self.join}[name](tail, head)
+
+    def links(self):
+        return [(tail, head) for tail in range(self.nodes) for head in sorted(self.heads[tail])]
+
+    def joined(self):
+        seen, open_nodes = {self.destination}, [self.destination]
+        while open_nodes:
+            node = open_nodes.pop()
+            for other in (self.heads[node] | self.tails[node]) - seen:
+                seen.add(other)
+                open_nodes.append(other)
+        return seen
+
+    def can_turn(self, node):
+        return (node != self.destination and bool(self.tails[node]) and not self.heads[node]
+                and self.counts[node] < self.nodes)
+
+    def settle(self):
+        """Makes a round, and answers the nodes that turned, one by one."""
+        self.counts = [0] * self.nodes
+        turns = []
+        sinks = [node for node in range(self.nodes) if self.can_turn(node)]
+        heapq.heapify(sinks)
+        while sinks:
+            node = heapq.heappop(sinks)
+            turns.append(node)
+            self.counts[node] += 1
+            others = self.tails[node]
+            self.heads[node], self.tails[node] = others, set()
+            for other in others:
+                self.heads[other].remove(node)
+                self.tails[other].add(node)
+                if self.can_turn(other):
+                    heapq.heappush(sinks, other)
+        return turns
+
+    def hops(self):
+        joined = self.joined()
+        return ['here' if node == self.destination else str(min(self.heads[node])) if node in joined else 'cut'
+                for node in range(self.nodes)]
+
+    def walk(self, node):
+        hops, route = self.hops(), [node]
+        while hops[route[-1]].isdigit():
+            route.append(int(hops[route[-1]]))
+        return words('walk', route) + (' cut' if hops[node] == 'cut' else '')
+
+
+def words(name, items):
+    return ' '.join([name, *map(str, items)])
+
+
+def texts(links):
+    return [f'{tail}>{head}' for tail, head in links]
+
+
+def request_lines(data):
+    """The lines of an input that are not blank, each with its number."""
+    return [(number, line) for number, line in enumerate(data.split(b'\n'), 1) if line.strip(b' \t\r')]
+
+
+def answered(network, request):
+    """What a question about this network is answered."""
+    if request[0] == 'links':
+        return words('links', texts(network.links()))
+    if request[0] == 'counts':
+        return words('counts', network.counts)
+    return words('hops', network.hops()) if request[0] == 'hops' else network.walk(request[1])
+
+
+def round_of(network, number):
+    """The lines behind the answer of an accepted round, and the answer that it has to be."""
+    first = {frozenset(link): link for link in network.links()}
+    turns = network.settle()
+    answer = f'turned {len(turns)} cut {network.nodes - len(network.joined())}'
+    lines = [f'net {network.nodes} {network.destination}']
+    if len(turns) > TURNS:
+        return answer, lines + ['omitted']
+    links = network.links()
+    return answer, lines + [words('first', texts(first[frozenset(link)] for link in links)), words('turns', turns),
+                            words('links', texts(links)), words('counts', network.counts), words('hops', network.hops())]
+
+
+def changed(network, request):
+    """The network that an accepted request leaves before its round."""
+    name = request[0]
+    if name == 'net':
+        return Network(*request[1:]) if request[1] <= NODES else request[1:3]
+    if isinstance(network, list):
+        return [network[0], request[1]] if name == 'dest' else network
+    if name == 'dest':
+        network.destination = request[1]
+    for edit in request[1] if name == 'batch' else [request] if name in ('add', 'cut', 'join') else []:
+        network.edit(*edit)
+    return network
+
+
+def story(data, answers):
+    """The story of this input, of which these are the answers of `run`, one a line."""
+    network, out = None, []
+    for (number, line), answer in zip(request_lines(data), answers, strict=True):
+        out += [f'line {number}', answer]
+        if answer.startswith('refused'):
+            continue
+        request = json.loads(line)
+        network = changed(network, request)
+        if isinstance(network, list):
+            out += [words('net', network), 'omitted'] if answer.startswith('turned') else []
+            continue
+        if answer.startswith('turned'):
+            expected, lines = round_of(network, number)
+            out += lines
+        else:
+            expected = answered(network, request)
+        if answer != expected:
+            raise AssertionError(f'line {number}: answered {answer[:80]}, and the oracle says {expected[:80]}')
+    return ''.join(line + '\n' for line in out)
