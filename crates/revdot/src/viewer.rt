@@ -1,8 +1,566 @@
-//! What is the same in every page: made from page/viewer/head.html and page/viewer/tail.html by page/embed.
+//! What is the same in every page: written by page/embed from page/viewer.
 
 /// What a page begins with.
-pub const FIRST_PART: &str =
-    "<!doctype html><meta charset=utf-8><title>revroute</title><script type=text/plain id=story>\n";
+pub const FIRST_PART: &str = "\
+<!doctype html>
+<html lang='en'>
+<meta charset='utf-8'>
+<meta name='viewport' content='width=device-width,initial-scale=1'>
+<meta name='color-scheme' content='light dark'>
+<meta http-equiv='Content-Security-Policy' content='default-src &#39;none&#39;; script-src &#39;unsafe-inline&#39;; style-src &#39;unsafe-inline&#39;'>
+<title>revroute: a network at work</title>
+<style>
+:root{--back:#fbfbf9;--panel:#fff;--ink:#1d2329;--soft:#5c6670;--edge:#d5d9dd;--link:#7c8894;--hop:#1259b5;--turn:#b35c00;--gold:#ffd24d;
+--grey:#b9bfc5;--route:#0b7a4b;--face:#eef3f9;--bad:#a8261c}
+@media (prefers-color-scheme:dark){:root{--back:#14181c;--panel:#1b2126;--ink:#e8ecef;--soft:#a0abb5;--edge:#343c44;--link:#7f8b97;--hop:#76b2ff;
+--turn:#ffab4a;--gold:#7a5c00;--grey:#4f5962;--route:#4fd39a;--face:#26303a;--bad:#ff8a80}}
+*{box-sizing:border-box}
+body{margin:0;background:var(--back);color:var(--ink);font:15px/1.45 system-ui,sans-serif;min-height:100vh;display:grid;
+grid-template:auto 1fr auto auto/19rem minmax(0,1fr);height:100vh}
+header{grid-column:1/3;padding:.6rem 1rem;border-bottom:1px solid var(--edge);display:flex;gap:.3rem 1.2rem;flex-wrap:wrap;align-items:baseline}
+h1{font-size:1.05rem;margin:0}
+#say{margin:0;color:var(--soft);flex:1 1 20rem;min-width:0}
+aside{grid-row:2/4;border-right:1px solid var(--edge);overflow:auto;background:var(--panel);display:flex;flex-direction:column;min-height:0}
+#list{list-style:none;margin:0;padding:.3rem;overflow:auto;flex:1 1 40%;min-height:6rem}
+#list button{display:block;width:100%;text-align:left;border:0;border-radius:6px;background:none;color:inherit;padding:.2rem .5rem;font:inherit;
+white-space:nowrap;overflow:hidden;text-overflow:ellipsis;cursor:pointer}
+#list button:hover{background:var(--face)}
+#list button[aria-current]{background:var(--face);box-shadow:inset 3px 0 var(--hop)}
+#list b{display:inline-block;min-width:2.2em;color:var(--soft);font-weight:400}
+#list .no{color:var(--bad)}
+#about{border-top:1px solid var(--edge);padding:.6rem .9rem;overflow:auto;flex:0 1 auto;max-height:55%}
+#about p{margin:0 0 .4rem;overflow-wrap:anywhere}
+#answer{max-height:7rem;overflow:auto;font-family:ui-monospace,monospace;font-size:.9em}
+#chart{width:100%;height:70px;display:block}
+main{min-height:0;min-width:0;overflow:auto;display:grid;place-items:safe center;padding:.5rem}
+#net{display:block;flex:none}
+#none{color:var(--soft);max-width:34rem;padding:1rem;text-align:center}
+#bar{display:flex;gap:.5rem;align-items:center;padding:.5rem 1rem;border-top:1px solid var(--edge);flex-wrap:wrap;background:var(--panel)}
+#bar button,#bar select{font:inherit;color:inherit;background:var(--face);border:1px solid var(--edge);border-radius:6px;padding:.3rem .7rem;min-width:2.6rem;cursor:pointer}
+#slide{flex:1 1 12rem;min-width:8rem;accent-color:var(--hop)}
+#at{color:var(--soft);min-width:6em;text-align:right;font-variant-numeric:tabular-nums}
+footer{grid-column:1/3;border-top:1px solid var(--edge);padding:.45rem 1rem;color:var(--soft);font-size:.85rem}
+:focus-visible{outline:2px solid var(--hop);outline-offset:2px}
+[hidden]{display:none!important}
+.link path{stroke:var(--link);stroke-width:1.3;fill:none}
+.link .tip{fill:var(--link);stroke:none}
+.link.hop path{stroke:var(--hop);stroke-width:3.2}
+.link.hop .tip{fill:var(--hop);stroke:none}
+.link.out path{stroke:var(--grey)}
+.link.out .tip{fill:var(--grey);stroke:none}
+.link.now path{stroke:var(--turn);stroke-width:2.6}
+.link.now .tip{fill:var(--turn);stroke:none}
+.link.way path{stroke:var(--route);stroke-width:4.2}
+.link.way .tip{fill:var(--route);stroke:none}
+.node{cursor:pointer;outline:none}
+.node .face{fill:var(--panel);stroke:var(--ink);stroke-width:1.5}
+.node text{text-anchor:middle;fill:var(--ink);font:600 13px system-ui,sans-serif}
+.node .count{font:400 11px system-ui,sans-serif;fill:var(--soft)}
+.node .ring{fill:none;stroke:none}
+.node.home .ring{stroke:var(--ink);stroke-width:1.5}
+.node.out .face{stroke:var(--grey)}
+.node.out text{fill:var(--soft)}
+.node.now .face{fill:var(--gold);stroke:var(--turn);stroke-width:2.6}
+.node.now .count{fill:var(--ink)}
+.node.new .ring{stroke:var(--hop);stroke-width:1.6;stroke-dasharray:3 3}
+.node.way .face{stroke:var(--route);stroke-width:3}
+.node.pick .face{stroke-width:3.4}
+.node:focus-visible .ring{stroke:var(--hop);stroke-width:3}
+#chart path{fill:none;stroke:var(--hop);stroke-width:1.5}
+#chart line{stroke:var(--turn);stroke-width:1}
+#chart text{fill:var(--soft);font:10px system-ui,sans-serif}
+@media (max-width:760px){body{grid-template:auto minmax(50vh,1fr) auto auto auto/minmax(0,1fr);height:auto}
+header,aside,main,#bar,footer{grid-column:1;grid-row:auto}
+main{order:1;max-height:75vh}#bar{order:2;position:sticky;bottom:0}aside{order:3;border:0;border-top:1px solid var(--edge)}footer{order:4}
+#slide{order:5;flex-basis:70%}#at{order:6}#list{max-height:34vh}#about{max-height:none}}
+</style>
+<header><h1>A network at work</h1><p id='say' role='status' aria-live='polite'></p></header>
+<aside aria-label='Requests'>
+<ol id='list' aria-label='Requests and their answers'></ol>
+<div id='about'>
+<p id='answer' tabindex='0' aria-label='The answer to this line'></p><p id='more'></p><p id='changed'></p>
+<p id='picked'>Choose a node to see its route and its count over time.</p><p id='route'></p>
+<svg id='chart' role='img' hidden></svg>
+</div>
+</aside>
+<main aria-label='The network'><svg id='net' role='group' hidden></svg><p id='none' hidden></p></main>
+<div id='bar' role='group' aria-label='Steps'>
+<button id='back' aria-label='One step back'>&#9664;</button><button id='play'>Play</button><button id='next' aria-label='One step on'>&#9654;</button>
+<input id='slide' type='range' min='0' value='0' aria-label='Step'><span id='at'></span>
+<label>Speed <select id='speed'><option value='1600'>slow</option><option value='800' selected>normal</option><option value='300'>fast</option><option value='60'>very fast</option></select></label>
+</div>
+<footer><b>Proved:</b> the data of this page, which is the text that the definitions give for the lines that were read: each answer, link, turn, count and next hop.
+<b>Not proved:</b> the drawing, which is made of it by a script here and tested in a browser.
+Keys: left and right, a step; up and down, a line; space, play; n and p, a node.</footer>
+<script type='text/plain' id='story'>
+";
 
 /// What a page ends with.
-pub const LAST_PART: &str = "</script>\n";
+pub const LAST_PART: &str = "\
+</script>
+<script>
+'use strict';
+const by = id => document.getElementById(id), SVG = 'http://www.w3.org/2000/svg', NL = String.fromCharCode(10);
+const meanings = {1: 'the line is no JSON', 2: 'the value is no request', 3: 'there is no network yet',
+  4: 'a node that is named is none of the network, or there is no node', 5: 'a link joins a node with itself', 6: 'more than one link joins two nodes',
+  7: 'the links would close a walk', 8: 'no link joins the two nodes', 9: 'there are more nodes, links or edits than the limits'};
+const settledLines = ['first', 'turns', 'links', 'counts', 'hops'];
+const listed = (text, item) => text.split(' ').slice(1).map(item);
+const linkOf = word => word.split('>').map(Number);
+const keyOf = (a, b) => a < b ? a * 4096 + b : b * 4096 + a;
+
+// The story, read: a block for each line of the input; a round has what its block says, and a question the round before it.
+function readStory(text) {
+  const blocks = [];
+  let block = null, before = null;
+  for (const line of text.split(NL)) {
+    const name = line.split(' ', 1)[0];
+    if (name === 'line') {
+      block = {line: Number(line.slice(5)), answer: null, round: before, own: false, closed: null};
+      blocks.push(block);
+    } else if (!block) continue;
+    else if (block.answer === null) block.answer = line;
+    else if (name === 'closed') block.closed = line.slice(7);
+    else if (name === 'net') {
+      const words = listed(line, Number);
+      before = block.round = {nodes: words[0], home: words[1], drawn: true, before: before, block: block};
+      block.own = true;
+    } else if (name === 'omitted') block.round.drawn = false;
+    else if (settledLines.includes(name)) {
+      block.round[name] = listed(line, name === 'first' || name === 'links' ? linkOf : name === 'hops' ? String : Number);
+    }
+  }
+  return blocks;
+}
+
+// Rounds that share a node number and most links are of one network: it is laid out once, as its last round leaves it.
+function layOut(blocks) {
+  let view = null;
+  for (const block of blocks) {
+    const round = block.round;
+    if (!block.own || !round.drawn) continue;
+    const keys = new Set(round.links.map(([a, b]) => keyOf(a, b)));
+    const shared = view ? [...view.last].filter(key => keys.has(key)).length : 0;
+    if (!view || view.nodes !== round.nodes || 2 * shared < Math.min(view.last.size, keys.size)) {
+      view = {nodes: round.nodes, all: new Set(), shapes: new Map(), built: null};
+    }
+    view.last = keys;
+    view.round = round;
+    for (const key of keys) view.all.add(key);
+    round.view = view;
+  }
+}
+
+// Parts of a network, each a list of nodes: that of the destination first, then by size.
+function partsOf(round) {
+  const near = Array.from({length: round.nodes}, () => []), part = Array(round.nodes).fill(-1), parts = [];
+  for (const [a, b] of round.links) { near[a].push(b); near[b].push(a); }
+  for (const start of [round.home, ...near.keys()]) {
+    if (part[start] >= 0) continue;
+    const nodes = [start];
+    part[start] = parts.length;
+    for (const node of nodes) for (const other of near[node]) if (part[other] < 0) { part[other] = parts.length; nodes.push(other); }
+    parts.push(nodes);
+  }
+  return {near, parts: [parts[0], ...parts.slice(1).sort((a, b) => b.length - a.length)]};
+}
+
+// The layer of each node: the longest way down along the links.
+function layersOf(round) {
+  const layer = Array(round.nodes).fill(0), left = Array(round.nodes).fill(0), tails = layer.map(() => []);
+  for (const [tail, head] of round.links) { left[tail]++; tails[head].push(tail); }
+  const ready = [...left.keys()].filter(node => !left[node]);
+  for (const node of ready) for (const tail of tails[node]) {
+    layer[tail] = Math.max(layer[tail], layer[node] + 1);
+    if (!--left[tail]) ready.push(tail);
+  }
+  return layer;
+}
+
+// Places in a row that keep their order and distance, as near as can be to those wished for: neighbours that meet move as one.
+function spread(wishes, gap) {
+  const groups = [];
+  wishes.forEach((wish, at) => {
+    let group = {sum: wish - at * gap, size: 1};
+    while (groups.length && groups.at(-1).sum / groups.at(-1).size >= group.sum / group.size) {
+      const last = groups.pop();
+      group = {sum: last.sum + group.sum, size: last.size + group.size};
+    }
+    groups.push(group);
+  });
+  const places = [];
+  for (const group of groups) for (let i = 0; i < group.size; i++) places.push(group.sum / group.size + places.length * gap);
+  return places;
+}
+
+// Each row in turn is ordered by the middle of the nodes that its nodes are joined with.
+function placePart(nodes, near, layer, gap) {
+  const rows = [], x = new Map(nodes.map((node, at) => [node, 0]));
+  for (const node of nodes) (rows[layer[node]] ||= []).push(node);
+  const settle = row => spread(row.map(node => x.get(node)), gap).forEach((place, at) => x.set(row[at], place));
+  rows.forEach(settle);
+  for (let pass = 0; pass < 24; pass++) for (const row of pass % 2 ? rows : rows.slice().reverse()) {
+    for (const node of row) {
+      const others = near[node].map(other => x.get(other));
+      if (others.length) x.set(node, others.reduce((sum, place) => sum + place, 0) / others.length + node * 1e-6);
+    }
+    row.sort((a, b) => x.get(a) - x.get(b));
+    settle(row);
+  }
+  return x;
+}
+
+function placesOf(view) {
+  const {near, parts} = partsOf(view.round), layer = layersOf(view.round), place = [], across = 62, down = 66;
+  const height = Math.max(...layer);
+  let left = 0, alone = 0;
+  for (const nodes of parts) {
+    const single = nodes.length === 1 && nodes[0] !== view.round.home;
+    const x = single ? new Map([[nodes[0], 0]]) : placePart(nodes, near, layer, across);
+    const least = Math.min(...x.values()), most = Math.max(...x.values()), tall = Math.max(4, height + 1);
+    const row = single ? alone++ % tall : 0;
+    if (single && row === 0 && alone > 1) left += across;
+    for (const node of nodes) place[node] = [left + x.get(node) - least + 40, (Math.max(height, single ? Math.min(alone, tall) - 1 : 0) - layer[node] - row) * down + 40];
+    if (!single) left += most - least + across * 1.3;
+  }
+  const lowest = Math.min(...place.map(at => at[1])) - 40;
+  for (const at of place) at[1] -= lowest;
+  const wide = Math.max(...place.map(at => at[0])), high = Math.max(...place.map(at => at[1])), wider = Math.max(1, Math.min(2.2, high / wide));
+  for (const at of place) at[0] *= wider;
+  view.place = place;
+}
+
+// Makes room for the curves: moves all to the right of them, and takes the size.
+function makeRoom(view) {
+  const sides = [];
+  for (const shape of view.shapes.values()) {
+    const from = view.place[shape.a], to = view.place[shape.b], long = Math.hypot(to[0] - from[0], to[1] - from[1]) || 1;
+    sides.push((from[0] + to[0]) / 2 - (to[1] - from[1]) / long * shape.bend / 2);
+  }
+  const least = Math.min(...view.place.map(at => at[0] - 40), ...sides.map(side => side - 8));
+  for (const at of view.place) at[0] -= least;
+  view.size = [Math.max(...view.place.map(at => at[0] + 40), ...sides.map(side => side - least + 8)), Math.max(...view.place.map(at => at[1])) + 40];
+}
+
+// The bend of a link's curve: none where it passes no other node, else the least that takes it round them.
+function bendOf(view, a, b) {
+  const [ax, ay] = view.place[a], [bx, by] = view.place[b], long = Math.hypot(bx - ax, by - ay) || 1;
+  const clear = bend => {
+    for (let other = 0; other < view.nodes; other++) {
+      if (other === a || other === b) continue;
+      const [ox, oy] = view.place[other];
+      if (oy < Math.min(ay, by) - 70 || oy > Math.max(ay, by) + 70) continue;
+      for (let t = 0.08; t < 0.95; t += 0.07) {
+        const off = 2 * t * (1 - t) * bend, px = ax + (bx - ax) * t - (by - ay) / long * off, py = ay + (by - ay) * t + (bx - ax) / long * off;
+        if ((px - ox) ** 2 + (py - oy) ** 2 < 460) return false;
+      }
+    }
+    return true;
+  };
+  if (view.all.size > 1500) return 0;
+  for (const bend of [0, 50, -50, 90, -90, 140, -140, 200, -200, 280, -280]) if (clear(bend)) return bend;
+  return 30;
+}
+
+// A link's curve from its tail to its head, and its tip.
+function curve(view, shape, tail, head) {
+  const from = view.place[tail], to = view.place[head], long = Math.hypot(to[0] - from[0], to[1] - from[1]) || 1;
+  const bend = tail === shape.a ? shape.bend : -shape.bend;
+  const mid = [(from[0] + to[0]) / 2 - (to[1] - from[1]) / long * bend, (from[1] + to[1]) / 2 + (to[0] - from[0]) / long * bend];
+  const dx = to[0] - mid[0], dy = to[1] - mid[1], end = Math.hypot(dx, dy) || 1, ux = dx / end, uy = dy / end;
+  const reach = head === view.round.home ? 24 : 20, edge = [to[0] - ux * reach, to[1] - uy * reach], base = [edge[0] - ux * 9, edge[1] - uy * 9];
+  const fix = point => point.map(value => value.toFixed(1)).join(' ');
+  return {line: 'M' + fix(from) + 'Q' + fix(mid) + ' ' + fix(base),
+    tip: 'M' + fix(edge) + 'L' + fix([base[0] - uy * 4.6, base[1] + ux * 4.6]) + 'L' + fix([base[0] + uy * 4.6, base[1] - ux * 4.6]) + 'Z'};
+}
+
+function make(parent, name, attributes) {
+  const element = document.createElementNS(SVG, name);
+  for (const key in attributes) element.setAttribute(key, attributes[key]);
+  parent.append(element);
+  return element;
+}
+
+// Sets attributes, and touches only what changes.
+function mark(element, attributes) {
+  for (const key in attributes) {
+    const value = attributes[key];
+    if (value === null) { if (element.hasAttribute(key)) element.removeAttribute(key); }
+    else if (element.getAttribute(key) !== String(value)) element.setAttribute(key, value);
+  }
+}
+
+function build(view) {
+  placesOf(view);
+  view.group = document.createElementNS(SVG, 'g');
+  for (const key of view.all) {
+    const a = Math.floor(key / 4096), b = key % 4096, g = make(view.group, 'g', {class: 'link'});
+    view.shapes.set(key, {a, b, bend: bendOf(view, a, b), g, line: make(g, 'path', {}), tip: make(g, 'path', {class: 'tip'})});
+  }
+  makeRoom(view);
+  view.spots = view.place.map(([x, y], node) => {
+    const g = make(view.group, 'g', {class: 'node', role: 'button', tabindex: -1, transform: 'translate(' + x.toFixed(1) + ' ' + y.toFixed(1) + ')'});
+    make(g, 'circle', {r: 22, class: 'ring'});
+    make(g, 'circle', {r: 18, class: 'face'});
+    make(g, 'text', {y: 0}).textContent = node;
+    const count = make(g, 'text', {y: 12, class: 'count'});
+    g.addEventListener('click', () => pick(node));
+    g.addEventListener('keydown', event => { if (event.key === 'Enter') pick(node); });
+    return {g, count};
+  });
+  view.built = true;
+}
+
+const blocks = readStory(by('story').textContent);
+layOut(blocks);
+const starts = [];
+let steps = 0, now = 0, picked = null, shown = null, timer = null;
+for (const block of blocks) { starts.push(steps); steps += block.own && block.round.drawn ? block.round.turns.length + 1 : 1; }
+
+function blockAt(step) {
+  let low = 0, high = blocks.length;
+  while (high - low > 1) { const mid = (low + high) >> 1; if (starts[mid] <= step) low = mid; else high = mid; }
+  return low;
+}
+
+// A round after some of its turns. A link points as at first where both its ends have turned equally often, and else the other way.
+function stateOf(round, turn) {
+  if (turn === round.turns.length) return {settled: true, links: round.links, counts: round.counts, sink: null};
+  const counts = Array(round.nodes).fill(0);
+  for (let k = 0; k < turn; k++) counts[round.turns[k]]++;
+  const links = round.first.map(([tail, head]) => counts[tail] === counts[head] ? [tail, head] : [head, tail]);
+  return {settled: false, links, counts, sink: round.turns[turn]};
+}
+
+function routeOf(round, node) {
+  const route = [node];
+  while (route.length <= round.nodes && round.hops[route.at(-1)] !== 'here' && round.hops[route.at(-1)] !== 'cut') route.push(Number(round.hops[route.at(-1)]));
+  return route;
+}
+
+// The nodes whose next hop this round changed.
+function changedHops(round) {
+  const old = round.before && round.before.drawn && round.before.nodes === round.nodes ? round.before.hops : null;
+  return old ? [...round.hops.keys()].filter(node => old[node] !== round.hops[node]) : [];
+}
+
+function routeShown(block, state) {
+  if (!state.settled) return [];
+  if (block.answer.startsWith('walk ')) return block.answer.split(' ').slice(1).filter(word => word !== 'cut').map(Number);
+  return picked !== null && picked < block.round.nodes ? routeOf(block.round, picked) : [];
+}
+
+function drawLinks(view, round, state, way) {
+  const there = new Set(), steps = new Set(way.slice(1).map((node, at) => way[at] + '>' + node));
+  for (const [tail, head] of state.links) {
+    const key = keyOf(tail, head), shape = view.shapes.get(key);
+    there.add(key);
+    if (shape.tail !== tail) {
+      const drawn = curve(view, shape, tail, head);
+      shape.line.setAttribute('d', drawn.line);
+      shape.tip.setAttribute('d', drawn.tip);
+      shape.tail = tail;
+    }
+    const hop = state.settled && round.hops[tail] === String(head), out = round.hops[tail] === 'cut';
+    const kind = (hop ? ' hop' : head === state.sink ? ' now' : out ? ' out' : '') + (steps.has(tail + '>' + head) ? ' way' : '');
+    mark(shape.g, {class: 'link' + kind, 'data-tail': tail, 'data-head': head, 'data-hop': hop ? 1 : null, visibility: null});
+  }
+  for (const [key, shape] of view.shapes) {
+    if (!there.has(key)) mark(shape.g, {class: 'link', visibility: 'hidden', 'data-tail': null, 'data-head': null, 'data-hop': null});
+  }
+}
+
+function drawNodes(view, round, state, way, news) {
+  view.spots.forEach((spot, node) => {
+    const count = state.counts[node], hop = round.hops[node], isHome = node === round.home;
+    const kinds = [['home', isHome], ['out', hop === 'cut'], ['now', node === state.sink], ['new', news.includes(node)],
+      ['way', way.includes(node)], ['pick', node === picked]];
+    if (spot.count.textContent !== String(count)) spot.count.textContent = count;
+    const label = 'node ' + node + (isHome ? ', the destination' : '') + ', turned ' + count + (count === 1 ? ' time' : ' times') +
+      (node === state.sink ? ', turns next' : '') + (hop === 'cut' ? ', cut off' : state.settled && !isHome ? ', next hop ' + hop : '');
+    mark(spot.g, {class: 'node' + kinds.filter(kind => kind[1]).map(kind => ' ' + kind[0]).join(''), 'aria-label': label,
+      'aria-pressed': node === picked, 'data-node': node, 'data-count': count, 'data-hop': state.settled ? hop : null,
+      'data-cut': hop === 'cut' ? 1 : null, 'data-turns': node === state.sink ? 1 : null, tabindex: node === (picked ?? round.home) ? 0 : -1});
+  });
+}
+
+// How often the node that was chosen has turned, at each step of the whole page.
+function drawChart(node) {
+  const chart = by('chart'), wide = 280, high = 70, points = [];
+  let most = 1, count = 0;
+  blocks.forEach((block, at) => {
+    const round = block.round;
+    if (block.own) {
+      count = 0;
+      points.push([starts[at], 0]);
+      if (round.drawn) round.turns.forEach((turned, turn) => { if (turned === node) { count++; points.push([starts[at] + turn + 1, count]); } });
+      most = Math.max(most, count);
+    }
+  });
+  points.push([steps, count]);
+  const x = step => (4 + (wide - 8) * step / Math.max(1, steps)).toFixed(1), y = value => (high - 8 - (high - 24) * value / most).toFixed(1);
+  chart.replaceChildren();
+  mark(chart, {viewBox: '0 0 ' + wide + ' ' + high, 'aria-label': 'The count of node ' + node + ' over all steps; at most ' + most});
+  make(chart, 'path', {d: 'M' + points.map(([step, value], at) => (at ? 'H' + x(step) + 'V' : x(step) + ' ') + y(value)).join('')});
+  make(chart, 'line', {x1: x(now), x2: x(now), y1: 10, y2: high - 6});
+  make(chart, 'text', {x: 4, y: 10}).textContent = 'count of node ' + node + ', at most ' + most;
+  chart.removeAttribute('hidden');
+}
+
+function tellNode(block, round, state) {
+  const known = state && picked !== null && picked < round.nodes;
+  by('picked').textContent = known ? 'Node ' + picked + (picked === round.home ? ', the destination' : '') + ': turned ' + state.counts[picked] + ' in this round.'
+    : 'Choose a node to see its route and its count over time.';
+  const route = known && state.settled ? routeOf(round, picked) : null;
+  const text = !known ? '' : !route ? 'Its route stands once the round has ended.' : 'walk ' + route.join(' ') + (round.hops[picked] === 'cut' ? ' cut' : '');
+  by('route').textContent = text;
+  mark(by('route'), {'data-route': route ? text : null});
+  if (known) drawChart(picked); else by('chart').setAttribute('hidden', '');
+}
+
+function tellStep(block, turn, state, news) {
+  const round = block.round, total = block.own && round.drawn ? round.turns.length : 0;
+  const refusal = block.answer.startsWith('refused ') ? meanings[block.answer.slice(8)] || 'refused' : null;
+  by('say').textContent = 'Line ' + block.line + ': ' + (total ? 'turn ' + turn + ' of ' + total + (state.settled ? ', the round has ended.' : '. Node ' + state.sink + ' is a sink, and turns next.')
+    : refusal ? 'refused, since ' + refusal + '.' : block.own ? (round.drawn ? 'no node turns.' : 'told by its answer alone.') : 'a question; the network stays as it was.');
+  by('answer').textContent = block.answer;
+  by('more').textContent = refusal ? 'Refused: ' + refusal + '. Nothing has changed.' + (block.closed ? ' The closed walk: ' + block.closed + '.' : '') : '';
+  by('changed').textContent = news.length ? 'Next hops that the round changed: ' + news.map(node => node + ' (' + round.before.hops[node] + ' to ' + round.hops[node] + ')').join(', ') + '.' : '';
+  mark(by('changed'), {'data-changed': news.join(' ')});
+  by('at').textContent = (now + 1) + ' / ' + steps;
+  by('slide').value = now;
+  by('slide').setAttribute('aria-valuetext', by('say').textContent);
+}
+
+function currentButton(at) {
+  const buttons = by('list').children, old = by('list').querySelector('[aria-current]');
+  if (old) old.removeAttribute('aria-current');
+  const button = buttons[at].firstChild;
+  button.setAttribute('aria-current', 'step');
+  const list = by('list'), top = button.offsetTop - list.offsetTop;
+  if (top < list.scrollTop || top + 40 > list.scrollTop + list.clientHeight) list.scrollTop = top - list.clientHeight / 2;
+}
+
+function keepInSight(view, node) {
+  const box = document.querySelector('main'), spot = view.spots[node].g.getBoundingClientRect(), frame = box.getBoundingClientRect();
+  if (spot.top < frame.top || spot.bottom > frame.bottom) box.scrollTop += spot.top - frame.top - frame.height / 2;
+  if (spot.left < frame.left || spot.right > frame.right) box.scrollLeft += spot.left - frame.left - frame.width / 2;
+}
+
+// As large as fits, but never so small that numbers cannot be read: then it scrolls.
+function fit(view) {
+  const box = document.querySelector('main'), [wide, high] = view.size;
+  const scale = Math.min(1.5, Math.max(0.75, Math.min((box.clientWidth - 20) / wide, (box.clientHeight - 20) / high)));
+  mark(by('net'), {viewBox: '0 0 ' + wide + ' ' + high, width: wide * scale, height: high * scale});
+}
+
+function show(step, keep) {
+  now = Math.max(0, Math.min(steps - 1, step));
+  const at = blockAt(now), block = blocks[at], round = block.round, drawn = round && round.drawn;
+  const turn = block.own ? now - starts[at] : drawn ? round.turns.length : 0;
+  const state = drawn ? stateOf(round, turn) : null, net = by('net'), none = by('none');
+  const news = drawn && block.own && state.settled ? changedHops(round) : [];
+  net.toggleAttribute('hidden', !drawn);
+  none.toggleAttribute('hidden', Boolean(drawn));
+  mark(net, {'data-line': block.line, 'data-turn': block.own ? turn : 0});
+  if (drawn) {
+    const view = round.view, way = routeShown(block, state);
+    if (!view.built) build(view);
+    if (shown !== view) { net.replaceChildren(view.group); shown = view; fit(view); keepInSight(view, round.home); }
+    mark(net, {'aria-label': 'A network of ' + round.nodes + ' nodes, destination ' + round.home});
+    drawLinks(view, round, state, way);
+    drawNodes(view, round, state, way, news);
+    if (state.sink !== null) keepInSight(view, state.sink);
+  } else none.textContent = !round ? 'There is no network yet.' : 'This network, or its round, is larger than what a page shows (256 nodes, 4,096 turns): it is told by the answers alone.';
+  tellNode(block, round, state);
+  tellStep(block, turn, state || {settled: true}, news);
+  currentButton(at);
+  clearTimeout(show.later);
+  if (!keep) show.later = setTimeout(() => history.replaceState(null, '', '#line=' + block.line + (block.own ? '&turn=' + turn : '')), 400);
+}
+
+function pick(node) {
+  picked = picked === node ? null : node;
+  show(now);
+}
+
+function pickNext(on) {
+  const round = blocks[blockAt(now)].round;
+  if (!round || !round.drawn) return;
+  picked = picked === null ? round.home : (picked + on + round.nodes) % round.nodes;
+  show(now);
+  round.view.spots[picked].g.focus({preventScroll: true});
+  keepInSight(round.view, picked);
+}
+
+function goLine(on) {
+  const at = Math.max(0, Math.min(blocks.length - 1, blockAt(now) + on));
+  show(starts[at]);
+}
+
+function play(on) {
+  clearTimeout(timer);
+  timer = null;
+  by('play').textContent = on ? 'Pause' : 'Play';
+  by('say').setAttribute('aria-live', on ? 'off' : 'polite');
+  if (!on) return;
+  if (now === steps - 1) show(0);
+  const tick = () => {
+    show(now + 1);
+    if (now === steps - 1) play(false); else timer = setTimeout(tick, Number(by('speed').value));
+  };
+  timer = setTimeout(tick, Number(by('speed').value));
+}
+
+// Goes to the step that the fragment names, as #line=3&turn=2; a line alone is its end.
+function goFragment() {
+  const words = new URLSearchParams(location.hash.slice(1)), at = blocks.findIndex(block => block.line === Number(words.get('line')));
+  if (at < 0) return false;
+  const last = (starts[at + 1] ?? steps) - 1, turn = words.has('turn') ? Number(words.get('turn')) : last - starts[at];
+  show(Math.max(starts[at], Math.min(last, starts[at] + turn)), true);
+  return true;
+}
+
+const keys = {ArrowRight: () => show(now + 1), ArrowLeft: () => show(now - 1), ArrowDown: () => goLine(1), ArrowUp: () => goLine(-1),
+  Home: () => show(0), End: () => show(steps - 1), ' ': () => play(timer === null), n: () => pickNext(1), p: () => pickNext(-1), Escape: () => { if (picked !== null) pick(picked); }};
+
+function start() {
+  for (const [at, block] of blocks.entries()) {
+    const item = document.createElement('li'), button = document.createElement('button'), number = document.createElement('b');
+    number.textContent = block.line;
+    button.append(number, block.answer.slice(0, 80));
+    if (block.answer.startsWith('refused')) button.className = 'no';
+    button.setAttribute('aria-label', 'Line ' + block.line + ': ' + block.answer.slice(0, 80));
+    button.addEventListener('click', () => { play(false); show(starts[at]); });
+    item.append(button);
+    by('list').append(item);
+  }
+  by('slide').max = steps - 1;
+  by('slide').addEventListener('input', () => { play(false); show(Number(by('slide').value)); });
+  by('back').addEventListener('click', () => { play(false); show(now - 1); });
+  by('next').addEventListener('click', () => { play(false); show(now + 1); });
+  by('play').addEventListener('click', () => play(timer === null));
+  document.addEventListener('keydown', event => {
+    const action = keys[event.key], tag = event.target.tagName;
+    if (!action || event.ctrlKey || event.metaKey || event.altKey || tag === 'SELECT') return;
+    if (event.key === ' ' && tag === 'BUTTON') return;
+    event.preventDefault();
+    if (event.key !== ' ') play(false);
+    action();
+  });
+  addEventListener('hashchange', goFragment);
+  addEventListener('resize', () => { if (shown) fit(shown); });
+  if (!goFragment()) show(0, true);
+}
+
+if (blocks.length) start();
+else {
+  by('say').textContent = 'The input held no line.';
+  by('bar').setAttribute('hidden', '');
+  by('about').setAttribute('hidden', '');
+  by('none').textContent = 'There is nothing to show: no line was read.';
+  by('none').removeAttribute('hidden');
+}
+</script>
+</html>
+";
