@@ -12,22 +12,12 @@
  * calls said so.
  */
 #define _DEFAULT_SOURCE
-#include "lines.h"
+#include "fence.h"
 #include "refusing_heap.h"
 
 #include <revroute.h>
-#include <sys/mman.h>
-#include <unistd.h>
 
 enum { FENCED = 1 << 16, UNTOUCHED = 0xa5 };
-
-/* The end of memory of so many bytes with none behind it. */
-static uint8_t *fence(void) {
-    size_t page = (size_t)sysconf(_SC_PAGESIZE);
-    uint8_t *begin = mmap(NULL, FENCED + page, PROT_READ | PROT_WRITE, MAP_PRIVATE | MAP_ANONYMOUS, -1, 0);
-    if (begin == MAP_FAILED || mprotect(begin + FENCED, page, PROT_NONE)) stop("no memory for a fence");
-    return begin + FENCED;
-}
 
 static uint8_t *line_end, *answer_end;
 
@@ -152,8 +142,8 @@ static void ask_new(line it, answer wanted) {
 }
 
 int main(void) {
-    line_end = fence();
-    answer_end = fence();
+    line_end = fence(FENCED);
+    answer_end = fence(FENCED);
     lines asked = read_lines();
     answer *wanted = grown(NULL, (asked.count + 1) * sizeof *wanted);
     revroute ahead = REVROUTE_NEW, behind = REVROUTE_NEW;

@@ -32,15 +32,23 @@ static inline void *grown(void *block, size_t size) {
     return larger;
 }
 
+/* All bytes of a file. */
+static inline uint8_t *read_all(FILE *file, size_t *length) {
+    uint8_t *input = NULL;
+    size_t room = 0, read;
+    *length = 0;
+    do {
+        if (*length == room) input = grown(input, room = 2 * room + 65536);
+        *length += read = fread(input + *length, 1, room - *length, file);
+    } while (read > 0);
+    if (ferror(file)) stop("a file cannot be read");
+    return input;
+}
+
 /* All of standard input, cut at each byte 10. */
 static inline lines read_lines(void) {
-    uint8_t *input = NULL;
-    size_t length = 0, room = 0, read;
-    do {
-        if (length == room) input = grown(input, room = 2 * room + 65536);
-        length += read = fread(input + length, 1, room - length, stdin);
-    } while (read > 0);
-    if (ferror(stdin)) stop("standard input cannot be read");
+    size_t length;
+    uint8_t *input = read_all(stdin, &length);
     lines all = {NULL, 0, input};
     size_t places = 0;
     for (size_t from = 0; from < length;) {

@@ -5,6 +5,8 @@
 
 uint32_t engine_answer(revroute *, const uint8_t *, size_t, uint8_t *, size_t, size_t *);
 void engine_close(revroute *);
+uint32_t engine_finish(revroute *, uint8_t *, size_t, size_t *);
+uint32_t engine_take(revroute *, const uint8_t *, size_t, uint8_t *, size_t, size_t *, size_t *);
 uint32_t engine_version(uint8_t *, size_t, size_t *);
 
 enum {
@@ -21,7 +23,14 @@ enum {
     a_blank_line_without_memory,
     a_session_for_a_blank_line,
     close_that_keeps_the_memory,
-    another_version
+    another_version,
+    a_byte_lost_between_two_pieces,
+    one_byte_too_few_taken,
+    a_piece_kept_that_was_too_short,
+    no_memory_that_loses_what_has_begun,
+    the_piece_read_too_far,
+    the_longest_line_told_as_too_long,
+    a_last_line_without_an_answer
 };
 
 /* Asks once more with room enough, as if the state had moved on where the buffer was too short. */
@@ -62,6 +71,42 @@ uint32_t revroute_answer(revroute *session, const uint8_t *line, size_t line_len
         *length = 0;
     }
     return FAULT == no_memory_told_as_blank && status == REVROUTE_NO_MEMORY ? REVROUTE_BLANK : status;
+}
+
+/* Keeps a piece without its line end, though it was not taken. */
+static void keep(revroute *session, const uint8_t *piece, size_t piece_length) {
+    uint8_t spare[REVROUTE_LEAST_ROOM];
+    size_t length, taken;
+    const uint8_t *end = piece_length ? memchr(piece, '\n', piece_length) : NULL;
+    engine_take(session, piece, end ? (size_t)(end - piece) : piece_length, spare, sizeof spare, &length, &taken);
+}
+
+uint32_t revroute_take(revroute *session, const uint8_t *piece, size_t piece_length, uint8_t *answer, size_t room,
+                       size_t *length, size_t *taken) {
+    int is_kept = !piece_length || !memchr(piece, '\n', piece_length);
+    if (FAULT == the_piece_read_too_far && piece[piece_length] == 0xff) return REVROUTE_BEGUN;
+    if (FAULT == the_longest_line_told_as_too_long && piece_length == 16777217) {
+        *length = *taken = 0;
+        return REVROUTE_TOO_LONG;
+    }
+    size_t lost = FAULT == a_byte_lost_between_two_pieces && is_kept && piece_length > 1;
+    uint32_t status = engine_take(session, piece, piece_length - lost, answer, room, length, taken);
+    if (status == REVROUTE_BEGUN) *taken += lost;
+    if (FAULT == one_byte_too_few_taken && *taken > 1) --*taken;
+    if (FAULT == a_piece_kept_that_was_too_short && status == REVROUTE_TOO_SHORT && session->at) keep(session, piece, piece_length);
+    if (FAULT == no_memory_that_loses_what_has_begun && status == REVROUTE_NO_MEMORY && session->at) {
+        uint8_t spare[REVROUTE_LEAST_ROOM];
+        size_t none;
+        engine_take(session, (const uint8_t *)"\n", 1, spare, sizeof spare, &none, &none);
+    }
+    return status;
+}
+
+uint32_t revroute_finish(revroute *session, uint8_t *answer, size_t room, size_t *length) {
+    uint32_t status = engine_finish(session, answer, room, length);
+    if (FAULT != a_last_line_without_an_answer || status != REVROUTE_ANSWERED) return status;
+    *length = 0;
+    return REVROUTE_BLANK;
 }
 
 void revroute_close(revroute *session) {

@@ -1,0 +1,253 @@
+/* Hands in standard input in pieces, and looks that they have the answers of a file, however they are cut.
+ *
+ * usage: pieces ANSWERS
+ *        pieces --longest
+ *
+ * Standard input is cut in two at each byte, the ends too, and into single bytes. Each cut is handed in as it is, and then with
+ * too little room before each call: of no byte, of one less than the least, and of one less than the answer. The uncut input and the single
+ * bytes are handed in as well with the Nth allocation refused, for N = 1, 2, .. until none is met. What is too short or without
+ * memory takes nothing and changes nothing, and the same piece has its answer then. Printed are how many allocations were
+ * refused, and how many calls said so.
+ *
+ * With --longest a line is as long as it may be, and then longer. Each piece and each buffer ends where no memory is behind it.
+ */
+#define _DEFAULT_SOURCE
+#include "fence.h"
+#include "refusing_heap.h"
+
+#include <revroute.h>
+
+enum { LONGEST = 16777216, ROOM = 4096, UNTOUCHED = 0xa5, PIECE_SPACE = LONGEST + 65536, ANSWER_SPACE = 65536 };
+
+static uint8_t *piece_end, *answer_end;
+
+/* A session that is handed pieces, the answers that it still owes, and which allocation is refused, or 0. */
+typedef struct {
+    revroute session;
+    line owed;
+    long left;
+} talk;
+
+/* How a call ended, and with which answer. */
+typedef struct {
+    uint32_t status;
+    line answer;
+    size_t taken;
+} ending;
+
+/* What hands in a front of a piece, and the end of the input by a piece whose bytes are NULL. */
+typedef size_t step(talk *, line);
+
+/* How many bytes of a piece a call takes. */
+static size_t front_of(line piece) {
+    const uint8_t *end = piece.length ? memchr(piece.bytes, '\n', piece.length) : NULL;
+    return end ? (size_t)(end - piece.bytes) + 1 : piece.length;
+}
+
+/* What a session's lines tell of it; nothing while it holds nothing. */
+static size_t state_of(revroute *session, uint8_t *text) {
+    static const char *const questions[] = {"[\"links\"]", "[\"counts\"]", "[\"hops\"]"};
+    size_t all = 0, length;
+    for (size_t at = 0; session->at && at < 3; at++) {
+        const uint8_t *question = (const uint8_t *)questions[at];
+        if (revroute_answer(session, question, strlen(questions[at]), text + all, ROOM, &length) != REVROUTE_ANSWERED)
+            stop("a question has no answer");
+        all += length;
+    }
+    return all;
+}
+
+static int has_taken(uint32_t status) {
+    return status == REVROUTE_ANSWERED || status == REVROUTE_BLANK || status == REVROUTE_BEGUN;
+}
+
+/* Looks that an end is one of those that the header names, for such a piece. */
+static void look_at(ending it, line piece) {
+    size_t front = front_of(piece);
+    int ends = !piece.bytes || (front && piece.bytes[front - 1] == '\n');
+    if (it.status == REVROUTE_NO_NETWORK || it.status > REVROUTE_TOO_LONG) stop("an end that the header does not name");
+    if (has_taken(it.status) && (it.status == REVROUTE_BEGUN) == ends) stop("a line ends where it does not, or has begun where it ends");
+    if (it.taken != (has_taken(it.status) ? front : 0)) stop("another number of bytes is told as taken");
+    if (it.status != REVROUTE_ANSWERED && it.status != REVROUTE_TOO_SHORT && it.answer.length) stop("a length without an answer");
+}
+
+/* One call, which changes nothing where it takes nothing, and writes no byte of the buffer but the answer's. */
+static ending call(talk *it, line piece, size_t room) {
+    static uint8_t before[3 * ROOM], after[3 * ROOM];
+    size_t told = state_of(&it->session, before), length = 77, taken = 77;
+    if (piece.length > PIECE_SPACE) stop("a piece is too long for this test");
+    uint8_t *at = piece.length ? memcpy(piece_end - piece.length, piece.bytes, piece.length) : piece_end;
+    uint8_t *answer = memset(answer_end - room, UNTOUCHED, room);
+    const void *held = it->session.at;
+    uint32_t status;
+    refusing_left = it->left;
+    if (piece.bytes) status = revroute_take(&it->session, at, piece.length, answer, room, &length, &taken);
+    else status = revroute_finish(&it->session, answer, room, &length), taken = 0;
+    it->left = refusing_left;
+    refusing_left = 0;
+    ending end = {status, {answer, length}, taken};
+    look_at(end, piece);
+    for (size_t byte = status == REVROUTE_ANSWERED ? length : 0; byte < room; byte++)
+        if (answer[byte] != UNTOUCHED) stop("a byte was written that is none of the answer's");
+    if (status != REVROUTE_ANSWERED && status != REVROUTE_BEGUN && it->session.at != held) stop("the session's own bytes were written");
+    if (!it->session.at && refusing_held) stop("a session that holds nothing owns memory");
+    if (!has_taken(status) && (state_of(&it->session, after) != told || memcmp(before, after, told)))
+        stop("a call that took nothing changed the session");
+    return end;
+}
+
+/* How long the next answer is that is owed. */
+static size_t next_length(const talk *it) {
+    const uint8_t *end = it->owed.length ? memchr(it->owed.bytes, '\n', it->owed.length) : NULL;
+    if (!end) stop("there are more answers than the file has");
+    return (size_t)(end - it->owed.bytes);
+}
+
+/* Takes an answer off those that are owed. Returns how many bytes the call took. */
+static size_t settle(talk *it, ending end) {
+    if (!has_taken(end.status)) stop("a front of a piece was not taken");
+    if (end.status != REVROUTE_ANSWERED) return end.taken;
+    size_t length = next_length(it);
+    if (end.answer.length != length || memcmp(end.answer.bytes, it->owed.bytes, length)) stop("the answer is another than the file's");
+    it->owed = (line){it->owed.bytes + length + 1, it->owed.length - length - 1};
+    return end.taken;
+}
+
+static size_t hand_roomy(talk *it, line piece) { return settle(it, call(it, piece, ROOM)); }
+
+static void expect_too_short(talk *it, line piece, size_t room, size_t wanted) {
+    ending end = call(it, piece, room);
+    if (end.status != REVROUTE_TOO_SHORT || end.answer.length != wanted) stop("a buffer that is too short is not told, or another room is wanted");
+}
+
+static size_t hand_short(talk *it, line piece) {
+    expect_too_short(it, piece, 0, REVROUTE_LEAST_ROOM);
+    expect_too_short(it, piece, REVROUTE_LEAST_ROOM - 1, REVROUTE_LEAST_ROOM);
+    ending end = call(it, piece, REVROUTE_LEAST_ROOM);
+    if (end.status != REVROUTE_TOO_SHORT) return settle(it, end);
+    size_t length = next_length(it);
+    if (length <= REVROUTE_LEAST_ROOM || end.answer.length != length) stop("another room is wanted than the answer's");
+    expect_too_short(it, piece, length - 1, length);
+    return settle(it, call(it, piece, length));
+}
+
+/* How many calls said that they had no memory. */
+static long refusals;
+
+static size_t hand_poor(talk *it, line piece) {
+    long before = it->left;
+    ending end = call(it, piece, ROOM);
+    if (end.status != REVROUTE_NO_MEMORY) return settle(it, end);
+    if (!before || it->left) stop("want of memory was told where none was refused");
+    refusals++;
+    return settle(it, call(it, piece, ROOM));
+}
+
+static void hand_in(talk *it, line piece, step *hand) {
+    do {
+        size_t taken = hand(it, piece);
+        piece = (line){piece.bytes + taken, piece.length - taken};
+    } while (piece.length);
+}
+
+static void end_input(talk *it, step *hand) {
+    hand(it, (line){NULL, 0});
+    if (it->owed.length) stop("there are fewer answers than the file has");
+    hand(it, (line){NULL, 0});
+    revroute_close(&it->session);
+    if (it->session.at || refusing_held) stop("a closed session holds memory");
+}
+
+static void hand_in_two(line input, size_t cut, line owed, step *hand) {
+    talk it = {REVROUTE_NEW, owed, 0};
+    hand_in(&it, (line){input.bytes, cut}, hand);
+    hand_in(&it, (line){input.bytes + cut, input.length - cut}, hand);
+    end_input(&it, hand);
+}
+
+/* Hands in pieces of so many bytes. Returns whether the allocation that was to be refused was met. */
+static int hand_in_pieces(line input, size_t size, line owed, step *hand, long left) {
+    talk it = {REVROUTE_NEW, owed, left};
+    for (size_t from = 0; from < input.length; from += size) {
+        size_t rest = input.length - from;
+        hand_in(&it, (line){input.bytes + from, rest < size ? rest : size}, hand);
+    }
+    end_input(&it, hand);
+    return !it.left;
+}
+
+/* Refuses each allocation in turn. Returns how many there are. */
+static long refuse_each(line input, size_t size, line owed) {
+    long number = 1;
+    while (hand_in_pieces(input, size, owed, hand_poor, number)) number++;
+    return number - 1;
+}
+
+static void cut_everywhere(line input, line owed) {
+    static step *const hands[] = {hand_roomy, hand_short};
+    for (size_t way = 0; way < 2; way++) {
+        for (size_t cut = 0; cut <= input.length; cut++) hand_in_two(input, cut, owed, hands[way]);
+        hand_in_pieces(input, input.length, owed, hands[way], 0);
+        hand_in_pieces(input, 1, owed, hands[way], 0);
+    }
+    long refused = refuse_each(input, input.length, owed) + refuse_each(input, 1, owed);
+    printf("%ld %ld\n", refused, refusals);
+}
+
+static void expect(talk *it, line piece, uint32_t status, const char *why) {
+    if (call(it, piece, ROOM).status != status) stop(why);
+}
+
+/* A question with spaces behind it up to the longest line is answered; with one more it is not, in one piece or behind what has begun. */
+static void ask_longest(void) {
+    static const char network[] = "[\"net\",2,0,[[1,0]]]\n", question[] = "[\"links\"]", answers[] = "turned 0 cut 0\nlinks 1>0\nlinks 1>0\n";
+    uint8_t *text = memset(grown(NULL, LONGEST + 2), ' ', LONGEST + 2);
+    memcpy(text, question, sizeof question - 1);
+    talk it = {REVROUTE_NEW, {(const uint8_t *)answers, sizeof answers - 1}, 0};
+    expect(&it, (line){text, LONGEST + 1}, REVROUTE_TOO_LONG, "a new session takes more than the longest line");
+    hand_in(&it, (line){(const uint8_t *)network, sizeof network - 1}, hand_roomy);
+    text[LONGEST] = '\n';
+    hand_in(&it, (line){text, LONGEST + 1}, hand_roomy);
+    text[LONGEST] = ' ';
+    text[LONGEST + 1] = '\n';
+    expect(&it, (line){text, LONGEST + 2}, REVROUTE_TOO_LONG, "a longer line than the longest is taken");
+    hand_in(&it, (line){text, 1}, hand_roomy);
+    expect(&it, (line){text + 1, LONGEST}, REVROUTE_TOO_LONG, "more than the longest line is kept");
+    hand_in(&it, (line){text + 1, LONGEST - 1}, hand_roomy);
+    expect(&it, (line){text + LONGEST, 1}, REVROUTE_TOO_LONG, "a byte behind the longest line is kept");
+    expect(&it, (line){text + LONGEST, 2}, REVROUTE_TOO_LONG, "a byte behind the longest line is taken");
+    hand_in(&it, (line){text + LONGEST + 1, 1}, hand_roomy);
+    end_input(&it, hand_roomy);
+    free(text);
+}
+
+/* What has begun goes with the session that is closed. */
+static void close_begun(void) {
+    talk it = {REVROUTE_NEW, {NULL, 0}, 0};
+    hand_in(&it, (line){(const uint8_t *)"[]", 2}, hand_roomy);
+    revroute_close(&it.session);
+    if (it.session.at || refusing_held) stop("a closed session keeps what has begun");
+    end_input(&it, hand_short);
+}
+
+int main(int count, char **words) {
+    if (count != 2) stop("usage: pieces ANSWERS | --longest");
+    piece_end = fence(PIECE_SPACE);
+    answer_end = fence(ANSWER_SPACE);
+    if (!strcmp(words[1], "--longest")) {
+        ask_longest();
+        close_begun();
+        return 0;
+    }
+    FILE *file = fopen(words[1], "rb");
+    if (!file) stop("there is no such file of answers");
+    line input, owed;
+    uint8_t *given = read_all(stdin, &input.length), *answers = read_all(file, &owed.length);
+    fclose(file);
+    input.bytes = given;
+    owed.bytes = answers;
+    cut_everywhere(input, owed);
+    free(given);
+    free(answers);
+    return 0;
+}
