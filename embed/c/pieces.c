@@ -6,8 +6,8 @@
  * Standard input is cut in two at each byte, the ends too, and into single bytes. Each cut is handed in as it is, and then with
  * too little room before each call: of no byte, of one less than the least, and of one less than the answer. The uncut input and the single
  * bytes are handed in as well with the Nth allocation refused, for N = 1, 2, .. until none is met. What is too short or without
- * memory takes nothing and changes nothing, and the same piece has its answer then. Printed are how many allocations were
- * refused, and how many calls said so.
+ * memory takes nothing and changes nothing, and the same piece has its answer then. Questions are asked before each call, which leave
+ * what has begun. Printed are how many allocations were refused, and how many calls said so.
  *
  * With --longest a line is as long as it may be, and then longer. Each piece and each buffer ends where no memory is behind it.
  */
@@ -117,7 +117,8 @@ static size_t hand_roomy(talk *it, line piece) { return settle(it, call(it, piec
 
 static void expect_too_short(talk *it, line piece, size_t room, size_t wanted) {
     ending end = call(it, piece, room);
-    if (end.status != REVROUTE_TOO_SHORT || end.answer.length != wanted) stop("a buffer that is too short is not told, or another room is wanted");
+    if (end.status != REVROUTE_TOO_SHORT) stop("a buffer that is too short was taken");
+    if (end.answer.length != wanted) stop("of a buffer that is too short another room is wanted");
 }
 
 static size_t hand_short(talk *it, line piece) {
@@ -200,7 +201,8 @@ static void expect(talk *it, line piece, uint32_t status, const char *why) {
 
 /* A question with spaces behind it up to the longest line is answered; with one more it is not, in one piece or behind what has begun. */
 static void ask_longest(void) {
-    static const char network[] = "[\"net\",2,0,[[1,0]]]\n", question[] = "[\"links\"]", answers[] = "turned 0 cut 0\nlinks 1>0\nlinks 1>0\n";
+    static const char network[] = "[\"net\",2,0,[[1,0]]]\n", question[] = "[\"links\"]";
+    static const char answers[] = "turned 0 cut 0\nlinks 1>0\nlinks 1>0\n";
     uint8_t *text = memset(grown(NULL, LONGEST + 2), ' ', LONGEST + 2);
     memcpy(text, question, sizeof question - 1);
     talk it = {REVROUTE_NEW, {(const uint8_t *)answers, sizeof answers - 1}, 0};

@@ -30,7 +30,8 @@ enum {
     no_memory_that_loses_what_has_begun,
     the_piece_read_too_far,
     the_longest_line_told_as_too_long,
-    a_last_line_without_an_answer
+    a_last_line_without_an_answer,
+    an_answer_that_ends_what_has_begun
 };
 
 /* Asks once more with room enough, as if the state had moved on where the buffer was too short. */
@@ -52,6 +53,7 @@ static int wants_memory(const revroute *session) {
 uint32_t revroute_answer(revroute *session, const uint8_t *line, size_t line_length, uint8_t *answer, size_t room,
                          size_t *length) {
     static revroute shared = REVROUTE_NEW;
+    if (FAULT == an_answer_that_ends_what_has_begun && room >= REVROUTE_LEAST_ROOM) engine_finish(session, answer, room, length);
     if (FAULT == sessions_that_share) session = &shared;
     if (FAULT == too_short_after_the_state_has_moved_on && room < REVROUTE_LEAST_ROOM)
         return move_on(session, line, line_length, length);
