@@ -1,4 +1,4 @@
--- How far the drawing of turns has come.
+-- How far the turns of a round have come.
 use Rattle.std.proofs.Common.{◌≡◌, ◌∙◌, ℕ, ◌+◌, ◌<◌, List, [], ◌∷◌, ◌++◌, drop, length, map, replicate, slice_index, slice_set, ap, append_assoc, append-nil, length-append, eq-eqb, ne_eqb, ◌==◌, Bool, true, false, cond, refl, subst, sym, take, arith, inl, inr}
 use Rattle.std.proofs.lemmas.List.{length-map, length-set, length-replicate}
 use Rattle.std.proofs.lemmas.List.Elements.{All-map, All-weaker}
@@ -10,14 +10,19 @@ use Rattle.fr_core.specs.History.{Moment}
 use Rattle.fr_route.specs.States.{State}
 use Rattle.revdot.specs.Strips.{moment, beginning, first_link, after_turn, after_turns, IsNext, AreTurns, turn_text, turns_text}
 
-pub record HasTurned (s : State) (number : ℕ) (links : List (ℕ × ℕ)) (counts : List ℕ) (old new : List ℕ) : Type 0 where
-  pub turns : List ℕ
+-- so many turns were made since the round began, of these nodes, and left these links and counts
+pub record HaveTurned (s : State) (number : ℕ) (turns : List ℕ) (links : List (ℕ × ℕ)) (counts : List ℕ) : Type 0 where
   pub are_turns : AreTurns s.nodes s.dest (beginning s) turns
   pub now : after_turns (beginning s) turns ≡ moment links counts
   pub counted : length turns ≡ number
-  pub text : new ≡ old ++ turns_text s (beginning s) 1 turns
   pub below : AreBelow s.nodes links
   pub one_each : length counts ≡ s.nodes
+
+-- the same, and each turn is drawn
+pub record HasTurned (s : State) (number : ℕ) (links : List (ℕ × ℕ)) (counts : List ℕ) (old new : List ℕ) : Type 0 where
+  pub turns : List ℕ
+  pub have : HaveTurned s number turns links counts
+  pub text : new ≡ old ++ turns_text s (beginning s) 1 turns
 
 turns_more : (n d : ℕ) (m : Moment) (xs : List ℕ) (x : ℕ) → AreTurns n d m xs → IsNext n d (after_turns m xs) x → AreTurns n d m (xs ++ x ∷ [])
 turns_more n d m [] x are next = (next, tt)
@@ -54,51 +59,6 @@ below_map n f each links below =
     All-map (λ (l : ℕ × ℕ). (l.0 < n) × (l.1 < n)) f links
     (All-weaker (λ (l : ℕ × ℕ). (l.0 < n) × (l.1 < n)) (λ (l : ℕ × ℕ). ((f l).0 < n) × ((f l).1 < n)) each links below)
 
-pub at_start : (s : State) (old : List ℕ) → AreBelow s.nodes s.links → HasTurned s 0 (map (first_link s.counts) s.links) (replicate s.nodes 0) old old
-at_start s old below = record {
-  turns = [];
-  are_turns = tt;
-  now = refl;
-  counted = refl;
-  text = sym (append-nil old);
-  below = below_map s.nodes (first_link s.counts) (first-below s.nodes s.counts) s.links below;
-  one_each = length-replicate s.nodes 0;
-}
-
-module _ (s : State) (number : ℕ) (links : List (ℕ × ℕ)) (counts : List ℕ) (old new : List ℕ) (h : HasTurned s number links counts old new) where
-  -- one turn more is drawn and made
-  pub one_turn_more : (x : ℕ) (more : List ℕ) → IsNext s.nodes s.dest (moment links counts) x → more ≡ new ++ turn_text s (moment links counts) (number + 1) x
-      → HasTurned s (number + 1) (turn x links) (slice_set counts x (slice_index counts x + 1)) old more
-  one_turn_more x more next text = record {
-    turns = h.turns ++ x ∷ [];
-    are_turns = turns_more s.nodes s.dest (beginning s) h.turns x h.are_turns (subst (λ (m : Moment). IsNext s.nodes s.dest m x) (sym h.now) next);
-    now = after_more (beginning s) h.turns x ∙ ap (λ (m : Moment). after_turn m x) h.now;
-    counted = length-append h.turns (x ∷ []) ∙ ap (λ (k : ℕ). k + 1) h.counted;
-    text =
-        let place : 1 + length h.turns ≡ number + 1 = let counted = h.counted in omega arith in
-        let last : turn_text s (after_turns (beginning s) h.turns) (1 + length h.turns) x ≡ turn_text s (moment links counts) (number + 1) x =
-        ap (λ (m : Moment). turn_text s m (1 + length h.turns) x) h.now ∙ ap (λ (k : ℕ). turn_text s (moment links counts) k x) place in
-        text ∙ (ap (λ (t : List ℕ). t ++ turn_text s (moment links counts) (number + 1) x) h.text
-        ∙ (append_assoc old (turns_text s (beginning s) 1 h.turns) (turn_text s (moment links counts) (number + 1) x)
-        ∙ ap (λ (t : List ℕ). old ++ t) (ap (λ (t : List ℕ). turns_text s (beginning s) 1 h.turns ++ t) (sym last) ∙ sym (text_more s (beginning s) 1 h.turns x))));
-    below = below_map s.nodes (turned_link x) (turned-below s.nodes x) links h.below;
-    one_each = length-set counts x (slice_index counts x + 1) ∙ h.one_each;
-  }
-
--- the links once they are written back
-pub written_back : (x len : ℕ) (links new : List (ℕ × ℕ)) → new ≡ turn x links → len ≡ length links → take len (new ++ drop (length new) links) ≡ turn x links
-written_back x len links new is long =
-    let same : length (turn x links) ≡ length links = length-map links (turned_link x) in
-    rw (is, long, ← same) (take-append_seam (turn x links) (drop (length (turn x links)) links))
-
--- so many turns were made since the round began, of these nodes, and left these links and counts
-pub record HaveTurned (s : State) (number : ℕ) (turns : List ℕ) (links : List (ℕ × ℕ)) (counts : List ℕ) : Type 0 where
-  pub are_turns : AreTurns s.nodes s.dest (beginning s) turns
-  pub now : after_turns (beginning s) turns ≡ moment links counts
-  pub counted : length turns ≡ number
-  pub below : AreBelow s.nodes links
-  pub one_each : length counts ≡ s.nodes
-
 pub none_turned : (s : State) → AreBelow s.nodes s.links → HaveTurned s 0 [] (map (first_link s.counts) s.links) (replicate s.nodes 0)
 none_turned s below = record {
   are_turns = tt;
@@ -117,3 +77,32 @@ one_more_turned s number turns links counts x h next = record {
   below = below_map s.nodes (turned_link x) (turned-below s.nodes x) links h.below;
   one_each = length-set counts x (slice_index counts x + 1) ∙ h.one_each;
 }
+
+pub at_start : (s : State) (old : List ℕ) → AreBelow s.nodes s.links → HasTurned s 0 (map (first_link s.counts) s.links) (replicate s.nodes 0) old old
+at_start s old below = record {
+  turns = [];
+  have = none_turned s below;
+  text = sym (append-nil old);
+}
+
+module _ (s : State) (number : ℕ) (links : List (ℕ × ℕ)) (counts : List ℕ) (old new : List ℕ) (h : HasTurned s number links counts old new) where
+  -- one turn more is drawn and made
+  pub one_turn_more : (x : ℕ) (more : List ℕ) → IsNext s.nodes s.dest (moment links counts) x → more ≡ new ++ turn_text s (moment links counts) (number + 1) x
+      → HasTurned s (number + 1) (turn x links) (slice_set counts x (slice_index counts x + 1)) old more
+  one_turn_more x more next text = record {
+    turns = h.turns ++ x ∷ [];
+    have = one_more_turned s number h.turns links counts x h.have next;
+    text =
+        let place : 1 + length h.turns ≡ number + 1 = let counted = h.have.counted in omega arith in
+        let last : turn_text s (after_turns (beginning s) h.turns) (1 + length h.turns) x ≡ turn_text s (moment links counts) (number + 1) x =
+        ap (λ (m : Moment). turn_text s m (1 + length h.turns) x) h.have.now ∙ ap (λ (k : ℕ). turn_text s (moment links counts) k x) place in
+        text ∙ (ap (λ (t : List ℕ). t ++ turn_text s (moment links counts) (number + 1) x) h.text
+        ∙ (append_assoc old (turns_text s (beginning s) 1 h.turns) (turn_text s (moment links counts) (number + 1) x)
+        ∙ ap (λ (t : List ℕ). old ++ t) (ap (λ (t : List ℕ). turns_text s (beginning s) 1 h.turns ++ t) (sym last) ∙ sym (text_more s (beginning s) 1 h.turns x))));
+  }
+
+-- the links once they are written back
+pub written_back : (x len : ℕ) (links new : List (ℕ × ℕ)) → new ≡ turn x links → len ≡ length links → take len (new ++ drop (length new) links) ≡ turn x links
+written_back x len links new is long =
+    let same : length (turn x links) ≡ length links = length-map links (turned_link x) in
+    rw (is, long, ← same) (take-append_seam (turn x links) (drop (length (turn x links)) links))

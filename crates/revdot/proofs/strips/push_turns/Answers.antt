@@ -30,6 +30,6 @@ loop-turn-preserved c =
     let long : c.loop-turn.links.len ≡ length links = sym c.deref_mut.ensures.len ∙ ap length c.deref_mut.ensures.value in
     let back = written_back x c.loop-turn.links.len links c.turn_node.new.links turned long in
     let node : x < c.nodes-nodes.result = rw c.in-Some.is at c.in_ok-x.ensures.node in
-    let inside : x < length counts = let one_each = c.loop-turn.invariant.one_each in omega (arith, node, nodes, one_each) in
+    let inside : x < length counts = let one_each = c.loop-turn.invariant.have.one_each in omega (arith, node, nodes, one_each) in
     let count : c.index_mut.result.now ≡ slice_index counts x = c.index_mut.ensures.value ∙ get_or_default counts x c.index_mut.result.now 0 inside in
     rw (back, count) (one_turn_more s c.loop-turn.turn links counts (string_bytes c.args.text.now) (string_bytes c.loop-turn.text) c.loop-turn.invariant x (string_bytes c.push_turn.new.text) next text)
