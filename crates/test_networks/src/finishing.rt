@@ -59,7 +59,10 @@ fn is_lawful(net: &Net, dest: u32, counts: &[u64]) -> bool
     ensures node { IsTrue result → dest < net.now.nodes }
     ensures lawful { IsTrue result → AreLawful net.now.nodes dest net.now.links counts.now }
 {
-    dest < net.nodes() && lawful(net, dest, counts)
+    if dest >= net.nodes() {
+        return false;
+    }
+    lawful(net, dest, counts)
 }
 
 /// How many turns `finish` makes from the counts 0, and the counts, if they are asked for.
