@@ -1,0 +1,120 @@
+"""Proves crates of this repository, each over those below it, and builds them."""
+
+import re
+import shutil
+import subprocess
+import sys
+import time
+
+import crates
+
+PROVED = crates.BUILT / "proved"
+FAILED = 70
+
+
+def own_rlib(name):
+    return PROVED / f"{name}.rlib"
+
+
+def gate_rlib(name):
+    return crates.CRATES / name / "out" / "rlib" / f"{name}.rlib"
+
+
+def are_proved_by_the_gate(names):
+    """Whether rt ci has left these libraries proved from the sources as they are. What other commands of rt leave has a stamp beside it,
+    and fits only what they built below it."""
+    is_stamped = any((gate_rlib(it).parent / "stamp").exists() for it in names)
+    edited = crates.newest(names)
+    return not is_stamped and all(is_newer(gate_rlib(it) / "format", edited) for it in names)
+
+
+def is_newer(file, moment):
+    return file.is_file() and file.stat().st_mtime > moment
+
+
+class Progress:
+    """Tells on standard error how far the proofs of a crate and of those below it are."""
+
+    def __init__(self, name):
+        self.name, self.begun, self.moves = name, time.monotonic(), sys.stderr.isatty()
+
+    def clock(self):
+        seconds = int(time.monotonic() - self.begun)
+        return f"{seconds // 60}:{seconds % 60:02}"
+
+    def moved(self, crate):
+        if self.moves:
+            print(f"\r\033[K{self.name}: proving {crate}  {self.clock()}", end="", file=sys.stderr, flush=True)
+
+    def ended(self, text):
+        print(f"{chr(13) + chr(27) + '[K' if self.moves else ''}{self.name}: {text}, {self.clock()}", file=sys.stderr, flush=True)
+
+
+def said_by(run, progress, name):
+    """What a started rattle says, as it comes to its end."""
+    while True:
+        try:
+            return run.communicate(timeout=1)[0]
+        except subprocess.TimeoutExpired:
+            progress.moved(name)
+
+
+def prove(progress, name, words):
+    """Proves and builds one crate."""
+    run = crates.rattle("build", *words, cwd=crates.CRATES / name)
+    said = said_by(run, progress, name)
+    proved = re.search(r"^logic=proved functions=(\d+)", said, re.M)
+    if run.returncode or not proved:
+        progress.ended(f"{name} is not proved or not built")
+        print(said, end="", file=sys.stderr)
+        sys.exit(FAILED)
+    progress.ended(f"{name} is proved, {proved[1]} functions")
+
+
+def libraries(progress, name, jobs):
+    """Proves the libraries below a crate, but for those that were proved since their last edit, and returns where each is."""
+    names, anew = crates.below(name), set()
+    if are_proved_by_the_gate(names):
+        return gate_rlib
+    for it in names:
+        stamp = PROVED / f"{it}.stamp"
+        is_proved = stamp.is_file() and stamp.read_text() == crates.stamp(it)
+        # What was built fits just the libraries over which it was.
+        if not is_proved or anew.intersection(crates.below(it)):
+            anew.add(it)
+            stamp.unlink(missing_ok=True)
+            prove(progress, it, [*crates.words(it, own_rlib, jobs), "--statements", "-o", str(own_rlib(it))])
+            stamp.write_text(crates.stamp(it))
+    return own_rlib
+
+
+def link(made):
+    """Makes a program of what was compiled, in its place."""
+    kit, compiled = crates.kit(), made.with_suffix(".o")
+    made.replace(compiled)
+    words = ["--target", "x86_64-unknown-linux-gnu", "--toolchain", kit / "toolchain", "-o", made]
+    words += [compiled, kit / "c" / "libos_c.a", kit / "c" / "liblibc_c.a"]
+    if subprocess.run([kit / "bin" / "rattle-link", *words], stdout=subprocess.DEVNULL).returncode:
+        sys.exit(FAILED)
+    compiled.unlink()
+
+
+def build(name):
+    """Builds the crate into out, unless that was done since the last edit."""
+    progress, jobs = Progress(name), crates.jobs()
+    to = crates.BUILT / (name if crates.is_program(name) else f"lib{name}.a")
+    # The gate leaves a program, and no static library, where it was proved.
+    left = crates.CRATES / name / "out" / name
+    edited = crates.newest([*crates.below(name), name])
+    if is_newer(to, edited):
+        return
+    made = to.with_name(f"{to.name}.new")
+    if is_newer(left, edited):
+        shutil.copy(left, made)
+    else:
+        words = crates.words(name, libraries(progress, name, jobs), jobs)
+        words += ["--toolchain", str(crates.kit() / "toolchain"), "--backend", "llvm", "-o", str(made)]
+        prove(progress, name, words)
+        if crates.is_program(name):
+            link(made)
+    made.replace(to)
