@@ -8,14 +8,20 @@ const ARCHIVE: &str = "librevroute.a";
 /// The folder of a built library beside this crate: in the repository, or below the prefix of an installation.
 fn folder_beside(here: &Path) -> PathBuf {
     let installed = here.join("../../../lib");
-    if installed.join(ARCHIVE).is_file() { installed } else { here.join("../out") }
+    if installed.join(ARCHIVE).is_file() {
+        installed
+    } else {
+        here.join("../out")
+    }
 }
 
 fn main() {
     println!("cargo::rerun-if-env-changed=REVROUTE_LIB_DIR");
     let folder = match env::var_os("REVROUTE_LIB_DIR") {
         Some(folder) => PathBuf::from(folder),
-        None => folder_beside(Path::new(&env::var_os("CARGO_MANIFEST_DIR").unwrap_or_default())),
+        None => folder_beside(Path::new(
+            &env::var_os("CARGO_MANIFEST_DIR").unwrap_or_default(),
+        )),
     };
     let archive = folder.join(ARCHIVE);
     println!("cargo::rerun-if-changed={}", archive.display());

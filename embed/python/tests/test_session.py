@@ -106,6 +106,40 @@ class SessionTest(unittest.TestCase):
             with self.subTest(name):
                 self.assertEqual(answers([it.decode() for it in lines]), wanted)
 
+    def test_questions_tell_what_lines_tell(self):
+        accepted = 0
+        for name, lines, _ in examples():
+            with self.subTest(name), revroute.Session() as session:
+                for line in lines:
+                    before, answer = session.next_hops(), session.answer(line)
+                    after = session.next_hops()
+                    if not (answer or "").startswith("turned "):
+                        self.assertEqual(after, before)
+                        continue
+                    accepted += 1
+                    was = [revroute.NoHop.CUT_OFF] * len(after) if line.startswith(b'["net"') else before
+                    self.assertEqual(session.rerouted(), [x for x, hop in enumerate(after) if hop != was[x]])
+                    self.assertEqual([session.next_hop(x) for x in range(len(after))], after)
+                    self.assertEqual(session.last_answer(), answer)
+                    told = [it.value if isinstance(it, revroute.NoHop) else str(it) for it in after]
+                    self.assertEqual(" ".join(["hops", *told]), session.answer('["hops"]'))
+                    self.assertEqual(" ".join(["counts", *map(str, session.counts())]), session.answer('["counts"]'))
+        self.assertGreater(accepted, 10)
+
+    def test_before_the_first_network_there_is_nothing_to_tell(self):
+        with revroute.Session() as session:
+            self.assertEqual([session.next_hops(), session.rerouted(), session.counts()], [[], [], []])
+            self.assertRaises(IndexError, session.next_hop, 0)
+
+    def test_what_is_no_node_has_no_hop(self):
+        with revroute.Session() as session:
+            session.answer(CHAIN)
+            for node in (-1, 4, 1 << 32, (1 << 32) - 1, (1 << 32) + 1, 1 << 70):
+                self.assertRaises(IndexError, session.next_hop, node)
+            self.assertRaises(TypeError, session.next_hop, "1")
+        for question in (session.next_hops, session.rerouted, session.counts, lambda: session.next_hop(1)):
+            self.assertRaises(ValueError, question)
+
     def test_threads_with_a_session_each_answer_alike(self):
         for name, lines, wanted in examples():
             with self.subTest(name), ThreadPoolExecutor(8) as pool:

@@ -7,12 +7,18 @@
 //! # Ok::<(), revroute::NoMemory>(())
 //! ```
 //!
-//! The requests and their answers are those of the program `revroute run`. The engine is a static library, written and
+//! The requests and their answers are those of the program `revroute run`; next hops, counts and the nodes that a change reroutes are had as
+//! numbers too, and lines may come in pieces. The engine is a static library, written and
 //! proved in Rattle; this crate calls it, and rules out what a caller in C has to see to.
 
 #![warn(missing_docs)]
 
+mod pieces;
+mod questions;
 mod sys;
+
+pub use pieces::TakeFault;
+pub use questions::Hop;
 
 use std::fmt;
 use std::str;

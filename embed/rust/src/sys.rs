@@ -22,6 +22,21 @@ pub const BLANK: u32 = 1;
 pub const TOO_SHORT: u32 = 2;
 /// Memory ran out, and nothing has changed.
 pub const NO_MEMORY: u32 = 3;
+/// There is no network yet.
+pub const NO_NETWORK: u32 = 4;
+/// No line has ended, and the bytes are kept.
+pub const BEGUN: u32 = 8;
+/// The line is longer than a line may be, and nothing was taken.
+pub const TOO_LONG: u32 = 9;
+
+/// In place of a next hop: the node is the destination.
+pub const HERE: u32 = 0xffff_ffff;
+/// In place of a next hop: the node is not joined with the destination.
+pub const CUT_OFF: u32 = 0xffff_fffe;
+/// In place of a next hop: the number is no node.
+pub const NO_SUCH_NODE: u32 = 0xffff_fffd;
+/// In place of a next hop: there is no network yet.
+pub const NO_HOP: u32 = 0xffff_fffc;
 
 unsafe extern "C" {
     pub fn revroute_answer(
@@ -29,6 +44,46 @@ unsafe extern "C" {
         line: *const u8,
         line_length: usize,
         answer: *mut u8,
+        room: usize,
+        length: *mut usize,
+    ) -> u32;
+
+    pub fn revroute_take(
+        session: *mut Handle,
+        piece: *const u8,
+        piece_length: usize,
+        answer: *mut u8,
+        room: usize,
+        length: *mut usize,
+        taken: *mut usize,
+    ) -> u32;
+
+    pub fn revroute_finish(
+        session: *mut Handle,
+        answer: *mut u8,
+        room: usize,
+        length: *mut usize,
+    ) -> u32;
+
+    pub fn revroute_next_hop(session: *mut Handle, node: u32) -> u32;
+
+    pub fn revroute_next_hops(
+        session: *mut Handle,
+        hops: *mut u32,
+        room: usize,
+        length: *mut usize,
+    ) -> u32;
+
+    pub fn revroute_rerouted(
+        session: *mut Handle,
+        nodes: *mut u32,
+        room: usize,
+        length: *mut usize,
+    ) -> u32;
+
+    pub fn revroute_counts(
+        session: *mut Handle,
+        counts: *mut u64,
         room: usize,
         length: *mut usize,
     ) -> u32;

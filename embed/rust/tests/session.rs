@@ -1,6 +1,6 @@
 //! The session, as safe Rust sees it.
 
-use revroute::{NoMemory, Session, version};
+use revroute::{Hop, NoMemory, Session, TakeFault, version};
 use std::error::Error;
 use std::path::Path;
 use std::{fs, mem, thread};
@@ -109,6 +109,118 @@ fn the_buffer_grows_with_the_answer() -> Result<(), NoMemory> {
         session.answer(r#"["walk",1023]"#)?,
         Some(format!("walk{wanted}").as_str())
     );
+    Ok(())
+}
+
+/// The answers to lines that come in pieces of this length.
+fn answers_to_pieces(lines: &[u8], length: usize) -> Result<Vec<u8>, TakeFault> {
+    let (mut session, mut all) = (Session::new(), Vec::new());
+    let mut put = |text: &str| all.extend_from_slice(format!("{text}\n").as_bytes());
+    for mut piece in lines.chunks(length) {
+        while !piece.is_empty() {
+            if let Some(text) = session.take(&mut piece)? {
+                put(text);
+            }
+        }
+    }
+    if let Some(text) = session.finish()? {
+        put(text);
+    }
+    Ok(all)
+}
+
+#[test]
+fn pieces_of_any_length_have_the_answers_of_their_lines() -> Result<(), Box<dyn Error>> {
+    for it in examples()? {
+        for length in [1, 2, 3, 7, 64, it.lines.len()] {
+            assert_eq!(
+                answers_to_pieces(&it.lines, length)?,
+                it.answers,
+                "{}",
+                it.name
+            );
+        }
+    }
+    Ok(())
+}
+
+#[test]
+fn a_line_that_is_too_long_is_not_taken() -> Result<(), TakeFault> {
+    let long = vec![b' '; 16_777_216];
+    let (mut session, mut piece) = (Session::new(), &long[..]);
+    assert_eq!(session.take(&mut piece)?, None);
+    assert!(piece.is_empty());
+    piece = b" ";
+    assert_eq!(session.take(&mut piece), Err(TakeFault::TooLong));
+    assert_eq!(piece, b" ");
+    piece = b"\n[\"links\"]\n";
+    assert_eq!(session.take(&mut piece)?, None);
+    assert_eq!(session.take(&mut piece)?, Some("refused 3"));
+    Ok(())
+}
+
+/// The numbers behind the first word of an answer.
+fn numbers(answer: Option<&str>) -> Vec<u64> {
+    let words = answer.expect("a question has an answer").split(' ').skip(1);
+    words.map(|it| it.parse().expect("a number")).collect()
+}
+
+/// The hops that a line tells.
+fn hops(answer: Option<&str>) -> Vec<Hop> {
+    let words = answer.expect("a question has an answer").split(' ').skip(1);
+    let hop = |word: &str| match word {
+        "here" => Hop::Here,
+        "cut" => Hop::CutOff,
+        node => Hop::To(node.parse().expect("a node")),
+    };
+    words.map(hop).collect()
+}
+
+#[test]
+fn questions_tell_what_lines_tell() -> Result<(), Box<dyn Error>> {
+    let mut accepted = 0;
+    for it in examples()? {
+        let mut session = Session::new();
+        for line in it.lines.split(|&byte| byte == b'\n') {
+            let before = session.next_hops()?;
+            let Some(answer) = session.answer(line)?.map(String::from) else {
+                continue;
+            };
+            let is_network = line.starts_with(b"[\"net\"");
+            if !answer.starts_with("turned ") {
+                assert_eq!(session.next_hops()?, before, "{}", it.name);
+                continue;
+            }
+            accepted += 1;
+            let after = session.next_hops()?;
+            assert_eq!(after, hops(session.answer(r#"["hops"]"#)?));
+            assert_eq!(session.counts()?, numbers(session.answer(r#"["counts"]"#)?));
+            let was = |x: usize| if is_network { Hop::CutOff } else { before[x] };
+            let rerouted: Vec<u32> = (0..after.len())
+                .filter(|&x| was(x) != after[x])
+                .map(|x| x as u32)
+                .collect();
+            assert_eq!(session.rerouted()?, rerouted, "{}", it.name);
+            let one_by_one: Vec<Option<Hop>> = (0..=after.len() as u32)
+                .map(|x| session.next_hop(x))
+                .collect();
+            assert_eq!(one_by_one.last(), Some(&None));
+            assert_eq!(one_by_one.into_iter().flatten().collect::<Vec<_>>(), after);
+        }
+    }
+    assert!(accepted > 10, "{accepted}");
+    Ok(())
+}
+
+#[test]
+fn before_the_first_network_there_is_nothing_to_tell() -> Result<(), NoMemory> {
+    let mut session = Session::new();
+    assert_eq!(session.next_hop(0), None);
+    assert_eq!(session.next_hops()?, []);
+    assert_eq!(session.rerouted()?, []);
+    assert_eq!(session.counts()?, []);
+    assert_eq!(Hop::To(7).node(), Some(7));
+    assert_eq!(Hop::Here.node().or(Hop::CutOff.node()), None);
     Ok(())
 }
 

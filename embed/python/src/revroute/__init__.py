@@ -11,20 +11,26 @@ The requests and their answers are those of the program `revroute run`. A reques
 
 >>> revroute.Session().answer('["walk",3]')
 'refused 3'
+
+Next hops, counts and the nodes that a change reroutes are had as numbers too.
 """
 
 from __future__ import annotations
 
 import ctypes
+import enum
 import os
 import weakref
+from contextlib import contextmanager
+from operator import index
 from pathlib import Path
 from threading import RLock, get_ident
-from typing import NoReturn, Optional, Union
+from typing import Any, Iterator, NoReturn, Optional, Union
 
-__all__ = ["AnswerLost", "Session", "version"]
+__all__ = ["AnswerLost", "NoHop", "Session", "version"]
 
-_ANSWERED, _BLANK, _TOO_SHORT, _NO_MEMORY = range(4)
+_ANSWERED, _BLANK, _TOO_SHORT, _NO_MEMORY, _NO_NETWORK = range(5)
+_HERE, _CUT_OFF, _NO_SUCH_NODE, _NO_HOP = range(0xFFFFFFFF, 0xFFFFFFFB, -1)
 _FIRST_ROOM = 4096
 # who is in a call that a fork has left behind: no thread of this process
 _GONE = 0
@@ -47,6 +53,12 @@ def _load() -> ctypes.CDLL:
     size, buffer = ctypes.c_size_t, ctypes.POINTER(ctypes.c_char)
     library.revroute_answer.argtypes = [ctypes.POINTER(_Handle), ctypes.c_char_p, size, buffer, size, ctypes.POINTER(size)]
     library.revroute_answer.restype = ctypes.c_uint32
+    library.revroute_next_hop.argtypes = [ctypes.POINTER(_Handle), ctypes.c_uint32]
+    library.revroute_next_hop.restype = ctypes.c_uint32
+    for call, item in (("next_hops", ctypes.c_uint32), ("rerouted", ctypes.c_uint32), ("counts", ctypes.c_uint64)):
+        question = getattr(library, f"revroute_{call}")
+        question.argtypes = [ctypes.POINTER(_Handle), ctypes.POINTER(item), size, ctypes.POINTER(size)]
+        question.restype = ctypes.c_uint32
     library.revroute_close.argtypes = [ctypes.POINTER(_Handle)]
     library.revroute_close.restype = None
     library.revroute_version.argtypes = [buffer, size, ctypes.POINTER(size)]
@@ -60,6 +72,19 @@ _sessions: weakref.WeakValueDictionary[int, Session] = weakref.WeakValueDictiona
 
 class AnswerLost(Exception):
     """The line was answered, and what it changes is changed, but there was no memory for the text: `Session.last_answer` has it."""
+
+
+class NoHop(enum.Enum):
+    """What a node has in place of a next hop."""
+
+    HERE = "here"
+    """The node is the destination."""
+    CUT_OFF = "cut"
+    """No links join the node with the destination, whichever way they point."""
+
+
+def _hop(value: int) -> Union[int, NoHop]:
+    return NoHop.HERE if value == _HERE else NoHop.CUT_OFF if value == _CUT_OFF else value
 
 
 class Session:
@@ -77,11 +102,11 @@ class Session:
         self._handle = _Handle()
         self._lock = RLock()
         self._caller: Optional[int] = None
-        self._length = ctypes.c_size_t()
+        self._length, self._count = ctypes.c_size_t(), ctypes.c_size_t()
         self._is_closed = self._answered = False
         self._lost: Optional[AnswerLost] = None
         self._make_room(_FIRST_ROOM)
-        self._at, self._length_at = ctypes.byref(self._handle), ctypes.byref(self._length)
+        self._at, self._length_at, self._count_at = map(ctypes.byref, (self._handle, self._length, self._count))
         self._end = weakref.finalize(self, _library.revroute_close, self._at)
         self._end.atexit = False
         _sessions[id(self)] = self
@@ -143,6 +168,72 @@ class Session:
             if self._caller is not None:
                 self._refuse()
             return str(self._room[1][: self._length.value], "ascii") if self._answered else None
+
+    def next_hop(self, node: int) -> Union[int, NoHop]:
+        """Where a node sends on what is for the destination: the next node of its route, or why there is none.
+
+        >>> with Session() as session:
+        ...     session.answer('["net",4,0,[[0,1],[1,2]]]')
+        ...     session.next_hop(2), session.next_hop(0), session.next_hop(3)
+        'turned 3 cut 1'
+        (1, <NoHop.HERE: 'here'>, <NoHop.CUT_OFF: 'cut'>)
+
+        Raises IndexError where there is no such node, as before the first network.
+        """
+        number = index(node)
+        with self._call():
+            value = _library.revroute_next_hop(self._at, number) if 0 <= number < _NO_HOP else _NO_SUCH_NODE
+        if value in (_NO_SUCH_NODE, _NO_HOP):
+            raise IndexError(f"there is no node {number}")
+        return _hop(value)
+
+    def next_hops(self) -> list[Union[int, NoHop]]:
+        """Where each node sends on to, in the order of the nodes; nothing before the first network."""
+        return [*map(_hop, self._filled(_library.revroute_next_hops, ctypes.c_uint32))]
+
+    def rerouted(self) -> list[int]:
+        """The nodes whose next hop the last accepted round changed, in rising order: after a new network all that are not cut off.
+
+        What is refused, and questions, leave them. There are none before the first network.
+
+        >>> with Session() as session:
+        ...     session.answer('["net",5,0,[[1,0],[2,0],[3,1],[3,2],[4,3]]]')
+        ...     session.answer('["cut",1,0]')
+        ...     session.rerouted()
+        'turned 0 cut 0'
+        'turned 1 cut 0'
+        [1, 3]
+        """
+        return self._filled(_library.revroute_rerouted, ctypes.c_uint32)
+
+    def counts(self) -> list[int]:
+        """How often each node turned in the last round, in the order of the nodes; nothing before the first network."""
+        return self._filled(_library.revroute_counts, ctypes.c_uint64)
+
+    def _filled(self, question: Any, item: Any) -> list[int]:
+        """The numbers that a question fills in, as many as it has."""
+        room = 0
+        with self._call():
+            while True:
+                values = (item * room)()
+                status = question(self._at, values, room, self._count_at)
+                if status != _TOO_SHORT:
+                    return values[: self._count.value] if status == _ANSWERED else []
+                room = self._count.value
+
+    @contextmanager
+    def _call(self) -> Iterator[None]:
+        """Has the session for one call: raises what a call meets that cannot have it."""
+        with self._lock:
+            if self._caller is not None:
+                self._refuse()
+            if self._is_closed:
+                raise ValueError("the session is closed")
+            self._caller = get_ident()
+            try:
+                yield
+            finally:
+                self._caller = None
 
     def close(self) -> None:
         """Ends the session, and gives its memory back. A second call does nothing."""

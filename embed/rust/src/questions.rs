@@ -1,0 +1,124 @@
+//! Questions with numbers for answers, and no text between.
+
+use crate::{NoMemory, Session, sys};
+
+/// Where a node sends on what is for the destination.
+#[derive(Debug, Clone, Copy, PartialEq, Eq, Hash)]
+pub enum Hop {
+    /// To this node, the next of the node's route.
+    To(u32),
+    /// Nowhere: the node is the destination.
+    Here,
+    /// Nowhere: no links join the node with the destination, whichever way they point.
+    CutOff,
+}
+
+impl Hop {
+    fn of(value: u32) -> Option<Hop> {
+        match value {
+            sys::HERE => Some(Hop::Here),
+            sys::CUT_OFF => Some(Hop::CutOff),
+            sys::NO_SUCH_NODE | sys::NO_HOP => None,
+            node => Some(Hop::To(node)),
+        }
+    }
+
+    /// The next hop, if there is one.
+    pub fn node(self) -> Option<u32> {
+        match self {
+            Hop::To(node) => Some(node),
+            Hop::Here | Hop::CutOff => None,
+        }
+    }
+}
+
+/// A question that fills an array of `room` places, and tells how many it has.
+type Fill<T> = unsafe extern "C" fn(*mut sys::Handle, *mut T, usize, *mut usize) -> u32;
+
+impl Session {
+    /// Where a node sends on to; `None` where there is no such node, as before the first network. `O(1)`, without memory.
+    ///
+    /// ```
+    /// use revroute::{Hop, Session};
+    ///
+    /// let mut session = Session::new();
+    /// session.answer(r#"["net",4,0,[[0,1],[1,2]]]"#)?;
+    /// let hops = [0, 1, 2, 3, 4].map(|node| session.next_hop(node));
+    /// assert_eq!(hops, [Some(Hop::Here), Some(Hop::To(0)), Some(Hop::To(1)), Some(Hop::CutOff), None]);
+    /// # Ok::<(), revroute::NoMemory>(())
+    /// ```
+    pub fn next_hop(&mut self, node: u32) -> Option<Hop> {
+        // SAFETY: the handle is new or the library's own, and no other call has it.
+        Hop::of(unsafe { sys::revroute_next_hop(&mut self.handle, node) })
+    }
+
+    /// Where each node sends on to, in the order of the nodes; nothing before the first network. `O(n)`.
+    ///
+    /// # Errors
+    ///
+    /// Where memory for the list runs out.
+    pub fn next_hops(&mut self) -> Result<Vec<Hop>, NoMemory> {
+        let values = self.filled(sys::revroute_next_hops)?;
+        let mut hops = Vec::new();
+        hops.try_reserve_exact(values.len()).map_err(|_| NoMemory)?;
+        hops.extend(values.into_iter().filter_map(Hop::of));
+        Ok(hops)
+    }
+
+    /// The nodes whose next hop the last accepted round changed, in rising order: after a new network all that are not cut off. What
+    /// is refused, and questions, leave them. `O(k)` for k nodes.
+    ///
+    /// ```
+    /// let mut session = revroute::Session::new();
+    /// session.answer(r#"["net",5,0,[[1,0],[2,0],[3,1],[3,2],[4,3]]]"#)?;
+    /// session.answer(r#"["cut",1,0]"#)?;
+    /// assert_eq!(session.rerouted()?, [1, 3]);
+    /// # Ok::<(), revroute::NoMemory>(())
+    /// ```
+    ///
+    /// # Errors
+    ///
+    /// Where memory for the list runs out.
+    pub fn rerouted(&mut self) -> Result<Vec<u32>, NoMemory> {
+        self.filled(sys::revroute_rerouted)
+    }
+
+    /// How often each node turned in the last round, in the order of the nodes; nothing before the first network. `O(n)`.
+    ///
+    /// # Errors
+    ///
+    /// Where memory for the list runs out.
+    pub fn counts(&mut self) -> Result<Vec<u64>, NoMemory> {
+        self.filled(sys::revroute_counts)
+    }
+
+    fn filled<T: Copy + Default>(&mut self, fill: Fill<T>) -> Result<Vec<T>, NoMemory> {
+        let mut found: Vec<T> = Vec::new();
+        loop {
+            let mut length = 0;
+            // SAFETY: the handle is new or the library's own, and the places are a slice's, which does not overlap its length.
+            let status = unsafe {
+                fill(
+                    &mut self.handle,
+                    found.as_mut_ptr(),
+                    found.len(),
+                    &mut length,
+                )
+            };
+            match status {
+                sys::ANSWERED => {
+                    found.truncate(length);
+                    return Ok(found);
+                }
+                sys::TOO_SHORT => {
+                    found
+                        .try_reserve_exact(length - found.len())
+                        .map_err(|_| NoMemory)?;
+                    found.resize(length, T::default());
+                }
+                sys::NO_NETWORK => return Ok(Vec::new()),
+                _ => unreachable!("a question has three ends"),
+            }
+        }
+    }
+}
