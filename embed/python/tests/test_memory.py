@@ -65,6 +65,36 @@ class MemoryTest(unittest.TestCase):
                 self.assertEqual(session.last_answer(), wanted)
             self.assertEqual(session.answer('["links"]'), "links")
 
+    def test_pieces_go_on_where_memory_was_missing(self):
+        left = ctypes.c_long.in_dll(revroute._library, "refusing_left")
+        given, number, wanted = "\n".join(LINES).encode() + b"\n", 0, ["turned 6 cut 0", "turned 12 cut 3", "turned 3 cut 0", "walk 1 2 3 0"]
+        refused = 1
+        while refused:
+            number, refused = number + 1, 0
+            with revroute.Session() as session:
+                found = []
+                for piece in (given[:11], given[11:60], given[60:]):
+                    left.value = number
+                    while piece is not None:
+                        try:
+                            found += session.take(piece)
+                            piece = None
+                        except MemoryError:
+                            refused, piece = refused + 1, b""
+                    left.value = 0
+                self.assertEqual(found, wanted, number)
+        self.assertGreater(number, 3)
+        self.assertEqual(ctypes.c_long.in_dll(revroute._library, "refusing_held").value, 0)
+
+    def test_an_answer_to_a_piece_that_is_lost_can_be_asked_for_again(self):
+        with revroute.Session() as session:
+            buffer, answer, room = session._room
+            session._room = buffer, NoText(), room
+            self.assertRaises(revroute.AnswerLost, session.take, f"{CHAIN}\n{CUT}\n")
+            session._room = buffer, answer, room
+            self.assertEqual(session.last_answer(), "turned 6 cut 0")
+            self.assertEqual(session.take(b""), ["turned 12 cut 3"])
+
     @unittest.skipUnless(set_nomemory, "Python has no heap that refuses")
     def test_where_python_has_no_memory_a_change_is_no_want_of_memory(self):
         # where more than two are refused, Python has not the memory to raise another fault than MemoryError

@@ -126,6 +126,32 @@ class SessionTest(unittest.TestCase):
                     self.assertEqual(" ".join(["counts", *map(str, session.counts())]), session.answer('["counts"]'))
         self.assertGreater(accepted, 10)
 
+    def test_pieces_of_any_length_have_the_answers_of_their_lines(self):
+        for name, lines, wanted in examples():
+            given = b"\n".join(lines)
+            for length in (1, 2, 3, 7, 64, len(given)):
+                with self.subTest(name, length=length), revroute.Session() as session:
+                    pieces = (given[at : at + length] for at in range(0, len(given), length))
+                    found = [answer for piece in pieces for answer in session.take(piece)]
+                    last = session.finish()
+                    self.assertEqual(found + ([] if last is None else [last]), wanted)
+
+    def test_a_line_that_is_too_long_is_not_taken(self):
+        with revroute.Session() as session:
+            self.assertEqual(session.take(b" " * 16_777_216), [])
+            for _ in range(2):
+                self.assertRaises(revroute.LineTooLong, session.take, b" ")
+            self.assertRaises(ValueError, session.finish)
+            self.assertEqual(session.answer(CHAIN), "turned 6 cut 0")
+
+    def test_a_line_that_has_begun_is_not_asked_by_answer(self):
+        with revroute.Session() as session:
+            self.assertEqual(session.take('["lin'), [])
+            self.assertEqual(session.answer(CHAIN), "turned 6 cut 0")
+            self.assertEqual(session.take(memoryview(b'ks"]\n\n \n[]')), [CHAIN_LINKS])
+            self.assertEqual(session.finish(), "refused 2")
+            self.assertIsNone(session.finish())
+
     def test_before_the_first_network_there_is_nothing_to_tell(self):
         with revroute.Session() as session:
             self.assertEqual([session.next_hops(), session.rerouted(), session.counts()], [[], [], []])

@@ -21,15 +21,15 @@ import ctypes
 import enum
 import os
 import weakref
-from contextlib import contextmanager
 from operator import index
 from pathlib import Path
 from threading import RLock, get_ident
-from typing import Any, Iterator, NoReturn, Optional, Union
+from typing import Any, NoReturn, Optional, Union
 
-__all__ = ["AnswerLost", "NoHop", "Session", "version"]
+__all__ = ["AnswerLost", "LineTooLong", "NoHop", "Session", "version"]
 
 _ANSWERED, _BLANK, _TOO_SHORT, _NO_MEMORY, _NO_NETWORK = range(5)
+_TOO_LONG = 9
 _HERE, _CUT_OFF, _NO_SUCH_NODE, _NO_HOP = range(0xFFFFFFFF, 0xFFFFFFFB, -1)
 _FIRST_ROOM = 4096
 # who is in a call that a fork has left behind: no thread of this process
@@ -53,6 +53,10 @@ def _load() -> ctypes.CDLL:
     size, buffer = ctypes.c_size_t, ctypes.POINTER(ctypes.c_char)
     library.revroute_answer.argtypes = [ctypes.POINTER(_Handle), ctypes.c_char_p, size, buffer, size, ctypes.POINTER(size)]
     library.revroute_answer.restype = ctypes.c_uint32
+    library.revroute_take.argtypes = [ctypes.POINTER(_Handle), ctypes.c_void_p, size, buffer, size, ctypes.POINTER(size), ctypes.POINTER(size)]
+    library.revroute_take.restype = ctypes.c_uint32
+    library.revroute_finish.argtypes = [ctypes.POINTER(_Handle), buffer, size, ctypes.POINTER(size)]
+    library.revroute_finish.restype = ctypes.c_uint32
     library.revroute_next_hop.argtypes = [ctypes.POINTER(_Handle), ctypes.c_uint32]
     library.revroute_next_hop.restype = ctypes.c_uint32
     for call, item in (("next_hops", ctypes.c_uint32), ("rerouted", ctypes.c_uint32), ("counts", ctypes.c_uint64)):
@@ -72,6 +76,10 @@ _sessions: weakref.WeakValueDictionary[int, Session] = weakref.WeakValueDictiona
 
 class AnswerLost(Exception):
     """The line was answered, and what it changes is changed, but there was no memory for the text: `Session.last_answer` has it."""
+
+
+class LineTooLong(ValueError):
+    """A line has more than 16,777,216 bytes."""
 
 
 class NoHop(enum.Enum):
@@ -102,11 +110,15 @@ class Session:
         self._handle = _Handle()
         self._lock = RLock()
         self._caller: Optional[int] = None
-        self._length, self._count = ctypes.c_size_t(), ctypes.c_size_t()
+        self._length, self._count, self._taken = ctypes.c_size_t(), ctypes.c_size_t(), ctypes.c_size_t()
+        # Pieces that are not taken to their end, each with its address and length; how much of the first is; the answers that are due.
+        self._pieces: list[tuple[bytes, int, int]] = []
+        self._begun, self._answers = 0, list[str]()
         self._is_closed = self._answered = False
         self._lost: Optional[AnswerLost] = None
         self._make_room(_FIRST_ROOM)
-        self._at, self._length_at, self._count_at = map(ctypes.byref, (self._handle, self._length, self._count))
+        self._at, self._length_at = ctypes.byref(self._handle), ctypes.byref(self._length)
+        self._count_at, self._taken_at = ctypes.byref(self._count), ctypes.byref(self._taken)
         self._end = weakref.finalize(self, _library.revroute_close, self._at)
         self._end.atexit = False
         _sessions[id(self)] = self
@@ -131,34 +143,111 @@ class Session:
             line = _bytes_of(line)
         size = len(line) - line.endswith(b"\n")
         with self._lock:
-            if self._caller is not None:
-                self._refuse()
-            if self._is_closed:
-                raise ValueError("the session is closed")
-            if self._lost is None:
-                self._lost = AnswerLost("the line was answered, but there was no memory for the text")
-            self._caller = get_ident()
+            self._begin_call()
             try:
-                self._answered = False
-                while True:
-                    buffer, answer, room = self._room
-                    try:
-                        status = _library.revroute_answer(self._at, line, size, buffer, room, self._length_at)
-                    except ctypes.ArgumentError:
-                        # each has its type, so that only memory can have been missing for them
-                        raise MemoryError from None
-                    if status == _ANSWERED:
-                        self._answered = True
-                        try:
-                            return str(answer[: self._length.value], "ascii")
-                        except MemoryError:
-                            lost, self._lost = self._lost, None
-                            raise lost from None
-                    if status == _BLANK:
-                        return None
-                    if status == _NO_MEMORY:
-                        raise MemoryError
-                    self._make_room(max(self._length.value, 2 * room))
+                return self._asked(_library.revroute_answer, line, size)
+            finally:
+                self._caller = None
+
+    def _begin_call(self) -> None:
+        """Has the session for a call, or raises what a call meets that cannot have it."""
+        if self._caller is not None:
+            self._refuse()
+        if self._is_closed:
+            raise ValueError("the session is closed")
+        if self._lost is None:
+            self._lost = AnswerLost("the line was answered, but there was no memory for the text")
+        self._caller = get_ident()
+
+    def _asked(self, call: Any, *words: Any) -> Optional[str]:
+        """The answer to a line, by one of the calls that write it into a buffer, which grows where it is too short."""
+        self._answered = False
+        while True:
+            buffer, answer, room = self._room
+            try:
+                if call is _library.revroute_take:
+                    status = call(self._at, *words, buffer, room, self._length_at, self._taken_at)
+                else:
+                    status = call(self._at, *words, buffer, room, self._length_at)
+            except ctypes.ArgumentError:
+                # each has its type, so that only memory can have been missing for them
+                raise MemoryError from None
+            if status == _ANSWERED:
+                self._answered = True
+                try:
+                    return str(answer[: self._length.value], "ascii")
+                except MemoryError:
+                    lost, self._lost = self._lost, None
+                    raise lost from None
+            if status == _NO_MEMORY:
+                raise MemoryError
+            if status == _TOO_LONG:
+                raise LineTooLong("a line has more than 16,777,216 bytes")
+            if status != _TOO_SHORT:
+                return None
+            self._make_room(max(self._length.value, 2 * room))
+
+    def take(self, piece: Union[str, bytes, bytearray, memoryview]) -> list[str]:
+        """The answers to the lines that end in a piece, which may be cut anywhere, as from a socket. What behind the last line end has begun is kept.
+
+        >>> with Session() as session:
+        ...     session.take(b'["net",3,0,[[0,1],[1,2]]]\\n["wa')
+        ...     session.take(b'lk",2]\\n["links"]')
+        ...     session.finish()
+        ['turned 3 cut 0']
+        ['walk 2 1 0']
+        'links 1>0 2>1'
+
+        `answer` neither reads nor changes what is kept.
+
+        Raises MemoryError, and AnswerLost where an answer is `last_answer`: the rest of the piece stays, with the answers before, and
+        `take(b"")` goes on with it. Raises LineTooLong where a line is, each time, as nothing behind its beginning can be taken.
+        """
+        if type(piece) is not bytes:
+            piece = _bytes_of(piece)
+        with self._lock:
+            self._begin_call()
+            try:
+                if piece:
+                    self._pieces.append((piece, ctypes.cast(piece, ctypes.c_void_p).value, len(piece)))
+                fresh: list[str] = []
+                while self._pieces:
+                    self._take_line(*self._pieces[0])
+                answers, self._answers = self._answers, fresh
+                return answers
+            finally:
+                self._caller = None
+
+    def _take_line(self, piece: bytes, address: int, size: int) -> None:
+        """Takes one line of the first piece, or lets go of the piece. How much of it a call has taken is added up before the next, since
+        that takes memory."""
+        self._begun += self._taken.value
+        self._taken.value = 0
+        if self._begun == size:
+            self._begun = 0
+            del self._pieces[0]
+            return
+        self._answers.append("")
+        text = None
+        try:
+            text = self._asked(_library.revroute_take, address + self._begun, size - self._begun)
+        finally:
+            if text is None:
+                self._answers.pop()
+            else:
+                self._answers[-1] = text
+
+    def finish(self) -> Optional[str]:
+        """The answer to the line that the end of the input ends, or None where none has begun, or a blank one.
+
+        Raises MemoryError, with the session as it was, and AnswerLost; ValueError where `take` has not taken all.
+        """
+        with self._lock:
+            self._begin_call()
+            try:
+                if self._pieces:
+                    raise ValueError("a piece is not taken to its end")
+                return self._asked(_library.revroute_finish)
             finally:
                 self._caller = None
 
@@ -181,8 +270,12 @@ class Session:
         Raises IndexError where there is no such node, as before the first network.
         """
         number = index(node)
-        with self._call():
-            value = _library.revroute_next_hop(self._at, number) if 0 <= number < _NO_HOP else _NO_SUCH_NODE
+        with self._lock:
+            self._begin_call()
+            try:
+                value = _library.revroute_next_hop(self._at, number) if 0 <= number < _NO_HOP else _NO_SUCH_NODE
+            finally:
+                self._caller = None
         if value in (_NO_SUCH_NODE, _NO_HOP):
             raise IndexError(f"there is no node {number}")
         return _hop(value)
@@ -213,25 +306,15 @@ class Session:
     def _filled(self, question: Any, item: Any) -> list[int]:
         """The numbers that a question fills in, as many as it has."""
         room = 0
-        with self._call():
-            while True:
-                values = (item * room)()
-                status = question(self._at, values, room, self._count_at)
-                if status != _TOO_SHORT:
-                    return values[: self._count.value] if status == _ANSWERED else []
-                room = self._count.value
-
-    @contextmanager
-    def _call(self) -> Iterator[None]:
-        """Has the session for one call: raises what a call meets that cannot have it."""
         with self._lock:
-            if self._caller is not None:
-                self._refuse()
-            if self._is_closed:
-                raise ValueError("the session is closed")
-            self._caller = get_ident()
+            self._begin_call()
             try:
-                yield
+                while True:
+                    values = (item * room)()
+                    status = question(self._at, values, room, self._count_at)
+                    if status != _TOO_SHORT:
+                        return values[: self._count.value] if status == _ANSWERED else []
+                    room = self._count.value
             finally:
                 self._caller = None
 
