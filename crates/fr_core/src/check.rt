@@ -137,11 +137,11 @@ fn fault_of(net: &Net, dest: u32, counts: &[u64], entry: Entry) -> Option<Why>
     }
 }
 
-/// Checks a history from the counts 0, entry by entry, and answers how often each node has turned at its end; or the first
-/// entry that is not legal after those before it, with the first test that it fails. It stands on what the entries say
-/// alone, and not on how they came to be. Linear in the entries times the degree of their nodes: links are never turned,
-/// since the counts say where they point, and the counts are all the memory that it takes. `Range` where `dest` is no node,
-/// before any entry is looked at; `Memory` where no room could be had for the counts.
+/// Checks a history from the counts 0, entry by entry, and answers how often each node has turned at its end; or `BadAt` with the first
+/// entry that is not legal after those before it, and the first test that it fails. It stands on what the entries say
+/// alone, and not on how they came to be. Links are never turned, since the counts say where they point, and the counts are all
+/// the memory that it takes. `Range` where `dest` is no node, before any entry is looked at; `Memory` where no room could be had
+/// for the counts. `O(n)`, and `O(d)` an entry.
 pub fn check_run(
     alloc: Global,
     net: &Net,

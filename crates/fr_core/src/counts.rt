@@ -15,7 +15,7 @@ use crate::directions::Sense;
 use fr_net::{First, Net};
 
 /// Where the link between nodes `x` and `w` points now, as seen from `x`: `first` is its first direction as seen from
-/// `x`, and `cx` and `cw` are how often `x` and `w` have turned. None where the counts give it no direction.
+/// `x`, and `cx` and `cw` are how often `x` and `w` have turned. None where the counts give it no direction. `O(1)`.
 pub fn sense(first: First, cx: u64, cw: u64) -> Option<Sense>
     ensures { result ≡ sense_of first cx cw }
 {
@@ -92,7 +92,7 @@ fn fits_links(net: &Net, counts: &[u64]) -> bool
 
 /// Whether the counts are lawful: one for each node, 0 at `dest` and at nodes with no link, none above the number of
 /// nodes, and each link with a direction. By the law these are the counts that turns of nodes other than `dest` lead to from the counts 0:
-/// the clauses `all` and `reached` of [`run_law`](crate::laws::run_law). Linear in nodes and links.
+/// the clauses `all` and `reached` of [`run_law`](crate::laws::run_law). `dest` has to be a node. `O(n + m)`.
 pub fn lawful(net: &Net, dest: u32, counts: &[u64]) -> bool
     requires { dest < net.now.nodes }
     ensures { IsTrue result ↔ AreLawful net.now.nodes dest net.now.links counts.now }
@@ -103,7 +103,8 @@ pub fn lawful(net: &Net, dest: u32, counts: &[u64]) -> bool
     fits_nodes(net, counts) && fits_links(net, counts)
 }
 
-/// Whether node `x` is a sink of the links that the counts give: it has a link, and each of its links points to it.
+/// Whether node `x` is a sink of the links that the counts give: it has a link, and each of its links points to it. There has to be a
+/// count for each node, and each link has to have a direction by them, as by lawful counts. `O(d)`.
 pub fn is_sink(net: &Net, counts: &[u64], x: u32) -> bool
     requires one_each { length counts.now ≡ net.now.nodes }
     requires kept { All (IsKept counts.now) net.now.links }
@@ -123,7 +124,7 @@ pub fn is_sink(net: &Net, counts: &[u64], x: u32) -> bool
 }
 
 /// Whether node `x` can turn at these counts, which have to be lawful: it is a sink, not the destination, and its count is below
-/// the cap.
+/// the cap. `O(d)`.
 pub fn can_turn(net: &Net, dest: u32, counts: &[u64], x: u32) -> bool
     requires lawful { AreLawful net.now.nodes dest net.now.links counts.now }
     requires node { x < net.now.nodes }
@@ -132,8 +133,7 @@ pub fn can_turn(net: &Net, dest: u32, counts: &[u64], x: u32) -> bool
     x != dest && counts[x as usize] < u64::from(net.nodes()) && is_sink(net, counts, x)
 }
 
-/// Whether lawful counts are the settled ones: no node can turn any more. It looks at nodes until it finds one that can; linear in
-/// nodes and links where there is none.
+/// Whether lawful counts are the settled ones: no node can turn any more. It looks at nodes until it finds one that can. `O(n + m)`.
 pub fn are_settled(net: &Net, dest: u32, counts: &[u64]) -> bool
     requires node { dest < net.now.nodes }
     requires lawful { AreLawful net.now.nodes dest net.now.links counts.now }

@@ -49,12 +49,11 @@ fn settle(net: &Net, dest: u32, turns: &mut Turns)
 
 /// Goes from lawful counts to those at which turning node by node ends, and answers how many turns lie between. Few turns are
 /// made one by one; a small part that is cut off is known by them, and given the counts at which it ends; and where they would cost more, a
-/// search writes the settled counts in their place. So it is linear in nodes and links, however many turns there are, and it allocates
-/// nothing. That turning ends there is a law, the clause
+/// search writes the settled counts in their place. It allocates nothing. That turning ends there is a law, the clause
 /// `leads` of [`schedule_law`](crate::laws::schedule_law): a run of turns alone leads from the old counts to the new ones,
 /// has as many turns as this answers, and leaves no node that can turn. By its clause `alike` each run that leaves no such
 /// node ends there too. The destination has to be a node, and the counts have to be lawful, as [`lawful`](crate::lawful)
-/// tests; those of no turns are.
+/// tests; those of no turns are. `O(n + m)`, however many turns there are.
 pub fn finish(net: &Net, dest: u32, turns: &mut Turns) -> u64
     requires node { dest < net.now.nodes }
     requires lawful { AreLawful net.now.nodes dest net.now.links turns.old }
@@ -70,8 +69,8 @@ pub fn finish(net: &Net, dest: u32, turns: &mut Turns) -> u64
 }
 
 /// Goes where [`finish`] goes, over counts that are kept in no [`Turns`], and answers the same. Such counts do not tell where nodes have
-/// turned, so it always searches: it is linear in nodes and links, also where a turn or none is left. It allocates nothing. The counts
-/// have to be lawful, as [`lawful`](crate::lawful) tests.
+/// turned, so it always searches, also where a turn or none is left. It allocates nothing. The destination has to be a node, and the counts
+/// have to be lawful, as [`lawful`](crate::lawful) tests. `O(n + m)`.
 pub fn finish_counts(net: &Net, dest: u32, counts: &mut [u64]) -> u64
     requires node { dest < net.now.nodes }
     requires lawful { AreLawful net.now.nodes dest net.now.links counts.old }
@@ -86,9 +85,10 @@ pub fn finish_counts(net: &Net, dest: u32, counts: &mut [u64]) -> u64
 }
 
 /// Goes to where [`finish`] goes, and looks for nodes that can turn among `from` alone and among the neighbours of nodes that it
-/// turns: for a caller that knows where the first of them are. So it costs a look at each node of `from` and the few turns, with no
-/// step for any other node, or else no more than `finish`, and allocates nothing. Each node that can turn has to be in `from`, and all
-/// that are there have to be nodes; they need not be able to turn, and may stand there twice.
+/// turns: for a caller that knows where the first of them are. Where few turn, no other node costs a step. It allocates nothing. The
+/// destination has to be a node, and the counts have to be lawful. Each node that can turn has to be in `from`, and all that are there have
+/// to be nodes; they need not be able to turn, and may stand there twice. `O(d)` a node of `from`, and `O(d²)` a turn where few turn, else
+/// as [`finish`].
 pub fn finish_from(net: &Net, dest: u32, turns: &mut Turns, from: &[u32])
     requires node { dest < net.now.nodes }
     requires lawful { AreLawful net.now.nodes dest net.now.links turns.old }
@@ -105,8 +105,9 @@ pub fn finish_from(net: &Net, dest: u32, turns: &mut Turns, from: &[u32])
 /// once it has looked at as many neighbours as there are nodes and as all rows have, or has no more room for nodes that may turn; it
 /// does so twice at most, with little room and with as much as a network can have nodes. The counts are then those of some turns, and
 /// lawful. No turn is ever taken back. The answer is yes exactly where no node can turn any more, and no where it gave up with a node
-/// that can: it then looks for one, as [`are_settled`] does. So it is linear in nodes and links at most. For a caller that has other
-/// means where there is more to turn, as threads. It allocates nothing. The same nodes have to be in `from`.
+/// that can: it then looks for one, as [`are_settled`] does. For a caller that has other means where there is more to turn, as threads. It
+/// allocates nothing. It wants the same counts, and the same nodes in `from`. As [`finish_from`] where few turn, and at most `O(n + m)`
+/// beside the looks at `from`.
 pub fn finish_soon(net: &Net, dest: u32, turns: &mut Turns, from: &[u32]) -> bool
     requires node { dest < net.now.nodes }
     requires lawful { AreLawful net.now.nodes dest net.now.links turns.old }

@@ -5,6 +5,8 @@
 //! [`finish`] goes to the counts at which every schedule ends, as do [`finish_counts`], over counts alone, [`finish_from`], which is told
 //! where to look, and [`finish_soon`], if a few turns lead there. A [`Machine`] turns nodes and looks at them by single atomic steps of its workers, in whatever order these come, [`play`]
 //! follows a schedule, and [`check_run`] checks a history, entry by entry. The laws behind them are in [`laws`].
+//!
+//! Costs are told for n nodes, m links, and d links at a node, as read off the code.
 #![tactic(auto)]
 
 mod check;

@@ -49,7 +49,7 @@ impl<'a> Model for Machine<'a> {
 impl<'a> Machine<'a> {
     /// A machine before its first step, with a worker for each list of targets, or the first fault that stands: `Range` where
     /// `dest` is no node, and then `BadTarget` with the first target that is no node or a node with no link, or is a turn of the
-    /// destination. `Memory` where no room could be had for the counts or the workers.
+    /// destination. `Memory` where no room could be had for the counts or the workers. `O(n + k)` for k targets.
     pub fn new(
         alloc: Global,
         net: &'a Net,
@@ -95,14 +95,14 @@ impl<'a> Machine<'a> {
         })
     }
 
-    /// How many workers there are.
+    /// How many workers there are. `O(1)`.
     pub fn workers(&self) -> usize
         ensures { result ≡ length self.now.state.workers }
     {
         self.workers.len()
     }
 
-    /// How often each node has turned.
+    /// How often each node has turned. `O(1)`.
     pub fn counts(&self) -> &[u64]
         ensures value { result.now ≡ self.now.state.counts }
         ensures lawful { AreLawful self.now.nodes self.now.dest self.now.links self.now.state.counts }
@@ -114,7 +114,7 @@ impl<'a> Machine<'a> {
     }
 
     /// One atomic step of a worker, from 0 to one below how many there are, and the entry if the step decides a call. Once a
-    /// worker's targets are used up, its steps change nothing.
+    /// worker's targets are used up, its steps change nothing. `O(1)`.
     pub fn step(&mut self, worker: u32) -> Option<Entry>
         requires { worker < length self.old.state.workers }
         ensures next { self.new ≡ record self.old { state = step self.old.nodes self.old.links self.old.state worker } }
