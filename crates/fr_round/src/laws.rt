@@ -8,8 +8,8 @@ ghost use Rattle.fr_round.specs.Laws.{LookBeginsAsTheMachines, LookEndsAsTheMach
 /// thread (E. Gafni and D. Bertsekas, 1981) gives at that point: its counts are the words, its links are those that the
 /// words give, and no loop stands among them. What each worker knows is a beginning of the list, the worker's own calls stand
 /// in it in their order, and no two workers have one number. The rule that this starts from holds when a round is opened,
-/// when the list is empty, and each step at a seat keeps it, whatever the other threads do. `Round::close` hands out the words of a
-/// state that it allows.
+/// when the list is empty, and each step at a seat keeps it, whatever the other threads do. That an open round is in a state that the
+/// rule allows is by its table of `Rule`. `Round::close` hands out the words of a state that it allows.
 pub fn round_law()
     ensures run { OneHistoryStandsBehindAll }
     ensures first { RuleHoldsAtFirst }

@@ -48,8 +48,8 @@ impl Round {
     /// Opens a round on a network that no node has turned yet: all counts are 0. It answers the round and its workers,
     /// whose numbers are 0, 1 and so on.
     ///
-    /// The destination has to be a node of the network, and `workers` 1 to [`MAX_WORKERS`]; otherwise, or where there is no memory, the
-    /// fault hands the network back. All memory that the round needs up to its end is taken here.
+    /// `Range` where the destination is no node of the network, or `workers` is not 1 to [`MAX_WORKERS`], and then `Memory` where there is
+    /// none; the fault hands the network back. All memory that the round needs up to its end is taken here. `O(m + k n)` for k workers.
     pub fn open(
         alloc: Global,
         net: Net,
@@ -94,14 +94,14 @@ impl Round {
         }
     }
 
-    /// How many workers it was opened with. It takes no step and no memory.
+    /// How many workers it was opened with. It takes no step and no memory. `O(1)`.
     pub fn workers(&self) -> u32
         ensures { result ≡ self.now.setup.workers }
     {
         self.terms.workers
     }
 
-    /// Its network, with the first links. It takes no step and no memory.
+    /// Its network, with the first links. It takes no step and no memory. `O(1)`.
     pub fn net(&self) -> &Net
         ensures nodes { result.now.nodes ≡ self.now.setup.nodes }
         ensures links { result.now.links ≡ self.now.setup.links }
@@ -109,7 +109,7 @@ impl Round {
         &self.terms.net
     }
 
-    /// Its destination. It takes no step and no memory.
+    /// Its destination. It takes no step and no memory. `O(1)`.
     pub fn dest(&self) -> u32
         ensures { result ≡ self.now.setup.dest }
     {
@@ -120,11 +120,12 @@ impl Round {
     /// exchange. It takes no memory, and waits for nobody, whatever other threads do or leave undone.
     ///
     /// The worker has to be one of this round. A call on what is no node, on the destination or on a node with no link is
-    /// refused, in this order, with no step, and nothing changes. Every other call is decided: `Turned` where it turned the
-    /// node, `Held` by a neighbour to which a link points, `Moved` where another worker has turned the node since this one saw its count,
-    /// which may have been before the call, and `Cut` where the node has turned as often as there are nodes. Each reply is one that full
-    /// reversal by one thread gives after a history that goes on from all that the worker knew; with it, the history is what the
-    /// worker knows now.
+    /// refused, by `NoNode`, `Destination` or `Alone` in this order, with no step, and nothing changes. Every other call is decided:
+    /// `Turned` where it turned the node, `Held` by a neighbour to which a link points, `Moved` where another worker has turned the node
+    /// since this one saw its count, which may have been before the call, and `Cut` where the node has turned as often as there are
+    /// nodes. Each reply is one that full reversal by one thread gives after a history that goes on from all that the worker knew; with
+    /// it, the history is what the worker knows now. At most d + 1 loads and an exchange, and two walks over the row of each node whose
+    /// seen count rises.
     pub fn try_turn(&self, worker: &mut Worker, x: u32) -> Result<Reply, Refusal>
         requires { IsOwn self.now worker.old }
         ensures own { IsOwn self.now worker.new }
@@ -154,11 +155,12 @@ impl Round {
     /// Looks where a link of node `x` points, and turns nothing: loads of the counts alone, by the steps of a call to turn it.
     /// It takes no memory, and waits for nobody, whatever other threads do or leave undone.
     ///
-    /// The worker has to be one of this round. A look at what is no node or at a node with no link is refused, in this order,
-    /// with no step, and nothing changes; the destination and a node that turns no more are looked at like any other. Every
+    /// The worker has to be one of this round. A look at what is no node or at a node with no link is refused, by `NoNode` or `Alone` in
+    /// this order, with no step, and nothing changes; the destination and a node that turns no more are looked at like any other. Every
     /// other look is decided: `Held` by a neighbour to which a link points, `Sink` where all links point to the node, and
-    /// `Moved` where another worker turned the node between the two loads of its count. Each reply holds at one point of a history that goes on from
-    /// all that the worker knew, the point of its entry; with it, the history is what the worker knows now.
+    /// `Moved` where another worker turned the node between the two loads of its count. Each reply holds at one point of a history that
+    /// goes on from all that the worker knew, the point of its entry; with it, the history is what the worker knows now. At most d + 2
+    /// loads, and two walks over the row of each node whose seen count rises.
     pub fn look(&self, worker: &mut Worker, x: u32) -> Result<Reply, Refusal>
         requires { IsOwn self.now worker.old }
         ensures own { IsOwn self.now worker.new }
@@ -184,7 +186,7 @@ impl Round {
 
     /// Ends the round: the network, the counts at the end, and the number and turns of each worker that is handed back. The
     /// workers have to be of this round, and no more than it was opened with; some may be missing. It takes no memory, and
-    /// waits for nobody: that no thread shares the round any more shows in its being owned.
+    /// waits for nobody: that no thread shares the round any more shows in its being owned. `O(n + k)` for k workers.
     pub fn close(self, workers: Vec<Worker>) -> Closed
         requires own { Each (IsOwn self) workers.items }
         requires few { length workers.items ≤ self.setup.workers }

@@ -70,21 +70,21 @@ impl Worker {
         seat
     }
 
-    /// Its number in the round, from 0 on.
+    /// Its number in the round, from 0 on. `O(1)`.
     pub fn number(&self) -> u32
         ensures { result ≡ self.now.number }
     {
         self.number
     }
 
-    /// How often its own calls turned a node.
+    /// How often its own calls turned a node. `O(1)`.
     pub fn turned(&self) -> u64
         ensures { result ≡ turn_count (part self.now.number self.now.known) }
     {
         self.turned
     }
 
-    /// A count that node `x` had reached by the worker's last call. It never falls, and takes no step.
+    /// A count that node `x`, which has to be one, had reached by the worker's last call. It never falls, and takes no step. `O(1)`.
     pub fn seen(&self, x: u32) -> u64
         requires { x < self.now.setup.nodes }
         ensures seen { result ≡ slice_index self.now.seen x }
