@@ -5,6 +5,8 @@
 //! called round each call of a worker. [`settle_alone`] needs no thread and comes to the same. [`settled_counts`] and
 //! [`settled_counts_alone`] answer the counts alone, and leave the network as it is. [`live_walk`] follows the links of an open
 //! round while workers turn.
+//!
+//! Costs are told for n nodes, m links, and d links at a node, as read off the code.
 #![tactic(auto)]
 
 mod crew;

@@ -99,9 +99,9 @@ fn walk_on(round: &Round, worker: &mut Worker, nodes: &mut Vec<u32>, x: u32, lim
 /// looks again where the node moved meanwhile, and ends at the destination, at a sink, or after `limit` looks. Each look is
 /// true at its own moment, and no two need be true at one: the walk may come to a node twice. It waits for nobody.
 ///
-/// The worker has to be one of this round. A walk from what is no node or from a node with no link is refused, in this order;
-/// then room for `limit` and one nodes is taken, before the first look, and `Memory` answered where there is none. After a
-/// fault nothing has changed, and the worker knows what it knew.
+/// The worker has to be one of this round. A walk from what is no node or from a node with no link is refused, by `NoNode` or `Alone`
+/// in this order; then room for `limit` and one nodes is taken, before the first look, and `Memory` answered where there is none. After
+/// a fault nothing has changed, and the worker knows what it knew. At most `limit` looks.
 pub fn live_walk(
     alloc: Global,
     round: &Round,

@@ -19,6 +19,7 @@ pub struct Plan {
 impl Plan {
     /// The plan with 1 to [`MAX_WORKERS`] workers, each of which makes at most `budget` calls; with another number of workers there is
     /// none. From the seed each worker draws where it looks first for work when it has none of its own; no link or count depends on it.
+    /// `O(1)`.
     pub fn new(workers: u32, seed: u64, budget: u64) -> Option<Plan>
         ensures none { IsNone result ↔ ((workers ≡ 0) ⊎ (most_workers < workers)) }
         ensures some { IfSome result (λ plan. (plan.workers ≡ workers) × (plan.seed ≡ seed) × (plan.budget ≡ budget)) }
@@ -46,21 +47,21 @@ impl Plan {
         }
     }
 
-    /// How many workers there are, 1 to [`MAX_WORKERS`].
+    /// How many workers there are, 1 to [`MAX_WORKERS`]. `O(1)`.
     pub fn workers(&self) -> u32
         ensures { result ≡ self.now.workers }
     {
         self.workers
     }
 
-    /// The seed that it was made with.
+    /// The seed that it was made with. `O(1)`.
     pub fn seed(&self) -> u64
         ensures { result ≡ self.now.seed }
     {
         self.seed
     }
 
-    /// How many calls each worker makes at most.
+    /// How many calls each worker makes at most. `O(1)`.
     pub fn budget(&self) -> u64
         ensures { result ≡ self.now.budget }
     {

@@ -45,10 +45,10 @@ pub struct Settled {
 /// only for its threads to end.
 ///
 /// `Range` where the destination is no node, which is tested first. The room for the whole round is taken before the first
-/// thread is started; after that the only fault is `Start`, since a candidate for which a deque finds no more room is left to
-/// the finisher. `Start` never comes where no thread is started. Where there is a fault, the network is given up. It waits for its
-/// threads, which end where the calls of the gate return. Without threads it is linear in nodes and links; by a crew its cost grows
-/// with the turns, and `CALLING.md` says how.
+/// thread is started, and `Memory` answered where there is none; after that the only fault is `Start`, since a candidate for which a
+/// deque finds no more room is left to the finisher. `Start` comes where a thread could not be started, so never where none is. Where
+/// there is a fault, the network is given up. It waits for its threads, which end where the calls of the gate return. `O(n + m)` where no
+/// node can turn or no worker may make a call; else `O(m + k n + T d (d + k))` steps of k workers for T turns.
 pub fn settle<R: Threads + Wait + Sync, G: Gate + Sync>(
     rt: &R,
     alloc: Global,
@@ -74,7 +74,7 @@ pub fn settle<R: Threads + Wait + Sync, G: Gate + Sync>(
 /// of [`settle`], all turns being the finisher's. It starts no thread and waits for nobody.
 ///
 /// `Range` where the destination is no node, which is tested first, or else `Memory`; never `Start`. Where there is a fault, the
-/// network is given up.
+/// network is given up. `O(n + m)`.
 pub fn settle_alone(alloc: Global, net: Net, dest: u32) -> Result<Settled, CrewFault>
     ensures settled { IfOk result (λ settled. IsSettlement net.nodes dest net.links settled) }
     ensures range { IfErr result (λ fault. (fault ≡ Range) ↔ (net.nodes ≤ dest)) }
@@ -98,7 +98,8 @@ pub fn settle_alone(alloc: Global, net: Net, dest: u32) -> Result<Settled, CrewF
 /// calls as there are nodes, since with more of them it would take longer to turn what is left than to search.
 ///
 /// `Range` where the destination is no node, which is tested first. That is the only fault with the budget 0, and where no node can
-/// turn; else `Memory` may come, and `Start` as by `settle`.
+/// turn; else `Memory` may come, and `Start` as by `settle`. As [`settled_counts_alone`] where a few turns settle it; else a copy of the
+/// network, and as [`settle`].
 pub fn settled_counts<R: Threads + Wait + Sync, G: Gate + Sync>(
     rt: &R,
     alloc: Global,
@@ -130,10 +131,10 @@ pub fn settled_counts<R: Threads + Wait + Sync, G: Gate + Sync>(
 }
 
 /// The settled counts of a network, which stays as it is, on the thread that calls: by [`finish`](fr_core::finish) alone, or
-/// where `from` is given, by [`finish_from`](fr_core::finish_from). They are those of [`settled_counts`], and made in `turns` as there. It
-/// starts no thread, waits for nobody, and takes no memory.
+/// where `from` is given, by [`finish_from`](fr_core::finish_from). They are those of [`settled_counts`], and made in `turns` as there;
+/// `from` has to hold what it has to hold there. It starts no thread, waits for nobody, and takes no memory.
 ///
-/// The only fault is `Range`, where the destination is no node.
+/// The only fault is `Range`, where the destination is no node. `O(n + m)`, and with `from` as `finish_from`.
 pub fn settled_counts_alone(
     net: &Net,
     dest: u32,

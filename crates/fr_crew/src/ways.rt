@@ -12,7 +12,7 @@ use fr_net::{Net, Turns};
 /// The settled counts of a network in a way that is passed in, as a closure over [`settled_counts`](crate::settled_counts) or
 /// [`settled_counts_alone`](crate::settled_counts_alone). The answer is that of the way, and so `Range` where the destination is
 /// no node, and never `Start` where no node can turn, or where the way never answers it. A closure over `settled_counts` has to state
-/// what that call requires of `from` and `turns`.
+/// what that call requires of `from` and `turns`. It costs what the way costs.
 pub fn settled_counts_by<F: Fn(&Net, u32, Option<&[u32]>, Turns) -> Result<Turns, CrewFault>>(
     way: &F,
     net: &Net,
