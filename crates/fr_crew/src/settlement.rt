@@ -47,8 +47,8 @@ pub struct Settled {
 /// `Range` where the destination is no node, which is tested first. The room for the whole round is taken before the first
 /// thread is started, and `Memory` answered where there is none; after that the only fault is `Start`, since a candidate for which a
 /// deque finds no more room is left to the finisher. `Start` comes where a thread could not be started, so never where none is. Where
-/// there is a fault, the network is given up. It waits for its threads, which end where the calls of the gate return. `O(n + m)` where no
-/// node can turn or no worker may make a call; else `O(m + k n + T d (d + k))` steps of k workers for T turns.
+/// there is a fault, the network is given up. It waits for its threads, which end where the calls of the gate return. As [`settle_alone`]
+/// where no node can turn or no worker may make a call; else `O(m + k n + T d (d + k))` steps of k workers for T turns.
 pub fn settle<R: Threads + Wait + Sync, G: Gate + Sync>(
     rt: &R,
     alloc: Global,
@@ -74,7 +74,7 @@ pub fn settle<R: Threads + Wait + Sync, G: Gate + Sync>(
 /// of [`settle`], all turns being the finisher's. It starts no thread and waits for nobody.
 ///
 /// `Range` where the destination is no node, which is tested first, or else `Memory`; never `Start`. Where there is a fault, the
-/// network is given up. `O(n + m)`.
+/// network is given up. `O(n + m)`, and as [`Net::turn`].
 pub fn settle_alone(alloc: Global, net: Net, dest: u32) -> Result<Settled, CrewFault>
     ensures settled { IfOk result (λ settled. IsSettlement net.nodes dest net.links settled) }
     ensures range { IfErr result (λ fault. (fault ≡ Range) ↔ (net.nodes ≤ dest)) }

@@ -7,6 +7,8 @@
 //! how often each node has turned. What its rows show is the law
 //! [`rows_law`](laws::rows_law), and which way a link can point the law [`join_law`](laws::join_law). [`read_line`] reads a request,
 //! and a [`LineReader`] line after line.
+//!
+//! Costs are told for n nodes, m links, and d links at a node, as read off the code.
 #![tactic(auto)]
 
 mod checks;

@@ -118,8 +118,8 @@ impl Model for Net {
 
 impl Net {
     /// The network with nodes 0 to `nodes - 1` and these links, each from its tail to its head, in whatever order they
-    /// are listed; or the first fault that stands, tested over the whole list in the order of [`NetFault`]. `Memory` where no
-    /// room could be had. Time and memory are linear in nodes and links.
+    /// are listed; or the first fault that stands, with its evidence, tested over the whole list in the order of [`NetFault`]: `TooMany`,
+    /// `Range`, `SelfLink`, `Twice` or `Cycle`. `Memory` where no room could be had. Time and memory are `O(n + m)`.
     pub fn new(alloc: Global, nodes: u32, links: &[(u32, u32)]) -> Result<Net, NetFault>
         ensures ok { IfOk result (IsNetworkOf nodes links.now) }
         ensures refused { IfErr result (λ fault. fault ≢ Memory → IsFirstFault nodes links.now fault) }
@@ -138,7 +138,7 @@ impl Net {
         }
     }
 
-    /// How many nodes there are, 1 or more.
+    /// How many nodes there are, 1 or more. `O(1)`.
     pub fn nodes(&self) -> u32
         ensures value { result ≡ self.now.nodes }
         ensures faultless { IsFaultless self.now.nodes self.now.links }
@@ -155,15 +155,15 @@ impl Net {
         let _nodes = self.graph.nodes;
     }
 
-    /// How many links there are.
+    /// How many links there are. `O(1)`.
     pub fn link_count(&self) -> usize
         ensures { result ≡ length self.now.links }
     {
         self.graph.link_count
     }
 
-    /// The links in rising order of tail, then head, none twice: a list of them, written from the rows in time linear in nodes and links.
-    /// `AllocError` where no room could be had.
+    /// The links in rising order of tail, then head, none twice: a list of them, written from the rows. `AllocError` where no room could be
+    /// had. `O(n + m)`.
     pub fn links(&self, alloc: Global) -> Result<Vec<(u32, u32)>, AllocError>
         ensures { IfOk result (λ links. links.items ≡ self.now.links) }
     {
@@ -184,14 +184,14 @@ impl Net {
         let _nodes = self.graph.nodes;
     }
 
-    /// How many nodes no link joins with another.
+    /// How many nodes no link joins with another. `O(1)`.
     pub fn alone(&self) -> u32
         ensures { result ≡ alone_count self.now.nodes self.now.links }
     {
         self.graph.rows.empty_rows() as u32
     }
 
-    /// How many neighbours node `x` has, which has to be a node.
+    /// How many neighbours node `x` has, which has to be a node. `O(1)`.
     pub fn degree(&self, x: u32) -> u32
         requires { x < self.now.nodes }
         ensures { result ≡ length (row self.now.nodes self.now.links x) }
@@ -200,7 +200,7 @@ impl Net {
     }
 
     /// The neighbour at place `j` of the row of node `x`, counted from 0 in rising order of the neighbours, and the
-    /// direction of its link as seen from `x`. There has to be such a node and such a place.
+    /// direction of its link as seen from `x`. There has to be such a node and such a place. `O(1)`.
     pub fn neighbour(&self, x: u32, j: u32) -> (u32, First)
         requires node { x < self.now.nodes }
         requires place { j < length (row self.now.nodes self.now.links x) }
@@ -213,7 +213,7 @@ impl Net {
 
     /// All neighbours of node `x` in rising order, each with the direction of its link as seen from `x`: what
     /// `neighbour` answers for each place, for a loop over a whole row. It has to be a node. Here nodes stand as `u16`, as they are
-    /// kept, since there are few, so that rows take half the room; `as u32` makes them what other calls take.
+    /// kept, since there are few, so that rows take half the room; `as u32` makes them what other calls take. `O(1)`.
     pub fn row(&self, x: u32) -> &[(u16, First)]
         requires { x < self.now.nodes }
         ensures { result.now ≡ row self.now.nodes self.now.links x }
@@ -221,7 +221,7 @@ impl Net {
         self.graph.row(x)
     }
 
-    /// A copy. `AllocError` where no room could be had. Time and memory are linear in nodes and links.
+    /// A copy. `AllocError` where no room could be had. Time and memory are `O(n + m)`.
     pub fn copied(&self, alloc: Global) -> Result<Net, AllocError>
         ensures { IfOk result (λ net. net ≡ self.now) }
     {
@@ -241,7 +241,7 @@ impl Net {
 
     /// The network without the link between `u` and `v`, whichever way it points. `NoLink` exactly where there is none, as
     /// where one of them is no node or both are the same; `Memory` where no room could be had. Time and memory are
-    /// linear in nodes and links, since the network is copied.
+    /// `O(n + m)`, since the network is copied.
     pub fn with_cut(&self, alloc: Global, u: u32, v: u32) -> Result<Net, NetFault>
         ensures joined { OnOk result (Joins self.now.links u v) }
         ensures ok { IfOk result (IsNetworkOf self.now.nodes (without u v self.now.links)) }
@@ -251,8 +251,8 @@ impl Net {
     }
 
     /// The network with the link from `u` to `v` as well; or the first fault that then stands, in the order of
-    /// [`NetFault`], where a closed walk follows the links with the new one among them. `Memory` where no room could be had. Time and
-    /// memory are linear in nodes and links, since the network is copied.
+    /// [`NetFault`], where a closed walk follows the links with the new one among them. `Memory` where no room could be had. `O(n + m)` for
+    /// the copy, and the edit as by [`edit_if`](Net::edit_if).
     pub fn with_link(&self, alloc: Global, u: u32, v: u32) -> Result<Net, NetFault>
         ensures ok { IfOk result (IsNetworkOf self.now.nodes (self.now.links ++ (u, v) ∷ [])) }
         ensures refused { IfErr result (λ fault. fault ≢ Memory
@@ -263,7 +263,7 @@ impl Net {
 
     /// The network with `u` and `v` joined: by a link from `u` to `v`, or from `v` to `u` where a closed walk would follow the
     /// other; the law [`join_law`](crate::laws::join_law) says that then none follows this one. It is refused as by `with_link`, but
-    /// never for a `Cycle`. Time and memory are linear in nodes and links, and one search decides which way the link points.
+    /// never for a `Cycle`. `O(n + m)` for the copy, and the edit as by [`edit_if`](Net::edit_if).
     pub fn with_join(&self, alloc: Global, u: u32, v: u32) -> Result<Net, NetFault>
         ensures ok { IfOk result (IsJoined self.now.nodes self.now.links u v) }
         ensures refused { IfErr result (λ fault. fault ≢ Memory → IsJoinFault self.now.nodes self.now.links u v fault) }
@@ -273,7 +273,7 @@ impl Net {
 
     /// The network after these edits, each made on the links that those before it left; or the first edit that is refused, with
     /// the fault that `with_cut`, `with_link` or `with_join` names. More than [`MAX_EDITS`] are `TooMany` at `MAX_EDITS`, and none
-    /// is tried. `Memory` where no room could be had, at any edit. The network is copied once.
+    /// is tried. `Memory` where no room could be had, at any edit. `O(n + m)` for one copy, and the edits as by [`edit_if`](Net::edit_if).
     pub fn with_edits(&self, alloc: Global, edits: &[Edit]) -> Result<Net, EditFault>
         ensures few { OnOk result (length edits.now ≤ most_edits) }
         ensures ok { IfOk result (AreMade self.now edits.now) }
@@ -286,10 +286,11 @@ impl Net {
     }
 
     /// Makes these edits where the network stands, each on the links that those before it left, if `way` then answers Ok of the
-    /// network that they make, and answers what it answers. Where an edit is refused, as by `with_edits`, where no room could be
-    /// had, or where `way` answers a fault, the edits are undone: the network is as it was. Each edit costs the moving of entries in
-    /// two rows, and where it adds a link, mostly a look at two heights, or else one search, before which heights that are not known are
-    /// made anew; only where a row is full all rows are laid out anew, with room to grow.
+    /// network that they make, and answers what it answers. What `way` requires has to hold of that network. `Refused` where an edit is
+    /// refused, as by `with_edits`, or no room could be had, and `Fault` with the fault that `way` answers: then the edits are undone, and
+    /// the network is as it was. `O(d)` an edit; an added link or join is mostly a look at two heights, else a search between them with
+    /// tables of `O(n)`; `O(n + m)` where heights that are not known are made anew, or where a row is full, so that all are laid out anew,
+    /// with room to grow.
     pub fn edit_if<T, E, F: FnOnce(&Net) -> Result<T, E>>(
         &mut self,
         alloc: Global,
@@ -320,7 +321,7 @@ impl Net {
 
     /// The network of the links that the counts give, one count for each node: a link stays where its head has turned
     /// as often as its tail, and is reversed where its head has turned once more; the counts have to leave no other case. The
-    /// only fault is `Memory`, where no room could be had. Time and memory are linear in nodes and links.
+    /// only fault is `Memory`, where no room could be had. `O(n + m)` for the copy, and as [`turn`](Net::turn).
     pub fn turned_by(&self, alloc: Global, counts: &[u64]) -> Result<Net, NetFault>
         requires one_each { length counts.now ≡ self.now.nodes }
         requires kept { All (IsKept counts.now) self.now.links }
@@ -335,7 +336,8 @@ impl Net {
     }
 
     /// Turns the links as these turns say, as `turned_by`, but where the network stands: it takes no memory and has no fault. Only the rows
-    /// of nodes that turned are touched, with the entries of these in the rows of others.
+    /// of nodes that turned are touched, with the entries of these in the rows of others. `O(k d log d + k log k)` for k nodes that have
+    /// turned.
     pub fn turn(&mut self, turns: &Turns)
         requires one_each { length turns.now ≡ self.old.nodes }
         requires kept { All (IsKept turns.now) self.old.links }

@@ -67,7 +67,8 @@ fn sum_of(counts: &[u64], nodes: &[u32]) -> u64
 }
 
 impl Turns {
-    /// No turns yet, of so many nodes, with room for all there can be.
+    /// No turns yet, of so many nodes, [`MAX_NODES`](crate::MAX_NODES) at most, with room for all there can be. `AllocError` where no room
+    /// could be had. `O(n)`.
     pub fn none(alloc: Global, nodes: u32) -> Result<Turns, AllocError>
         requires { nodes ≤ most_nodes }
         ensures { IfOk result (λ turns. turns ≡ replicate nodes 0) }
@@ -78,7 +79,7 @@ impl Turns {
         })
     }
 
-    /// The turns that these counts tell.
+    /// The turns that these counts tell, of [`MAX_NODES`](crate::MAX_NODES) nodes at most. `AllocError` where no room could be had. `O(n)`.
     pub fn of(alloc: Global, counts: Vec<u64>) -> Result<Turns, AllocError>
         requires { length counts.items ≤ most_nodes }
         ensures { IfOk result (λ turns. turns ≡ counts.items) }
@@ -88,28 +89,28 @@ impl Turns {
         Ok(Turns { counts, nodes })
     }
 
-    /// How often each node has turned: one count for each node.
+    /// How often each node has turned: one count for each node. `O(1)`.
     pub fn counts(&self) -> &[u64]
         ensures { result.now ≡ self.now }
     {
         &self.counts
     }
 
-    /// The nodes that have turned, each once, in no order.
+    /// The nodes that have turned, each once, in no order. `O(1)`.
     pub fn nodes(&self) -> &[u32]
         ensures { AreTurned self.now result.now }
     {
         &self.nodes
     }
 
-    /// How many turns there are together, or the most that a `u64` holds. It costs a step for each node that has turned.
+    /// How many turns there are together, or the most that a `u64` holds. `O(k)` for k nodes that have turned.
     pub fn total(&self) -> u64
         ensures { result ≡ min (sum self.now) (2 ^ 64 - 1) }
     {
         sum_of(&self.counts, &self.nodes)
     }
 
-    /// Adds a turn of node `x`. It takes no memory.
+    /// Adds a turn of node `x`, which has to be a node, with a count that is not the most that a `u64` holds. It takes no memory. `O(1)`.
     pub fn add(&mut self, x: u32)
         requires node { x < length self.old }
         requires fits { slice_index self.old x < 2 ^ 64 - 1 }
@@ -122,7 +123,7 @@ impl Turns {
         self.counts[x as usize] = count + 1;
     }
 
-    /// Makes them the turns that these counts tell, one count for each node. It takes no memory.
+    /// Makes them the turns that these counts tell, one count for each node. It takes no memory. `O(n)`.
     pub fn copy_from(&mut self, counts: &[u64])
         requires { length counts.now ≡ length self.old }
         ensures { self.new ≡ counts.now }
@@ -131,7 +132,7 @@ impl Turns {
         list_turned(&mut self.nodes, counts);
     }
 
-    /// Makes this the count of each node that has turned, which is not 0. It costs a step for each of them.
+    /// Makes this the count of each node that has turned; it must not be 0. `O(k)` for k nodes that have turned.
     pub fn set_each(&mut self, count: u64)
         requires { 0 < count }
         ensures { self.new ≡ map (set_to count) self.old }
@@ -139,7 +140,7 @@ impl Turns {
         set_counts(&mut self.counts, &self.nodes, count);
     }
 
-    /// Takes all turns back: each count is 0 then. It costs a step for each node that had turned.
+    /// Takes all turns back: each count is 0 then. `O(k)` for k nodes that had turned.
     pub fn clear(&mut self)
         ensures { self.new ≡ replicate (length self.old) 0 }
     {
@@ -147,7 +148,7 @@ impl Turns {
         self.nodes.clear();
     }
 
-    /// The counts alone.
+    /// The counts alone. `O(1)`.
     pub fn into_counts(self) -> Vec<u64>
         ensures { result.items ≡ self }
     {

@@ -39,8 +39,8 @@ impl LineReader {
         LineReader { scratch: None }
     }
 
-    /// The request that a line is, as [`read_line`](crate::read_line) tells it; a fault other than want of memory is settled by
-    /// the line alone.
+    /// The request that a line is, as [`read_line`](crate::read_line) tells it, with the same faults; one other than `Memory` is settled
+    /// by the line alone. Linear in a line with no object.
     pub fn read(&mut self, alloc: Global, line: &[u8]) -> Result<Request, LineFault>
         ensures ok { IfOk result (λ request. reading line.now ≡ Ok (plain request)) }
         ensures refused { IfErr result (λ fault. fault ≢ Memory → reading line.now ≡ Err fault) }
