@@ -106,8 +106,8 @@ pub fn finish_from(net: &Net, dest: u32, turns: &mut Turns, from: &[u32])
 /// does so twice at most, with little room and with as much as a network can have nodes. The counts are then those of some turns, and
 /// lawful. No turn is ever taken back. The answer is yes exactly where no node can turn any more, and no where it gave up with a node
 /// that can: it then looks for one, as [`are_settled`] does. For a caller that has other means where there is more to turn, as threads. It
-/// allocates nothing. It wants the same counts, and the same nodes in `from`. As [`finish_from`] where few turn, and at most `O(n + m)`
-/// beside the looks at `from`.
+/// allocates nothing. It wants the same counts, and the same nodes in `from`. It costs what [`finish_from`] does where few turn,
+/// and at most `O(n + m)` beside the looks at `from`.
 pub fn finish_soon(net: &Net, dest: u32, turns: &mut Turns, from: &[u32]) -> bool
     requires node { dest < net.now.nodes }
     requires lawful { AreLawful net.now.nodes dest net.now.links turns.old }

@@ -47,8 +47,9 @@ pub struct Settled {
 /// `Range` where the destination is no node, which is tested first. The room for the whole round is taken before the first
 /// thread is started, and `Memory` answered where there is none; after that the only fault is `Start`, since a candidate for which a
 /// deque finds no more room is left to the finisher. `Start` comes where a thread could not be started, so never where none is. Where
-/// there is a fault, the network is given up. It waits for its threads, which end where the calls of the gate return. As [`settle_alone`]
-/// where no node can turn or no worker may make a call; else `O(m + k n + T d (d + k))` steps of k workers for T turns.
+/// there is a fault, the network is given up. It waits for its threads, which end where the calls of the gate return. It costs
+/// what [`settle_alone`] does where no node can turn or no worker may make a call; else `O(m + k n + T d (d + k))` steps of k workers
+/// for T turns.
 pub fn settle<R: Threads + Wait + Sync, G: Gate + Sync>(
     rt: &R,
     alloc: Global,
@@ -74,7 +75,7 @@ pub fn settle<R: Threads + Wait + Sync, G: Gate + Sync>(
 /// of [`settle`], all turns being the finisher's. It starts no thread and waits for nobody.
 ///
 /// `Range` where the destination is no node, which is tested first, or else `Memory`; never `Start`. Where there is a fault, the
-/// network is given up. `O(n + m)`, and as [`Net::turn`].
+/// network is given up. `O(n + m)`, and what [`Net::turn`] costs.
 pub fn settle_alone(alloc: Global, net: Net, dest: u32) -> Result<Settled, CrewFault>
     ensures settled { IfOk result (λ settled. IsSettlement net.nodes dest net.links settled) }
     ensures range { IfErr result (λ fault. (fault ≡ Range) ↔ (net.nodes ≤ dest)) }
@@ -98,8 +99,8 @@ pub fn settle_alone(alloc: Global, net: Net, dest: u32) -> Result<Settled, CrewF
 /// calls as there are nodes, since with more of them it would take longer to turn what is left than to search.
 ///
 /// `Range` where the destination is no node, which is tested first. That is the only fault with the budget 0, and where no node can
-/// turn; else `Memory` may come, and `Start` as by `settle`. As [`settled_counts_alone`] where a few turns settle it; else a copy of the
-/// network, and as [`settle`].
+/// turn; else `Memory` may come, and `Start` as by `settle`. It costs what [`settled_counts_alone`] does where a few turns settle the
+/// network; else a copy of it, and what [`settle`] does.
 pub fn settled_counts<R: Threads + Wait + Sync, G: Gate + Sync>(
     rt: &R,
     alloc: Global,

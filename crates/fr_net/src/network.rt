@@ -252,7 +252,7 @@ impl Net {
 
     /// The network with the link from `u` to `v` as well; or the first fault that then stands, in the order of
     /// [`NetFault`], where a closed walk follows the links with the new one among them. `Memory` where no room could be had. `O(n + m)` for
-    /// the copy, and the edit as by [`edit_if`](Net::edit_if).
+    /// the copy, and what [`edit_if`](Net::edit_if) costs.
     pub fn with_link(&self, alloc: Global, u: u32, v: u32) -> Result<Net, NetFault>
         ensures ok { IfOk result (IsNetworkOf self.now.nodes (self.now.links ++ (u, v) ∷ [])) }
         ensures refused { IfErr result (λ fault. fault ≢ Memory
@@ -263,7 +263,7 @@ impl Net {
 
     /// The network with `u` and `v` joined: by a link from `u` to `v`, or from `v` to `u` where a closed walk would follow the
     /// other; the law [`join_law`](crate::laws::join_law) says that then none follows this one. It is refused as by `with_link`, but
-    /// never for a `Cycle`. `O(n + m)` for the copy, and the edit as by [`edit_if`](Net::edit_if).
+    /// never for a `Cycle`. `O(n + m)` for the copy, and what [`edit_if`](Net::edit_if) costs.
     pub fn with_join(&self, alloc: Global, u: u32, v: u32) -> Result<Net, NetFault>
         ensures ok { IfOk result (IsJoined self.now.nodes self.now.links u v) }
         ensures refused { IfErr result (λ fault. fault ≢ Memory → IsJoinFault self.now.nodes self.now.links u v fault) }
@@ -273,7 +273,7 @@ impl Net {
 
     /// The network after these edits, each made on the links that those before it left; or the first edit that is refused, with
     /// the fault that `with_cut`, `with_link` or `with_join` names. More than [`MAX_EDITS`] are `TooMany` at `MAX_EDITS`, and none
-    /// is tried. `Memory` where no room could be had, at any edit. `O(n + m)` for one copy, and the edits as by [`edit_if`](Net::edit_if).
+    /// is tried. `Memory` where no room could be had, at any edit. `O(n + m)` for one copy, and what [`edit_if`](Net::edit_if) costs.
     pub fn with_edits(&self, alloc: Global, edits: &[Edit]) -> Result<Net, EditFault>
         ensures few { OnOk result (length edits.now ≤ most_edits) }
         ensures ok { IfOk result (AreMade self.now edits.now) }
@@ -321,7 +321,7 @@ impl Net {
 
     /// The network of the links that the counts give, one count for each node: a link stays where its head has turned
     /// as often as its tail, and is reversed where its head has turned once more; the counts have to leave no other case. The
-    /// only fault is `Memory`, where no room could be had. `O(n + m)` for the copy, and as [`turn`](Net::turn).
+    /// only fault is `Memory`, where no room could be had. `O(n + m)` for the copy, and what [`turn`](Net::turn) costs.
     pub fn turned_by(&self, alloc: Global, counts: &[u64]) -> Result<Net, NetFault>
         requires one_each { length counts.now ≡ self.now.nodes }
         requires kept { All (IsKept counts.now) self.now.links }

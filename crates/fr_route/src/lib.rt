@@ -9,6 +9,8 @@
 //!
 //! For those who answer lines in another way there are the parts of an answer: [`is_blank`], [`fault_number`],
 //! [`links_line`] and [`counts_line`].
+//!
+//! Costs are told for n nodes, m links, and d links at a node, as read off the code.
 #![tactic(auto)]
 
 mod blank;

@@ -64,7 +64,7 @@ impl Refusal {
     }
 }
 
-/// The number by which an answer names a fault of links or of an edit, from 4 to 9. Want of memory has none, and is 0.
+/// The number by which an answer names a fault of links or of an edit, from 4 to 9. Want of memory has none, and is 0. `O(1)`.
 pub fn fault_number(fault: &NetFault) -> u32
     ensures { result ≡ fault_number_of fault.now }
 {

@@ -85,7 +85,7 @@ impl Router {
     /// Settles a network by a crew, by the plan and under the gate. `Range` where the destination is no node, `Start` where a thread
     /// could not be started, `Memory` where no room could be had; never `Net`. `Start` never comes with the budget 0, by one worker, or
     /// where no node can turn. On a fault the network is given up. It waits for the threads of the crew, which end where the calls of
-    /// the gate return.
+    /// the gate return. `O(n + m)`, and what [`settle`](fr_crew::settle) costs.
     pub fn open<R: Threads + Wait + Sync, G: Gate + Sync>(
         rt: &R,
         alloc: Global,
@@ -111,7 +111,8 @@ impl Router {
         )
     }
 
-    /// The same on the thread that calls, with no crew: it starts no thread, waits for nobody, and never answers `Start`.
+    /// The same on the thread that calls, with no crew: it starts no thread, waits for nobody, and never answers `Start`. `O(n + m)`, and
+    /// what [`Net::turn`] costs.
     pub fn open_alone(alloc: Global, net: Net, dest: u32) -> Result<Router, RouteFault>
         ensures opened { IfOk result (λ router. (dest < net.nodes) × IsRound net.nodes dest net.links router) }
         ensures fault { IfErr result (IsOpenFault net.nodes dest) }
@@ -172,8 +173,12 @@ impl Router {
     /// The change is made where the network stands, and all that can fail is done before any of it stays. Only the ends of the
     /// links, the two destinations, and the nodes with a link that the last round cut off are looked at for what can turn; where none
     /// can, that look is all, and only their hops are made anew. Where nodes turn, the hops of these are made anew as well, and of
-    /// the neighbours that sent on to them: that costs a step for each of them and their links. The parts with a link that stay cut off turn anew in
-    /// each round, each of their nodes as often as there are nodes.
+    /// the neighbours that sent on to them. The parts with a link that stay cut off turn anew in each round, each of their nodes as
+    /// often as there are nodes.
+    ///
+    /// It costs what [`Net::edit_if`] does, and `O((e + k + 1) d)` for e edits and k nodes with a link that the last round cut off; `O(n)`
+    /// more where k is not 0, at the first change, and after a fault; and where nodes turn, what [`settled_counts`] and [`Net::turn`] do,
+    /// and a step for each link of these nodes and of the neighbours that sent on to them.
     pub fn change<R: Threads + Wait + Sync, G: Gate + Sync>(
         &mut self,
         rt: &R,
@@ -201,7 +206,8 @@ impl Router {
         )
     }
 
-    /// The same on the thread that calls, with no crew: it starts no thread, waits for nobody, and never answers `Start`.
+    /// The same on the thread that calls, with no crew: it starts no thread, waits for nobody, and never answers `Start`. It costs
+    /// what `change` does, with [`settled_counts_alone`] where nodes turn.
     pub fn change_alone(&mut self, alloc: Global, change: Change) -> Result<Report, RouteFault>
         ensures changed { IfOk result (λ _. IsChanged self.old change self.new) }
         ensures report { IfOk result (λ report. IsReport self.new report.turned report.cut) }
@@ -223,7 +229,7 @@ impl Router {
     /// that keeps the hops of all nodes. A fault leaves the list as it was, as it does the router.
     ///
     /// The list gets room for all nodes before anything is changed, and keeps it: so a caller that hands in the same list each
-    /// time pays for that once. Beyond `change` it costs a step for each node that is rerouted, and sorting them.
+    /// time pays for that once. It costs what `change` does, and `O(r log r)` more for r nodes that it tells.
     pub fn change_telling<R: Threads + Wait + Sync, G: Gate + Sync>(
         &mut self,
         rt: &R,
@@ -253,7 +259,8 @@ impl Router {
         )
     }
 
-    /// The same on the thread that calls, with no crew: it starts no thread, waits for nobody, and never answers `Start`.
+    /// The same on the thread that calls, with no crew: it starts no thread, waits for nobody, and never answers `Start`. It costs
+    /// what `change_alone` does, and `O(r log r)` more for r nodes that it tells.
     pub fn change_telling_alone(
         &mut self,
         alloc: Global,
@@ -480,14 +487,14 @@ impl Router {
         self.report.cut - alone_nodes(&self.net, self.dest)
     }
 
-    /// What the last round reported: how many turns it took, and how many nodes are cut off.
+    /// What the last round reported: how many turns it took, and how many nodes are cut off. `O(1)`.
     pub fn report(&self) -> Report
         ensures { IsReport self.now result.turned result.cut }
     {
         self.report
     }
 
-    /// The network as the last round left it.
+    /// The network as the last round left it. `O(1)`.
     pub fn net(&self) -> &Net
         ensures nodes { result.now.nodes ≡ self.now.nodes }
         ensures links { result.now.links ≡ self.now.links }
@@ -495,7 +502,7 @@ impl Router {
         &self.net
     }
 
-    /// The destination, which is a node of the network.
+    /// The destination, which is a node of the network. `O(1)`.
     pub fn dest(&self) -> u32
         ensures value { result ≡ self.now.dest }
         ensures node { self.now.dest < self.now.nodes }
@@ -503,7 +510,7 @@ impl Router {
         self.dest
     }
 
-    /// How often each node turned in the last round: one count for each node.
+    /// How often each node turned in the last round: one count for each node. `O(1)`.
     pub fn counts(&self) -> &[u64]
         ensures value { result.now ≡ self.now.counts }
         ensures one_each { length self.now.counts ≡ self.now.nodes }
@@ -519,7 +526,8 @@ impl Router {
     }
 
     /// The nodes that are not cut off, in rising order, in a list of the caller's: those whose hops a caller reads first that keeps the
-    /// hops of all nodes, and begins with a table that says `CutOff` of each. A fault leaves the list as it was. Linear in nodes.
+    /// hops of all nodes, and begins with a table that says `CutOff` of each. `AllocError` where no room could be had, with the list as it
+    /// was. `O(n)`.
     pub fn joined(&self, nodes: &mut Vec<u32>) -> Result<(), AllocError>
         ensures joined { OnOk result (AreJoined self.now nodes.new.items) }
         ensures untold { OnErr result (nodes.new.items ≡ nodes.old.items) }
@@ -530,7 +538,7 @@ impl Router {
         Ok(())
     }
 
-    /// Where node `x` sends on to, which has to be a node. It takes the same time for each.
+    /// Where node `x` sends on to, which has to be a node. `O(1)`.
     pub fn next_hop(&self, x: u32) -> Hop
         requires { x < self.now.nodes }
         ensures { IsHop self.now x result }
@@ -538,8 +546,8 @@ impl Router {
         self.hops[x as usize]
     }
 
-    /// The way from node `x` to the destination, hop by hop; `x` has to be a node. Linear in its length. The only fault is
-    /// `Memory`.
+    /// The way from node `x` to the destination, hop by hop; `x` has to be a node. The only fault is `Memory`, where no room could be had.
+    /// Linear in the length of the way.
     pub fn walk(&self, alloc: Global, x: u32) -> Result<Walked, RouteFault>
         requires { x < self.now.nodes }
         ensures walked { IfOk result (IsWalked self.now x) }

@@ -48,7 +48,7 @@ impl Model for Session {
 }
 
 impl Session {
-    /// A session that holds no network yet.
+    /// A session that holds no network yet. `O(1)`.
     pub fn new() -> Session
         ensures { result ≡ None }
     {
@@ -58,7 +58,7 @@ impl Session {
         }
     }
 
-    /// The router of the last network that was accepted, or None where there is none yet.
+    /// The router of the last network that was accepted, or None where there is none yet. `O(1)`.
     pub fn router(&self) -> Option<&Router>
         ensures { option_copied result ≡ self.now }
     {
@@ -66,10 +66,10 @@ impl Session {
     }
 
     /// The answer to a line, or None for a blank one; `specs/Answers.antt` says what the answer to a line is. The session is
-    /// then in the state after the line, which for a refused line is the state before it. A fault says that a thread could
-    /// not be started, or that memory ran out, and leaves the session as it was. `Start` comes only where a network or a change is
-    /// accepted and a node can turn on it, and never with the budget 0 or by one worker. Networks are settled by the plan and under
-    /// the gate, on which no answer depends.
+    /// then in the state after the line, which for a refused line is the state before it. `Start` says that a thread could
+    /// not be started, `Memory` that memory ran out; a fault leaves the session as it was. `Start` comes only where a network or a change
+    /// is accepted and a node can turn on it, and never with the budget 0 or by one worker. Networks are settled by the plan and under
+    /// the gate, on which no answer depends. Linear in line and answer, and what the request takes of [`Net::new`] and of the router.
     pub fn answer_line<R: Threads + Wait + Sync, G: Gate + Sync>(
         &mut self,
         rt: &R,
@@ -98,7 +98,8 @@ impl Session {
         )
     }
 
-    /// The same on the thread that calls, with no crew: it starts no thread, waits for nobody, and never answers `Start`.
+    /// The same on the thread that calls, with no crew: it starts no thread, waits for nobody, and never answers `Start`. It costs the
+    /// same, by the calls of the router that end in `_alone`.
     pub fn answer_line_alone(
         &mut self,
         alloc: Global,
@@ -122,7 +123,8 @@ impl Session {
 
     /// The same, and tells which nodes the line reroutes, in a list of the caller's, in rising order: a change those that send on to
     /// another node than before, that are cut off now or that are no longer, and a new network those that are not cut off. Whatever
-    /// else is answered leaves the list, and so does a fault. The list gets room for all nodes before anything is changed, and keeps it.
+    /// else is answered leaves the list, and so does a fault. The list gets room for all nodes before anything is changed, and keeps it. It
+    /// costs the same, by the calls of the router that tell.
     pub fn answer_line_telling_alone(
         &mut self,
         alloc: Global,
@@ -200,7 +202,8 @@ impl Session {
         }
     }
 
-    /// The answer to a request, as `answer_line` gives it to the line of the request. The text has no line end.
+    /// The answer to a request, as `answer_line` gives it to the line of the request, with the same faults. The text has no line end.
+    /// Linear in the answer, and what the request takes of [`Net::new`] and of the router.
     pub fn answer<R: Threads + Wait + Sync, G: Gate + Sync>(
         &mut self,
         rt: &R,
@@ -227,7 +230,8 @@ impl Session {
         )
     }
 
-    /// The same on the thread that calls, with no crew: it starts no thread, waits for nobody, and never answers `Start`.
+    /// The same on the thread that calls, with no crew: it starts no thread, waits for nobody, and never answers `Start`. It costs the
+    /// same, by the calls of the router that end in `_alone`.
     pub fn answer_alone(&mut self, alloc: Global, request: &Request) -> Result<String, AnswerFault>
         ensures text { IfOk result (λ text. IsAnswer self.old (plain request.now) (string_bytes text) self.new) }
         ensures unchanged { OnErr result (self.new ≡ self.old) }
