@@ -46,7 +46,7 @@ impl Model for Conversation {
 }
 
 impl Conversation {
-    /// A conversation in which nothing was said yet.
+    /// A conversation in which nothing was said yet. `O(1)`.
     pub fn new(alloc: Global) -> Conversation
         ensures { result ≡ silence }
     {
@@ -56,14 +56,14 @@ impl Conversation {
         }
     }
 
-    /// The session, in the state after the lines that have ended.
+    /// The session, in the state after the lines that have ended. `O(1)`.
     pub fn session(&self) -> &Session
         ensures { result.now ≡ self.now.state }
     {
         &self.session
     }
 
-    /// The line that has begun: what was taken behind the last line end.
+    /// The line that has begun: what was taken behind the last line end. `O(1)`.
     pub fn begun(&self) -> &[u8]
         ensures line { result.now ≡ self.now.begun }
         ensures alone { lines_of result.now ≡ result.now ∷ [] }
@@ -75,7 +75,8 @@ impl Conversation {
     /// Takes the front of a piece, up to its first byte 10 and with it, and answers the line that ends there; without one, all of the
     /// piece goes to the line that has begun. Whatever the fault, nothing was taken, and the piece can be handed in again: `TooLong`
     /// where the line has more than [`MAX_BYTES`] bytes, `Start` where a thread could not be started, which with the budget 0
-    /// never comes, and `Memory` where the line or its answer found no room; never `Read` or `Write`.
+    /// never comes, and `Memory` where the line or its answer found no room; never `Read` or `Write`. Linear in what is taken, and at a
+    /// line end what [`Session::answer_line`] costs.
     pub fn take<T: Threads + Wait + Sync, G: Gate + Sync>(
         &mut self,
         rt: &T,
@@ -117,7 +118,7 @@ impl Conversation {
     }
 
     /// Ends the line that has begun, as the end of an input does, and answers it; None where it is blank. Whatever the fault, `Start`
-    /// or `Memory` as [`take`](Conversation::take) has them, nothing has changed.
+    /// or `Memory` as [`take`](Conversation::take) has them, nothing has changed. It costs what [`Session::answer_line`] does.
     pub fn finish<T: Threads + Wait + Sync, G: Gate + Sync>(
         &mut self,
         rt: &T,

@@ -25,7 +25,7 @@ pub struct Draw {
 }
 
 impl Draw {
-    /// The draw with 1 to [`MAX_WORKERS`] workers and at most [`MAX_STEPS`] steps; with other numbers there is none.
+    /// The draw with 1 to [`MAX_WORKERS`] workers and at most [`MAX_STEPS`] steps; with other numbers there is none. `O(1)`.
     pub fn new(workers: u32, seed: u64, steps: u32) -> Option<Draw>
         ensures none { IsNone result ↔ ((workers ≡ 0) ⊎ (most_workers < workers) ⊎ (most_steps < steps)) }
         ensures some { IfSome result (λ draw. (draw.workers ≡ workers) × (draw.seed ≡ seed) × (draw.steps ≡ steps)) }
@@ -40,21 +40,22 @@ impl Draw {
         })
     }
 
-    /// How many workers there are, 1 to [`MAX_WORKERS`].
+    /// How many workers there are, 1 to [`MAX_WORKERS`]. `O(1)`.
     pub fn workers(&self) -> u32
         ensures { result ≡ self.now.workers }
     {
         self.workers
     }
 
-    /// How many steps they make, at most [`MAX_STEPS`].
+    /// How many steps they make, at most [`MAX_STEPS`]. `O(1)`.
     pub fn steps(&self) -> u32
         ensures { result ≡ self.now.steps }
     {
         self.steps
     }
 
-    /// The schedule: for each step the next word of the generator that the seed makes, modulo the number of workers.
+    /// The schedule: for each step the next word of the generator that the seed makes, modulo the number of workers. `AllocError` where no
+    /// room could be had. `O(s)` for s steps.
     pub fn schedule(&self, alloc: Global) -> Result<Vec<u32>, AllocError>
         ensures { IfOk result (λ schedule. schedule.items ≡ drawn self.now.seed self.now.steps self.now.workers) }
     {

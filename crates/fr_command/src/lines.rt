@@ -5,7 +5,8 @@ ghost use Rattle.std.specs.Option.{option_copied, option_map_or};
 ghost use Rattle.std.specs.Iterator.{YieldsFirstRef, item_count};
 ghost use Rattle.fr_command.specs.Lines.{lines_of, lines_left};
 
-/// The lines of an input, one after the other. What stands behind the last byte 10 is a line too, empty or not.
+/// The lines of an input, one after the other. What stands behind the last byte 10 is a line too, empty or not. To go through all is linear in
+/// the input.
 #[derive(Drop)]
 pub struct Lines<'a> {
     rest: Option<&'a [u8]>,
@@ -34,7 +35,7 @@ impl<'a> Iterator for Lines<'a> {
     }
 }
 
-/// The first line of a text, and what stands behind its byte 10, if it has one.
+/// The first line of a text, and what stands behind its byte 10, if it has one. Linear in the line.
 pub fn first_line(text: &[u8]) -> (&[u8], Option<&[u8]>)
     ensures first { lines_of text.now ≡ result.0.now ∷ option_map_or lines_of (option_copied result.1) [] }
     ensures shorter { IfSome result.1 (λ rest. length rest.now < length text.now) }

@@ -28,6 +28,11 @@ use std::io::{Read, Write};
 /// Each worker goes through the nodes with links but the destination in rising order, and again from the first, up to as many
 /// as there are steps. Where there is no such line, or it is refused as the first line of a run would be, or is no network,
 /// all that is written is that it is refused. At most one byte past the limit, [`MAX_BYTES`](crate::MAX_BYTES), is read.
+///
+/// `Read` where a read failed, `TooLong` where the input goes past the limit, and `Memory` where no room could be had: then nothing is
+/// written. `Write` where a write or the flush failed: what went out is a beginning of the output. Never `Start`. Linear in the input, what
+/// [`read_line`] costs for one line, `O(n + m + w s)` for w workers and s steps, `O(d)` an entry, and what [`Net::turned_by`] costs at the
+/// end.
 pub fn play_drawn<R: Read, W: Write>(
     alloc: Global,
     reader: &mut R,

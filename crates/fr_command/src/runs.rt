@@ -18,6 +18,11 @@ use std::thread::Threads;
 /// byte 10, and `specs/Answers.antt` of fr_route says what the answer to a line is. Each network is settled by threads, by the
 /// plan and under the gate, on which no answer depends. It waits for these threads, which end where the calls of the gate return; with
 /// the budget 0 there are none, and `Start` never comes.
+///
+/// `Read` where a read failed, `TooLong` where the input goes past the limit, and `Memory` where it found no room: then nothing is written.
+/// `Write` where a write or the flush failed: what went out is a beginning of the output. `Start` where a thread could not be started, or
+/// `Memory`, at a line: what went out is the answers to the lines before it. Linear in the input, and what
+/// [`Session::answer_line`](fr_route::Session::answer_line) costs for each line.
 pub fn run<T: Threads + Wait + Sync, R: Read, W: Write, G: Gate + Sync>(
     rt: &T,
     alloc: Global,

@@ -22,6 +22,9 @@ use std::thread::Threads;
 /// written is what [`run`](crate::run) writes. The input may be of any length, and each of its lines has at most
 /// [`MAX_BYTES`] bytes: `TooLong` comes with the byte that makes one longer, and no byte behind it is read. It waits for the reader,
 /// and for the threads that settle networks, as [`run`](crate::run) does.
+///
+/// At `Read` and `TooLong` the lines that had ended are answered, at `Start` and `Memory` those before the one that found no thread or no
+/// room, and at `Write` what went out is a beginning of the output. It costs what `run` does, but room for the longest line alone.
 pub fn serve<T: Threads + Wait + Sync, R: Read, W: Write, G: Gate + Sync>(
     rt: &T,
     alloc: Global,

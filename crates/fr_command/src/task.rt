@@ -41,7 +41,8 @@ pub enum TaskFault {
 /// The task that the words of a command line ask for, the program's name first: `run` or `serve`, with 1 to 16 workers, 4 if no
 /// number is given, any seed, or 0, and a budget of at most 1,000,000,000 calls, or 1,000,000; or `play`, with 1 to 16 workers, or
 /// 2, any seed, or 0, and at most 10,000 steps, or 100. `specs/Commands.antt` has the command line as `clap` reads it. `Usage`
-/// where `clap` does not take the words: because they ask for help or the version, or are not those of the command line.
+/// where `clap` does not take the words: because they ask for help or the version, or are not those of the command line; the text is what
+/// `clap` says then. `Memory` where no room could be had. Linear in the words.
 pub fn task_of<'a>(alloc: Global, words: &'a [&'a str]) -> Result<Task, TaskFault>
     ensures ok { IfOk result (IsTaskIn (map (λ s. s.now) words.entry.now)) }
     ensures fault { IfErr result (IsFaultOf (map (λ s. s.now) words.entry.now)) }
@@ -119,7 +120,8 @@ fn usage_of(alloc: Global, error: &Error) -> TaskFault
     }
 }
 
-/// The exit status of a fault, and its text: for standard output where the status is 0, and else for standard error.
+/// The exit status of a fault, and its text: for standard output where the status is 0, and else for standard error. It has no clause, and
+/// is only tested. `O(1)`.
 pub fn task_end(fault: &TaskFault) -> (u8, &str) {
     match fault {
         TaskFault::Usage { text, asked: true } => (0, text.as_str()),
