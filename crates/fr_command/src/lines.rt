@@ -5,8 +5,8 @@ ghost use Rattle.std.specs.Option.{option_copied, option_map_or};
 ghost use Rattle.std.specs.Iterator.{YieldsFirstRef, item_count};
 ghost use Rattle.fr_command.specs.Lines.{lines_of, lines_left};
 
-/// The lines of an input, one after the other. What stands behind the last byte 10 is a line too, empty or not. To go through all is linear in
-/// the input.
+/// The lines of an input, one after the other. What stands behind the last byte 10 is a line too, empty or not. To go through all is linear
+/// in the input.
 #[derive(Drop)]
 pub struct Lines<'a> {
     rest: Option<&'a [u8]>,
