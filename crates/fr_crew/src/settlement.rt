@@ -46,7 +46,7 @@ pub struct Settled {
 ///
 /// `Range` where the destination is no node, which is tested first. The room for the whole round is taken before the first
 /// thread is started, and `Memory` answered where there is none; after that the only fault is `Start`, since a candidate for which a
-/// deque finds no more room is left to the finisher. `Start` comes where a thread could not be started, so never where none is. Where
+/// deque finds no more room is left to the finisher. `Start` comes where a thread could not be started, and never where none has to be. Where
 /// there is a fault, the network is given up. It waits for its threads, which end where the calls of the gate return. It costs
 /// what [`settle_alone`] does where no node can turn or no worker may make a call; else `O(m + k n + T d (d + k))` steps of k workers
 /// for T turns.
@@ -99,8 +99,8 @@ pub fn settle_alone(alloc: Global, net: Net, dest: u32) -> Result<Settled, CrewF
 /// calls as there are nodes, since with more of them it would take longer to turn what is left than to search.
 ///
 /// `Range` where the destination is no node, which is tested first. That is the only fault with the budget 0, and where no node can
-/// turn; else `Memory` may come, and `Start` as by `settle`. It costs what [`settled_counts_alone`] does where a few turns settle the
-/// network; else a copy of it, and what [`settle`] does.
+/// turn; else `Memory` may come, and `Start` as by `settle`. It costs what [`settled_counts_alone`] does with the budget 0, and where
+/// a few turns settle the network; else a copy of it, and what [`settle`] does.
 pub fn settled_counts<R: Threads + Wait + Sync, G: Gate + Sync>(
     rt: &R,
     alloc: Global,
