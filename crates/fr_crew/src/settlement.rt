@@ -46,8 +46,8 @@ pub struct Settled {
 ///
 /// `Range` where the destination is no node, which is tested first. The room for the whole round is taken before the first
 /// thread is started, and `Memory` answered where there is none; after that the only fault is `Start`, since a candidate for which a
-/// deque finds no more room is left to the finisher. `Start` comes where a thread could not be started, and never where none has to be. Where
-/// there is a fault, the network is given up. It waits for its threads, which end where the calls of the gate return. It costs
+/// deque finds no more room is left to the finisher. `Start` comes where a thread could not be started, and never where none has to be.
+/// Where there is a fault, the network is given up. It waits for its threads, which end where the calls of the gate return. It costs
 /// what [`settle_alone`] does where no node can turn or no worker may make a call; else `O(m + k n + T d (d + k))` steps of k workers
 /// for T turns.
 pub fn settle<R: Threads + Wait + Sync, G: Gate + Sync>(
