@@ -6,6 +6,9 @@
 uint32_t engine_answer(revroute *, const uint8_t *, size_t, uint8_t *, size_t, size_t *);
 void engine_close(revroute *);
 uint32_t engine_finish(revroute *, uint8_t *, size_t, size_t *);
+uint32_t engine_report(revroute *, uint64_t *, uint64_t *);
+uint32_t engine_route(revroute *, uint32_t, uint32_t *, size_t, size_t *);
+uint32_t engine_size(revroute *, uint32_t *, size_t *);
 uint32_t engine_take(revroute *, const uint8_t *, size_t, uint8_t *, size_t, size_t *, size_t *);
 uint32_t engine_version(uint8_t *, size_t, size_t *);
 
@@ -31,7 +34,11 @@ enum {
     the_piece_read_too_far,
     the_longest_line_told_as_too_long,
     a_last_line_without_an_answer,
-    an_answer_that_ends_what_has_begun
+    an_answer_that_ends_what_has_begun,
+    a_route_without_the_destination,
+    a_route_of_a_node_that_is_none,
+    a_report_of_another_round,
+    a_link_too_few
 };
 
 /* Asks once more with room enough, as if the state had moved on where the buffer was too short. */
@@ -109,6 +116,33 @@ uint32_t revroute_finish(revroute *session, uint8_t *answer, size_t room, size_t
     if (FAULT != a_last_line_without_an_answer || status != REVROUTE_ANSWERED) return status;
     *length = 0;
     return REVROUTE_BLANK;
+}
+
+uint32_t revroute_route(revroute *session, uint32_t node, uint32_t *nodes, size_t room, size_t *length) {
+    uint32_t status = engine_route(session, node, nodes, room, length);
+    if (FAULT == a_route_without_the_destination && status == REVROUTE_ANSWERED && *length > 1) --*length;
+    if (FAULT == a_route_of_a_node_that_is_none && status == REVROUTE_NO_ROUTE && room) {
+        uint32_t nodes_before;
+        size_t links;
+        engine_size(session, &nodes_before, &links);
+        return node < nodes_before ? status : engine_route(session, nodes_before - 1, nodes, room, length);
+    }
+    return status;
+}
+
+uint32_t revroute_report(revroute *session, uint64_t *turned, uint64_t *cut_off) {
+    static uint64_t last;
+    uint32_t status = engine_report(session, turned, cut_off);
+    uint64_t now = *turned;
+    if (FAULT == a_report_of_another_round) *turned = last;
+    last = now;
+    return status;
+}
+
+uint32_t revroute_size(revroute *session, uint32_t *nodes, size_t *links) {
+    uint32_t status = engine_size(session, nodes, links);
+    if (FAULT == a_link_too_few && *links) --*links;
+    return status;
 }
 
 void revroute_close(revroute *session) {

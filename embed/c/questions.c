@@ -1,8 +1,9 @@
 /* Compares the typed questions with the lines' answers, on drawn networks and changes.
  *
- * After each line the hops and counts are asked both ways, each hop by its own call too, and the nodes that are said to be rerouted have to
- * be just those whose hop differs from what it was, found by comparing all. Each array ends where its room does, so that a
- * sanitizer sees a number written too far; one with a place too few has to stay as it was. Printed is how many lines were accepted.
+ * After each line the hops, counts, routes, links and the report are asked both ways, each hop by its own call too, and the nodes that
+ * are said to be rerouted have to be just those whose hop differs from what it was, found by comparing all. Each array ends where its
+ * room does, so that a sanitizer sees a number written too far; one with a place too few has to stay as it was. Printed is how many
+ * lines were accepted.
  */
 #include "lines.h"
 
@@ -70,6 +71,45 @@ static void compare(revroute *session, const uint32_t *hops, size_t count) {
     free(counts);
 }
 
+/* The way from each node, as the line tells it, and none from behind the last. */
+static void compare_routes(revroute *session, size_t count) {
+    char asked[64], told[TEXT], made[TEXT];
+    size_t length, none;
+    for (uint32_t x = 0; x < count; x++) {
+        sprintf(asked, "[\"walk\",%lu]", (unsigned long)x);
+        ask(session, asked, told);
+        uint32_t status = revroute_route(session, x, (uint32_t[1]){0}, 0, &length);
+        uint32_t *nodes = grown(NULL, (length + 1) * sizeof *nodes);
+        nodes[0] = 77;
+        if (status == REVROUTE_TOO_SHORT && (revroute_route(session, x, nodes, length - 1, &none) != REVROUTE_TOO_SHORT || nodes[0] != 77 || none != length))
+            stop("a route was written though it has no room");
+        if (status == REVROUTE_TOO_SHORT) status = revroute_route(session, x, nodes, length, &length);
+        char *text = made + sprintf(made, "walk");
+        if (status == REVROUTE_NO_ROUTE && length == 0) sprintf(text, " %lu cut", (unsigned long)x);
+        else if (status != REVROUTE_ANSWERED) stop("a node has no route");
+        else for (size_t at = 0; at < length; at++) text += sprintf(text, " %lu", (unsigned long)nodes[at]);
+        if (strcmp(told, made)) stop("a route differs from the line's");
+        free(nodes);
+    }
+    uint32_t spare[MOST] = {77};
+    if (revroute_route(session, (uint32_t)count, spare, MOST, &length) != REVROUTE_NO_ROUTE || length || spare[0] != 77)
+        stop("there is a route from behind the last node");
+}
+
+/* The report and the size, as the round's line and the links tell them. */
+static void compare_numbers(revroute *session, size_t count, const char *answer) {
+    char told[TEXT], made[64];
+    uint64_t turned, cut_off;
+    uint32_t nodes;
+    size_t links, spaces = 0;
+    if (revroute_report(session, &turned, &cut_off) != REVROUTE_ANSWERED) stop("there is no report");
+    sprintf(made, "turned %llu cut %llu", (unsigned long long)turned, (unsigned long long)cut_off);
+    if (strcmp(answer, made)) stop("the report differs from the line's");
+    ask(session, "[\"links\"]", told);
+    for (const char *at = told; *at; at++) spaces += *at == ' ';
+    if (revroute_size(session, &nodes, &links) != REVROUTE_ANSWERED || nodes != count || links != spaces) stop("the size is another");
+}
+
 static uint32_t *rerouted_of(revroute *session, size_t *count) {
     uint32_t status = revroute_rerouted(session, (uint32_t[1]){0}, 0, count);
     if ((status == REVROUTE_ANSWERED) != (*count == 0)) stop("no room was enough for the nodes that are rerouted");
@@ -128,6 +168,8 @@ static size_t step(revroute *session, const char *asked, bool is_network) {
     if (accepted) {
         look_at_rerouted(session, is_network ? NULL : before, hops, after);
         compare(session, hops, after);
+        compare_routes(session, after);
+        compare_numbers(session, after, answer);
         look_at_rerouted(session, is_network ? NULL : before, hops, after);
     } else {
         uint32_t *same = rerouted_of(session, &still);
@@ -141,12 +183,24 @@ static size_t step(revroute *session, const char *asked, bool is_network) {
     return accepted;
 }
 
+/* What is answered before the first network. */
+static void look_at_nothing(revroute *session) {
+    uint64_t turned = 7, cut_off = 7;
+    uint32_t nodes = 7;
+    size_t links = 7, length = 7;
+    uint32_t ends[] = {revroute_report(session, &turned, &cut_off), revroute_size(session, &nodes, &links), revroute_route(session, 0, &nodes, 1, &length)};
+    for (size_t at = 0; at < 3; at++)
+        if (ends[at] != REVROUTE_NO_NETWORK) stop("there is an answer before there is a network");
+    if (turned || cut_off || nodes || links || length) stop("there are numbers before there is a network");
+}
+
 int main(void) {
     size_t accepted = 0;
     char asked[TEXT];
     for (int network = 0; network < NETWORKS; network++) {
         revroute session = REVROUTE_NEW;
         if (revroute_next_hop(&session, 0) != REVROUTE_NO_HOP) stop("there is a hop before there is a network");
+        look_at_nothing(&session);
         for (int change = 0; change < CHANGES; change++) {
             size_t count;
             free(hops_of(&session, &count));

@@ -63,6 +63,8 @@ enum {
     REVROUTE_NO_MEMORY = 3,
     /* There is no network yet: no line has given one. *length is 0. */
     REVROUTE_NO_NETWORK = 4,
+    /* There is no way to the destination: the node is not joined with it, or it is no node. *length is 0. */
+    REVROUTE_NO_ROUTE = 5,
     /* No line has ended: the bytes are kept behind the session. *length is 0. */
     REVROUTE_BEGUN = 8,
     /* The line is longer than 16,777,216 bytes: nothing was taken. *length is 0. */
@@ -96,7 +98,7 @@ uint32_t revroute_finish(revroute *session, uint8_t *answer, size_t room, size_t
 /* Gives back all memory of a session, which is then as REVROUTE_NEW made it: it can be closed again, or used. */
 void revroute_close(revroute *session);
 
-/* Questions. They change nothing and take no memory; as any call, each has the session for itself while it runs.
+/* Questions. They change nothing and, but for the route, take no memory; as any call, each has the session for itself while it runs.
  *
  * Those that write into an array of `room` places write to its front, and leave the rest: *length is how many they are, which
  * REVROUTE_TOO_SHORT tells as well. After any end but REVROUTE_ANSWERED the array is as it was. */
@@ -113,6 +115,17 @@ uint32_t revroute_rerouted(revroute *session, uint32_t *nodes, size_t room, size
 
 /* How often each node turned in the last round, in the order of the nodes. */
 uint32_t revroute_counts(revroute *session, uint64_t *counts, size_t room, size_t *length);
+
+/* The way from a node to the destination, hop by hop, with both ends. REVROUTE_NO_ROUTE where there is none, and
+ * REVROUTE_NO_MEMORY where memory ran out. */
+uint32_t revroute_route(revroute *session, uint32_t node, uint32_t *nodes, size_t room, size_t *length);
+
+/* What the last round reported: how many turns it took, and how many nodes it cut off. Before the first network REVROUTE_NO_NETWORK, and
+ * both are 0. */
+uint32_t revroute_report(revroute *session, uint64_t *turned, uint64_t *cut_off);
+
+/* How many nodes and links there are. Before the first network REVROUTE_NO_NETWORK, and both are 0. */
+uint32_t revroute_size(revroute *session, uint32_t *nodes, size_t *links);
 
 /* Writes the version of the library, as 0.1.0, into the buffer `text` of `room` bytes. Returns REVROUTE_ANSWERED or
  * REVROUTE_TOO_SHORT, and *length is the length of the version in both cases. */

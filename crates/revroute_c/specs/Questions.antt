@@ -1,7 +1,7 @@
 -- What a question is answered.
-use Rattle.std.specs.Prelude.{◌≡◌, ℕ, ◌<◌, ◌≤◌, ◌⊎◌, List, length, slice_get, Option, Some, None}
-use Rattle.fr_route.specs.Routes.{IsHop}
-use Rattle.fr_route.specs.States.{State}
+use Rattle.std.specs.Prelude.{◌≡◌, ℕ, ◌<◌, ◌≤◌, ◌⊎◌, ◌∷◌, List, length, slice_get, Option, Some, None}
+use Rattle.fr_route.specs.Routes.{IsHop, IsRoute}
+use Rattle.fr_route.specs.States.{State, IsCutOff}
 use Rattle.fr_route.specs.declared.hops.Hop.{Hop}
 use Rattle.fr_route.specs.declared.hops.Hop.TheVariants.{Here, To, CutOff}
 use Rattle.revroute_c.specs.Replies.{IsWritten}
@@ -42,3 +42,19 @@ pub record AreHopNumbers (s : State) (numbers : List ℕ) : Type 0 where
 -- these numbers stand at the front of the place
 abbrev pub AreHopsWritten : State → List ℕ → List ℕ → Type 0
 AreHopsWritten s before after = (numbers : List ℕ) × (AreHopNumbers s numbers × IsWritten numbers before after)
+
+-- the nodes of the route from x stand at the front of the place, and this is their number
+pub record IsRouteWritten (s : State) (x : ℕ) (before after : List ℕ) (size : ℕ) : Type 0 where
+  pub node : x < s.nodes
+  pub rest : List ℕ
+  pub route : IsRoute s.links s.dest x rest
+  pub written : IsWritten (x ∷ rest) before after
+  pub size_is : size ≡ length (x ∷ rest)
+
+-- the route from x has so many nodes
+abbrev pub IsRouteLength : State → ℕ → ℕ → Type 0
+IsRouteLength s x size = (rest : List ℕ) × (IsRoute s.links s.dest x rest × (size ≡ length (x ∷ rest)))
+
+-- there is no way from x to the destination: x is no node, or it is cut off
+abbrev pub HasNoRoute : State → ℕ → Type 0
+HasNoRoute s x = (s.nodes ≤ x) ⊎ IsCutOff s.dest s.links x

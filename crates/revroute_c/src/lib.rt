@@ -8,10 +8,11 @@ ghost use Rattle.std.specs.Prelude.{◌≡◌, ◌≤◌, ◌<◌, ◌⊎◌, �
 ghost use denote.RawPtr.{null_ptr};
 ghost use Rattle.fr_net.specs.Requests.{reading};
 ghost use Rattle.fr_route.specs.Blank.{is_blank as is_blank_line};
+ghost use Rattle.fr_route.specs.States.{IsReport};
 ghost use Rattle.fr_route.specs.Told.{IsLineTold};
 ghost use Rattle.revroute_c.specs.Replies.{least_room, IsAnswered, IsWanted, IsWritten};
 ghost use Rattle.revroute_c.specs.Pieces.{EndsLine, IsTooLong, IsWantedAtEnd};
-ghost use Rattle.revroute_c.specs.Questions.{AreHopsWritten, TellsHop};
+ghost use Rattle.revroute_c.specs.Questions.{AreHopsWritten, HasNoRoute, IsRouteLength, IsRouteWritten, TellsHop};
 
 mod engine;
 mod handle;
@@ -23,7 +24,10 @@ mod replies;
 use fr_route::{VERSION, is_blank};
 use handle::Handle;
 use pieces::{BEGUN, TOO_LONG, finish_line, take_anew, take_front};
-use questions::{HOP_OF_NO_NETWORK, NO_NETWORK, counts_in, hop_in, hops_in};
+use questions::{
+    HOP_OF_NO_NETWORK, NO_NETWORK, NO_ROUTE, counts_in, hop_in, hops_in, report_in, route_in,
+    size_in,
+};
 use replies::{ANSWERED, BLANK, LEAST_ROOM, NO_MEMORY, TOO_SHORT, hand_out, reply, reply_anew};
 use std::alloc::Global;
 
@@ -231,6 +235,73 @@ pub extern "C" fn revroute_counts(handle: &mut Handle, counts: &mut [u64], size:
     *size = 0;
     match handle.engine_mut() {
         Some(engine) => counts_in(&engine.session, counts, size),
+        None => NO_NETWORK,
+    }
+}
+
+/// Writes the nodes of the way from a node to the destination, hop by hop and with both ends, into the front of the place, and how many
+/// there are to `size`. `TOO_SHORT` says that the place has less room, `NO_ROUTE` that the node is cut off, or is none, `NO_NETWORK` that there
+/// is no network yet, and `NO_MEMORY` that an allocation was refused; `size` is 0 after these three. After each of the four the place is as
+/// it was. Linear in the length of the way.
+#[unsafe(no_mangle)]
+pub extern "C" fn revroute_route(
+    alloc: Global,
+    handle: &mut Handle,
+    node: u32,
+    nodes: &mut [u32],
+    size: &mut usize,
+) -> u32
+    ensures same { (handle.new.session ≡ handle.old.session) × (handle.new.rerouted ≡ handle.old.rerouted) × (handle.new.begun ≡ handle.old.begun) }
+    ensures kept { handle.new.at ≡ handle.old.at }
+    ensures written { result ≡ ANSWERED → IfSome handle.old.session (λ s. IsRouteWritten s node nodes.old nodes.new size.new) }
+    ensures too_short { result ≡ TOO_SHORT → (length nodes.old < size.new) × IfSome handle.old.session (λ s. IsRouteLength s node size.new) }
+    ensures no_network { (result ≡ NO_NETWORK) ↔ (handle.old.session ≡ None) }
+    ensures no_route { result ≡ NO_ROUTE → IfSome handle.old.session (λ s. HasNoRoute s node) }
+    ensures unchanged { ¬ (result ≡ ANSWERED) → nodes.new ≡ nodes.old }
+    ensures none { TOO_SHORT < result → size.new ≡ 0 }
+    ensures status { (result ≡ ANSWERED) ⊎ ((TOO_SHORT ≤ result) × (result ≤ NO_ROUTE)) }
+{
+    *size = 0;
+    match handle.engine_mut() {
+        Some(engine) => route_in(&engine.session, alloc, node, nodes, size),
+        None => NO_NETWORK,
+    }
+}
+
+/// What the last round reported: how many turns it took, to `turned`, and how many nodes are cut off, to `cut_off`. `NO_NETWORK` says that there
+/// is no network yet; both are then 0. It takes the same few steps for any network.
+#[unsafe(no_mangle)]
+pub extern "C" fn revroute_report(handle: &mut Handle, turned: &mut u64, cut_off: &mut u64) -> u32
+    ensures same { (handle.new.session ≡ handle.old.session) × (handle.new.rerouted ≡ handle.old.rerouted) × (handle.new.begun ≡ handle.old.begun) }
+    ensures kept { handle.new.at ≡ handle.old.at }
+    ensures report { result ≡ ANSWERED → IfSome handle.old.session (λ s. IsReport s turned.new cut_off.new) }
+    ensures no_network { (result ≡ NO_NETWORK) ↔ (handle.old.session ≡ None) }
+    ensures none { result ≡ NO_NETWORK → (turned.new ≡ 0) × (cut_off.new ≡ 0) }
+    ensures status { (result ≡ ANSWERED) ⊎ (result ≡ NO_NETWORK) }
+{
+    *turned = 0;
+    *cut_off = 0;
+    match handle.engine_mut() {
+        Some(engine) => report_in(&engine.session, turned, cut_off),
+        None => NO_NETWORK,
+    }
+}
+
+/// How many nodes and links there are, to `nodes` and `links`. `NO_NETWORK` says that there is no network yet; both are then 0. It takes the
+/// same few steps for any network.
+#[unsafe(no_mangle)]
+pub extern "C" fn revroute_size(handle: &mut Handle, nodes: &mut u32, links: &mut usize) -> u32
+    ensures same { (handle.new.session ≡ handle.old.session) × (handle.new.rerouted ≡ handle.old.rerouted) × (handle.new.begun ≡ handle.old.begun) }
+    ensures kept { handle.new.at ≡ handle.old.at }
+    ensures size { result ≡ ANSWERED → IfSome handle.old.session (λ s. (nodes.new ≡ s.nodes) × (links.new ≡ length s.links)) }
+    ensures no_network { (result ≡ NO_NETWORK) ↔ (handle.old.session ≡ None) }
+    ensures none { result ≡ NO_NETWORK → (nodes.new ≡ 0) × (links.new ≡ 0) }
+    ensures status { (result ≡ ANSWERED) ⊎ (result ≡ NO_NETWORK) }
+{
+    *nodes = 0;
+    *links = 0;
+    match handle.engine_mut() {
+        Some(engine) => size_in(&engine.session, nodes, links),
         None => NO_NETWORK,
     }
 }

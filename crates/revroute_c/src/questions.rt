@@ -1,14 +1,19 @@
 //! Questions: they change nothing.
 
-ghost use Rattle.std.specs.Prelude.{◌≡◌, ◌<◌, ◌⊎◌, ◌↔◌, length, None, IfSome};
-ghost use Rattle.revroute_c.specs.Questions.{number_of, AreHopNumbers, AreHopsWritten, IsHopNumber, TellsHop};
+ghost use Rattle.std.specs.Prelude.{◌≡◌, ◌<◌, ◌≤◌, ◌⊎◌, ◌↔◌, length, None, IfSome};
+ghost use Rattle.fr_route.specs.States.{IsReport};
+ghost use Rattle.revroute_c.specs.Questions.{number_of, AreHopNumbers, AreHopsWritten, HasNoRoute, IsHopNumber, IsRouteLength, IsRouteWritten, TellsHop};
 ghost use Rattle.revroute_c.specs.Replies.{IsWritten};
 
-use crate::replies::{ANSWERED, TOO_SHORT, hand_out};
-use fr_route::{Hop, Router, Session};
+use crate::replies::{ANSWERED, NO_MEMORY, TOO_SHORT, hand_out};
+use fr_route::{Hop, Router, Session, Walked};
+use std::alloc::Global;
 
 /// There is no network yet.
 pub(crate) const NO_NETWORK: u32 = 4;
+
+/// There is no way to the destination.
+pub(crate) const NO_ROUTE: u32 = 5;
 
 /// In place of a hop: the node is the destination.
 const HERE: u32 = u32::MAX;
@@ -112,4 +117,67 @@ pub(crate) fn counts_in(session: &Session, counts: &mut [u64], size: &mut usize)
         Some(router) => hand_out(router.counts(), counts, size),
         None => NO_NETWORK,
     }
+}
+
+/// Writes the nodes of the way from a node to the destination, if there is one. `size` has to be 0.
+pub(crate) fn route_in(
+    session: &Session,
+    alloc: Global,
+    node: u32,
+    nodes: &mut [u32],
+    size: &mut usize,
+) -> u32
+    requires { size.old ≡ 0 }
+    ensures written { result ≡ ANSWERED → IfSome session.now (λ s. IsRouteWritten s node nodes.old nodes.new size.new) }
+    ensures too_short { result ≡ TOO_SHORT → (length nodes.old < size.new) × IfSome session.now (λ s. IsRouteLength s node size.new) }
+    ensures no_network { (result ≡ NO_NETWORK) ↔ (session.now ≡ None) }
+    ensures no_route { result ≡ NO_ROUTE → IfSome session.now (λ s. HasNoRoute s node) }
+    ensures unchanged { ¬ (result ≡ ANSWERED) → nodes.new ≡ nodes.old }
+    ensures none { TOO_SHORT < result → size.new ≡ 0 }
+    ensures status { (result ≡ ANSWERED) ⊎ ((TOO_SHORT ≤ result) × (result ≤ NO_ROUTE)) }
+{
+    let Some(router) = session.router() else {
+        return NO_NETWORK;
+    };
+    if node >= router.net().nodes() {
+        return NO_ROUTE;
+    }
+    match router.walk(alloc, node) {
+        Ok(Walked::Route(route)) => hand_out(&route, nodes, size),
+        Ok(Walked::CutOff) => NO_ROUTE,
+        Err(_memory) => NO_MEMORY,
+    }
+}
+
+/// Writes what the last round reported, if there is a network. Both numbers have to be 0.
+pub(crate) fn report_in(session: &Session, turned: &mut u64, cut_off: &mut u64) -> u32
+    requires { (turned.old ≡ 0) × (cut_off.old ≡ 0) }
+    ensures report { result ≡ ANSWERED → IfSome session.now (λ s. IsReport s turned.new cut_off.new) }
+    ensures no_network { (result ≡ NO_NETWORK) ↔ (session.now ≡ None) }
+    ensures none { result ≡ NO_NETWORK → (turned.new ≡ 0) × (cut_off.new ≡ 0) }
+    ensures status { (result ≡ ANSWERED) ⊎ (result ≡ NO_NETWORK) }
+{
+    let Some(router) = session.router() else {
+        return NO_NETWORK;
+    };
+    let report = router.report();
+    *turned = report.turned;
+    *cut_off = report.cut;
+    ANSWERED
+}
+
+/// Writes how many nodes and links there are, if there is a network. Both numbers have to be 0.
+pub(crate) fn size_in(session: &Session, nodes: &mut u32, links: &mut usize) -> u32
+    requires { (nodes.old ≡ 0) × (links.old ≡ 0) }
+    ensures size { result ≡ ANSWERED → IfSome session.now (λ s. (nodes.new ≡ s.nodes) × (links.new ≡ length s.links)) }
+    ensures no_network { (result ≡ NO_NETWORK) ↔ (session.now ≡ None) }
+    ensures none { result ≡ NO_NETWORK → (nodes.new ≡ 0) × (links.new ≡ 0) }
+    ensures status { (result ≡ ANSWERED) ⊎ (result ≡ NO_NETWORK) }
+{
+    let Some(router) = session.router() else {
+        return NO_NETWORK;
+    };
+    *nodes = router.net().nodes();
+    *links = router.net().link_count();
+    ANSWERED
 }

@@ -65,6 +65,15 @@ class MemoryTest(unittest.TestCase):
                 self.assertEqual(session.last_answer(), wanted)
             self.assertEqual(session.answer('["links"]'), "links")
 
+    def test_a_route_without_memory_changes_nothing(self):
+        left = ctypes.c_long.in_dll(revroute._library, "refusing_left")
+        with revroute.Session() as session:
+            session.answer(CHAIN)
+            left.value = 1
+            self.assertRaises(MemoryError, session.route, 3)
+            left.value = 0
+            self.assertEqual(session.route(3), [3, 2, 1, 0])
+
     def test_pieces_go_on_where_memory_was_missing(self):
         left = ctypes.c_long.in_dll(revroute._library, "refusing_left")
         given, number, wanted = "\n".join(LINES).encode() + b"\n", 0, ["turned 6 cut 0", "turned 12 cut 3", "turned 3 cut 0", "walk 1 2 3 0"]

@@ -124,6 +124,11 @@ class SessionTest(unittest.TestCase):
                     told = [it.value if isinstance(it, revroute.NoHop) else str(it) for it in after]
                     self.assertEqual(" ".join(["hops", *told]), session.answer('["hops"]'))
                     self.assertEqual(" ".join(["counts", *map(str, session.counts())]), session.answer('["counts"]'))
+                    self.assertEqual("turned {} cut {}".format(*session.report()), answer)
+                    self.assertEqual(session.size(), (len(after), len(session.answer('["links"]').split()) - 1))
+                    for x in range(len(after)):
+                        told = " ".join(map(str, session.route(x) or [x, "cut"]))
+                        self.assertEqual(f"walk {told}", session.answer(f'["walk",{x}]'))
         self.assertGreater(accepted, 10)
 
     def test_pieces_of_any_length_have_the_answers_of_their_lines(self):
@@ -155,15 +160,20 @@ class SessionTest(unittest.TestCase):
     def test_before_the_first_network_there_is_nothing_to_tell(self):
         with revroute.Session() as session:
             self.assertEqual([session.next_hops(), session.rerouted(), session.counts()], [[], [], []])
+            self.assertEqual([session.report(), session.size()], [None, None])
             self.assertRaises(IndexError, session.next_hop, 0)
+            self.assertRaises(IndexError, session.route, 0)
 
     def test_what_is_no_node_has_no_hop(self):
         with revroute.Session() as session:
             session.answer(CHAIN)
             for node in (-1, 4, 1 << 32, (1 << 32) - 1, (1 << 32) + 1, 1 << 70):
                 self.assertRaises(IndexError, session.next_hop, node)
+                self.assertRaises(IndexError, session.route, node)
             self.assertRaises(TypeError, session.next_hop, "1")
-        for question in (session.next_hops, session.rerouted, session.counts, lambda: session.next_hop(1)):
+            self.assertRaises(TypeError, session.route, 1.0)
+        numbers = session.next_hops, session.rerouted, session.counts, session.report, session.size
+        for question in (*numbers, lambda: session.next_hop(1), lambda: session.route(1)):
             self.assertRaises(ValueError, question)
 
     def test_threads_with_a_session_each_answer_alike(self):

@@ -18,7 +18,7 @@ mod questions;
 mod sys;
 
 pub use pieces::TakeFault;
-pub use questions::Hop;
+pub use questions::{Hop, Report, Size};
 
 use std::fmt;
 use std::str;

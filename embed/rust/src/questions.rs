@@ -32,6 +32,24 @@ impl Hop {
     }
 }
 
+/// What a round reported.
+#[derive(Debug, Clone, Copy, PartialEq, Eq, Hash)]
+pub struct Report {
+    /// How many turns it took.
+    pub turned: u64,
+    /// How many nodes it cut off.
+    pub cut_off: u64,
+}
+
+/// How large a network is.
+#[derive(Debug, Clone, Copy, PartialEq, Eq, Hash)]
+pub struct Size {
+    /// Its nodes, which are numbered from 0.
+    pub nodes: u32,
+    /// Its links.
+    pub links: usize,
+}
+
 /// A question that fills an array of `room` places, and tells how many it has.
 type Fill<T> = unsafe extern "C" fn(*mut sys::Handle, *mut T, usize, *mut usize) -> u32;
 
@@ -58,7 +76,7 @@ impl Session {
     ///
     /// Where memory for the list runs out.
     pub fn next_hops(&mut self) -> Result<Vec<Hop>, NoMemory> {
-        let values = self.filled(sys::revroute_next_hops)?;
+        let values = self.all_of(sys::revroute_next_hops)?;
         let mut hops = Vec::new();
         hops.try_reserve_exact(values.len()).map_err(|_| NoMemory)?;
         hops.extend(values.into_iter().filter_map(Hop::of));
@@ -80,7 +98,7 @@ impl Session {
     ///
     /// Where memory for the list runs out.
     pub fn rerouted(&mut self) -> Result<Vec<u32>, NoMemory> {
-        self.filled(sys::revroute_rerouted)
+        self.all_of(sys::revroute_rerouted)
     }
 
     /// How often each node turned in the last round, in the order of the nodes; nothing before the first network. `O(n)`.
@@ -89,26 +107,78 @@ impl Session {
     ///
     /// Where memory for the list runs out.
     pub fn counts(&mut self) -> Result<Vec<u64>, NoMemory> {
-        self.filled(sys::revroute_counts)
+        self.all_of(sys::revroute_counts)
     }
 
-    fn filled<T: Copy + Default>(&mut self, fill: Fill<T>) -> Result<Vec<T>, NoMemory> {
+    /// The nodes of the way from a node to the destination, with both ends; `None` where there is none, as the node is cut off or is no
+    /// node. `O(k)` for k nodes.
+    ///
+    /// ```
+    /// let mut session = revroute::Session::new();
+    /// session.answer(r#"["net",4,0,[[0,1],[1,2]]]"#)?;
+    /// assert_eq!(session.route(2)?, Some(vec![2, 1, 0]));
+    /// assert_eq!(session.route(3)?, None);
+    /// # Ok::<(), revroute::NoMemory>(())
+    /// ```
+    ///
+    /// # Errors
+    ///
+    /// Where memory for the list runs out.
+    pub fn route(&mut self, node: u32) -> Result<Option<Vec<u32>>, NoMemory> {
+        // SAFETY: as `all_of` hands them on.
+        self.filled(|handle, nodes, room, length| unsafe {
+            sys::revroute_route(handle, node, nodes, room, length)
+        })
+    }
+
+    /// What the last round reported; `None` before the first network. `O(1)`, without memory.
+    ///
+    /// ```
+    /// let mut session = revroute::Session::new();
+    /// session.answer(r#"["net",4,0,[[0,1],[1,2]]]"#)?;
+    /// assert_eq!(session.report(), Some(revroute::Report { turned: 3, cut_off: 1 }));
+    /// # Ok::<(), revroute::NoMemory>(())
+    /// ```
+    pub fn report(&mut self) -> Option<Report> {
+        let (mut turned, mut cut_off) = (0, 0);
+        // SAFETY: the handle is new or the library's own, no other call has it, and the three do not overlap.
+        let status = unsafe { sys::revroute_report(&mut self.handle, &mut turned, &mut cut_off) };
+        (status == sys::ANSWERED).then_some(Report { turned, cut_off })
+    }
+
+    /// How large the network is; `None` before the first. `O(1)`, without memory.
+    pub fn size(&mut self) -> Option<Size> {
+        let (mut nodes, mut links) = (0, 0);
+        // SAFETY: the handle is new or the library's own, no other call has it, and the three do not overlap.
+        let status = unsafe { sys::revroute_size(&mut self.handle, &mut nodes, &mut links) };
+        (status == sys::ANSWERED).then_some(Size { nodes, links })
+    }
+
+    /// What a question has for each node, or nothing before the first network.
+    fn all_of<T: Copy + Default>(&mut self, fill: Fill<T>) -> Result<Vec<T>, NoMemory> {
+        // SAFETY: `filled` hands on the handle, which no other call has, and the places of a slice, which does not overlap its length.
+        let found = self
+            .filled(|handle, places, room, length| unsafe { fill(handle, places, room, length) })?;
+        Ok(found.unwrap_or_default())
+    }
+
+    /// What a question writes into as many places as it asks for, or `None` where it has no answer.
+    fn filled<T: Copy + Default>(
+        &mut self,
+        fill: impl Fn(*mut sys::Handle, *mut T, usize, *mut usize) -> u32,
+    ) -> Result<Option<Vec<T>>, NoMemory> {
         let mut found: Vec<T> = Vec::new();
         loop {
             let mut length = 0;
-            // SAFETY: the handle is new or the library's own, and the places are a slice's, which does not overlap its length.
-            let status = unsafe {
-                fill(
-                    &mut self.handle,
-                    found.as_mut_ptr(),
-                    found.len(),
-                    &mut length,
-                )
-            };
-            match status {
+            match fill(
+                &mut self.handle,
+                found.as_mut_ptr(),
+                found.len(),
+                &mut length,
+            ) {
                 sys::ANSWERED => {
                     found.truncate(length);
-                    return Ok(found);
+                    return Ok(Some(found));
                 }
                 sys::TOO_SHORT => {
                     found
@@ -116,8 +186,9 @@ impl Session {
                         .map_err(|_| NoMemory)?;
                     found.resize(length, T::default());
                 }
-                sys::NO_NETWORK => return Ok(Vec::new()),
-                _ => unreachable!("a question has three ends"),
+                sys::NO_MEMORY => return Err(NoMemory),
+                sys::NO_NETWORK | sys::NO_ROUTE => return Ok(None),
+                _ => unreachable!("a question has five ends"),
             }
         }
     }

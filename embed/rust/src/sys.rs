@@ -24,6 +24,8 @@ pub const TOO_SHORT: u32 = 2;
 pub const NO_MEMORY: u32 = 3;
 /// There is no network yet.
 pub const NO_NETWORK: u32 = 4;
+/// There is no way to the destination.
+pub const NO_ROUTE: u32 = 5;
 /// No line has ended, and the bytes are kept.
 pub const BEGUN: u32 = 8;
 /// The line is longer than a line may be, and nothing was taken.
@@ -87,6 +89,18 @@ unsafe extern "C" {
         room: usize,
         length: *mut usize,
     ) -> u32;
+
+    pub fn revroute_route(
+        session: *mut Handle,
+        node: u32,
+        nodes: *mut u32,
+        room: usize,
+        length: *mut usize,
+    ) -> u32;
+
+    pub fn revroute_report(session: *mut Handle, turned: *mut u64, cut_off: *mut u64) -> u32;
+
+    pub fn revroute_size(session: *mut Handle, nodes: *mut u32, links: *mut usize) -> u32;
 
     pub fn revroute_close(session: *mut Handle);
 

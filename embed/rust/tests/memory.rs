@@ -44,5 +44,12 @@ fn without_memory_the_session_is_as_it_was() -> Result<(), NoMemory> {
         assert!(number > 1, "{line} takes memory");
     }
     assert_eq!(session.answer(r#"["links"]"#)?, Some("links 1>2 2>3 3>0"));
+    // SAFETY: as above.
+    unsafe { refusing_left = 1 };
+    let route = session.route(1);
+    // SAFETY: as above.
+    unsafe { refusing_left = 0 };
+    assert_eq!(route, Err(NoMemory));
+    assert_eq!(session.route(1)?, Some(vec![1, 2, 3, 0]));
     Ok(())
 }

@@ -1,6 +1,6 @@
 //! The session, as safe Rust sees it.
 
-use revroute::{Hop, NoMemory, Session, TakeFault, version};
+use revroute::{Hop, NoMemory, Report, Session, TakeFault, version};
 use std::error::Error;
 use std::path::Path;
 use std::{fs, mem, thread};
@@ -176,6 +176,20 @@ fn hops(answer: Option<&str>) -> Vec<Hop> {
     words.map(hop).collect()
 }
 
+/// Looks that the route of each node is that of its line.
+fn tells_routes(session: &mut Session, nodes: u32) -> Result<(), NoMemory> {
+    for x in 0..nodes {
+        let told = match session.route(x)? {
+            Some(route) => route.iter().map(|it| format!(" {it}")).collect(),
+            None => format!(" {x} cut"),
+        };
+        let line = format!("[\"walk\",{x}]");
+        assert_eq!(session.answer(line)?, Some(&*format!("walk{told}")));
+    }
+    assert_eq!(session.route(nodes)?, None);
+    Ok(())
+}
+
 #[test]
 fn questions_tell_what_lines_tell() -> Result<(), Box<dyn Error>> {
     let mut accepted = 0;
@@ -206,6 +220,12 @@ fn questions_tell_what_lines_tell() -> Result<(), Box<dyn Error>> {
                 .collect();
             assert_eq!(one_by_one.last(), Some(&None));
             assert_eq!(one_by_one.into_iter().flatten().collect::<Vec<_>>(), after);
+            tells_routes(&mut session, after.len() as u32)?;
+            let Report { turned, cut_off } = session.report().expect("there is a network");
+            assert_eq!(answer, format!("turned {turned} cut {cut_off}"));
+            let links = session.answer(r#"["links"]"#)?.map(|it| it.matches('>').count());
+            let size = session.size().expect("there is a network");
+            assert_eq!((size.nodes as usize, Some(size.links)), (after.len(), links));
         }
     }
     assert!(accepted > 10, "{accepted}");
@@ -219,6 +239,8 @@ fn before_the_first_network_there_is_nothing_to_tell() -> Result<(), NoMemory> {
     assert_eq!(session.next_hops()?, []);
     assert_eq!(session.rerouted()?, []);
     assert_eq!(session.counts()?, []);
+    assert_eq!(session.route(0)?, None);
+    assert_eq!((session.report(), session.size()), (None, None));
     assert_eq!(Hop::To(7).node(), Some(7));
     assert_eq!(Hop::Here.node().or(Hop::CutOff.node()), None);
     Ok(())

@@ -24,9 +24,9 @@ import weakref
 from operator import index
 from pathlib import Path
 from threading import RLock, get_ident
-from typing import Any, NoReturn, Optional, Union
+from typing import Any, NamedTuple, NoReturn, Optional, Union
 
-__all__ = ["AnswerLost", "LineTooLong", "NoHop", "Session", "version"]
+__all__ = ["AnswerLost", "LineTooLong", "NoHop", "Report", "Session", "Size", "version"]
 
 _ANSWERED, _BLANK, _TOO_SHORT, _NO_MEMORY, _NO_NETWORK = range(5)
 _TOO_LONG = 9
@@ -63,6 +63,13 @@ def _load() -> ctypes.CDLL:
         question = getattr(library, f"revroute_{call}")
         question.argtypes = [ctypes.POINTER(_Handle), ctypes.POINTER(item), size, ctypes.POINTER(size)]
         question.restype = ctypes.c_uint32
+    number, wide = ctypes.c_uint32, ctypes.c_uint64
+    library.revroute_route.argtypes = [ctypes.POINTER(_Handle), number, ctypes.POINTER(number), size, ctypes.POINTER(size)]
+    library.revroute_route.restype = number
+    library.revroute_report.argtypes = [ctypes.POINTER(_Handle), ctypes.POINTER(wide), ctypes.POINTER(wide)]
+    library.revroute_report.restype = number
+    library.revroute_size.argtypes = [ctypes.POINTER(_Handle), ctypes.POINTER(number), ctypes.POINTER(size)]
+    library.revroute_size.restype = number
     library.revroute_close.argtypes = [ctypes.POINTER(_Handle)]
     library.revroute_close.restype = None
     library.revroute_version.argtypes = [buffer, size, ctypes.POINTER(size)]
@@ -89,6 +96,24 @@ class NoHop(enum.Enum):
     """The node is the destination."""
     CUT_OFF = "cut"
     """No links join the node with the destination, whichever way they point."""
+
+
+class Report(NamedTuple):
+    """What a round reported."""
+
+    turned: int
+    """How many turns it took."""
+    cut_off: int
+    """How many nodes it cut off."""
+
+
+class Size(NamedTuple):
+    """How large a network is."""
+
+    nodes: int
+    """Its nodes, which are numbered from 0."""
+    links: int
+    """Its links."""
 
 
 def _hop(value: int) -> Union[int, NoHop]:
@@ -303,7 +328,52 @@ class Session:
         """How often each node turned in the last round, in the order of the nodes; nothing before the first network."""
         return self._filled(_library.revroute_counts, ctypes.c_uint64)
 
-    def _filled(self, question: Any, item: Any) -> list[int]:
+    def route(self, node: int) -> Optional[list[int]]:
+        """The nodes of the way from a node to the destination, with both ends, or None where the node is cut off.
+
+        >>> with Session() as session:
+        ...     session.answer('["net",4,0,[[0,1],[1,2]]]')
+        ...     session.route(2), session.route(3)
+        'turned 3 cut 1'
+        ([2, 1, 0], None)
+
+        Raises IndexError where there is no such node, as before the first network.
+        """
+        number = index(node)
+        found = self._filled(_library.revroute_route, ctypes.c_uint32, number) if 0 <= number < _NO_HOP else []
+        if not found:
+            # there may be no such node
+            self.next_hop(number)
+        return found or None
+
+    def report(self) -> Optional[Report]:
+        """What the last round reported, or None before the first network.
+
+        >>> with Session() as session:
+        ...     session.answer('["net",4,0,[[0,1],[1,2]]]')
+        ...     session.report(), session.size()
+        'turned 3 cut 1'
+        (Report(turned=3, cut_off=1), Size(nodes=4, links=2))
+        """
+        turned, cut_off = ctypes.c_uint64(), ctypes.c_uint64()
+        return Report(turned.value, cut_off.value) if self._told(_library.revroute_report, turned, cut_off) else None
+
+    def size(self) -> Optional[Size]:
+        """How large the network is, or None before the first."""
+        nodes, links = ctypes.c_uint32(), ctypes.c_size_t()
+        return Size(nodes.value, links.value) if self._told(_library.revroute_size, nodes, links) else None
+
+    def _told(self, question: Any, *numbers: Any) -> bool:
+        """Whether there is a network, of which a question then tells these numbers."""
+        places = [*map(ctypes.byref, numbers)]
+        with self._lock:
+            self._begin_call()
+            try:
+                return bool(question(self._at, *places) == _ANSWERED)
+            finally:
+                self._caller = None
+
+    def _filled(self, question: Any, item: Any, *words: int) -> list[int]:
         """The numbers that a question fills in, as many as it has."""
         room = 0
         with self._lock:
@@ -311,7 +381,9 @@ class Session:
             try:
                 while True:
                     values = (item * room)()
-                    status = question(self._at, values, room, self._count_at)
+                    status = question(self._at, *words, values, room, self._count_at)
+                    if status == _NO_MEMORY:
+                        raise MemoryError
                     if status != _TOO_SHORT:
                         return values[: self._count.value] if status == _ANSWERED else []
                     room = self._count.value
