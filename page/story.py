@@ -106,6 +106,14 @@ def request_lines(data):
     return [(number, line) for number, line in enumerate(data.split(b'\n'), 1) if line.strip(b' \t\r')]
 
 
+def asked(request):
+    """A request by its words and numbers."""
+    name, *items = request
+    if name == 'net':
+        return [name, *items[:2], *texts(items[2])]
+    return [name, *(word for edit in items[0] for word in edit)] if name == 'batch' else request
+
+
 def answered(network, request):
     """What a question about this network is answered."""
     if request[0] == 'links':
@@ -148,6 +156,7 @@ def story(data, answers):
     for (number, line), answer in zip(request_lines(data), answers, strict=True):
         out += [f'line {number}', answer]
         if answer.startswith('refused'):
+            out += [] if answer in ('refused 1', 'refused 2') else [words('asks', asked(json.loads(line)))]
             continue
         request = json.loads(line)
         network = changed(network, request)

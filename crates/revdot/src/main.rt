@@ -2,6 +2,7 @@
 //! page for a browser.
 #![tactic(auto)]
 
+mod asked;
 mod drawing;
 mod graphs;
 mod page;

@@ -78,7 +78,7 @@ fn push_first(story: &mut String, links: &[(u32, u32)]) -> Result<(), AllocError
     story.push_str("\n")
 }
 
-fn push_links(story: &mut String, links: &[(u32, u32)]) -> Result<(), AllocError>
+pub fn push_links(story: &mut String, links: &[(u32, u32)]) -> Result<(), AllocError>
     ensures { OnOk result (string_bytes story.new ≡ string_bytes story.old ++ spaced_links links.now) }
 {
     for link in links {

@@ -4,8 +4,9 @@ ghost use Rattle.std.specs.Prelude.{◌≡◌, ◌++◌, ℕ, List, None, IfNone
 ghost use Rattle.fr_net.specs.Requests.{ask, reading};
 ghost use Rattle.fr_route.specs.Answers.{IsAnswer, IsLineAnswer};
 ghost use Rattle.fr_route.specs.Blank.{is_blank};
-ghost use Rattle.revdot.specs.Stories.{IsBlock, IsRoundStory, IsStory, answer_text, reports_round as reports_a_round};
+ghost use Rattle.revdot.specs.Stories.{IsBlock, IsRoundStory, IsStory, about_text, answer_text, refuses, reports_round as reports_a_round};
 
+use crate::asked::push_asked;
 use crate::rounds::push_round;
 use fr_command::Lines;
 use fr_route::Session;
@@ -52,6 +53,7 @@ fn push_line(
         return Ok(());
     };
     push_answer(story, number, &answer)?;
+    push_about(story, alloc, &answer, line)?;
     push_report(story, alloc, session, &answer)
 }
 
@@ -78,6 +80,29 @@ fn push_answer(story: &mut String, number: u64, answer: &str) -> Result<(), Allo
     writeln!(story, "line {number}")?;
     story.push_str(answer)?;
     story.push_str("\n")
+}
+
+/// Adds what a line asked, where the answer refuses it.
+fn push_about(
+    story: &mut String,
+    alloc: Global,
+    answer: &str,
+    line: &[u8],
+) -> Result<(), AllocError>
+    ensures { OnOk result (string_bytes story.new ≡ string_bytes story.old ++ about_text answer.now line.now) }
+{
+    if is_refusal(answer) {
+        push_asked(story, alloc, line)
+    } else {
+        Ok(())
+    }
+}
+
+/// Whether an answer refuses: its first word is `refused`.
+fn is_refusal(answer: &str) -> bool
+    ensures { result ≡ refuses answer.now }
+{
+    answer.starts_with("refused")
 }
 
 /// Adds what is told of a round, where the answer reports one.

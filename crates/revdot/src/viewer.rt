@@ -107,6 +107,7 @@ const meanings = {1: 'the line is no JSON', 2: 'the value is no request', 3: 'th
 const settledLines = ['first', 'turns', 'links', 'counts', 'hops'];
 const listed = (text, item) => text.split(' ').slice(1).map(item);
 const linkOf = word => word.split('>').map(Number);
+const short = text => text.length > 300 ? text.slice(0, 300) + ' ..' : text;
 const keyOf = (a, b) => a < b ? a * 4096 + b : b * 4096 + a;
 
 // The story, read: a block for each line of the input; a round has what its block says, and a question the round before it.
@@ -116,11 +117,11 @@ function readStory(text) {
   for (const line of text.split(NL)) {
     const name = line.split(' ', 1)[0];
     if (name === 'line') {
-      block = {line: Number(line.slice(5)), answer: null, round: before, own: false, closed: null};
+      block = {line: Number(line.slice(5)), answer: null, round: before, own: false, asks: null};
       blocks.push(block);
     } else if (!block) continue;
     else if (block.answer === null) block.answer = line;
-    else if (name === 'closed') block.closed = line.slice(7);
+    else if (name === 'asks') block.asks = line.slice(5);
     else if (name === 'net') {
       const words = listed(line, Number);
       before = block.round = {nodes: words[0], home: words[1], drawn: true, before: before, block: block};
@@ -131,6 +132,48 @@ function readStory(text) {
     }
   }
   return blocks;
+}
+
+// The nodes from one to another along links, few as can be, or null where no links lead there.
+function pathOf(heads, start, end) {
+  const from = new Map([[start, null]]), open = [start];
+  for (const node of open) {
+    if (node === end) {
+      const path = [];
+      for (let at = end; at !== null; at = from.get(at)) path.unshift(at);
+      return path;
+    }
+    for (const head of heads.get(node) || []) if (!from.has(head)) { from.set(head, node); open.push(head); }
+  }
+  return null;
+}
+
+// Makes an edit among links, or answers the walk that it would close.
+function edit(heads, [name, u, v]) {
+  const put = (a, b) => { heads.has(a) ? heads.get(a).add(b) : heads.set(a, new Set([b])); };
+  if (name === 'cut') { for (const [a, b] of [[u, v], [v, u]]) if (heads.has(a)) heads.get(a).delete(b); return null; }
+  const back = pathOf(heads, v, u);
+  if (!back) put(u, v);
+  else if (name === 'join') put(v, u);
+  else return [u, ...back];
+  return null;
+}
+
+// The walk that a refused line would have closed, by its nodes: along the links of its own network, or those on which its edits begin.
+function closedWalk(block) {
+  const words = block.asks.split(' '), heads = new Map(), edits = [];
+  if (words[0] === 'net') for (const word of words.slice(3)) edits.push(['add', ...linkOf(word)]);
+  else {
+    const at = words[0] === 'batch' ? 1 : 0;
+    for (let place = at; place + 2 < words.length; place += 3) edits.push([words[place], Number(words[place + 1]), Number(words[place + 2])]);
+    if (!block.round || !block.round.drawn) return null;
+    for (const [a, b] of block.round.links) heads.has(a) ? heads.get(a).add(b) : heads.set(a, new Set([b]));
+  }
+  for (const one of edits) {
+    const walk = edit(heads, one);
+    if (walk) return walk;
+  }
+  return null;
 }
 
 // Rounds that share a node number and most links are of one network: it is laid out once, as its last round leaves it.
@@ -424,7 +467,9 @@ function tellStep(block, turn, state, news) {
   by('say').textContent = 'Line ' + block.line + ': ' + (total ? 'turn ' + turn + ' of ' + total + (state.settled ? ', the round has ended.' : '. Node ' + state.sink + ' is a sink, and turns next.')
     : refusal ? 'refused, since ' + refusal + '.' : block.own ? (round.drawn ? 'no node turns.' : 'told by its answer alone.') : 'a question; the network stays as it was.');
   by('answer').textContent = block.answer;
-  by('more').textContent = refusal ? 'Refused: ' + refusal + '. Nothing has changed.' + (block.closed ? ' The closed walk: ' + block.closed + '.' : '') : '';
+  const walk = block.answer === 'refused 7' && block.asks ? closedWalk(block) : null;
+  by('more').textContent = refusal ? 'Refused: ' + refusal + '. Nothing has changed.' + (block.asks ? ' It asked: ' + short(block.asks) + '.' : '') + (walk ? ' The closed walk: ' + walk.join(' ') + '.' : '') : '';
+  mark(by('more'), {'data-asked': refusal && block.asks, 'data-closed': walk ? walk.join(' ') : null});
   by('changed').textContent = news.length ? 'Next hops that the round changed: ' + news.map(node => node + ' (' + round.before.hops[node] + ' to ' + round.hops[node] + ')').join(', ') + '.' : '';
   mark(by('changed'), {'data-changed': news.join(' ')});
   by('at').textContent = (now + 1) + ' / ' + steps;

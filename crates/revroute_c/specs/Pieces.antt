@@ -1,5 +1,5 @@
 -- Lines whose bytes come in pieces.
-use Rattle.std.specs.Prelude.{◌≡◌, ◌==◌, ℕ, ◌+◌, ◌<◌, ◌⊎◌, ◌++◌, List, length, take, position, Some, Option}
+use Rattle.std.specs.Prelude.{◌≡◌, ◌==◌, ℕ, ◌+◌, ◌<◌, ◌≤◌, ◌⊎◌, ◌++◌, List, length, take, position, Some, Option}
 use Rattle.fr_route.specs.States.{State}
 use Rattle.revroute_c.specs.Replies.{least_room, IsAnswerLength}
 
@@ -7,11 +7,13 @@ use Rattle.revroute_c.specs.Replies.{least_room, IsAnswerLength}
 abbrev pub longest_line : ℕ
 longest_line = 16_777_216
 
--- the line that has begun ends in this piece, is this one then, and so many bytes of the piece are in it, with the byte 10 that ends it
+-- the line that has begun ends in this piece, is this one then, no longer than may be, and so many bytes of the piece are in it, with the
+-- byte 10 that ends it
 pub record EndsLine (begun piece line : List ℕ) (count : ℕ) : Type 0 where
   pub end : ℕ
   pub at : position (λ x. x == 10) piece ≡ Some end
   pub line_is : line ≡ begun ++ take end piece
+  pub short : length line ≤ longest_line
   pub count_is : count ≡ end + 1
 
 -- a line ends in the piece, and has an answer of this length, which leaves the session as it was

@@ -11,7 +11,7 @@ ghost use Rattle.fr_route.specs.Blank.{is_blank as is_blank_line};
 ghost use Rattle.fr_route.specs.States.{IsReport};
 ghost use Rattle.fr_route.specs.Told.{IsLineTold};
 ghost use Rattle.revroute_c.specs.Replies.{least_room, IsAnswered, IsWanted, IsWritten};
-ghost use Rattle.revroute_c.specs.Pieces.{EndsLine, IsTooLong, IsWantedAtEnd};
+ghost use Rattle.revroute_c.specs.Pieces.{longest_line, EndsLine, IsTooLong, IsWantedAtEnd};
 ghost use Rattle.revroute_c.specs.Questions.{AreHopsWritten, HasNoRoute, IsRouteLength, IsRouteWritten, TellsHop};
 
 mod engine;
@@ -73,8 +73,9 @@ pub extern "C" fn revroute_answer(
 
 /// Takes the front of a piece, up to its first byte 10 and with it, and answers the line that ends there, of what had begun and this
 /// front; without one, all of the piece is kept behind what has begun, and `BEGUN` says so. How many bytes were taken goes to `taken`. The
-/// answer and its length are as [`revroute_answer`]'s. `TOO_LONG` says that the line has more than 16,777,216 bytes. After it,
-/// `TOO_SHORT` and `NO_MEMORY` nothing was taken, and all is as it was: the piece can be handed in again.
+/// answer and its length are as [`revroute_answer`]'s. `TOO_LONG` says that the line has more than 16,777,216 bytes; none of more is answered or
+/// kept. After it, `TOO_SHORT` and `NO_MEMORY` nothing was taken, and all is as it was, the handle's own bytes too: the piece can be
+/// handed in again.
 #[unsafe(no_mangle)]
 pub extern "C" fn revroute_take(
     alloc: Global,
@@ -94,10 +95,12 @@ pub extern "C" fn revroute_take(
         × (taken.new ≡ length piece.now) × (size.new ≡ 0) }
     ensures too_short { result ≡ TOO_SHORT → (length answer.old < size.new)
         × IsWantedAtEnd handle.old.session handle.old.begun piece.now (length answer.old) size.new }
+    ensures within { result ≡ BEGUN → length handle.new.begun ≤ longest_line }
     ensures no_memory { result ≡ NO_MEMORY → size.new ≡ 0 }
     ensures too_long { result ≡ TOO_LONG → IsTooLong handle.old.begun piece.now × (size.new ≡ 0) }
     ensures unchanged { ¬ (result ≡ ANSWERED) → (handle.new.session ≡ handle.old.session) × (handle.new.rerouted ≡ handle.old.rerouted) × (answer.new ≡ answer.old) }
     ensures untaken { BLANK < result → result ≢ BEGUN → (handle.new.begun ≡ handle.old.begun) × (taken.new ≡ 0) }
+    ensures same_handle { result ≢ ANSWERED → result ≢ BEGUN → handle.new.at ≡ handle.old.at }
     ensures room { length answer.old < least_room → result ≡ TOO_SHORT }
     ensures status { (result ≤ NO_MEMORY) ⊎ (result ≡ BEGUN) ⊎ (result ≡ TOO_LONG) }
 {
@@ -129,6 +132,7 @@ pub extern "C" fn revroute_finish(
     ensures no_memory { result ≡ NO_MEMORY → size.new ≡ 0 }
     ensures unchanged { ¬ (result ≡ ANSWERED) → (handle.new.session ≡ handle.old.session) × (handle.new.rerouted ≡ handle.old.rerouted) × (answer.new ≡ answer.old) }
     ensures still { BLANK < result → handle.new.begun ≡ handle.old.begun }
+    ensures same_handle { handle.new.at ≡ handle.old.at }
     ensures room { length answer.old < least_room → result ≡ TOO_SHORT }
     ensures status { result ≤ NO_MEMORY }
 {

@@ -48,6 +48,7 @@ pub(crate) fn take_front(
     ensures kept { result ≡ BEGUN → (position (λ x. x == 10) piece.now ≡ None) × (engine.new.begun ≡ engine.old.begun ++ piece.now)
         × (taken.new ≡ length piece.now) × (size.new ≡ 0) }
     ensures too_short { result ≡ TOO_SHORT → (length answer.old < size.new) × EndsWithAnswer engine.old.session engine.old.begun piece.now size.new }
+    ensures within { result ≡ BEGUN → length engine.new.begun ≤ longest_line }
     ensures no_memory { result ≡ NO_MEMORY → size.new ≡ 0 }
     ensures too_long { result ≡ TOO_LONG → IsTooLong engine.old.begun piece.now × (size.new ≡ 0) }
     ensures unchanged { ¬ (result ≡ ANSWERED) → (engine.new.session ≡ engine.old.session) × (engine.new.rerouted ≡ engine.old.rerouted) × (answer.new ≡ answer.old) }
@@ -98,10 +99,12 @@ pub(crate) fn take_anew(
     ensures kept { result ≡ BEGUN → (position (λ x. x == 10) piece.now ≡ None) × (handle.new.begun ≡ handle.old.begun ++ piece.now)
         × (taken.new ≡ length piece.now) × (size.new ≡ 0) }
     ensures too_short { result ≡ TOO_SHORT → (length answer.old < size.new) × EndsWithAnswer handle.old.session handle.old.begun piece.now size.new }
+    ensures within { result ≡ BEGUN → length handle.new.begun ≤ longest_line }
     ensures no_memory { result ≡ NO_MEMORY → size.new ≡ 0 }
     ensures too_long { result ≡ TOO_LONG → IsTooLong handle.old.begun piece.now × (size.new ≡ 0) }
     ensures unchanged { ¬ (result ≡ ANSWERED) → (handle.new.session ≡ handle.old.session) × (handle.new.rerouted ≡ handle.old.rerouted) × (answer.new ≡ answer.old) }
     ensures untaken { BLANK < result → result ≢ BEGUN → (handle.new.begun ≡ handle.old.begun) × (taken.new ≡ 0) }
+    ensures same_handle { result ≢ ANSWERED → result ≢ BEGUN → handle.new.at ≡ handle.old.at }
     ensures status { (result ≤ NO_MEMORY) ⊎ (result ≡ BEGUN) ⊎ (result ≡ TOO_LONG) }
 {
     let Ok(mut engine) = Box::new(alloc, Engine::new(alloc)) else {

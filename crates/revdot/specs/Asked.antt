@@ -1,0 +1,43 @@
+-- What a line asks, by words and numbers.
+use Rattle.std.specs.Prelude.{ℕ, List, [], ◌∷◌, ◌++◌, Result, Ok, Err, codes, decimal}
+use Rattle.fr_net.specs.Requests.{PlainRequest, new_network, cut_link, add_link, join_nodes, make_edits, move_dest, walk_from, ask}
+use Rattle.fr_net.specs.declared.edit.Edit.{Edit}
+use Rattle.fr_net.specs.declared.edit.Edit.TheVariants.{Cut, Add, Join}
+use Rattle.fr_net.specs.declared.lines.requests.LineFault.{LineFault}
+use Rattle.fr_net.specs.declared.lines.requests.Question.{Question}
+use Rattle.fr_net.specs.declared.lines.requests.Question.TheVariants.{Links, Counts, Hops}
+use Rattle.fr_route.specs.Texts.{spaced_links}
+
+-- a word and two numbers
+abbrev pub pair_text : List ℕ → ℕ → ℕ → List ℕ
+pair_text word u v = word ++ ((codes " " ++ decimal u) ++ (codes " " ++ decimal v))
+
+abbrev pub edit_text : Edit → List ℕ
+edit_text (Cut u v) = pair_text (codes "cut") u v
+edit_text (Add u v) = pair_text (codes "add") u v
+edit_text (Join u v) = pair_text (codes "join") u v
+
+-- each edit after a space
+abbrev pub spaced_edits : List Edit → List ℕ
+spaced_edits [] = []
+spaced_edits (edit ∷ edits) = codes " " ++ (edit_text edit ++ spaced_edits edits)
+
+abbrev pub question_text : Question → List ℕ
+question_text Links = codes "links"
+question_text Counts = codes "counts"
+question_text Hops = codes "hops"
+
+abbrev pub request_text : PlainRequest → List ℕ
+request_text (new_network n d links) = pair_text (codes "net") n d ++ spaced_links links
+request_text (cut_link u v) = pair_text (codes "cut") u v
+request_text (add_link u v) = pair_text (codes "add") u v
+request_text (join_nodes u v) = pair_text (codes "join") u v
+request_text (make_edits edits) = codes "batch" ++ spaced_edits edits
+request_text (move_dest d) = codes "dest" ++ (codes " " ++ decimal d)
+request_text (walk_from x) = codes "walk" ++ (codes " " ++ decimal x)
+request_text (ask question) = question_text question
+
+-- what a line asks, as a line, and nothing where it is no request
+abbrev pub asked_text : Result PlainRequest LineFault → List ℕ
+asked_text (Ok request) = codes "asks " ++ (request_text request ++ codes "\n")
+asked_text (Err fault) = []

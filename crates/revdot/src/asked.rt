@@ -1,0 +1,119 @@
+//! What a story tells of a line that is refused: what it asked.
+
+ghost use Rattle.std.specs.Prelude.{◌≡◌, ◌++◌, OnOk, codes, decimal, string_bytes};
+ghost use Rattle.fr_net.specs.Requests.{plain, reading};
+ghost use Rattle.fr_route.specs.Texts.{spaced_links};
+ghost use Rattle.revdot.specs.Asked.{asked_text, edit_text, pair_text, question_text, request_text, spaced_edits};
+
+use crate::rounds::push_links;
+use fr_net::{Edit, LineFault, Question, Request, read_line};
+use std::alloc::{AllocError, Global};
+use std::fmt::Write;
+
+/// Adds what a line asks, by words and numbers; nothing where it is no request.
+pub fn push_asked(story: &mut String, alloc: Global, line: &[u8]) -> Result<(), AllocError>
+    ensures { OnOk result (string_bytes story.new ≡ string_bytes story.old ++ asked_text (reading line.now)) }
+{
+    match read_line(alloc, line) {
+        Ok(request) => push_asks(story, &request),
+        Err(LineFault::Memory) => Err(AllocError),
+        Err(LineFault::NotJson | LineFault::NotRequest) => Ok(()),
+    }
+}
+
+fn push_asks(story: &mut String, request: &Request) -> Result<(), AllocError>
+    ensures { OnOk result (string_bytes story.new ≡ string_bytes story.old ++ (codes "asks " ++ (request_text (plain request.now) ++ codes "\n"))) }
+{
+    story.push_str("asks ")?;
+    push_request(story, request)?;
+    story.push_str("\n")
+}
+
+fn push_request(story: &mut String, request: &Request) -> Result<(), AllocError>
+    ensures { OnOk result (string_bytes story.new ≡ string_bytes story.old ++ request_text (plain request.now)) }
+{
+    match request {
+        Request::Network { nodes, dest, links } => push_network(story, *nodes, *dest, links),
+        Request::Cut { u, v } => push_pair(story, "cut", *u, *v),
+        Request::Add { u, v } => push_pair(story, "add", *u, *v),
+        Request::Join { u, v } => push_pair(story, "join", *u, *v),
+        Request::Batch { edits } => push_batch(story, edits),
+        Request::Destination { dest } => push_single(story, "dest", *dest),
+        Request::Walk { x } => push_single(story, "walk", *x),
+        Request::Ask(question) => push_question(story, *question),
+    }
+}
+
+fn push_network(
+    story: &mut String,
+    nodes: u32,
+    dest: u32,
+    links: &[(u32, u32)],
+) -> Result<(), AllocError>
+    ensures { OnOk result (string_bytes story.new ≡ string_bytes story.old ++ (pair_text (codes "net") nodes dest ++ spaced_links links.now)) }
+{
+    push_pair(story, "net", nodes, dest)?;
+    push_links(story, links)
+}
+
+fn push_batch(story: &mut String, edits: &[Edit]) -> Result<(), AllocError>
+    ensures { OnOk result (string_bytes story.new ≡ string_bytes story.old ++ (codes "batch" ++ spaced_edits edits.now)) }
+{
+    story.push_str("batch")?;
+    push_edits(story, edits)
+}
+
+fn push_edits(story: &mut String, edits: &[Edit]) -> Result<(), AllocError>
+    ensures { OnOk result (string_bytes story.new ≡ string_bytes story.old ++ spaced_edits edits.now) }
+{
+    for edit in edits {
+        push_edit(story, *edit)?;
+    }
+    Ok(())
+}
+
+/// Adds an edit after a space.
+fn push_edit(story: &mut String, edit: Edit) -> Result<(), AllocError>
+    ensures { OnOk result (string_bytes story.new ≡ string_bytes story.old ++ (codes " " ++ edit_text edit)) }
+{
+    story.push_str(" ")?;
+    match edit {
+        Edit::Cut { u, v } => push_pair(story, "cut", u, v),
+        Edit::Add { u, v } => push_pair(story, "add", u, v),
+        Edit::Join { u, v } => push_pair(story, "join", u, v),
+    }
+}
+
+/// Adds a word and two numbers.
+fn push_pair(story: &mut String, word: &str, u: u32, v: u32) -> Result<(), AllocError>
+    ensures { OnOk result (string_bytes story.new ≡ string_bytes story.old ++ pair_text word.now u v) }
+{
+    story.push_str(word)?;
+    push_number(story, u)?;
+    push_number(story, v)
+}
+
+/// Adds a word and a number.
+fn push_single(story: &mut String, word: &str, number: u32) -> Result<(), AllocError>
+    ensures { OnOk result (string_bytes story.new ≡ string_bytes story.old ++ (word.now ++ (codes " " ++ decimal number))) }
+{
+    story.push_str(word)?;
+    push_number(story, number)
+}
+
+/// Adds a number after a space.
+fn push_number(story: &mut String, number: u32) -> Result<(), AllocError>
+    ensures { OnOk result (string_bytes story.new ≡ string_bytes story.old ++ (codes " " ++ decimal number)) }
+{
+    write!(story, " {number}")
+}
+
+fn push_question(story: &mut String, question: Question) -> Result<(), AllocError>
+    ensures { OnOk result (string_bytes story.new ≡ string_bytes story.old ++ question_text question) }
+{
+    match question {
+        Question::Links => story.push_str("links"),
+        Question::Counts => story.push_str("counts"),
+        Question::Hops => story.push_str("hops"),
+    }
+}
