@@ -23,8 +23,19 @@ const EXAMPLE: &str = "Example:\n  revroute run < requests > answers";
 const RUN_ABOUT: &str =
     "Answers requests: a line of JSON each on standard input, a line of text each on standard output";
 
-const RUN_EXAMPLE: &str =
-    "Example:\n  echo '[\"net\",3,0,[[0,1],[1,2]]]' | revroute run --workers 2";
+const RUN_EXAMPLE: &str = "\
+Requests:
+  [\"net\",N,D,[[U,V],..]]  take the network of N nodes with destination D and links from U to V
+  [\"cut\",U,V]            take out the link between two nodes
+  [\"add\",U,V]            add a link from U to V
+  [\"join\",U,V]           add a link, whichever way it can point
+  [\"batch\",[EDIT,..]]    make edits of these three kinds, in one round
+  [\"dest\",D]             take another destination
+  [\"walk\",X]             tell the route of node X
+  [\"links\"]  [\"counts\"]  [\"hops\"]  tell all links, counts or next hops
+
+Example:
+  echo '[\"net\",3,0,[[0,1],[1,2]]]' | revroute run --workers 2";
 
 const SERVE_ABOUT: &str =
     "Answers requests as run does, but each line as soon as it has come, and input of any length";

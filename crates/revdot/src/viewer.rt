@@ -159,7 +159,8 @@ function edit(heads, [name, u, v]) {
   return null;
 }
 
-// The walk that a refused line would have closed, by its nodes: along the links of its own network, or those on which its edits begin.
+// The walk that a refused line would have closed, by its nodes: along the links of its own network, if these are few, or those on which
+// its edits begin.
 function closedWalk(block) {
   const words = block.asks.split(' '), heads = new Map(), edits = [];
   if (words[0] === 'net') for (const word of words.slice(3)) edits.push(['add', ...linkOf(word)]);
@@ -169,6 +170,7 @@ function closedWalk(block) {
     if (!block.round || !block.round.drawn) return null;
     for (const [a, b] of block.round.links) heads.has(a) ? heads.get(a).add(b) : heads.set(a, new Set([b]));
   }
+  if (edits.length > 4096) return null;
   for (const one of edits) {
     const walk = edit(heads, one);
     if (walk) return walk;
@@ -467,7 +469,8 @@ function tellStep(block, turn, state, news) {
   by('say').textContent = 'Line ' + block.line + ': ' + (total ? 'turn ' + turn + ' of ' + total + (state.settled ? ', the round has ended.' : '. Node ' + state.sink + ' is a sink, and turns next.')
     : refusal ? 'refused, since ' + refusal + '.' : block.own ? (round.drawn ? 'no node turns.' : 'told by its answer alone.') : 'a question; the network stays as it was.');
   by('answer').textContent = block.answer;
-  const walk = block.answer === 'refused 7' && block.asks ? closedWalk(block) : null;
+  if (block.walk === undefined) block.walk = block.answer === 'refused 7' && block.asks ? closedWalk(block) : null;
+  const walk = block.walk;
   by('more').textContent = refusal ? 'Refused: ' + refusal + '. Nothing has changed.' + (block.asks ? ' It asked: ' + short(block.asks) + '.' : '') + (walk ? ' The closed walk: ' + walk.join(' ') + '.' : '') : '';
   mark(by('more'), {'data-asked': refusal && block.asks, 'data-closed': walk ? walk.join(' ') : null});
   by('changed').textContent = news.length ? 'Next hops that the round changed: ' + news.map(node => node + ' (' + round.before.hops[node] + ' to ' + round.hops[node] + ')').join(', ') + '.' : '';
