@@ -49,7 +49,7 @@ answered_unique s number line a b p q h k =
     let of_round : IsRoundStory (reports_round k.answer) q h.told =
     subst (λ (t : Option State). IsRoundStory (reports_round k.answer) t h.told) one.1 (subst (λ (t : List ℕ). IsRoundStory (reports_round t) p h.told) one.0 h.of_round) in
     let told : h.told ≡ k.told = round_story_unique (reports_round k.answer) q h.told k.told of_round k.of_round in
-    let texts : answer_text number h.answer ++ (about_text h.answer line ++ h.told) ≡ answer_text number k.answer ++ (about_text k.answer line ++ k.told) = (λ i. answer_text number (one.0 i) ++ (about_text (one.0 i) line ++ told i)) in
+    let texts : (answer_text number h.answer ++ about_text h.answer line) ++ h.told ≡ (answer_text number k.answer ++ about_text k.answer line) ++ k.told = (λ i. (answer_text number (one.0 i) ++ about_text (one.0 i) line) ++ told i) in
     (h.text ∙ (texts ∙ sym k.text), one.1)
 
 block_unique : (s : Option State) (number : ℕ) (line a b : List ℕ) (p q : Option State) → IsBlock s number line a p → IsBlock s number line b q → (a ≡ b) × (p ≡ q)

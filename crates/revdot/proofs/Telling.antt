@@ -4,9 +4,12 @@ use Rattle.std.proofs.lemmas.List.Splits.{length-slice_split}
 use Rattle.std.proofs.lemmas.List.Sums.{count_by-le-length}
 use Rattle.fr_route.specs.States.{State}
 use Rattle.fr_command.specs.Lines.{lines_of}
-use Rattle.std.specs.Prelude.{codes}
+use Rattle.std.specs.Prelude.{Result, Ok, Err, OnOk, codes}
 use Rattle.fr_net.specs.declared.lines.requests.Question.TheVariants.{Links, Counts, Hops}
-use Rattle.revdot.specs.Stories.{AreBlocks, AreSettledLines, IsAnswerLine, IsBlock, IsRoundStory, IsStory, IsTurnByTurn, beginning_text, is_short, most_told_turns, net_text}
+use Rattle.fr_net.specs.Requests.{reading}
+use Rattle.fr_route.specs.Answers.{IsLineAnswer}
+use Rattle.fr_route.specs.Blank.{is_blank}
+use Rattle.revdot.specs.Stories.{AreBlocks, AreSettledLines, IsAnswerLine, IsAnswered, IsBlock, IsRoundStory, IsStory, IsTurnByTurn, about_text, answer_text, beginning_text, is_short, most_told_turns, net_text, reports_round}
 use Rattle.revdot.specs.Strips.{AreAllTurns, beginning}
 use Rattle.revdot.proofs.Beginnings.{begins}
 
@@ -95,3 +98,30 @@ round_told s session turns settled old one two new some short are_all are e f g 
     let rest = beginning_text s turns ++ settled in
     let story : IsRoundStory true (Some s) (net_text s.nodes s.dest ++ rest) = (rest, short_told (is_short s) (IsTurnByTurn s rest) (rest ≡ codes "omitted\n") short told, refl) in
     (net_text s.nodes s.dest ++ rest, subst (λ (t : Option State). IsRoundStory true t (net_text s.nodes s.dest ++ rest)) some story, three old (net_text s.nodes s.dest) (beginning_text s turns) settled one two new e f g)
+
+-- what two facts of a good end make
+pub on_ok_both : {T E P Q R : Type 0} (r : Result T E) → (P → Q → R) → OnOk r P → OnOk r Q → OnOk r R
+on_ok_both (Ok x) f p q = f p q
+on_ok_both (Err e) f p q = q
+
+asked : (blank : Bool) (P Q : Type 0) → blank ≡ false → Q → MatchBool blank P Q
+asked false P Q e q = q
+asked true P Q e q = absurd (true_is_not_false e)
+  where
+    true_is_not_false : true ≡ false → ⊥
+    true_is_not_false e = cc
+
+-- what is told of an answer, and of its round, behind one another
+pub line_told : (s next : Option State) (number : ℕ) (line answer told old one new : List ℕ) → is_blank line ≡ false → IsLineAnswer s (reading line) answer next
+    → IsRoundStory (reports_round answer) next told → one ≡ old ++ (answer_text number answer ++ about_text answer line) → new ≡ one ++ told
+    → (block : List ℕ) × IsBlock s number line block next × (new ≡ old ++ block)
+line_told s next number line answer told old one new asks is_answer of_round e f =
+    let first = answer_text number answer ++ about_text answer line in
+    let block : IsAnswered s number line (first ++ told) next = record {
+      answer = answer;
+      is_answer = is_answer;
+      told = told;
+      of_round = of_round;
+      text = refl;
+    } in
+    (first ++ told, asked (is_blank line) ((first ++ told ≡ []) × (next ≡ s)) (IsAnswered s number line (first ++ told) next) asks block, f ∙ (ap (λ (t : List ℕ). t ++ told) e ∙ append_assoc old first told))

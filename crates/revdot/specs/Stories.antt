@@ -90,7 +90,7 @@ pub record IsAnswered (s : Option State) (number : ℕ) (line block : List ℕ) 
   pub is_answer : IsLineAnswer s (reading line) answer next
   pub told : List ℕ
   pub of_round : IsRoundStory (reports_round answer) next told
-  pub text : block ≡ answer_text number answer ++ (about_text answer line ++ told)
+  pub text : block ≡ (answer_text number answer ++ about_text answer line) ++ told
 
 -- what is told of a line, and the state after it: a blank line has no answer
 abbrev pub IsBlock : Option State → ℕ → List ℕ → List ℕ → Option State → Type 0

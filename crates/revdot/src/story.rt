@@ -52,8 +52,7 @@ fn push_line(
     let Some(answer) = answer_to(alloc, session, line)? else {
         return Ok(());
     };
-    push_answer(story, number, &answer)?;
-    push_about(story, alloc, &answer, line)?;
+    push_answered(story, alloc, number, &answer, line)?;
     push_report(story, alloc, session, &answer)
 }
 
@@ -71,6 +70,20 @@ fn answer_to(
         Ok(answer) => Ok(answer),
         Err(_) => Err(AllocError),
     }
+}
+
+/// Adds the number of a line, its answer, and what it asked where that refuses it.
+fn push_answered(
+    story: &mut String,
+    alloc: Global,
+    number: u64,
+    answer: &str,
+    line: &[u8],
+) -> Result<(), AllocError>
+    ensures { OnOk result (string_bytes story.new ≡ string_bytes story.old ++ (answer_text number answer.now ++ about_text answer.now line.now)) }
+{
+    push_answer(story, number, answer)?;
+    push_about(story, alloc, answer, line)
 }
 
 /// Adds the number of a line and its answer.
