@@ -4,6 +4,7 @@ ghost use Rattle.std.specs.Prelude.{◌≡◌};
 ghost use Rattle.fr_net.specs.declared.fault.NetFault.TheVariants.{Memory};
 
 use std::alloc::{AllocError, AllocFailed};
+use std::fmt;
 use thiserror::Error;
 
 /// Why links make no network, with the evidence, or why a network cannot be edited. The variants stand in the order in which
@@ -20,10 +21,10 @@ pub enum NetFault {
     #[error("a link joins node {0} with itself")]
     SelfLink(u32),
     /// Two nodes that more than one link joins, in either direction.
-    #[error("more than one link joins nodes {0} and {1}")]
+    #[error(fmt = tell_twice)]
     Twice(u32, u32),
     /// The nodes of a closed walk along the links, the first again at the end.
-    #[error("the links close a walk of {} steps", .0.len().saturating_sub(1))]
+    #[error(fmt = tell_cycle)]
     Cycle(Vec<u32>),
     /// No link joins the two nodes. Only a cut answers it, and it answers no other but `Memory`.
     #[error("no link joins the two nodes")]
@@ -31,6 +32,17 @@ pub enum NetFault {
     /// An allocation was refused.
     #[error("no memory")]
     Memory,
+}
+
+/// Tells which two nodes more than one link joins.
+fn tell_twice<W: fmt::Write>(u: &u32, v: &u32, f: &mut fmt::Formatter<W>) -> fmt::Result {
+    write!(f, "more than one link joins nodes {u} and {v}")
+}
+
+/// Tells how long a closed walk is.
+fn tell_cycle<W: fmt::Write>(nodes: &Vec<u32>, f: &mut fmt::Formatter<W>) -> fmt::Result {
+    let steps = nodes.len().saturating_sub(1);
+    write!(f, "the links close a walk of {steps} steps")
 }
 
 /// The first edit of a batch that is refused, and why. Where the fault is `Memory`, `at` says nothing.

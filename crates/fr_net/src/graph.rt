@@ -38,7 +38,7 @@ pub(crate) struct Graph {
 }
 
 /// What an edit did to the links.
-#[derive(Debug, Drop, Clone, Copy)]
+#[derive(Drop, Clone, Copy)]
 pub(crate) enum Done {
     /// The link was taken out.
     Taken {

@@ -29,9 +29,13 @@ pub(crate) fn value(
         → (fault ≡ NotJson) × (converted of_json (json_value depth reader.old) ≡ None)) }
 {
     let token = next_token(reader)?;
+    let Some(inside) = depth.checked_sub(1) else {
+        // Where nothing may nest, what opens an array or an object is no value.
+        return single_value(alloc, token);
+    };
     match token {
-        Token::BeginArray => Ok(Value::Array(items(alloc, reader, depth_inside(depth)?)?)),
-        Token::BeginObject => Ok(Value::Object(members(alloc, reader, depth_inside(depth)?)?)),
+        Token::BeginArray => items(alloc, reader, inside).map(Value::Array),
+        Token::BeginObject => members(alloc, reader, inside).map(Value::Object),
         _ => single_value(alloc, token),
     }
 }
@@ -85,15 +89,6 @@ fn next_token<'a>(reader: &mut Reader<'a>) -> Result<Token<'a>, LineFault>
     ensures refused { IfErr result (λ fault. (fault ≡ NotJson) × (reader.old ≡ [])) }
 {
     reader.next().ok_or(LineFault::NotJson)
-}
-
-/// How deep the values inside one may nest that itself stands `depth` levels above the deepest.
-#[inline(always)]
-fn depth_inside(depth: usize) -> Result<usize, LineFault>
-    ensures ok { IfOk result (λ inside. depth ≡ inside + 1) }
-    ensures refused { IfErr result (λ fault. (fault ≡ NotJson) × (depth ≡ 0)) }
-{
-    depth.checked_sub(1).ok_or(LineFault::NotJson)
 }
 
 /// The value that a token is by itself.

@@ -5,6 +5,21 @@ use Rattle.fr_net.specs.CycleSearch.{nodes_of}
 use Rattle.fr_net.specs.declared.cycle.Step.{Step}
 use Rattle.fr_net.proofs.cycle.find_cycle.Goals as goal
 
+pub visit_all-requires-clause-search : goal.visit_all-requires-clause-search
+visit_all-requires-clause-search c = c.in_ok-search.ensures.search c.args.rows.now c.requires.one_each c.requires.below
+
+pub visit_all-requires-clause-empty : goal.visit_all-requires-clause-empty
+visit_all-requires-clause-empty c = c.in_ok-search.ensures.empty
+
+pub visit_all-requires-clause-one_each : goal.visit_all-requires-clause-one_each
+visit_all-requires-clause-one_each c = c.in_ok-search.ensures.one_each
+
+pub closed_at-requires : goal.closed_at-requires
+closed_at-requires c = rw c.deref.ensures.value (rw c.in-Some.is at c.in_ok-node.ensures.back).on_path
+
+pub returns-in-None : goal.returns-in-None
+returns-in-None c = (rw c.in-None.is at c.in_ok-node.ensures.acyclic, rw c.in-None.is at c.in_ok-node.ensures.order)
+
 pub returns-in_ok-closed_at-in-Some : goal.returns-in_ok-closed_at-in-Some
 returns-in_ok-closed_at-in-Some c =
     let steps = c.visit_all.new.self.path.items in

@@ -22,6 +22,36 @@ loop-behind-init c =
     let begun = sides_begin net heights c.args.from c.args.to met c.in_ok-ahead.ahead c.in_ok-behind.behind c.requires.from c.requires.to c.requires.apart c.requires.no_higher (rw fresh refl) (rw (c.height-low.ensures, c.len-nodes.ensures) at c.in_ok-ahead.ensures) (rw (c.height-high.ensures, c.len-nodes.ensures) at c.in_ok-behind.ensures) in
     record { ahead = begun.0; behind = begun.1 }
 
+pub begun-requires : goal.begun-requires
+begun-requires c = rw c.len-nodes.ensures c.requires.from
+
+pub begun-requires-2 : goal.begun-requires-2
+begun-requires-2 c = rw c.len-nodes.ensures c.requires.to
+
+pub read_next-met_along-requires-clause-rows : goal.read_next-met_along-requires-clause-rows
+read_next-met_along-requires-clause-rows c = c.requires.rows
+
+pub read_next-met_along-requires-clause-one_each : goal.read_next-met_along-requires-clause-one_each
+read_next-met_along-requires-clause-one_each c = c.requires.one_each
+
+pub read_next-met_along-requires-clause-falling : goal.read_next-met_along-requires-clause-falling
+read_next-met_along-requires-clause-falling c = c.requires.falling
+
+pub read_next-met_along-requires-clause-unread : goal.read_next-met_along-requires-clause-unread
+read_next-met_along-requires-clause-unread c = c.has_unread.ensures.0 c.loop-behind-test.true
+
+pub read_next-met_along-requires-else-goes_next-clause-rows : goal.read_next-met_along-requires-else-goes_next-clause-rows
+read_next-met_along-requires-else-goes_next-clause-rows c = c.requires.rows
+
+pub read_next-met_along-requires-else-goes_next-clause-one_each : goal.read_next-met_along-requires-else-goes_next-clause-one_each
+read_next-met_along-requires-else-goes_next-clause-one_each c = c.requires.one_each
+
+pub read_next-met_along-requires-else-goes_next-clause-falling : goal.read_next-met_along-requires-else-goes_next-clause-falling
+read_next-met_along-requires-else-goes_next-clause-falling c = c.requires.falling
+
+pub read_next-met_along-requires-else-goes_next-clause-unread : goal.read_next-met_along-requires-else-goes_next-clause-unread
+read_next-met_along-requires-else-goes_next-clause-unread c = c.has_unread-in-loop-behind.ensures.0 c.if-has_unread.true
+
 pub read_next-met_along-requires-clause-side : goal.read_next-met_along-requires-clause-side
 read_next-met_along-requires-clause-side c = own_side c.loop-behind.invariant.ahead
 

@@ -16,6 +16,31 @@ top c =
 leads : (c : In-Some) → LeadsTo (net_in c.args.rows.now).links (nodes_of c.next_head.new.self.path.items) c.in-Some.head
 leads c = rw c.next_head.ensures.path c.in-Some.ensures.leads
 
+pub leave-requires-clause-full : goal.leave-requires-clause-full
+leave-requires-clause-full c =
+    let same : length c.next_head.new.self.path.items ≡ length c.args.self.now.path.items = nodes_counted c.next_head.new.self.path.items c.args.self.now.path.items c.next_head.ensures.path in
+    omega (arith, same, c.requires.full, c.args.self.now.path.ok.0, c.next_head.new.self.path.ok.0)
+
+pub returns-in_default-clause-kept : goal.returns-in_default-clause-kept
+returns-in_default-clause-kept c x seen = c.in_ok-leave.ensures.kept x (rw c.next_head.ensures.marks seen)
+
+pub returns-in_default-clause-one_each : goal.returns-in_default-clause-one_each
+returns-in_default-clause-one_each c = c.in_ok-leave.ensures.one_each ∙ ap (λ m. length m.items) c.next_head.ensures.marks
+
+pub returns-in_default-clause-fewer : goal.returns-in_default-clause-fewer
+returns-in_default-clause-fewer c =
+    let same : length c.next_head.new.self.path.items ≡ length c.args.self.now.path.items = nodes_counted c.next_head.new.self.path.items c.args.self.now.path.items c.next_head.ensures.path in
+    rw (c.next_head.ensures.marks, same) at c.in_ok-leave.ensures.fewer
+
+pub returns-in-Open-clause-search : goal.returns-in-Open-clause-search
+returns-in-Open-clause-search c = c.next_head.ensures.search
+
+pub returns-in-Open-clause-kept : goal.returns-in-Open-clause-kept
+returns-in-Open-clause-kept c x seen = rw c.next_head.ensures.marks seen
+
+pub returns-in-Open-clause-one_each : goal.returns-in-Open-clause-one_each
+returns-in-Open-clause-one_each c = ap (λ m. length m.items) c.next_head.ensures.marks
+
 pub returns-in_default-clause-search : goal.returns-in_default-clause-search
 returns-in_default-clause-search c =
     let e = c.next_head.ensures in

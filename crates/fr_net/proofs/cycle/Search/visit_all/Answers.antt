@@ -1,6 +1,34 @@
-use Rattle.std.proofs.Common.{arith}
+use Rattle.std.proofs.Common.{arith, below_more, ◌∙◌, ◌≢◌}
 use Rattle.fr_net.proofs.LeavingOrder.{search_ends}
+use Rattle.fr_net.specs.CycleSearch.{mark_of}
+use Rattle.fr_net.specs.declared.cycle.Mark.TheVariants.{Fresh}
 use Rattle.fr_net.proofs.cycle.Search.visit_all.Goals as goal
+
+pub visit-requires-clause-search : goal.visit-requires-clause-search
+visit-requires-clause-search c = c.loop-root.invariant.search
+
+pub visit-requires-clause-empty : goal.visit-requires-clause-empty
+visit-requires-clause-empty c = c.loop-root.invariant.empty
+
+pub returns-in-Some-clause-back : goal.returns-in-Some-clause-back
+returns-in-Some-clause-back c = rw c.in-Some.is at c.in_ok-node.ensures.back
+
+pub returns-in-Some-clause-search : goal.returns-in-Some-clause-search
+returns-in-Some-clause-search c = c.in_ok-node.ensures.search
+
+pub loop-root-preserved : goal.loop-root-preserved
+loop-root-preserved c =
+    let visit = c.in_ok-node.ensures in
+    let before = c.loop-root.invariant in
+    record {
+      search = visit.search;
+      empty = rw c.in_default.is at visit.empty;
+      one_each = visit.one_each ∙ before.one_each;
+      seen = below_more (λ x. mark_of c.visit.new.self.marks.items x ≢ Fresh) c.loop-root.root (λ x l. visit.kept x (before.seen x l)) visit.seen;
+    }
+
+pub returns-clause-search : goal.returns-clause-search
+returns-clause-search c = c.loop-root.invariant.search
 
 pub returns-clause-acyclic : goal.returns-clause-acyclic
 returns-clause-acyclic c =

@@ -19,6 +19,27 @@ same c = same_through c.args.self.now c.way_back.new.self c.make_room.new.self c
 met : (c : In-Some) → IsMeeting (shown c.args.self.now).links c.args.v c.args.u c.in-Some.meeting
 met c = rw c.in-Some.is at c.in_ok-meeting.ensures.found
 
+pub way_back-requires-clause-graph : goal.way_back-requires-clause-graph
+way_back-requires-clause-graph c = c.requires
+
+pub way_back-requires-clause-nodes : goal.way_back-requires-clause-nodes
+way_back-requires-clause-nodes c = c.in_ok-test_join.ensures.nodes
+
+pub returns-in-Some-clause-unchanged : goal.returns-in-Some-clause-unchanged
+returns-in-Some-clause-unchanged c = c.in_ok-meeting.ensures.same
+
+pub make_room-requires-clause-graph : goal.make_room-requires-clause-graph
+make_room-requires-clause-graph c = c.in_ok-meeting.ensures.same.graph
+
+pub make_room-requires-clause-u : goal.make_room-requires-clause-u
+make_room-requires-clause-u c = omega (arith, c.in_ok-test_join.ensures.nodes.tail, ap (λ (m : Network). m.nodes) c.in_ok-meeting.ensures.same.same)
+
+pub make_room-requires-clause-v : goal.make_room-requires-clause-v
+make_room-requires-clause-v c = omega (arith, c.in_ok-test_join.ensures.nodes.head, ap (λ (m : Network). m.nodes) c.in_ok-meeting.ensures.same.same)
+
+pub put-requires-clause-graph : goal.put-requires-clause-graph
+put-requires-clause-graph c = c.in_ok-make_room.ensures.same.graph
+
 pub closed_walk-requires : goal.closed_walk-requires
 closed_walk-requires c = ((shown c.args.self.now).links, c.args.v, c.args.u, met (goal.at.closed_walk-requires c).In-Some)
 

@@ -1,6 +1,7 @@
-use Rattle.std.proofs.Common.{arith, inr}
+use Rattle.std.proofs.Common.{None, Option, Some, arith, false, inr, sym, ◌∙◌, ◌≡◌}
 use Rattle.std.proofs.lemmas.List.{length_push}
 use Rattle.std.proofs.lemmas.List.Elements.{Contains-push}
+use Rattle.std.specs.Option.{IfNone, is_some}
 use Rattle.fr_net.proofs.AddedLinks.{added, in_range, out_of_range_added, within_limits}
 use Rattle.fr_net.specs.Faults.{IsInRange}
 use Rattle.fr_net.specs.Graph.{shown}
@@ -33,3 +34,18 @@ pub returns-then-u-v-clause-refused : goal.returns-then-u-v-clause-refused
 returns-then-u-v-clause-refused c =
     let at = goal.at.returns-then-u-v-clause-refused c in
     (limits at.Else-self-ge-MAX_LINKS, range at.In_default, rw c.if-u-v.true (Contains-push (shown c.args.self.now).links _))
+
+pub link_between-requires : goal.link_between-requires
+link_between-requires c = c.requires
+
+pub returns-clause-few : goal.returns-clause-few
+returns-clause-few c = omega (arith, c.requires.counted, c.if-self-ge-MAX_LINKS.false)
+
+where_none : {X : Type 0} (o : Option X) (P : Type 0) → is_some o ≡ false → IfNone o P → P
+where_none None P none holds = holds
+where_none (Some x) P none holds = absurd (cc)
+
+pub returns-clause-nodes : goal.returns-clause-nodes
+returns-clause-nodes c =
+    let ends = c.in_default.ensures.none.below 0 (0, 0) (omega arith) in
+    record { tail = ends.0; head = ends.1; apart = c.if-u-v.false; free = where_none c.link_between.result _ (sym c.is_some.ensures ∙ c.if-is_some.false) c.link_between.ensures.none }

@@ -1,9 +1,11 @@
-use Rattle.std.proofs.Common.{List, [], ap, arith, slice_index, subst, sym, ℕ, ◌<◌, ◌∙◌, ◌∷◌}
+use Rattle.std.proofs.Common.{List, [], ap, arith, inl, inr, length, slice_index, subst, sym, ℕ, ◌<◌, ◌∙◌, ◌∷◌}
+use Rattle.std.proofs.lemmas.Bool.{cases_lt}
 use Rattle.std.proofs.lemmas.List.Elements.{Contains-append_left}
 use Rattle.fr_net.proofs.Acyclic.{path_falls}
 use Rattle.fr_net.proofs.AddedLinks.{added}
 use Rattle.fr_net.proofs.Remaking.{fewer_fall, net_shown, same_of_heights, same_through, shows_net}
-use Rattle.fr_net.specs.Graph.{shown}
+use Rattle.fr_net.specs.Graph.{IsSame, shown}
+use Rattle.fr_net.specs.declared.graph.Graph.{Graph}
 use Rattle.fr_net.specs.Heights.{AreFalling}
 use Rattle.fr_net.specs.Links.{HasPath}
 use Rattle.fr_net.specs.Network.{Network}
@@ -15,6 +17,42 @@ use Rattle.fr_net.proofs.graph.Graph.way_back.Goals.{In_ok-meeting}
 no_path_up : (links : List (ℕ × ℕ)) (heights : List ℕ) (x y : ℕ) → AreFalling heights links → slice_index heights x < slice_index heights y → ¬ HasPath links x y
 no_path_up links heights x y falling below path =
     omega (arith, path_falls links heights (λ u v stands. omega (arith, falling u v stands)) x path.0 path.1.0, ap (slice_index heights) path.1.1)
+
+-- a node has a height and a row all the same
+has_height : (before after : Graph) (x : ℕ) → IsSame before after → x < before.nodes → x < length after.heights.heights
+has_height before after x same node = omega (arith, node, same.graph.height_each, ap (λ (m : Network). m.nodes) same.same)
+
+has_row : (before after : Graph) (x : ℕ) → IsSame before after → x < before.nodes → x < length after.rows.rows
+has_row before after x same node = omega (arith, node, same.graph.rows.one_each, ap (λ (m : Network). m.nodes) same.same)
+
+pub falls-requires-clause-tail : goal.falls-requires-clause-tail
+falls-requires-clause-tail c = has_height c.args.self.now c.renew_heights.new.self c.args.u c.in_ok-renew_heights.ensures.same c.requires.nodes.tail
+
+pub falls-requires-clause-head : goal.falls-requires-clause-head
+falls-requires-clause-head c = has_height c.args.self.now c.renew_heights.new.self c.args.v c.in_ok-renew_heights.ensures.same c.requires.nodes.head
+
+pub way_between-requires-clause-from : goal.way_between-requires-clause-from
+way_between-requires-clause-from c = has_row c.args.self.now c.renew_heights.new.self c.args.v c.in_ok-renew_heights.ensures.same c.requires.nodes.head
+
+pub way_between-requires-clause-to : goal.way_between-requires-clause-to
+way_between-requires-clause-to c = has_row c.args.self.now c.renew_heights.new.self c.args.u c.in_ok-renew_heights.ensures.same c.requires.nodes.tail
+
+pub way_between-requires-clause-apart : goal.way_between-requires-clause-apart
+way_between-requires-clause-apart c e = c.requires.nodes.apart (sym e)
+
+pub way_between-requires-clause-no_higher : goal.way_between-requires-clause-no_higher
+way_between-requires-clause-no_higher c =
+    let heights = c.renew_heights.new.self.heights.heights in
+    elim (cases_lt (slice_index heights c.args.v) (slice_index heights c.args.u)) [
+      | inl below ↦ cc (c.falls.ensures.1 (c.in_ok-renew_heights.ensures.known, below), c.if-falls.false)
+      | inr no_higher ↦ no_higher
+    ]
+
+pub returns-then-falls-clause-same : goal.returns-then-falls-clause-same
+returns-then-falls-clause-same c = c.in_ok-renew_heights.ensures.same
+
+pub returns-in-Leads-clause-same : goal.returns-in-Leads-clause-same
+returns-in-Leads-clause-same c = c.in_ok-renew_heights.ensures.same
 
 pub returns-then-falls-clause-none : goal.returns-then-falls-clause-none
 returns-then-falls-clause-none c =
@@ -40,6 +78,11 @@ found : (c : In_ok-meeting) → IsWay (shown c.renew_heights.new.self) c.renew_h
 found c =
     let after = c.renew_heights.new.self in
     subst (λ (m : Network). IsWay m after.heights.heights c.args.v c.args.u c.in_ok-meeting.field-0) (net_shown after c.in_ok-renew_heights.ensures.same.graph) c.in_ok-meeting.ensures
+
+pub put_between-requires : goal.put_between-requires
+put_between-requires c =
+    let ends = rw c.in-Ends.is at (found (goal.at.put_between-requires c).In_ok-meeting) in
+    record { nodes = λ k d lt. omega (arith, ends.1.0 k d lt, c.in_ok-renew_heights.ensures.same.graph.height_each) }
 
 pub returns-in-Leads-clause-found : goal.returns-in-Leads-clause-found
 returns-in-Leads-clause-found c =

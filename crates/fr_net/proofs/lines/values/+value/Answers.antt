@@ -1,18 +1,19 @@
-use Rattle.std.proofs.Common.{Err, List, Ok, Option, Result, None, option_map, ℕ, Some, [], ap, arith, length, sym, ◌-◌, ◌<◌, ◌∙◌, ◌∷◌, ◌≡◌, ◌≢◌}
-use Rattle.std.specs.Result.{IfErr, IfOk}
+use Rattle.std.proofs.Common.{BTreeMap, Err, Global, List, Ok, Option, Result, None, String, Vec, option_map, ℕ, Some, [], ap, arith, length, sym, ◌+◌, ◌-◌, ◌<◌, ◌∙◌, ◌∷◌, ◌≡◌, ◌≢◌}
+use Rattle.std.specs.Result.{IfErr, IfOk, IsOkAnd, MatchResult}
 use Rattle.json.proofs.Grammar.{read_key-shorter, value_is}
 use Rattle.json.specs.Json.{after_end_array, items, members, parse_map, read_key, value}
 use Rattle.json.specs.Reads.{token_of}
 use Rattle.json.specs.Token.{Token}
 use Rattle.serde_json.proofs.Views.{view-Array, view-Object}
-use Rattle.serde_json.specs.Data.{Data, array, object}
+use Rattle.serde_json.specs.Data.{Data, array, no_members, object}
 use Rattle.serde_json.specs.Read.{converted, of_items, of_json, of_members}
-use Rattle.serde_json.specs.View.{members_view, view}
+use Rattle.serde_json.specs.View.{items_view, members_view, view}
 use Rattle.serde_json.specs.declared.value.Value.{Value}
+use Rattle.serde_json.specs.declared.value.Value.TheVariants.{Array, Object}
 use Rattle.fr_net.specs.declared.lines.requests.LineFault.{LineFault}
 use Rattle.fr_net.specs.declared.lines.requests.LineFault.TheVariants.{Memory, NotJson}
 use Rattle.fr_net.proofs.lines.HandedOn.{handed_on}
-use Rattle.fr_net.proofs.lines.TokenItems.{item_refused, key_refused, member_refused, no_item, no_member, none_yet, one_item, one_member, one_more, single_read, then_items, then_none, too_deep, value_of_array, value_of_object, value_takes}
+use Rattle.fr_net.proofs.lines.TokenItems.{item_refused, key_refused, member_refused, no_item, no_member, none_yet, one_item, one_member, one_more, single_read, single_where_none, then_items, then_none, value_of_array, value_of_object, value_takes}
 use Rattle.fr_net.proofs.lines.values.+value.Goals as goal
 
 single_told : (depth : ℕ) (ts behind : List Token) (o : Option Data) (r : Result Value LineFault) → converted of_json (value depth ts) ≡ option_map (λ d. (d, behind)) o
@@ -27,50 +28,55 @@ value-returns-in_err-token-clause-refused t c =
     let why = c.in_err-token.ensures.refused in
     handed_on _ _ _ _ c.from_residual.ensures.1 (λ _. (why.0, ap (converted of_json) (ap (value c.args.depth) why.1 ∙ value_is c.args.depth [])))
 
-pub value-returns-in_err-depth_inside-in-BeginArray-clause-refused : goal.value-returns-in_err-depth_inside-in-BeginArray-clause-refused
-value-returns-in_err-depth_inside-in-BeginArray-clause-refused t c =
-    let why = c.in_err-depth_inside-in-BeginArray.ensures.refused in
-    let opens : c.args.reader.now ≡ Token.begin_array ∷ c.next_token.new.reader = c.in_ok-token.ensures.ok ∙ ap (λ k. token_of k ∷ c.next_token.new.reader) c.in-BeginArray.is in
-    handed_on _ _ _ _ c.from_residual-in_err-depth_inside-in-BeginArray.ensures.1 (λ _. (why.0, ap (converted of_json) (ap (value c.args.depth) opens ∙ (too_deep c.args.depth _ why.1).0)))
+array_told : (depth inside : ℕ) (ts behind rest : List Token) (found : Result (Vec Value Global) LineFault) (r : Result Value LineFault) → depth ≡ inside + 1 → ts ≡ Token.begin_array ∷ behind
+    → IfOk found (λ v. converted of_items (items (value inside) (length behind) behind) ≡ Some (items_view v.items, rest))
+    → IfErr found (λ fault. fault ≢ Memory → (fault ≡ NotJson) × (converted of_items (items (value inside) (length behind) behind) ≡ None))
+    → MatchResult found (λ v. IsOkAnd r (λ whole. whole ≡ Array v)) (λ fault. r ≡ Err fault)
+    → IfOk r (λ v. converted of_json (value depth ts) ≡ Some (view v, rest))
+    × IfErr r (λ fault. fault ≢ Memory → (fault ≡ NotJson) × (converted of_json (value depth ts) ≡ None))
+array_told depth inside ts behind rest (Ok v) (Ok whole) one opens ok refused told =
+    (value_of_array depth inside ts behind one opens ∙ ap (parse_map array) ok ∙ ap (λ d. Some (d, rest)) (sym (ap view told ∙ view-Array v)), tt)
+array_told depth inside ts behind rest (Ok v) (Err fault) one opens ok refused told = absurd told
+array_told depth inside ts behind rest (Err fault) r one opens ok refused told =
+    rw told (tt, λ other. let why = refused other in (why.0, value_of_array depth inside ts behind one opens ∙ ap (parse_map array) why.1))
 
-pub value-returns-in_err-depth_inside-in-BeginObject-clause-refused : goal.value-returns-in_err-depth_inside-in-BeginObject-clause-refused
-value-returns-in_err-depth_inside-in-BeginObject-clause-refused t c =
-    let why = c.in_err-depth_inside-in-BeginObject.ensures.refused in
-    let opens : c.args.reader.now ≡ Token.begin_object ∷ c.next_token.new.reader = c.in_ok-token.ensures.ok ∙ ap (λ k. token_of k ∷ c.next_token.new.reader) c.in-BeginObject.is in
-    handed_on _ _ _ _ c.from_residual-in_err-depth_inside-in-BeginObject.ensures.1 (λ _. (why.0, ap (converted of_json) (ap (value c.args.depth) opens ∙ (too_deep c.args.depth _ why.1).1)))
-
-pub value-returns-in_err-items-in-BeginArray-clause-refused : goal.value-returns-in_err-items-in-BeginArray-clause-refused
-value-returns-in_err-items-in-BeginArray-clause-refused t c =
-    let inside = c.in_ok-depth_inside-in-BeginArray in
-    let opens : c.args.reader.now ≡ Token.begin_array ∷ c.next_token.new.reader = c.in_ok-token.ensures.ok ∙ ap (λ k. token_of k ∷ c.next_token.new.reader) c.in-BeginArray.is in
-    handed_on _ _ _ _ c.from_residual-in_err-items-in-BeginArray.ensures.1
-    (λ other. let why = c.in_err-items-in-BeginArray.ensures.refused other in (why.0, value_of_array _ _ _ _ inside.ensures.ok opens ∙ ap (parse_map array) why.1))
-
-pub value-returns-in_err-members-in-BeginObject-clause-refused : goal.value-returns-in_err-members-in-BeginObject-clause-refused
-value-returns-in_err-members-in-BeginObject-clause-refused t c =
-    let inside = c.in_ok-depth_inside-in-BeginObject in
-    let opens : c.args.reader.now ≡ Token.begin_object ∷ c.next_token.new.reader = c.in_ok-token.ensures.ok ∙ ap (λ k. token_of k ∷ c.next_token.new.reader) c.in-BeginObject.is in
-    handed_on _ _ _ _ c.from_residual-in_err-members-in-BeginObject.ensures.1
-    (λ other. let why = c.in_err-members-in-BeginObject.ensures.refused other in (why.0, value_of_object _ _ _ _ inside.ensures.ok opens ∙ ap (parse_map object) why.1))
-
-pub value-returns-in_ok-items-in-BeginArray-clause-ok : goal.value-returns-in_ok-items-in-BeginArray-clause-ok
-value-returns-in_ok-items-in-BeginArray-clause-ok t c =
-    let inside = c.in_ok-depth_inside-in-BeginArray in
-    let opens : c.args.reader.now ≡ Token.begin_array ∷ c.next_token.new.reader = c.in_ok-token.ensures.ok ∙ ap (λ k. token_of k ∷ c.next_token.new.reader) c.in-BeginArray.is in
-    let found = c.in_ok-items-in-BeginArray in
-    value_of_array _ _ _ _ inside.ensures.ok opens ∙ ap (parse_map array) found.ensures.ok ∙ ap (λ d. Some (d, c.items.new.reader)) (sym (view-Array found.field-0))
-
-pub value-returns-in_ok-members-in-BeginObject-clause-ok : goal.value-returns-in_ok-members-in-BeginObject-clause-ok
-value-returns-in_ok-members-in-BeginObject-clause-ok t c =
-    let inside = c.in_ok-depth_inside-in-BeginObject in
-    let opens : c.args.reader.now ≡ Token.begin_object ∷ c.next_token.new.reader = c.in_ok-token.ensures.ok ∙ ap (λ k. token_of k ∷ c.next_token.new.reader) c.in-BeginObject.is in
-    let found = c.in_ok-members-in-BeginObject in
-    value_of_object _ _ _ _ inside.ensures.ok opens ∙ ap (parse_map object) found.ensures.ok ∙ ap (λ d. Some (d, c.members.new.reader)) (sym (view-Object found.field-0))
+object_told : (depth inside : ℕ) (ts behind rest : List Token) (found : Result (BTreeMap (String Global) Value) LineFault) (r : Result Value LineFault) → depth ≡ inside + 1 → ts ≡ Token.begin_object ∷ behind
+    → IfOk found (λ m. converted (λ ms. of_members ms no_members) (members (value inside) (length behind) behind) ≡ Some (members_view m.entries, rest))
+    → IfErr found (λ fault. fault ≢ Memory → (fault ≡ NotJson) × (converted (λ ms. of_members ms no_members) (members (value inside) (length behind) behind) ≡ None))
+    → MatchResult found (λ m. IsOkAnd r (λ whole. whole ≡ Object m)) (λ fault. r ≡ Err fault)
+    → IfOk r (λ v. converted of_json (value depth ts) ≡ Some (view v, rest))
+    × IfErr r (λ fault. fault ≢ Memory → (fault ≡ NotJson) × (converted of_json (value depth ts) ≡ None))
+object_told depth inside ts behind rest (Ok m) (Ok whole) one opens ok refused told =
+    (value_of_object depth inside ts behind one opens ∙ ap (parse_map object) ok ∙ ap (λ d. Some (d, rest)) (sym (ap view told ∙ view-Object m)), tt)
+object_told depth inside ts behind rest (Ok m) (Err fault) one opens ok refused told = absurd told
+object_told depth inside ts behind rest (Err fault) r one opens ok refused told =
+    rw told (tt, λ other. let why = refused other in (why.0, value_of_object depth inside ts behind one opens ∙ ap (parse_map object) why.1))
 
 pub value-returns-in_default : goal.value-returns-in_default
 value-returns-in_default t c =
-    let read = single_read c.args.depth c.in_ok-token.token _ _ c.in_default.not-BeginArray c.in_default.not-BeginObject c.in_ok-token.ensures.ok in
+    let none : c.args.depth ≡ 0 = omega (arith, c.in_default.ensures) in
+    let read = single_where_none c.args.depth c.in_ok-token.token _ _ none c.in_ok-token.ensures.ok in
     let told = single_told c.args.depth c.args.reader.now c.next_token.new.reader _ c.single_value.result read c.single_value.ensures.ok c.single_value.ensures.refused in
+    record { ok = told.0; refused = told.1 }
+
+pub value-returns-in-BeginArray : goal.value-returns-in-BeginArray
+value-returns-in-BeginArray t c =
+    let one : c.args.depth ≡ c.in-Some.inside + 1 = omega (arith, c.in-Some.ensures) in
+    let opens : c.args.reader.now ≡ Token.begin_array ∷ c.next_token.new.reader = c.in_ok-token.ensures.ok ∙ ap (λ k. token_of k ∷ c.next_token.new.reader) c.in-BeginArray.is in
+    let told = array_told c.args.depth c.in-Some.inside c.args.reader.now c.next_token.new.reader c.items.new.reader c.items.result c.map.result one opens c.items.ensures.ok c.items.ensures.refused c.map.ensures.cases in
+    record { ok = told.0; refused = told.1 }
+
+pub value-returns-in-BeginObject : goal.value-returns-in-BeginObject
+value-returns-in-BeginObject t c =
+    let one : c.args.depth ≡ c.in-Some.inside + 1 = omega (arith, c.in-Some.ensures) in
+    let opens : c.args.reader.now ≡ Token.begin_object ∷ c.next_token.new.reader = c.in_ok-token.ensures.ok ∙ ap (λ k. token_of k ∷ c.next_token.new.reader) c.in-BeginObject.is in
+    let told = object_told c.args.depth c.in-Some.inside c.args.reader.now c.next_token.new.reader c.members.new.reader c.members.result c.map-in-BeginObject.result one opens c.members.ensures.ok c.members.ensures.refused c.map-in-BeginObject.ensures.cases in
+    record { ok = told.0; refused = told.1 }
+
+pub value-returns-in_default-token : goal.value-returns-in_default-token
+value-returns-in_default-token t c =
+    let read = single_read c.args.depth c.in_ok-token.token _ _ c.in_default-token.not-BeginArray c.in_default-token.not-BeginObject c.in_ok-token.ensures.ok in
+    let told = single_told c.args.depth c.args.reader.now c.next_token.new.reader _ c.single_value-in_default-token.result read c.single_value-in_default-token.ensures.ok c.single_value-in_default-token.ensures.refused in
     record { ok = told.0; refused = told.1 }
 
 pub items-items-init : goal.items-items-init

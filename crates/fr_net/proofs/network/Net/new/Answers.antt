@@ -9,6 +9,18 @@ use Rattle.fr_net.specs.Links.{HaveSameLinks, IsAcyclic, IsCycle}
 use Rattle.fr_net.proofs.network.Net.new.Goals as goal
 use Rattle.fr_net.proofs.network.Net.new.Goals.{After-deref-2, In-Order, In_ok-rows}
 
+pub sorted_halves-requires-clause-nodes : goal.sorted_halves-requires-clause-nodes
+sorted_halves-requires-clause-nodes c = c.in_ok-test_ends.ensures.limits.nodes_few
+
+pub sorted_halves-requires-clause-below : goal.sorted_halves-requires-clause-below
+sorted_halves-requires-clause-below c = c.in_ok-test_ends.ensures.range.below
+
+pub sorted_halves-requires-clause-few : goal.sorted_halves-requires-clause-few
+sorted_halves-requires-clause-few c = c.in_ok-test_ends.ensures.limits.links_few
+
+pub first_twice-requires : goal.first_twice-requires
+first_twice-requires c = rw c.deref.ensures.value c.in_ok-halves.ensures.order
+
 pub returns-in-Some-clause-refused : goal.returns-in-Some-clause-refused
 returns-in-Some-clause-refused c _ =
     let ends = c.in_ok-test_ends.ensures in
@@ -72,6 +84,9 @@ faultless c =
 
 pub graph_of-requires-clause-links : goal.graph_of-requires-clause-links
 graph_of-requires-clause-links c = let b = goal.at.graph_of-requires-clause-links c in (c.args.links.now, faultless b.In-Order, rows_are b.In_ok-rows, refl)
+
+pub graph_of-requires-clause-order : goal.graph_of-requires-clause-order
+graph_of-requires-clause-order c = rw c.deref-in-Order.ensures.value (found (goal.at.graph_of-requires-clause-order c).In-Order).1
 
 pub returns-clause-ok : goal.returns-clause-ok
 returns-clause-ok c = let b = goal.at.returns-clause-ok c in c.in_ok-graph_of-in-Order.ensures.shown c.args.links.now (faultless b.In-Order) (rows_are b.In_ok-rows)
