@@ -2,7 +2,7 @@
 
 ghost use Rattle.std.specs.Prelude.{◌≡◌, [], IfOk, IfErr, map, codes, pos, false};
 ghost use Rattle.clap.specs.Simple.{on_top};
-ghost use Rattle.clap.specs.Words.{HasKind, app_of, fault_of, new_app, rule_of, subcommand_of, subcommand_rows_of};
+ghost use Rattle.clap.specs.Words.{HasKind, app_of, fault_of, new_app, rule_of, subcommand_of, subcommand_rows_of, with_subcommand};
 ghost use Rattle.clap.specs.declared.builder.command.Command.TheViews.{out-Command};
 ghost use Rattle.fr_core.specs.Limits.{most_workers};
 ghost use Rattle.fr_command.specs.Draws.{most_steps};
@@ -74,13 +74,26 @@ pub(crate) fn matches_of<'a>(alloc: Global, words: &'a [&'a str]) -> Result<ArgM
 fn whole_command<'a>(alloc: Global) -> Result<Command<'a>, AllocError>
     ensures { IfOk result (λ c. app_of c ≡ command) }
 {
-    let run = run_command(alloc)?;
-    let serve = serve_command(alloc)?;
     let play = play_command(alloc)?;
-    bare_command(alloc)
-        .subcommand(run)?
-        .subcommand(serve)?
-        .subcommand(play)
+    command_for_requests(alloc)?.subcommand(play)
+}
+
+/// The program with the two subcommands that answer requests.
+fn command_for_requests<'a>(alloc: Global) -> Result<Command<'a>, AllocError>
+    ensures { IfOk result (λ c. (app_of c ≡ with_subcommand (with_subcommand (on_top program (new_app (codes "revroute"))) run_command_of.top) serve_command_of.top)
+        × ((out-Command c).has_globals ≡ false)) }
+{
+    let serve = serve_command(alloc)?;
+    command_for_runs(alloc)?.subcommand(serve)
+}
+
+/// The program with the subcommand that answers all requests at once.
+fn command_for_runs<'a>(alloc: Global) -> Result<Command<'a>, AllocError>
+    ensures { IfOk result (λ c. (app_of c ≡ with_subcommand (on_top program (new_app (codes "revroute"))) run_command_of.top)
+        × ((out-Command c).has_globals ≡ false)) }
+{
+    let run = run_command(alloc)?;
+    bare_command(alloc).subcommand(run)
 }
 
 /// The program, before its subcommands: one of them has to be given, and it tells its version.
