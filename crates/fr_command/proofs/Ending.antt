@@ -1,13 +1,14 @@
 -- Which lines end in the bytes of an input, and what has begun behind the last of them.
-use Rattle.std.proofs.Common.{◌≡◌, ◌∙◌, ℕ, ◌+◌, ◌<◌, ◌≤◌, ◌==◌, Bool, true, false, List, [], ◌∷◌, ◌++◌, length, get_or, take, refl, sym, ap, subst, Some, ⊎_elim, arith}
+use Rattle.std.proofs.Common.{◌≡◌, ◌∙◌, ℕ, ◌+◌, ◌<◌, ◌≤◌, ◌==◌, Bool, true, false, List, [], ◌∷◌, ◌++◌, length, get_or, take, refl, sym, ap, subst, Option, Some, None, not, unwrap_or, ⊎_elim, arith}
 use Rattle.std.proofs.lemmas.Bool.{cases_lt}
 use Rattle.std.proofs.lemmas.Grind.{common_steps, take_at_read}
 use Rattle.std.proofs.lemmas.List.{same_from_push, take_all}
 use Rattle.std.proofs.lemmas.List.Quantifiers.{position-Some}
-use Rattle.std.proofs.lemmas.List.Sums.{fails_before_first, passes_at_first, position_or_len_is}
+use Rattle.std.proofs.lemmas.List.Sums.{fails_before_first, passes_at_first, position_or_len_is, prefix_len-le-length}
 use Rattle.std.proofs.lemmas.List.Splits.{slice_split-cons_yes, slice_split-cons_no, slice_split_none, slice_split_at, slice_split_first}
 use Rattle.std.specs.List.{All, onto_first, before_first, after_first, position, position_or_len}
 use Rattle.fr_command.specs.Lines.{lines_of}
+use Rattle.fr_command.proofs.Cutting.{past_end}
 
 abbrev pub ends_line : ℕ → Bool
 ends_line x = x == 10
@@ -126,9 +127,10 @@ front_whole xs none = take_all (position_or_len ends_line xs) xs none
 pub one_line : (xs : List ℕ) → length xs ≤ position_or_len ends_line xs → lines_of xs ≡ xs ∷ []
 one_line xs none = subst (λ (l : List ℕ). lines_of l ≡ l ∷ []) (front_whole xs none) (front_alone xs)
 
--- where the first byte 10 was found
-pub end_at : (xs : List ℕ) (i : ℕ) → position ends_line xs ≡ Some i → (position_or_len ends_line xs ≡ i) × (i < length xs)
-end_at xs i found = let at = position-Some ends_line xs i 0 found in (position_or_len_is ends_line xs i 0 (omega arith) at.2 (λ _. at.1), at.0)
+-- where the first byte 10 was found, which is at the end where there is none
+pub end_or_all : (xs : List ℕ) (found : Option ℕ) → position ends_line xs ≡ found → unwrap_or found (length xs) ≡ position_or_len ends_line xs
+end_or_all xs (Some i) found = let at = position-Some ends_line xs i 0 found in sym (position_or_len_is ends_line xs i 0 (omega arith) at.2 (λ _. at.1))
+end_or_all xs None found = omega (arith, past_end xs found, prefix_len-le-length (λ x. not (ends_line x)) xs)
 
 -- the first line is what stands before the first byte 10
 pub first_line_is : (xs : List ℕ) → (behind : List (List ℕ)) × (lines_of xs ≡ before_first ends_line xs ∷ behind)

@@ -11,5 +11,6 @@ pub mod DrawnSteps
 pub mod PlayTargets
 pub mod OnePlay
 pub mod PlayEnds
+pub mod OptionRules
 pub mod OptionNumbers
 pub mod Faulting

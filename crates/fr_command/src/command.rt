@@ -2,7 +2,7 @@
 
 ghost use Rattle.std.specs.Prelude.{◌≡◌, [], IfOk, IfErr, map, codes, pos, false};
 ghost use Rattle.clap.specs.Simple.{on_top};
-ghost use Rattle.clap.specs.Words.{HasKind, app_of, fault_of, new_app, rule_of, subcommand_of, subcommand_rows_of};
+ghost use Rattle.clap.specs.Words.{HasKind, app_of, fault_of, new_app, rule_of, subcommand_of, subcommand_rows_of, with_rule, with_subcommand};
 ghost use Rattle.clap.specs.declared.builder.command.Command.TheViews.{out-Command};
 ghost use Rattle.fr_core.specs.Limits.{most_workers};
 ghost use Rattle.fr_command.specs.Draws.{most_steps};
@@ -85,13 +85,26 @@ pub(crate) fn matches_of<'a>(alloc: Global, words: &'a [&'a str]) -> Result<ArgM
 fn whole_command<'a>(alloc: Global) -> Result<Command<'a>, AllocError>
     ensures { IfOk result (λ c. app_of c ≡ command) }
 {
-    let run = run_command(alloc)?;
-    let serve = serve_command(alloc)?;
     let play = play_command(alloc)?;
-    bare_command(alloc)
-        .subcommand(run)?
-        .subcommand(serve)?
-        .subcommand(play)
+    command_for_requests(alloc)?.subcommand(play)
+}
+
+/// The program with the two subcommands that answer requests.
+fn command_for_requests<'a>(alloc: Global) -> Result<Command<'a>, AllocError>
+    ensures { IfOk result (λ c. (app_of c ≡ with_subcommand (with_subcommand (on_top program (new_app (codes "revroute"))) run_command_of.top) serve_command_of.top)
+        × ((out-Command c).has_globals ≡ false)) }
+{
+    let serve = serve_command(alloc)?;
+    command_for_runs(alloc)?.subcommand(serve)
+}
+
+/// The program with the subcommand that answers all requests at once.
+fn command_for_runs<'a>(alloc: Global) -> Result<Command<'a>, AllocError>
+    ensures { IfOk result (λ c. (app_of c ≡ with_subcommand (on_top program (new_app (codes "revroute"))) run_command_of.top)
+        × ((out-Command c).has_globals ≡ false)) }
+{
+    let run = run_command(alloc)?;
+    bare_command(alloc).subcommand(run)
 }
 
 /// The program, before its subcommands: one of them has to be given, and it tells its version.
@@ -127,20 +140,41 @@ fn answering<'a>(
 ) -> Result<Command<'a>, AllocError>
     ensures { IfOk result (λ c. (app_of c ≡ answering_of name.entry.now) × ((out-Command c).has_globals ≡ false)) }
 {
-    described(alloc, name, about, example)
-        .arg(option(alloc, "workers", "4", worker_numbers(), RUN_WORKERS))?
-        .arg(option(alloc, "seed", "0", value_parser!(u64), RUN_SEED))?
-        .arg(option(alloc, "budget", "1000000", budget_numbers(), BUDGET))
+    let command = described(alloc, name, about, example);
+    let command = with_option(
+        alloc,
+        command,
+        "workers",
+        "4",
+        worker_numbers(),
+        RUN_WORKERS,
+    )?;
+    let command = with_option(alloc, command, "seed", "0", value_parser!(u64), RUN_SEED)?;
+    with_option(
+        alloc,
+        command,
+        "budget",
+        "1000000",
+        budget_numbers(),
+        BUDGET,
+    )
 }
 
 /// The subcommand that plays a drawn schedule.
 fn play_command<'a>(alloc: Global) -> Result<Command<'a>, AllocError>
     ensures { IfOk result (λ c. (app_of c ≡ play_command_of) × ((out-Command c).has_globals ≡ false)) }
 {
-    described(alloc, "play", PLAY_ABOUT, PLAY_EXAMPLE)
-        .arg(option(alloc, "workers", "2", worker_numbers(), PLAY_WORKERS))?
-        .arg(option(alloc, "seed", "0", value_parser!(u64), PLAY_SEED))?
-        .arg(option(alloc, "steps", "100", step_numbers(), STEPS))
+    let command = described(alloc, "play", PLAY_ABOUT, PLAY_EXAMPLE);
+    let command = with_option(
+        alloc,
+        command,
+        "workers",
+        "2",
+        worker_numbers(),
+        PLAY_WORKERS,
+    )?;
+    let command = with_option(alloc, command, "seed", "0", value_parser!(u64), PLAY_SEED)?;
+    with_option(alloc, command, "steps", "100", step_numbers(), STEPS)
 }
 
 /// A command of this name, with what it is for and an example.
@@ -149,6 +183,22 @@ fn described<'a>(alloc: Global, name: &'a str, about: &'a str, example: &'a str)
     ensures local { (out-Command result).has_globals ≡ false }
 {
     Command::new(alloc, name).about(about).after_help(example)
+}
+
+/// The command with one [`option`] more.
+fn with_option<'a>(
+    alloc: Global,
+    command: Command<'a>,
+    name: &'a str,
+    default: &'a str,
+    numbers: ValueParser<'a>,
+    help: &'a str,
+) -> Result<Command<'a>, AllocError>
+    requires { (out-Command command).has_globals ≡ false }
+    ensures { IfOk result (λ c. (app_of c ≡ with_rule (app_of command.entry) (option_of name.entry.now default.entry.now numbers.entry))
+        × ((out-Command c).has_globals ≡ false)) }
+{
+    command.arg(option(alloc, name, default, numbers, help))
 }
 
 /// An option with a number, by its name, with the text that stands for it where it is not given.

@@ -8,7 +8,7 @@ ghost use Rattle.fr_command.specs.Conversations.{Takes, Ends, silence, carried, 
 
 use crate::fault::RunFault;
 use crate::input::MAX_BYTES;
-use crate::lines::line_end;
+use crate::lines::front_size;
 use fr_crew::{Gate, Plan};
 use fr_route::{AnswerFault, Session};
 use std::alloc::Global;
@@ -97,14 +97,14 @@ impl Conversation {
         ensures no_write { result ≢ Err RunFault.Write }
     {
         let kept = self.begun.len();
-        let Some(end) = line_end(piece) else {
-            self.hold(piece)?;
+        let end = front_size(piece);
+        self.hold(&piece[..end])?;
+        if end == piece.len() {
             return Ok(Taken {
-                count: piece.len(),
+                count: end,
                 answer: None,
             });
-        };
-        self.hold(&piece[..end])?;
+        }
         match self.finish(rt, alloc, plan, gate) {
             Ok(answer) => Ok(Taken {
                 count: end + 1,

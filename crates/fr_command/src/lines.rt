@@ -1,6 +1,7 @@
 //! The lines of an input.
 
 ghost use Rattle.std.specs.Prelude.{◌≡◌, ◌+◌, ◌==◌, ◌<◌, ◌∷◌, [], ℕ, List, length, position, IfSome};
+ghost use Rattle.std.specs.List.{position_or_len};
 ghost use Rattle.std.specs.Option.{option_copied, option_map_or};
 ghost use Rattle.std.specs.Iterator.{YieldsFirstRef, item_count};
 ghost use Rattle.fr_command.specs.Lines.{lines_of, lines_left};
@@ -47,8 +48,15 @@ pub fn first_line(text: &[u8]) -> (&[u8], Option<&[u8]>)
 }
 
 /// Where the first line of a text ends, if there is a byte 10.
-pub(crate) fn line_end(text: &[u8]) -> Option<usize>
+fn line_end(text: &[u8]) -> Option<usize>
     ensures { result ≡ position (λ x. x == 10) text.now }
 {
     text.iter().position(|byte| *byte == b'\n')
+}
+
+/// How many bytes of a text stand before its first byte 10, which is all of them where there is none.
+pub(crate) fn front_size(text: &[u8]) -> usize
+    ensures { result ≡ position_or_len (λ x. x == 10) text.now }
+{
+    line_end(text).unwrap_or(text.len())
 }
