@@ -1,5 +1,5 @@
 -- What a change makes, by the edits that it makes and the destination toward which the network is then settled.
-use Rattle.std.proofs.Common.{List, [], Some, ap, arith, inl, inr, refl, subst, sym, length, take, ℕ, ◌++◌, ◌<◌, ◌≤◌, ◌∙◌, ◌∷◌, ◌≡◌, ◌≢◌}
+use Rattle.std.proofs.Common.{List, [], Option, Some, ap, arith, inl, inr, refl, subst, sym, length, take, ℕ, ◌++◌, ◌<◌, ◌≤◌, ◌∙◌, ◌∷◌, ◌≡◌, ◌≢◌}
 use Rattle.std.specs.List.{HoldsAt}
 use Rattle.fr_net.specs.Batches.{AreMade, IsBatchFault, IsEditFault, IsMade}
 use Rattle.fr_net.specs.Edits.{IsCutFault, IsJoinFault, IsJoined, without}
@@ -9,9 +9,10 @@ use Rattle.fr_net.specs.declared.fault.EditFault.{EditFault}
 use Rattle.fr_net.specs.declared.fault.NetFault.{NetFault}
 use Rattle.fr_net.specs.declared.fault.NetFault.TheVariants as net
 use Rattle.fr_net.specs.Network.{Network}
+use Rattle.fr_net.specs.Requests.{make_edits}
 use Rattle.fr_net.specs.declared.edit.Edit.{Edit}
 use Rattle.fr_net.specs.declared.edit.Edit.TheVariants as edit
-use Rattle.fr_route.specs.Answers.{IsAnswer, MayStartFor, fault_number}
+use Rattle.fr_route.specs.Answers.{IsAccepted, IsAnswer, IsReportLine, IsText, MayStartFor, fault_number}
 use Rattle.fr_route.specs.Changes.{IsChanged, IsOpenFault, IsRouteFault, IsStill}
 use Rattle.fr_route.specs.Faults.{of_net_fault}
 use Rattle.fr_route.specs.Outcomes.{IsEdited, IsEditingFault}
@@ -113,20 +114,43 @@ join_by s u v = record { done = done; undone = undone }
     undone Start h = h
     undone Memory h = tt
 
--- a change that is refused for this fault is answered by its text
-pub refused_change : (s : State) (change : Change) (fault : RouteFault) (text : List ℕ) → IsRouteFault s change fault → IsRefusalOf fault text → IsAnswer (Some s) (request_of_change change) text (Some s)
-refused_change s (Cut u v) (Net fault) text why is = inl (fault_number fault, (fault, why, refl), is, refl)
-refused_change s (Add u v) (Net fault) text why is = inl (fault_number fault, (fault, why, refl), is, refl)
-refused_change s (Join u v) (Net fault) text why is = inl (fault_number fault, (fault, why, refl), is, refl)
-refused_change s (Batch edits) (Net fault) text why is = inl (fault_number fault, (why.0, why.1.0, ap fault_number why.1.1), is, refl)
-refused_change s (Destination d) (Net fault) text why is = absurd why
-refused_change s (Cut u v) Range text why is = absurd why
-refused_change s (Add u v) Range text why is = absurd why
-refused_change s (Join u v) Range text why is = absurd why
-refused_change s (Batch edits) Range text why is = absurd why
-refused_change s (Destination d) Range text why is = inl (4, (why, refl), is, refl)
-refused_change s change Start text why is = absurd is
-refused_change s change Memory text why is = absurd is
+-- a change that is refused for this fault is answered by its text,
+pub refused_change : (s : State) (change : Change) (fault : RouteFault) (text : List ℕ) (next : Option State) → IsRouteFault s change fault → IsRefusalOf fault text → next ≡ Some s → IsAnswer (Some s) (request_of_change change) text next
+refused_change s (Cut u v) (Net fault) text next why is n = inl (fault_number fault, (fault, why, refl), is, n)
+refused_change s (Add u v) (Net fault) text next why is n = inl (fault_number fault, (fault, why, refl), is, n)
+refused_change s (Join u v) (Net fault) text next why is n = inl (fault_number fault, (fault, why, refl), is, n)
+refused_change s (Batch edits) (Net fault) text next why is n = inl (fault_number fault, (why.0, why.1.0, ap fault_number why.1.1), is, n)
+refused_change s (Destination d) (Net fault) text next why is n = absurd why
+refused_change s (Cut u v) Range text next why is n = absurd why
+refused_change s (Add u v) Range text next why is n = absurd why
+refused_change s (Join u v) Range text next why is n = absurd why
+refused_change s (Batch edits) Range text next why is n = absurd why
+refused_change s (Destination d) Range text next why is n = inl (4, (why, refl), is, n)
+refused_change s change Start text next why is n = absurd is
+refused_change s change Memory text next why is n = absurd is
+
+-- and so are edits
+pub refused_edits : (s : State) (edits : List Edit) (d : ℕ) (fault : RouteFault) (text : List ℕ) (next : Option State) → IsEditingFault s edits d fault → IsRefusalOf fault text → next ≡ Some s → IsAnswer (Some s) (make_edits edits) text next
+refused_edits s edits d (Net fault) text next why is n = inl (fault_number fault, (why.0, why.1.0, ap fault_number why.1.1), is, n)
+refused_edits s edits d Range text next why is n = absurd why
+refused_edits s edits d Start text next why is n = absurd is
+refused_edits s edits d Memory text next why is n = absurd is
+
+-- a change that is made is accepted
+pub change_accepted : (s : State) (change : Change) (new : State) → IsChanged s change new → IsAccepted (Some s) (request_of_change change) new
+change_accepted s (Cut u v) new made = made
+change_accepted s (Add u v) new made = made
+change_accepted s (Join u v) new made = made
+change_accepted s (Batch edits) new made = made
+change_accepted s (Destination d) new made = made
+
+-- and answered by the report of its round
+pub change_text : (change : Change) (new : State) (text : List ℕ) → IsReportLine new text → IsText new (request_of_change change) text
+change_text (Cut u v) new text line = line
+change_text (Add u v) new text line = line
+change_text (Join u v) new text line = line
+change_text (Batch edits) new text line = line
+change_text (Destination d) new text line = line
 
 -- a thread is wanted for a change only where it may be
 pub start_for : (s : State) (change : Change) → IsRouteFault s change Start → MayStartFor (Some s) (request_of_change change)

@@ -17,3 +17,4 @@ pub mod Noting
 pub mod Joining
 pub mod Inside
 pub mod Telling
+pub mod Answered

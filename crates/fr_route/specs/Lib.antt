@@ -11,3 +11,4 @@ pub mod Answers
 pub mod Told
 pub mod Refusals
 pub mod Laws
+pub mod Sessions

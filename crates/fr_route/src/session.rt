@@ -7,7 +7,8 @@ ghost use Rattle.fr_crew.specs.Settlements.{HoldsSinks};
 ghost use Rattle.fr_crew.specs.Ways.{Settles, NeverStarts};
 ghost use Rattle.fr_route.specs.Blank.{is_blank as is_blank_line};
 ghost use Rattle.fr_route.specs.Answers.{IsAccepted, IsAnswer, IsLineAnswer, IsReportLine, MayStartFor, MayStartForLine};
-ghost use Rattle.fr_route.specs.Told.{IsTold, IsLineTold};
+ghost use Rattle.fr_route.specs.Sessions.{IsAnswered};
+ghost use Rattle.fr_route.specs.Told.{IsLineTold};
 ghost use Rattle.fr_route.specs.Reroutes.{AreJoined};
 ghost use Rattle.fr_route.specs.Texts.{longest_report, refusal_text};
 ghost use Rattle.fr_route.specs.Refusals.{number_of, request_of_change, IsNewFault, IsRefusalOf};
@@ -196,11 +197,26 @@ impl Session {
         ensures no_start { NeverStarts F.post way.now → IfErr result (λ fault. fault ≢ Start) }
     {
         match self.reader.read(alloc, line) {
-            Ok(request) => self.answer_by(alloc, &request, way, telling, rerouted),
+            Ok(request) => self.answer_read_by(alloc, request, way, telling, rerouted),
             Err(LineFault::NotJson) => refuse(alloc, Refusal::NotJson),
             Err(LineFault::NotRequest) => refuse(alloc, Refusal::NotRequest),
             Err(LineFault::Memory) => Err(AnswerFault::Memory),
         }
+    }
+
+    /// The answer to the request of a line.
+    fn answer_read_by<F: Fn(&Net, u32, Option<&[u32]>, Turns) -> Result<Turns, CrewFault>>(
+        &mut self,
+        alloc: Global,
+        request: Request,
+        way: &F,
+        telling: bool,
+        rerouted: &mut Vec<u32>,
+    ) -> Result<String, AnswerFault>
+        requires { Settles F.pre F.post way.now }
+        ensures { IsAnswered (NeverStarts F.post way.now) self.old (plain request) telling rerouted.old.items result self.new rerouted.new.items }
+    {
+        self.answer_by(alloc, &request, way, telling, rerouted)
     }
 
     /// The answer to a request, as `answer_line` gives it to the line of the request, with the same faults. The text has no line end.
@@ -258,13 +274,7 @@ impl Session {
         rerouted: &mut Vec<u32>,
     ) -> Result<String, AnswerFault>
         requires { Settles F.pre F.post way.now }
-        ensures text { IfOk result (λ text. IsAnswer self.old (plain request.now) (string_bytes text) self.new) }
-        ensures told { telling ≡ true → IfOk result (λ _. IsTold self.old (plain request.now) self.new rerouted.old.items rerouted.new.items) }
-        ensures unchanged { OnErr result (self.new ≡ self.old) }
-        ensures untold { OnErr result (rerouted.new.items ≡ rerouted.old.items) }
-        ensures short { IfOk result (λ text. ((self.new ≡ self.old) × (rerouted.new.items ≡ rerouted.old.items)) ⊎ (length (string_bytes text) ≤ longest_report)) }
-        ensures start { IfErr result (λ fault. fault ≡ Start → MayStartFor self.old (plain request.now)) }
-        ensures no_start { NeverStarts F.post way.now → IfErr result (λ fault. fault ≢ Start) }
+        ensures { IsAnswered (NeverStarts F.post way.now) self.old (plain request.now) telling rerouted.old.items result self.new rerouted.new.items }
     {
         match request {
             Request::Network { nodes, dest, links } => self.open(
@@ -318,17 +328,11 @@ impl Session {
         rerouted: &mut Vec<u32>,
     ) -> Result<String, AnswerFault>
         requires { Settles F.pre F.post way.now }
-        ensures text { IfOk result (λ text. IsAnswer self.old (new_network nodes dest links.now) (string_bytes text) self.new) }
-        ensures told { telling ≡ true → IfOk result (λ _. IsTold self.old (new_network nodes dest links.now) self.new rerouted.old.items rerouted.new.items) }
-        ensures unchanged { OnErr result (self.new ≡ self.old) }
-        ensures untold { OnErr result (rerouted.new.items ≡ rerouted.old.items) }
-        ensures short { IfOk result (λ text. ((self.new ≡ self.old) × (rerouted.new.items ≡ rerouted.old.items)) ⊎ (length (string_bytes text) ≤ longest_report)) }
-        ensures start { IfErr result (λ fault. fault ≡ Start → MayStartFor self.old (new_network nodes dest links.now)) }
-        ensures no_start { NeverStarts F.post way.now → IfErr result (λ fault. fault ≢ Start) }
+        ensures { IsAnswered (NeverStarts F.post way.now) self.old (new_network nodes dest links.now) telling rerouted.old.items result self.new rerouted.new.items }
     {
         match opened(alloc, nodes, dest, links, way) {
             Ok(router) => self.put(alloc, router, telling, rerouted),
-            Err(fault) => refusal(alloc, &fault),
+            Err(fault) => refusal(alloc, fault),
         }
     }
 
@@ -342,28 +346,12 @@ impl Session {
         rerouted: &mut Vec<u32>,
     ) -> Result<String, AnswerFault>
         requires { Settles F.pre F.post way.now }
-        ensures text { IfOk result (λ text. IsAnswer self.old (request_of_change change) (string_bytes text) self.new) }
-        ensures told { telling ≡ true → IfOk result (λ _. IsTold self.old (request_of_change change) self.new rerouted.old.items rerouted.new.items) }
-        ensures unchanged { OnErr result (self.new ≡ self.old) }
-        ensures untold { OnErr result (rerouted.new.items ≡ rerouted.old.items) }
-        ensures short { IfOk result (λ text. ((self.new ≡ self.old) × (rerouted.new.items ≡ rerouted.old.items)) ⊎ (length (string_bytes text) ≤ longest_report)) }
-        ensures start { IfErr result (λ fault. fault ≡ Start → MayStartFor self.old (request_of_change change)) }
-        ensures no_start { NeverStarts F.post way.now → IfErr result (λ fault. fault ≢ Start) }
+        ensures { IsAnswered (NeverStarts F.post way.now) self.old (request_of_change change) telling rerouted.old.items result self.new rerouted.new.items }
     {
         let Some(router) = &mut self.router else {
             return refuse(alloc, Refusal::NoNetwork);
         };
-        make_room(rerouted, router.net().nodes(), telling)?;
-        match router.change_by(
-            alloc,
-            &change,
-            way,
-            &|report| report_line(alloc, report),
-            rerouted,
-        ) {
-            Ok(text) => Ok(text),
-            Err(fault) => refusal(alloc, &fault),
-        }
+        changed(alloc, router, &change, way, telling, rerouted)
     }
 
     /// Makes these edits, or says for which fault one is refused.
@@ -376,30 +364,12 @@ impl Session {
         rerouted: &mut Vec<u32>,
     ) -> Result<String, AnswerFault>
         requires { Settles F.pre F.post way.now }
-        ensures text { IfOk result (λ text. IsAnswer self.old (make_edits edits.now) (string_bytes text) self.new) }
-        ensures told { telling ≡ true → IfOk result (λ _. IsTold self.old (make_edits edits.now) self.new rerouted.old.items rerouted.new.items) }
-        ensures unchanged { OnErr result (self.new ≡ self.old) }
-        ensures untold { OnErr result (rerouted.new.items ≡ rerouted.old.items) }
-        ensures short { IfOk result (λ text. ((self.new ≡ self.old) × (rerouted.new.items ≡ rerouted.old.items)) ⊎ (length (string_bytes text) ≤ longest_report)) }
-        ensures start { IfErr result (λ fault. fault ≡ Start → MayStartFor self.old (make_edits edits.now)) }
-        ensures no_start { NeverStarts F.post way.now → IfErr result (λ fault. fault ≢ Start) }
+        ensures { IsAnswered (NeverStarts F.post way.now) self.old (make_edits edits.now) telling rerouted.old.items result self.new rerouted.new.items }
     {
         let Some(router) = &mut self.router else {
             return refuse(alloc, Refusal::NoNetwork);
         };
-        let dest = router.dest();
-        make_room(rerouted, router.net().nodes(), telling)?;
-        match router.edit_by(
-            alloc,
-            edits,
-            dest,
-            way,
-            &|report| report_line(alloc, report),
-            rerouted,
-        ) {
-            Ok(line) => Ok(line),
-            Err(fault) => refusal(alloc, &fault),
-        }
+        edited(alloc, router, edits, way, telling, rerouted)
     }
 
     /// Puts a router in place, once the line that reports its round is made, and tells which nodes are not cut off if that is asked.
@@ -479,18 +449,76 @@ fn refuse(alloc: Global, refusal: Refusal) -> Result<String, AnswerFault>
 }
 
 /// The answer to a request that is refused for this fault; a fault that is no refusal is handed on.
-fn refusal(alloc: Global, fault: &RouteFault) -> Result<String, AnswerFault>
-    ensures text { IfOk result (λ text. IsRefusalOf fault.now (string_bytes text)) }
+fn refusal(alloc: Global, fault: RouteFault) -> Result<String, AnswerFault>
+    ensures text { IfOk result (λ text. IsRefusalOf fault (string_bytes text)) }
+    ensures start { IfErr result (λ why. (why ≡ Start) ↔ (fault ≡ RouteStart)) }
+{
+    refuse(alloc, refusal_for(&fault)?)
+}
+
+/// The refusal for this fault, if it is one.
+fn refusal_for(fault: &RouteFault) -> Result<Refusal, AnswerFault>
+    ensures refusal { IfOk result (λ refusal. IsRefusalOf fault.now (refusal_text (number_of refusal))) }
     ensures start { IfErr result (λ why. (why ≡ Start) ↔ (fault.now ≡ RouteStart)) }
+    ensures no_start { OnOk result (fault.now ≢ RouteStart) }
 {
     match fault {
-        RouteFault::Net(fault) => match Refusal::of(fault) {
-            Some(refusal) => refuse(alloc, refusal),
-            None => Err(AnswerFault::Memory),
-        },
-        RouteFault::Range => refuse(alloc, Refusal::NoNode),
+        RouteFault::Net(fault) => Refusal::of(fault).ok_or(AnswerFault::Memory),
+        RouteFault::Range => Ok(Refusal::NoNode),
         RouteFault::Start => Err(AnswerFault::Start),
         RouteFault::Memory => Err(AnswerFault::Memory),
+    }
+}
+
+/// Changes the network of a router, or says for which fault the change is refused.
+fn changed<F: Fn(&Net, u32, Option<&[u32]>, Turns) -> Result<Turns, CrewFault>>(
+    alloc: Global,
+    router: &mut Router,
+    change: &Change,
+    way: &F,
+    telling: bool,
+    rerouted: &mut Vec<u32>,
+) -> Result<String, AnswerFault>
+    requires { Settles F.pre F.post way.now }
+    ensures { IsAnswered (NeverStarts F.post way.now) (Some router.old) (request_of_change change.now) telling rerouted.old.items result (Some router.new) rerouted.new.items }
+{
+    make_room(rerouted, router.net().nodes(), telling)?;
+    match router.change_by(
+        alloc,
+        change,
+        way,
+        &|report| report_line(alloc, report),
+        rerouted,
+    ) {
+        Ok(text) => Ok(text),
+        Err(fault) => refusal(alloc, fault),
+    }
+}
+
+/// Makes these edits in the network of a router, or says for which fault one is refused.
+fn edited<F: Fn(&Net, u32, Option<&[u32]>, Turns) -> Result<Turns, CrewFault>>(
+    alloc: Global,
+    router: &mut Router,
+    edits: &[Edit],
+    way: &F,
+    telling: bool,
+    rerouted: &mut Vec<u32>,
+) -> Result<String, AnswerFault>
+    requires { Settles F.pre F.post way.now }
+    ensures { IsAnswered (NeverStarts F.post way.now) (Some router.old) (make_edits edits.now) telling rerouted.old.items result (Some router.new) rerouted.new.items }
+{
+    let dest = router.dest();
+    make_room(rerouted, router.net().nodes(), telling)?;
+    match router.edit_by(
+        alloc,
+        edits,
+        dest,
+        way,
+        &|report| report_line(alloc, report),
+        rerouted,
+    ) {
+        Ok(line) => Ok(line),
+        Err(fault) => refusal(alloc, fault),
     }
 }
 
