@@ -1,89 +1,124 @@
-//! What is given in a case: numbers, links, and lists of them. An answer `None` says that something else is, or that there is no
-//! memory for it.
+//! What is given in a case: words, numbers, links, and lists of them. Where something else is given, the answer is told, and 0, no
+//! word or an empty list stands for it.
 
+use crate::answers::Answer;
 use fr_net::MAX_NODES;
 use serde_json::Value;
-use std::alloc::Global;
 
-/// The items of a list, each as `read` reads it.
-pub fn list<T: Drop, F: Fn(&Value) -> Option<T>>(
-    alloc: Global,
-    value: &Value,
-    read: F,
-) -> Option<Vec<T>>
-    requires { F.IsAlwaysCallable read }
-{
-    let mut items = Vec::new(alloc);
-    for item in value.as_array()? {
-        items.push(read(item)?).ok()?;
+/// A word.
+pub fn word<'a>(answer: &mut Answer, value: &'a Value) -> &'a str {
+    if let Some(word) = value.as_str() {
+        return word;
     }
-    Some(items)
+    answer.refuse();
+    ""
+}
+
+/// The items of a list.
+pub fn items<'a>(answer: &mut Answer, value: &'a Value) -> &'a [Value] {
+    if let Some(items) = value.as_array() {
+        return items.as_slice();
+    }
+    answer.refuse();
+    &[]
+}
+
+/// A number that can be a count.
+pub fn count(answer: &mut Answer, value: &Value) -> u64 {
+    if let Some(count) = value.as_u64() {
+        return count;
+    }
+    answer.refuse();
+    0
 }
 
 /// A number that can be a node.
-pub fn number(value: &Value) -> Option<u32> {
-    u32::try_from(value.as_u64()?).ok()
+pub fn number(answer: &mut Answer, value: &Value) -> u32 {
+    let count = count(answer, value);
+    if count <= u32::MAX as u64 {
+        return count as u32;
+    }
+    answer.refuse();
+    0
 }
 
 /// A number that can be a length.
-pub fn length(value: &Value) -> Option<usize> {
-    usize::try_from(value.as_u64()?).ok()
+pub fn length(answer: &mut Answer, value: &Value) -> usize {
+    count(answer, value) as usize
 }
 
 /// Numbers that can be nodes.
-pub fn numbers(alloc: Global, value: &Value) -> Option<Vec<u32>> {
-    list(alloc, value, number)
+pub fn numbers(answer: &mut Answer, value: &Value) -> Vec<u32> {
+    let mut numbers = Vec::new(answer.alloc);
+    for item in items(answer, value) {
+        let number = number(answer, item);
+        answer.note(numbers.push(number).is_ok());
+    }
+    numbers
 }
 
 /// Numbers that can be counts.
-pub fn counts(alloc: Global, value: &Value) -> Option<Vec<u64>> {
-    list(alloc, value, Value::as_u64)
-}
-
-/// A link.
-fn link(value: &Value) -> Option<(u32, u32)> {
-    match value.as_array()?.as_slice() {
-        [tail, head] => Some((number(tail)?, number(head)?)),
-        _ => None,
+pub fn counts(answer: &mut Answer, value: &Value) -> Vec<u64> {
+    let mut counts = Vec::new(answer.alloc);
+    for item in items(answer, value) {
+        let count = count(answer, item);
+        answer.note(counts.push(count).is_ok());
     }
+    counts
 }
 
 /// Links: a list of them, or `["chain", nodes, first]`, or `["down", count]`.
-pub fn links(alloc: Global, value: &Value) -> Option<Vec<(u32, u32)>> {
-    match value.as_array()?.as_slice() {
-        [word, nodes, first] if word.as_str() == Some("chain") => {
-            chain(alloc, number(nodes)?, number(first)?)
+pub fn links(answer: &mut Answer, value: &Value) -> Vec<(u32, u32)> {
+    match items(answer, value) {
+        [word, nodes, first] if word.as_str() == Some("chain") => chain(answer, nodes, first),
+        [word, count] if word.as_str() == Some("down") => down(answer, count),
+        items => listed(answer, items),
+    }
+}
+
+fn listed(answer: &mut Answer, given: &[Value]) -> Vec<(u32, u32)> {
+    let mut links = Vec::new(answer.alloc);
+    for link in given {
+        push_link(answer, &mut links, link);
+    }
+    links
+}
+
+fn push_link(answer: &mut Answer, links: &mut Vec<(u32, u32)>, link: &Value) {
+    match items(answer, link) {
+        [tail, head] => {
+            let link = (number(answer, tail), number(answer, head));
+            answer.note(links.push(link).is_ok());
         }
-        [word, count] if word.as_str() == Some("down") => down(alloc, length(count)?),
-        _ => list(alloc, value, link),
+        _ => answer.refuse(),
     }
 }
 
 /// The links of a chain of so many nodes, each from `first` on with a link to the next.
-fn chain(alloc: Global, nodes: u32, first: u32) -> Option<Vec<(u32, u32)>> {
-    let mut links = Vec::new(alloc);
-    for x in first..nodes.saturating_sub(1) {
-        links.push((x, x + 1)).ok()?;
+fn chain(answer: &mut Answer, nodes: &Value, first: &Value) -> Vec<(u32, u32)> {
+    let mut links = Vec::new(answer.alloc);
+    for x in number(answer, first)..number(answer, nodes).saturating_sub(1) {
+        answer.note(links.push((x, x + 1)).is_ok());
     }
-    Some(links)
+    links
 }
 
 /// The first `count` links from a node to a lower one, in rising order of tail, then head.
-fn down(alloc: Global, count: usize) -> Option<Vec<(u32, u32)>> {
-    let mut links = Vec::new(alloc);
+fn down(answer: &mut Answer, count: &Value) -> Vec<(u32, u32)> {
+    let count = length(answer, count);
+    let mut links = Vec::new(answer.alloc);
     for tail in 0..MAX_NODES {
-        push_down(&mut links, count, tail)?;
+        push_down(answer, &mut links, count, tail);
     }
-    Some(links)
+    links
 }
 
 /// Adds the links from `tail` to lower nodes, as long as there are fewer than `count`.
-fn push_down(links: &mut Vec<(u32, u32)>, count: usize, tail: u32) -> Option<()> {
+fn push_down(answer: &mut Answer, links: &mut Vec<(u32, u32)>, count: usize, tail: u32) {
     for head in 0..tail {
         if links.len() == count {
             break;
         }
-        links.push((tail, head)).ok()?;
+        answer.note(links.push((tail, head)).is_ok());
     }
-    Some(())
 }

@@ -1,69 +1,64 @@
 //! What faults say of themselves.
 
 use crate::answers::Answer;
-use crate::cases::{length, number, numbers};
+use crate::cases::{length, number, numbers, word};
 use fr_core::{CheckFault, Why};
 use fr_net::{EditFault, LineFault, NetFault};
 use serde_json::Value;
-use std::alloc::Global;
 
-/// Answers what a fault says, if a fault is given.
-pub fn answer(alloc: Global, answer: &mut Answer, word: &str, given: &[Value]) -> Option<()> {
-    match (word, given) {
-        ("net_fault", [name]) => answer.show(&plain_fault(name.as_str()?)?),
-        ("net_fault", [name, x]) => answer.show(&fault_of_node(alloc, name.as_str()?, x)?),
-        ("net_fault", [name, u, v]) if name.as_str() == Some("Twice") => {
-            answer.show(&NetFault::Twice(number(u)?, number(v)?))
-        }
-        ("line_fault", [name]) => answer.show(&line_fault(name.as_str()?)?),
-        ("edit_fault", [at, name]) => answer.show(&edit_fault(at, name)?),
-        ("check_fault", [index, name]) => answer.show(&check_fault(index, name)?),
-        _ => return None,
+/// Answers what a fault says, if a fault is given. Whether it is.
+pub fn answer(answer: &mut Answer, asked: &str, given: &[Value]) -> bool {
+    match (asked, given) {
+        ("net_fault", [named, numbers @ ..]) => tell_net_fault(answer, named, numbers),
+        ("line_fault", [named]) => tell_line_fault(answer, named),
+        ("edit_fault", [at, named]) => tell_edit_fault(answer, at, named),
+        ("check_fault", [index, named]) => tell_check_fault(answer, index, named),
+        _ => return false,
     }
-    Some(())
+    true
 }
 
-/// A fault of links that names no node.
-fn plain_fault(name: &str) -> Option<NetFault> {
-    match name {
-        "TooMany" => Some(NetFault::TooMany),
-        "NoLink" => Some(NetFault::NoLink),
-        "Memory" => Some(NetFault::Memory),
-        _ => None,
-    }
+fn tell_net_fault(answer: &mut Answer, named: &Value, numbers: &[Value]) {
+    let fault = net_fault(answer, named, numbers);
+    answer.show(&fault);
 }
 
-/// A fault of links that names a node, or those of a walk.
-fn fault_of_node(alloc: Global, name: &str, given: &Value) -> Option<NetFault> {
-    match name {
-        "Range" => Some(NetFault::Range(number(given)?)),
-        "SelfLink" => Some(NetFault::SelfLink(number(given)?)),
-        "Cycle" => Some(NetFault::Cycle(numbers(alloc, given)?)),
-        _ => None,
+/// A fault of links, with what it names: nodes, or the nodes of a walk.
+fn net_fault(answer: &mut Answer, named: &Value, given: &[Value]) -> NetFault {
+    match (word(answer, named), given) {
+        ("TooMany", []) => return NetFault::TooMany,
+        ("Range", [x]) => return NetFault::Range(number(answer, x)),
+        ("SelfLink", [x]) => return NetFault::SelfLink(number(answer, x)),
+        ("Twice", [u, v]) => return NetFault::Twice(number(answer, u), number(answer, v)),
+        ("Cycle", [walk]) => return NetFault::Cycle(numbers(answer, walk)),
+        ("NoLink", []) => return NetFault::NoLink,
+        ("Memory", []) => {}
+        _ => answer.refuse(),
     }
+    NetFault::Memory
 }
 
-fn line_fault(name: &str) -> Option<LineFault> {
-    match name {
-        "NotJson" => Some(LineFault::NotJson),
-        "NotRequest" => Some(LineFault::NotRequest),
-        _ => None,
+fn tell_line_fault(answer: &mut Answer, named: &Value) {
+    match word(answer, named) {
+        "NotJson" => answer.show(&LineFault::NotJson),
+        "NotRequest" => answer.show(&LineFault::NotRequest),
+        _ => answer.refuse(),
     }
 }
 
-fn edit_fault(at: &Value, name: &Value) -> Option<EditFault> {
-    let at = length(at)?;
-    let fault = plain_fault(name.as_str()?)?;
-    Some(EditFault { at, fault })
+fn tell_edit_fault(answer: &mut Answer, at: &Value, named: &Value) {
+    let at = length(answer, at);
+    let fault = net_fault(answer, named, &[]);
+    answer.show(&EditFault { at, fault });
 }
 
-fn check_fault(index: &Value, name: &Value) -> Option<CheckFault> {
-    let index = length(index)?;
-    match name.as_str()? {
-        "NotHeld" => Some(CheckFault::BadAt {
+fn tell_check_fault(answer: &mut Answer, index: &Value, named: &Value) {
+    let index = length(answer, index);
+    match word(answer, named) {
+        "NotHeld" => answer.show(&CheckFault::BadAt {
             index,
             why: Why::NotHeld,
         }),
-        _ => None,
+        _ => answer.refuse(),
     }
 }

@@ -8,49 +8,43 @@ ghost use Rattle.fr_core.specs.History.{moment_of};
 ghost use Rattle.fr_core.specs.Legal.{CanTurn};
 
 use crate::answers::Answer;
-use crate::cases::{counts, number, numbers};
-use crate::networks::network;
+use crate::cases::{count, counts, items, number, numbers, word};
 use crate::tables::none;
 use fr_core::{
     are_settled, can_turn, finish, finish_counts, finish_from, finish_soon, is_sink, lawful, sense,
 };
 use fr_net::{First, Net, Turns};
 use serde_json::Value;
-use std::alloc::Global;
 
-/// Answers what is asked of counts, if it is that. The destination is node 0, but where steps name another.
-pub fn answer(alloc: Global, answer: &mut Answer, word: &str, given: &[Value]) -> Option<()> {
-    match (word, given) {
-        ("finish", [nodes, links]) => finished(alloc, answer, &network(alloc, nodes, links)?, true),
-        ("turn_count", [nodes, links]) => {
-            finished(alloc, answer, &network(alloc, nodes, links)?, false)
-        }
-        ("finish_counts", [nodes, links, given]) => {
-            finished_counts(
-                answer,
-                &network(alloc, nodes, links)?,
-                counts(alloc, given)?,
-            )
-        }
-        ("finishes", [nodes, links, steps]) => {
-            finishes(alloc, answer, &network(alloc, nodes, links)?, steps)
-        }
-        ("lawful", [nodes, links, given]) => {
-            answer.put(&is_lawful(&network(alloc, nodes, links)?, 0, &counts(alloc, given)?));
-            Some(())
-        }
-        ("sinks", [nodes, links, given]) => {
-            tell_sinks(
-                answer,
-                &network(alloc, nodes, links)?,
-                &counts(alloc, given)?,
-            )
-        }
-        ("sense", [first, x, w]) => {
-            answer.put(&sense(first_of(first.as_str()?)?, x.as_u64()?, w.as_u64()?));
-            Some(())
-        }
-        _ => None,
+/// Answers where a link points, if it is asked. Whether it is.
+pub fn answer(answer: &mut Answer, asked: &str, given: &[Value]) -> bool {
+    match (asked, given) {
+        ("sense", [first, x, w]) => tell_sense(answer, first, x, w),
+        _ => return false,
+    }
+    true
+}
+
+/// Answers what is asked of the counts of a network. Whether it is that. The destination is node 0, but where steps name another.
+pub fn answer_of(answer: &mut Answer, net: &Net, asked: &str, given: &[Value]) -> bool {
+    match (asked, given) {
+        ("finish", []) => finished(answer, net, true),
+        ("turn_count", []) => finished(answer, net, false),
+        ("finish_counts", [counts]) => finished_counts(answer, net, counts),
+        ("finishes", [steps]) => finishes(answer, net, steps),
+        ("lawful", [counts]) => tell_lawful(answer, net, counts),
+        ("sinks", [counts]) => sinks(answer, net, counts),
+        _ => return false,
+    }
+    true
+}
+
+fn tell_sense(answer: &mut Answer, first: &Value, x: &Value, w: &Value) {
+    let (x, w) = (count(answer, x), count(answer, w));
+    match word(answer, first) {
+        "outward" => answer.put(&sense(First::Outward, x, w)),
+        "inward" => answer.put(&sense(First::Inward, x, w)),
+        _ => answer.refuse(),
     }
 }
 
@@ -65,61 +59,61 @@ fn is_lawful(net: &Net, dest: u32, counts: &[u64]) -> bool
     lawful(net, dest, counts)
 }
 
+fn tell_lawful(answer: &mut Answer, net: &Net, given: &Value) {
+    let counts = counts(answer, given);
+    answer.put(&is_lawful(net, 0, &counts));
+}
+
 /// How many turns `finish` makes from the counts 0, and the counts, if they are asked for.
-fn finished(alloc: Global, answer: &mut Answer, net: &Net, with_counts: bool) -> Option<()> {
-    let mut turns = none(alloc, net.nodes())?;
-    if !is_lawful(net, 0, turns.counts()) {
-        return None;
+fn finished(answer: &mut Answer, net: &Net, with_counts: bool) {
+    match none(answer, net.nodes()) {
+        Some(mut turns) if is_lawful(net, 0, turns.counts()) => {
+            answer.put(&finish(net, 0, &mut turns));
+            if with_counts {
+                answer.say(" ");
+                answer.put(&turns.counts());
+            }
+        }
+        _ => answer.refuse(),
     }
-    answer.put(&finish(net, 0, &mut turns));
-    if with_counts {
-        answer.say(" ");
-        answer.put(&turns.counts());
-    }
-    Some(())
 }
 
 /// How many turns `finish_counts` makes from these counts, and where it ends.
-fn finished_counts(answer: &mut Answer, net: &Net, mut counts: Vec<u64>) -> Option<()> {
+fn finished_counts(answer: &mut Answer, net: &Net, given: &Value) {
+    let mut counts = counts(answer, given);
     if !is_lawful(net, 0, &counts) {
-        return None;
+        return answer.refuse();
     }
     answer.put(&finish_counts(net, 0, &mut counts));
     answer.say(" ");
     answer.put(&counts);
-    Some(())
 }
 
 /// Takes steps with a table of the turns of a network, which has none at first.
-fn finishes(alloc: Global, answer: &mut Answer, net: &Net, steps: &Value) -> Option<()> {
-    let mut turns = none(alloc, net.nodes())?;
-    for step in steps.as_array()? {
-        take(alloc, answer, net, &mut turns, step.as_array()?.as_slice())?;
+fn finishes(answer: &mut Answer, net: &Net, steps: &Value) {
+    if let Some(mut turns) = none(answer, net.nodes()) {
+        take_all(answer, net, &mut turns, steps);
     }
-    Some(())
+}
+
+fn take_all(answer: &mut Answer, net: &Net, turns: &mut Turns, steps: &Value) {
+    for step in items(answer, steps) {
+        take(answer, net, turns, step);
+    }
 }
 
 /// Takes one step.
-fn take(
-    alloc: Global,
-    answer: &mut Answer,
-    net: &Net,
-    turns: &mut Turns,
-    step: &[Value],
-) -> Option<()> {
-    match step {
-        [word] => tell_or_clear(answer, turns, word.as_str()?),
-        [word, dest, from] => {
-            let from = numbers(alloc, from)?;
-            go_on(answer, net, turns, word.as_str()?, number(dest)?, &from)
-        }
-        _ => None,
+fn take(answer: &mut Answer, net: &Net, turns: &mut Turns, step: &Value) {
+    match items(answer, step) {
+        [asked] => tell_or_clear(answer, turns, asked),
+        [asked, dest, from] => go_on(answer, net, turns, asked, dest, from),
+        _ => answer.refuse(),
     }
 }
 
 /// Tells the counts or how many turns there are, or takes all turns back.
-fn tell_or_clear(answer: &mut Answer, turns: &mut Turns, word: &str) -> Option<()> {
-    match word {
+fn tell_or_clear(answer: &mut Answer, turns: &mut Turns, asked: &Value) {
+    match word(answer, asked) {
         "counts" => {
             answer.comma();
             answer.put(&turns.counts());
@@ -129,9 +123,8 @@ fn tell_or_clear(answer: &mut Answer, turns: &mut Turns, word: &str) -> Option<(
             answer.put(&turns.total());
         }
         "clear" => turns.clear(),
-        _ => return None,
+        _ => answer.refuse(),
     }
-    Some(())
 }
 
 /// Goes on to the settled counts, and tells whether it came there.
@@ -139,25 +132,26 @@ fn go_on(
     answer: &mut Answer,
     net: &Net,
     turns: &mut Turns,
-    word: &str,
-    dest: u32,
-    from: &[u32],
-) -> Option<()> {
-    if !is_lawful(net, dest, turns.counts()) || !hold_all(net, dest, turns.counts(), from) {
-        return None;
+    asked: &Value,
+    dest: &Value,
+    from: &Value,
+) {
+    let dest = number(answer, dest);
+    let from = numbers(answer, from);
+    if !is_lawful(net, dest, turns.counts()) || !hold_all(net, dest, turns.counts(), &from) {
+        return answer.refuse();
     }
     answer.comma();
-    match word {
-        "from" => finish_from(net, dest, turns, from),
-        "soon" => answer.say(if finish_soon(net, dest, turns, from) {
+    match word(answer, asked) {
+        "from" => finish_from(net, dest, turns, &from),
+        "soon" => answer.say(if finish_soon(net, dest, turns, &from) {
             "all turned, "
         } else {
             "gave up, "
         }),
-        _ => return None,
+        _ => answer.refuse(),
     }
     tell_state(answer, net, dest, turns.counts());
-    Some(())
 }
 
 /// Tells whether counts are lawful, and whether they are the settled ones.
@@ -221,23 +215,15 @@ fn is_among(list: &[u32], x: u32) -> bool
 }
 
 /// Tells the nodes that are sinks at these counts, with destination 0.
-fn tell_sinks(answer: &mut Answer, net: &Net, counts: &[u64]) -> Option<()> {
-    if !is_lawful(net, 0, counts) {
-        return None;
+fn sinks(answer: &mut Answer, net: &Net, given: &Value) {
+    let counts = counts(answer, given);
+    if !is_lawful(net, 0, &counts) {
+        return answer.refuse();
     }
     for x in 0..net.nodes() {
-        if is_sink(net, counts, x) {
+        if is_sink(net, &counts, x) {
             answer.comma();
             answer.put(&x);
         }
-    }
-    Some(())
-}
-
-fn first_of(word: &str) -> Option<First> {
-    match word {
-        "outward" => Some(First::Outward),
-        "inward" => Some(First::Inward),
-        _ => None,
     }
 }

@@ -1,60 +1,66 @@
 //! Small histories, checked.
 
 use crate::answers::Answer;
-use crate::cases::{list, number};
-use crate::networks::network;
+use crate::cases::{count, items, number, word};
 use fr_core::{Entry, Reply, check_run};
+use fr_net::Net;
 use serde_json::Value;
-use std::alloc::Global;
 
-/// Answers what is asked of a history, if it is that: the counts that it leads to, or the first entry that is not legal.
-pub fn answer(alloc: Global, answer: &mut Answer, word: &str, given: &[Value]) -> Option<()> {
-    match (word, given) {
-        ("history", [nodes, links, dest, entries]) => {
-            history(alloc, answer, nodes, links, number(dest)?, entries)
+/// Answers what is asked of a history, the counts that it leads to, or the first entry that is not legal. Whether it is that.
+pub fn answer_of(answer: &mut Answer, net: &Net, asked: &str, given: &[Value]) -> bool {
+    match (asked, given) {
+        ("history", [dest, entries]) => history(answer, net, dest, entries),
+        _ => return false,
+    }
+    true
+}
+
+fn history(answer: &mut Answer, net: &Net, dest: &Value, given: &Value) {
+    let dest = number(answer, dest);
+    let mut entries = Vec::new(answer.alloc);
+    for entry in items(answer, given) {
+        push(answer, &mut entries, entry);
+    }
+    let checked = check_run(answer.alloc, net, dest, &entries);
+    answer.put(&checked);
+}
+
+/// Adds an entry: the worker, the node, the word of the reply, and its numbers.
+fn push(answer: &mut Answer, entries: &mut Vec<Entry>, given: &Value) {
+    match items(answer, given) {
+        [worker, node, named, numbers @ ..] => {
+            let worker = number(answer, worker);
+            let node = number(answer, node);
+            let reply = reply(answer, named, numbers);
+            let pushed = entries.push(Entry {
+                worker,
+                node,
+                reply,
+            });
+            answer.note(pushed.is_ok());
         }
-        _ => None,
+        _ => answer.refuse(),
     }
 }
 
-fn history(
-    alloc: Global,
-    answer: &mut Answer,
-    nodes: &Value,
-    links: &Value,
-    dest: u32,
-    entries: &Value,
-) -> Option<()> {
-    let entries = list(alloc, entries, entry)?;
-    let net = network(alloc, nodes, links)?;
-    answer.put(&check_run(alloc, &net, dest, &entries));
-    Some(())
-}
-
-/// An entry: the worker, the node, the word of the reply, and its numbers.
-fn entry(value: &Value) -> Option<Entry> {
-    match value.as_array()?.as_slice() {
-        [worker, node, word, numbers @ ..] => Some(Entry {
-            worker: number(worker)?,
-            node: number(node)?,
-            reply: reply(word.as_str()?, numbers)?,
-        }),
-        _ => None,
+fn reply(answer: &mut Answer, named: &Value, numbers: &[Value]) -> Reply {
+    match (word(answer, named), numbers) {
+        ("turned", [turns]) => {
+            let count = count(answer, turns);
+            return Reply::Turned { count };
+        }
+        ("held", [by]) => {
+            let by = number(answer, by);
+            return Reply::Held { by };
+        }
+        ("moved", [had, turns]) => {
+            let had = count(answer, had);
+            let count = count(answer, turns);
+            return Reply::Moved { had, count };
+        }
+        ("cut", []) => return Reply::Cut,
+        ("sink", []) => {}
+        _ => answer.refuse(),
     }
-}
-
-fn reply(word: &str, numbers: &[Value]) -> Option<Reply> {
-    match (word, numbers) {
-        ("turned", [count]) => Some(Reply::Turned {
-            count: count.as_u64()?,
-        }),
-        ("held", [by]) => Some(Reply::Held { by: number(by)? }),
-        ("moved", [had, count]) => Some(Reply::Moved {
-            had: had.as_u64()?,
-            count: count.as_u64()?,
-        }),
-        ("cut", []) => Some(Reply::Cut),
-        ("sink", []) => Some(Reply::Sink),
-        _ => None,
-    }
+    Reply::Sink
 }

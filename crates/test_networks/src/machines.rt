@@ -4,86 +4,74 @@ ghost use Rattle.std.specs.Prelude.{IfOk};
 ghost use Rattle.fr_core.specs.Runs.{IsRunTo};
 
 use crate::answers::Answer;
-use crate::cases::{list, number, numbers};
-use crate::networks::network;
+use crate::cases::{items, number, numbers, word};
 use fr_core::{Entry, Machine, PlayFault, Target, check_run, play};
 use fr_net::Net;
 use serde_json::Value;
 use std::alloc::Global;
 
-/// Answers what is asked of a machine, if it is that: a network, its destination, the targets of each worker, and the worker of
-/// each step.
-pub fn answer(alloc: Global, answer: &mut Answer, word: &str, given: &[Value]) -> Option<()> {
-    let [nodes, links, dest, targets, order] = given else {
-        return None;
-    };
-    match word {
-        "play" => played(
-            alloc,
-            answer,
-            &network(alloc, nodes, links)?,
-            dest,
-            targets,
-            order,
-        ),
-        "by_hand" => by_hand(
-            alloc,
-            answer,
-            &network(alloc, nodes, links)?,
-            dest,
-            targets,
-            order,
-        ),
-        "steps" => steps(
-            alloc,
-            answer,
-            &network(alloc, nodes, links)?,
-            dest,
-            targets,
-            order,
-        ),
-        _ => None,
+/// Answers what is asked of a machine on a network, with its destination, the targets of each worker, and the worker of each step.
+/// Whether it is that.
+pub fn answer_of(answer: &mut Answer, net: &Net, asked: &str, given: &[Value]) -> bool {
+    match (asked, given) {
+        ("play", [dest, targets, order]) => played(answer, net, dest, targets, order),
+        ("by_hand", [dest, targets, order]) => by_hand(answer, net, dest, targets, order),
+        ("steps", [dest, targets, order]) => steps(answer, net, dest, targets, order),
+        _ => return false,
     }
+    true
 }
 
-/// A target: its word, and a node.
-fn target(value: &Value) -> Option<Target> {
-    match value.as_array()?.as_slice() {
-        [word, x] => target_of(word.as_str()?, number(x)?),
-        _ => None,
+/// The targets of each worker.
+fn targets(answer: &mut Answer, value: &Value) -> Vec<Vec<Target>> {
+    let mut targets = Vec::new(answer.alloc);
+    for worker in items(answer, value) {
+        let worker = targets_of_one(answer, worker);
+        answer.note(targets.push(worker).is_ok());
+    }
+    targets
+}
+
+/// The targets of a worker.
+fn targets_of_one(answer: &mut Answer, value: &Value) -> Vec<Target> {
+    let mut targets = Vec::new(answer.alloc);
+    for target in items(answer, value) {
+        push(answer, &mut targets, target);
+    }
+    targets
+}
+
+/// Adds a target: its word, and a node.
+fn push(answer: &mut Answer, targets: &mut Vec<Target>, given: &Value) {
+    match items(answer, given) {
+        [named, x] => {
+            let target = target_of(answer, named, x);
+            answer.note(targets.push(target).is_ok());
+        }
+        _ => answer.refuse(),
     }
 }
 
 /// The target that a word names.
-fn target_of(word: &str, x: u32) -> Option<Target> {
-    match word {
-        "turn" => Some(Target::Turn(x)),
-        "look" => Some(Target::Look(x)),
-        _ => None,
+fn target_of(answer: &mut Answer, named: &Value, x: &Value) -> Target {
+    let x = number(answer, x);
+    match word(answer, named) {
+        "turn" => return Target::Turn(x),
+        "look" => {}
+        _ => answer.refuse(),
     }
-}
-
-/// The targets of each worker.
-fn targets(alloc: Global, value: &Value) -> Option<Vec<Vec<Target>>> {
-    list(alloc, value, |worker| list(alloc, worker, target))
+    Target::Look(x)
 }
 
 /// The entries of a play, or its fault.
-fn played(
-    alloc: Global,
-    answer: &mut Answer,
-    net: &Net,
-    dest: &Value,
-    given: &Value,
-    order: &Value,
-) -> Option<()> {
-    let schedule = numbers(alloc, order)?;
-    let targets = targets(alloc, given)?;
-    match play(alloc, net, number(dest)?, targets, &schedule) {
+fn played(answer: &mut Answer, net: &Net, dest: &Value, given: &Value, order: &Value) {
+    let dest = number(answer, dest);
+    let schedule = numbers(answer, order);
+    let targets = targets(answer, given);
+    match play(answer.alloc, net, dest, targets, &schedule) {
         Ok(entries) => tell_entries(answer, &entries),
         Err(fault) => answer.put(&fault),
     }
-    Some(())
 }
 
 /// Tells entries, or that there are none.
@@ -107,21 +95,19 @@ fn tell_entry(answer: &mut Answer, entry: &Entry) {
 }
 
 /// The counts to which a machine comes that is stepped by hand, and those to which its entries lead where they are checked.
-fn by_hand(
-    alloc: Global,
-    answer: &mut Answer,
-    net: &Net,
-    dest: &Value,
-    given: &Value,
-    order: &Value,
-) -> Option<()> {
-    let dest = number(dest)?;
-    let order = numbers(alloc, order)?;
-    let (entries, counts) = step_by_hand(alloc, net, dest, targets(alloc, given)?, &order).ok()?;
-    answer.put(&counts);
-    answer.say(", checked ");
-    answer.put(&check_run(alloc, net, dest, &entries));
-    Some(())
+fn by_hand(answer: &mut Answer, net: &Net, dest: &Value, given: &Value, order: &Value) {
+    let dest = number(answer, dest);
+    let order = numbers(answer, order);
+    let targets = targets(answer, given);
+    match step_by_hand(answer.alloc, net, dest, targets, &order) {
+        Ok((entries, counts)) => {
+            answer.put(&counts);
+            answer.say(", checked ");
+            let checked = check_run(answer.alloc, net, dest, &entries);
+            answer.put(&checked);
+        }
+        Err(fault) => answer.put(&fault),
+    }
 }
 
 /// Steps a machine by hand: each number is the worker of the next step, and one that is no worker is passed over. The entries
@@ -150,25 +136,25 @@ fn step_by_hand(
 }
 
 /// What each step decides, with the counts after it, and the number of workers. A step of a number that is no worker is passed over.
-fn steps(
-    alloc: Global,
-    answer: &mut Answer,
-    net: &Net,
-    dest: &Value,
-    given: &Value,
-    order: &Value,
-) -> Option<()> {
-    let dest = number(dest)?;
-    let order = numbers(alloc, order)?;
-    let mut machine = Machine::new(alloc, net, dest, targets(alloc, given)?).ok()?;
-    for worker in &order {
+fn steps(answer: &mut Answer, net: &Net, dest: &Value, given: &Value, order: &Value) {
+    let dest = number(answer, dest);
+    let order = numbers(answer, order);
+    let targets = targets(answer, given);
+    match Machine::new(answer.alloc, net, dest, targets) {
+        Ok(machine) => step_all(answer, machine, &order),
+        Err(fault) => answer.put(&fault),
+    }
+}
+
+fn step_all(answer: &mut Answer, mut machine: Machine, order: &[u32]) {
+    for worker in order {
         if (*worker as usize) < machine.workers() {
-            tell_step(answer, machine.step(*worker), machine.counts());
+            let decided = machine.step(*worker);
+            tell_step(answer, decided, machine.counts());
         }
     }
     answer.comma();
     answer.put(&machine.workers());
-    Some(())
 }
 
 /// Tells what a step decides, and the counts after it.

@@ -16,7 +16,9 @@ mod request_lines;
 mod tables;
 
 use answers::Answer;
-use fr_net::LineReader;
+use cases::{items, word};
+use fr_net::{LineReader, Net};
+use networks::{network, tell_fault};
 use serde_json::Value;
 use std::alloc::Global;
 use std::io;
@@ -41,42 +43,50 @@ fn tell<R: Alloc<A = Global> + Print>(
     line: &str,
 ) -> io::Result<()> {
     let mut answer = Answer::new(rt.alloc());
-    let told = answer_case(rt.alloc(), &mut answer, reader, line);
+    match Value::from_str(rt.alloc(), line) {
+        Ok(case) => answer_case(&mut answer, reader, &case),
+        Err(_) => answer.refuse(),
+    }
     rt.print("  ")?;
-    rt.println(if told.is_some() {
-        answer.text()
-    } else {
-        "no such case"
-    })
+    rt.println(answer.text())
 }
 
-/// Answers a case, or `None` where the line is no case.
-fn answer_case(
-    alloc: Global,
-    answer: &mut Answer,
-    reader: &mut LineReader,
-    line: &str,
-) -> Option<()> {
-    let case = Value::from_str(alloc, line).ok()?;
-    let (word, given) = case.as_array()?.split_first()?;
-    answer_word(alloc, answer, reader, word.as_str()?, given)
+/// Answers a case.
+fn answer_case(answer: &mut Answer, reader: &mut LineReader, case: &Value) {
+    match items(answer, case) {
+        [asked, given @ ..] => {
+            let asked = word(answer, asked);
+            answer_word(answer, reader, asked, given);
+        }
+        [] => answer.refuse(),
+    }
 }
 
-/// Answers what a word asks of what is given with it. Each subject has words of its own.
-fn answer_word(
-    alloc: Global,
-    answer: &mut Answer,
-    reader: &mut LineReader,
-    word: &str,
-    given: &[Value],
-) -> Option<()> {
-    let known = networks::answer(alloc, answer, word, given).is_some()
-        || edits::answer(alloc, answer, word, given).is_some()
-        || tables::answer(alloc, answer, word, given).is_some()
-        || finishing::answer(alloc, answer, word, given).is_some()
-        || machines::answer(alloc, answer, word, given).is_some()
-        || histories::answer(alloc, answer, word, given).is_some()
-        || request_lines::answer(alloc, answer, reader, word, given).is_some()
-        || faults::answer(alloc, answer, word, given).is_some();
-    known.then_some(())
+/// Answers what a word asks of what is given with it. Each subject has words of its own; most ask it of a network, which is given first.
+fn answer_word(answer: &mut Answer, reader: &mut LineReader, asked: &str, given: &[Value]) {
+    let is_known = networks::answer(answer, asked, given)
+        || tables::answer(answer, asked, given)
+        || finishing::answer(answer, asked, given)
+        || request_lines::answer(answer, reader, asked, given)
+        || faults::answer(answer, asked, given);
+    match given {
+        _ if is_known => {}
+        [nodes, links, given @ ..] => match network(answer, nodes, links) {
+            Ok(net) => answer_of(answer, net, asked, given),
+            Err(fault) => tell_fault(answer, fault),
+        },
+        _ => answer.refuse(),
+    }
+}
+
+/// Answers what a word asks of a network.
+fn answer_of(answer: &mut Answer, mut net: Net, asked: &str, given: &[Value]) {
+    let is_known = networks::answer_of(answer, &net, asked, given)
+        || finishing::answer_of(answer, &net, asked, given)
+        || machines::answer_of(answer, &net, asked, given)
+        || histories::answer_of(answer, &net, asked, given)
+        || edits::answer_of(answer, &mut net, asked, given);
+    if !is_known {
+        answer.refuse();
+    }
 }

@@ -8,42 +8,46 @@ use crate::cases::{counts, links, number};
 use fr_net::laws::rows_law;
 use fr_net::{Net, NetFault, Turns};
 use serde_json::Value;
-use std::alloc::Global;
 
-/// Answers what is asked of a network, if it is that.
-pub fn answer(alloc: Global, answer: &mut Answer, word: &str, given: &[Value]) -> Option<()> {
-    match (word, given) {
-        ("made", [nodes, links]) => made(alloc, answer, nodes, links),
-        ("counted", [nodes, links]) => counted(alloc, answer, nodes, links),
-        ("rows", [nodes, links]) => rows(alloc, answer, nodes, links),
-        ("copied", [nodes, links]) => copied(alloc, answer, nodes, links),
-        ("turned", [links, counts]) => turned(alloc, answer, links, counts),
-        _ => None,
+/// Answers what is asked of links that may be those of a network. Whether it is that.
+pub fn answer(answer: &mut Answer, asked: &str, given: &[Value]) -> bool {
+    match (asked, given) {
+        ("made", [nodes, links]) => made(answer, nodes, links),
+        ("counted", [nodes, links]) => counted(answer, nodes, links),
+        ("turned", [links, counts]) => turned(answer, links, counts),
+        _ => return false,
     }
+    true
+}
+
+/// Answers what is asked of a network. Whether it is that.
+pub fn answer_of(answer: &mut Answer, net: &Net, asked: &str, given: &[Value]) -> bool {
+    match (asked, given) {
+        ("rows", []) => rows(answer, net),
+        ("copied", []) => copied(answer, net),
+        _ => return false,
+    }
+    true
 }
 
 /// The network with these links, or the fault of them.
-pub fn make(alloc: Global, nodes: &Value, given: &Value) -> Option<Result<Net, NetFault>> {
-    let links = links(alloc, given)?;
-    Some(Net::new(alloc, number(nodes)?, &links))
-}
-
-/// The network with these links.
-pub fn network(alloc: Global, nodes: &Value, given: &Value) -> Option<Net> {
-    make(alloc, nodes, given)?.ok()
+pub fn network(answer: &mut Answer, nodes: &Value, given: &Value) -> Result<Net, NetFault> {
+    let nodes = number(answer, nodes);
+    let links = links(answer, given);
+    Net::new(answer.alloc, nodes, &links)
 }
 
 /// Tells the links of a network, or the fault.
-pub fn tell(alloc: Global, answer: &mut Answer, made: Result<Net, NetFault>) {
+pub fn tell(answer: &mut Answer, made: Result<Net, NetFault>) {
     match made {
-        Ok(net) => tell_links(alloc, answer, &net),
+        Ok(net) => tell_links(answer, &net),
         Err(fault) => tell_fault(answer, fault),
     }
 }
 
 /// Tells the links of a network.
-pub fn tell_links(alloc: Global, answer: &mut Answer, net: &Net) {
-    match net.links(alloc) {
+pub fn tell_links(answer: &mut Answer, net: &Net) {
+    match net.links(answer.alloc) {
         Ok(links) => answer.put(&links),
         Err(fault) => answer.put(&fault),
     }
@@ -61,38 +65,41 @@ pub fn tell_fault(answer: &mut Answer, fault: NetFault) {
     }
 }
 
-fn made(alloc: Global, answer: &mut Answer, nodes: &Value, links: &Value) -> Option<()> {
-    tell(alloc, answer, make(alloc, nodes, links)?);
-    Some(())
+fn made(answer: &mut Answer, nodes: &Value, links: &Value) {
+    let made = network(answer, nodes, links);
+    tell(answer, made);
 }
 
 /// How many links are given, and how many a network of them has, which it lists in their order; or the fault.
-fn counted(alloc: Global, answer: &mut Answer, nodes: &Value, given: &Value) -> Option<()> {
-    let links = links(alloc, given)?;
+fn counted(answer: &mut Answer, nodes: &Value, given: &Value) {
+    let nodes = number(answer, nodes);
+    let links = links(answer, given);
     answer.put(&links.len());
     answer.say(" links, ");
-    match Net::new(alloc, number(nodes)?, &links) {
-        Ok(net) => tell_count(alloc, answer, &net, &links),
+    match Net::new(answer.alloc, nodes, &links) {
+        Ok(net) => tell_count(answer, &net, &links),
         Err(fault) => tell_fault(answer, fault),
     }
-    Some(())
 }
 
 /// Tells how many links a network has, and whether it lists these.
-fn tell_count(alloc: Global, answer: &mut Answer, net: &Net, links: &[(u32, u32)]) {
+fn tell_count(answer: &mut Answer, net: &Net, links: &[(u32, u32)]) {
     answer.put(&net.link_count());
-    let listed = net.links(alloc);
-    answer.say(if listed.is_ok_and(|listed| listed.as_slice() == links) {
+    let same = match net.links(answer.alloc) {
+        Ok(listed) => listed.as_slice() == links,
+        Err(_) => false,
+    };
+    answer.say(if same {
         " in the network, the same"
     } else {
         " in the network, others"
     });
 }
 
-fn rows(alloc: Global, answer: &mut Answer, nodes: &Value, links: &Value) -> Option<()> {
+/// Tells the rows of a network, which have laws.
+fn rows(answer: &mut Answer, net: &Net) {
     rows_law();
-    tell_rows(answer, &network(alloc, nodes, links)?);
-    Some(())
+    tell_rows(answer, net);
 }
 
 /// Tells the rows of a network, by each call that shows them.
@@ -118,10 +125,10 @@ fn tell_row(answer: &mut Answer, net: &Net, x: u32)
 }
 
 /// Tells whether a network has the rows of another one.
-fn tell_alike(alloc: Global, answer: &mut Answer, net: &Net, other: &Net) {
-    let mut rows = Answer::new(alloc);
+fn tell_alike(answer: &mut Answer, net: &Net, other: &Net) {
+    let mut rows = Answer::new(answer.alloc);
     tell_rows(&mut rows, net);
-    let mut others = Answer::new(alloc);
+    let mut others = Answer::new(answer.alloc);
     tell_rows(&mut others, other);
     answer.say(if rows.text() == others.text() {
         ", the same rows"
@@ -131,46 +138,65 @@ fn tell_alike(alloc: Global, answer: &mut Answer, net: &Net, other: &Net) {
 }
 
 /// Tells whether a network has the rows of one that is made of its links.
-pub fn tell_anew(alloc: Global, answer: &mut Answer, net: &Net) -> Option<()> {
-    let links = net.links(alloc).ok()?;
-    let anew = Net::new(alloc, net.nodes(), &links).ok()?;
-    tell_alike(alloc, answer, net, &anew);
-    Some(())
+pub fn tell_anew(answer: &mut Answer, net: &Net) {
+    match anew(answer, net) {
+        Ok(made) => tell_alike(answer, net, &made),
+        Err(fault) => tell_fault(answer, fault),
+    }
+}
+
+fn anew(answer: &Answer, net: &Net) -> Result<Net, NetFault> {
+    let links = net.links(answer.alloc)?;
+    Net::new(answer.alloc, net.nodes(), &links)
 }
 
 /// The links of a copy, and whether it has the rows of the network.
-fn copied(alloc: Global, answer: &mut Answer, nodes: &Value, links: &Value) -> Option<()> {
-    let net = network(alloc, nodes, links)?;
-    let copy = net.copied(alloc).ok()?;
-    tell_links(alloc, answer, &copy);
-    tell_alike(alloc, answer, &net, &copy);
-    Some(())
+fn copied(answer: &mut Answer, net: &Net) {
+    match net.copied(answer.alloc) {
+        Ok(copy) => {
+            tell_links(answer, &copy);
+            tell_alike(answer, net, &copy);
+        }
+        Err(fault) => answer.put(&fault),
+    }
 }
 
 /// The links that counts give, one for each node: in a network beside the first one, and in that one itself.
-fn turned(alloc: Global, answer: &mut Answer, given: &Value, given_counts: &Value) -> Option<()> {
-    let links = links(alloc, given)?;
-    let counts = counts(alloc, given_counts)?;
-    let net = Net::new(alloc, u32::try_from(counts.len()).ok()?, &links).ok()?;
-    let listed = net.links(alloc).ok()?;
-    if counts.len() != net.nodes() as usize || !are_kept(&listed, &counts) {
-        return None;
+fn turned(answer: &mut Answer, given: &Value, given_counts: &Value) {
+    let links = links(answer, given);
+    let counts = counts(answer, given_counts);
+    match Net::new(answer.alloc, counts.len().min(4097) as u32, &links) {
+        Ok(net) => turned_if_kept(answer, net, counts),
+        Err(fault) => tell_fault(answer, fault),
     }
-    tell_turned(alloc, answer, net, counts)
+}
+
+/// Tells the links that counts give, if each link stays or is reversed at them.
+fn turned_if_kept(answer: &mut Answer, net: Net, counts: Vec<u64>) {
+    match net.links(answer.alloc) {
+        Ok(listed) if counts.len() == net.nodes() as usize && are_kept(&listed, &counts) => {
+            tell_turned(answer, net, counts)
+        }
+        _ => answer.refuse(),
+    }
 }
 
 /// Tells the links that counts give, beside the network and in its place.
-fn tell_turned(alloc: Global, answer: &mut Answer, mut net: Net, counts: Vec<u64>) -> Option<()>
+fn tell_turned(answer: &mut Answer, mut net: Net, counts: Vec<u64>)
     requires one_each { length counts.items ≡ net.nodes }
     requires kept { All (IsKept counts.items) net.links }
 {
     answer.say("beside ");
-    tell(alloc, answer, net.turned_by(alloc, &counts));
+    let beside = net.turned_by(answer.alloc, &counts);
+    tell(answer, beside);
     net.network_law();
-    net.turn(&Turns::of(alloc, counts).ok()?);
+    match Turns::of(answer.alloc, counts) {
+        Ok(turns) => net.turn(&turns),
+        Err(_) => answer.note(false),
+    }
     answer.say(", in place ");
-    tell_links(alloc, answer, &net);
-    tell_anew(alloc, answer, &net)
+    tell_links(answer, &net);
+    tell_anew(answer, &net);
 }
 
 /// Whether each link stays or is reversed at these counts, as `turned_by` and `turn` require.

@@ -1,75 +1,77 @@
 //! Lines, and the requests that they are, each read alone and by a reader of many lines.
 
 use crate::answers::Answer;
-use crate::cases::{length, list};
+use crate::cases::{count, items, length, word};
 use fr_net::{LineReader, read_line};
 use serde_json::Value;
-use std::alloc::Global;
 
-/// Answers what is asked of lines, if it is that.
-pub fn answer(
-    alloc: Global,
-    answer: &mut Answer,
-    reader: &mut LineReader,
-    word: &str,
-    given: &[Value],
-) -> Option<()> {
-    let mut kept = Answer::new(alloc);
-    match (word, given) {
-        ("line", [line]) => tell(alloc, answer, &mut kept, reader, line.as_str()?.as_bytes()),
-        ("bytes", [bytes]) => tell(alloc, answer, &mut kept, reader, &list(alloc, bytes, byte)?),
+/// Answers what is asked of lines. Whether it is that.
+pub fn answer(answer: &mut Answer, reader: &mut LineReader, asked: &str, given: &[Value]) -> bool {
+    let mut kept = Answer::new(answer.alloc);
+    match (asked, given) {
+        ("line", [line]) => {
+            let line = word(answer, line).as_bytes();
+            tell(answer, &mut kept, reader, line);
+        }
+        ("bytes", [given]) => {
+            let line = bytes(answer, given);
+            tell(answer, &mut kept, reader, &line);
+        }
         ("fronts", [line]) => {
-            tell_fronts(alloc, answer, &mut kept, reader, line.as_str()?.as_bytes())
+            let line = word(answer, line).as_bytes();
+            tell_fronts(answer, &mut kept, reader, line);
         }
         ("nested", [opening, closing, depth]) => {
-            let line = nested(alloc, opening.as_str()?, closing.as_str()?, length(depth)?)?;
-            tell(alloc, answer, &mut kept, reader, line.as_bytes());
+            let line = nested(answer, opening, closing, depth);
+            tell(answer, &mut kept, reader, line.text().as_bytes());
         }
-        _ => return None,
+        _ => return false,
     }
     tell_same(answer, &kept);
-    Some(())
+    true
 }
 
-fn byte(value: &Value) -> Option<u8> {
-    u8::try_from(value.as_u64()?).ok()
+fn bytes(answer: &mut Answer, given: &Value) -> Vec<u8> {
+    let mut bytes = Vec::new(answer.alloc);
+    for item in items(answer, given) {
+        let byte = byte(answer, item);
+        answer.note(bytes.push(byte).is_ok());
+    }
+    bytes
+}
+
+fn byte(answer: &mut Answer, value: &Value) -> u8 {
+    let byte = count(answer, value);
+    if byte < 256 {
+        return byte as u8;
+    }
+    answer.refuse();
+    0
 }
 
 /// Tells what a line is, read alone, and elsewhere what it is for the reader.
-fn tell(
-    alloc: Global,
-    alone: &mut Answer,
-    kept: &mut Answer,
-    reader: &mut LineReader,
-    line: &[u8],
-) {
+fn tell(alone: &mut Answer, kept: &mut Answer, reader: &mut LineReader, line: &[u8]) {
     alone.comma();
-    match read_line(alloc, line) {
+    match read_line(alone.alloc, line) {
         Ok(request) => alone.put(&request),
         Err(fault) => alone.put(&fault),
     }
-    tell_kept(alloc, kept, reader, line);
+    tell_kept(kept, reader, line);
 }
 
 /// Tells what a line is for the reader.
-fn tell_kept(alloc: Global, kept: &mut Answer, reader: &mut LineReader, line: &[u8]) {
+fn tell_kept(kept: &mut Answer, reader: &mut LineReader, line: &[u8]) {
     kept.comma();
-    match reader.read(alloc, line) {
+    match reader.read(kept.alloc, line) {
         Ok(request) => kept.put(&request),
         Err(fault) => kept.put(&fault),
     }
 }
 
 /// Tells what each beginning of a line is, from one byte to all but one.
-fn tell_fronts(
-    alloc: Global,
-    alone: &mut Answer,
-    kept: &mut Answer,
-    reader: &mut LineReader,
-    line: &[u8],
-) {
+fn tell_fronts(alone: &mut Answer, kept: &mut Answer, reader: &mut LineReader, line: &[u8]) {
     for end in 1..line.len() {
-        tell(alloc, alone, kept, reader, &line[..end]);
+        tell(alone, kept, reader, &line[..end]);
     }
 }
 
@@ -81,17 +83,17 @@ fn tell_same(answer: &mut Answer, kept: &Answer) {
 }
 
 /// A line that opens so often, holds 0, and closes as often.
-fn nested(alloc: Global, opening: &str, closing: &str, depth: usize) -> Option<String> {
-    let mut line = String::new(alloc);
-    push_times(&mut line, opening, depth)?;
-    line.push_str("0").ok()?;
-    push_times(&mut line, closing, depth)?;
-    Some(line)
+fn nested(answer: &mut Answer, opening: &Value, closing: &Value, depth: &Value) -> Answer {
+    let depth = length(answer, depth);
+    let mut line = Answer::new(answer.alloc);
+    say_times(&mut line, word(answer, opening), depth);
+    line.say("0");
+    say_times(&mut line, word(answer, closing), depth);
+    line
 }
 
-fn push_times(line: &mut String, piece: &str, times: usize) -> Option<()> {
+fn say_times(line: &mut Answer, piece: &str, times: usize) {
     for _ in 0..times {
-        line.push_str(piece).ok()?;
+        line.say(piece);
     }
-    Some(())
 }

@@ -1,53 +1,60 @@
 //! Tables of turns.
 
 use crate::answers::Answer;
-use crate::cases::{counts, list, number};
+use crate::cases::{count, counts, items, number, word};
 use fr_net::{MAX_NODES, Turns};
 use serde_json::Value;
-use std::alloc::Global;
 
-/// Answers what is asked of tables of turns, if it is that.
-pub fn answer(alloc: Global, answer: &mut Answer, word: &str, given: &[Value]) -> Option<()> {
-    match (word, given) {
-        ("turns", [nodes, steps]) => turns(alloc, answer, nodes, steps),
-        ("turns_of", [counts]) => turns_of(alloc, answer, counts),
-        _ => None,
+/// Answers what is asked of tables of turns. Whether it is that.
+pub fn answer(answer: &mut Answer, asked: &str, given: &[Value]) -> bool {
+    match (asked, given) {
+        ("turns", [nodes, steps]) => turns(answer, nodes, steps),
+        ("turns_of", [counts]) => turns_of(answer, counts),
+        _ => return false,
     }
+    true
 }
 
 /// A table in which none of so many nodes has turned.
-pub fn none(alloc: Global, nodes: u32) -> Option<Turns> {
+pub fn none(answer: &mut Answer, nodes: u32) -> Option<Turns> {
     if nodes > MAX_NODES {
+        answer.refuse();
         return None;
     }
-    Turns::none(alloc, nodes).ok()
+    let turns = Turns::none(answer.alloc, nodes).ok();
+    answer.note(turns.is_some());
+    turns
 }
 
 /// Takes steps with a table that has no turns.
-fn turns(alloc: Global, answer: &mut Answer, nodes: &Value, steps: &Value) -> Option<()> {
-    let mut turns = none(alloc, number(nodes)?)?;
-    for step in steps.as_array()? {
-        take(alloc, answer, &mut turns, step.as_array()?.as_slice())?;
+fn turns(answer: &mut Answer, nodes: &Value, steps: &Value) {
+    let nodes = number(answer, nodes);
+    if let Some(mut turns) = none(answer, nodes) {
+        take_all(answer, &mut turns, steps);
     }
-    Some(())
+}
+
+fn take_all(answer: &mut Answer, turns: &mut Turns, steps: &Value) {
+    for step in items(answer, steps) {
+        take(answer, turns, step);
+    }
 }
 
 /// Takes one step, which tells the table or changes it.
-fn take(alloc: Global, answer: &mut Answer, turns: &mut Turns, step: &[Value]) -> Option<()> {
-    match step {
-        [word] => tell_or_clear(answer, turns, word.as_str()?),
-        [word, given] => change(alloc, turns, word.as_str()?, given),
-        _ => None,
+fn take(answer: &mut Answer, turns: &mut Turns, step: &Value) {
+    match items(answer, step) {
+        [asked] => tell_or_clear(answer, turns, asked),
+        [asked, given] => change(answer, turns, asked, given),
+        _ => answer.refuse(),
     }
 }
 
-fn tell_or_clear(answer: &mut Answer, turns: &mut Turns, word: &str) -> Option<()> {
-    match word {
+fn tell_or_clear(answer: &mut Answer, turns: &mut Turns, asked: &Value) {
+    match word(answer, asked) {
         "tell" => tell(answer, turns),
         "clear" => turns.clear(),
-        _ => return None,
+        _ => answer.refuse(),
     }
-    Some(())
 }
 
 /// Tells the counts, the nodes that have turned, and how many turns there are.
@@ -61,45 +68,48 @@ fn tell(answer: &mut Answer, turns: &Turns) {
 }
 
 /// Changes a table, if it can be changed so.
-fn change(alloc: Global, turns: &mut Turns, word: &str, given: &Value) -> Option<()> {
-    match word {
-        "add" => add(turns, number(given)?),
-        "each" => set_each(turns, given.as_u64()?),
-        "copy" => copy(turns, &counts(alloc, given)?),
-        _ => None,
+fn change(answer: &mut Answer, turns: &mut Turns, asked: &Value, given: &Value) {
+    match word(answer, asked) {
+        "add" => add(answer, turns, given),
+        "each" => set_each(answer, turns, given),
+        "copy" => copy(answer, turns, given),
+        _ => answer.refuse(),
     }
 }
 
-fn add(turns: &mut Turns, x: u32) -> Option<()> {
-    if *turns.counts().get(x as usize)? == u64::MAX {
-        return None;
+fn add(answer: &mut Answer, turns: &mut Turns, given: &Value) {
+    let x = number(answer, given);
+    let counts = turns.counts();
+    if x as usize >= counts.len() || counts[x as usize] == u64::MAX {
+        return answer.refuse();
     }
     turns.add(x);
-    Some(())
 }
 
-fn set_each(turns: &mut Turns, count: u64) -> Option<()> {
+fn set_each(answer: &mut Answer, turns: &mut Turns, given: &Value) {
+    let count = count(answer, given);
     if count == 0 {
-        return None;
+        return answer.refuse();
     }
     turns.set_each(count);
-    Some(())
 }
 
-fn copy(turns: &mut Turns, counts: &[u64]) -> Option<()> {
+fn copy(answer: &mut Answer, turns: &mut Turns, given: &Value) {
+    let counts = counts(answer, given);
     if counts.len() != turns.counts().len() {
-        return None;
+        return answer.refuse();
     }
-    turns.copy_from(counts);
-    Some(())
+    turns.copy_from(&counts);
 }
 
 /// The counts of a table that is made of counts.
-fn turns_of(alloc: Global, answer: &mut Answer, given: &Value) -> Option<()> {
-    let counts = counts(alloc, given)?;
+fn turns_of(answer: &mut Answer, given: &Value) {
+    let counts = counts(answer, given);
     if counts.len() > MAX_NODES as usize {
-        return None;
+        return answer.refuse();
     }
-    answer.put(&Turns::of(alloc, counts).ok()?.into_counts());
-    Some(())
+    match Turns::of(answer.alloc, counts) {
+        Ok(turns) => answer.put(&turns.into_counts()),
+        Err(_) => answer.note(false),
+    }
 }
