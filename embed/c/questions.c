@@ -194,7 +194,17 @@ static void look_at_nothing(revroute *session) {
     if (turned || cut_off || nodes || links || length) stop("there are numbers before there is a network");
 }
 
+/* The header's version is the library's. */
+static void compare_versions(void) {
+    char text[32], parts[32];
+    size_t length;
+    if (revroute_version((uint8_t *)text, sizeof text, &length) != REVROUTE_ANSWERED) stop("there is no version");
+    sprintf(parts, "%d.%d.%d", REVROUTE_VERSION_MAJOR, REVROUTE_VERSION_MINOR, REVROUTE_VERSION_PATCH);
+    if (length != strlen(REVROUTE_VERSION) || memcmp(text, REVROUTE_VERSION, length) || strcmp(parts, REVROUTE_VERSION)) stop("the versions differ");
+}
+
 int main(void) {
+    compare_versions();
     size_t accepted = 0;
     char asked[TEXT];
     for (int network = 0; network < NETWORKS; network++) {

@@ -127,7 +127,13 @@ uint32_t revroute_report(revroute *session, uint64_t *turned, uint64_t *cut_off)
 /* How many nodes and links there are. Before the first network REVROUTE_NO_NETWORK, and both are 0. */
 uint32_t revroute_size(revroute *session, uint32_t *nodes, size_t *links);
 
-/* Writes the version of the library, as 0.1.0, into the buffer `text` of `room` bytes. Returns REVROUTE_ANSWERED or
+/* The version of this header, which a program may compare with that of the library it runs with. */
+#define REVROUTE_VERSION_MAJOR 0
+#define REVROUTE_VERSION_MINOR 1
+#define REVROUTE_VERSION_PATCH 0
+#define REVROUTE_VERSION "0.1.0"
+
+/* Writes the version of the library, as REVROUTE_VERSION has it, into the buffer `text` of `room` bytes. Returns REVROUTE_ANSWERED or
  * REVROUTE_TOO_SHORT, and *length is the length of the version in both cases. */
 uint32_t revroute_version(uint8_t *text, size_t room, size_t *length);
 
