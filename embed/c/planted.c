@@ -6,6 +6,7 @@
 uint32_t engine_answer(revroute *, const uint8_t *, size_t, uint8_t *, size_t, size_t *);
 void engine_close(revroute *);
 uint32_t engine_finish(revroute *, uint8_t *, size_t, size_t *);
+uint32_t engine_links(revroute *, uint32_t *, size_t, size_t *);
 uint32_t engine_report(revroute *, uint64_t *, uint64_t *);
 uint32_t engine_route(revroute *, uint32_t, uint32_t *, size_t, size_t *);
 uint32_t engine_size(revroute *, uint32_t *, size_t *);
@@ -38,7 +39,8 @@ enum {
     a_route_without_the_destination,
     a_route_of_a_node_that_is_none,
     a_report_of_another_round,
-    a_link_too_few
+    a_link_too_few,
+    a_link_told_backwards
 };
 
 /* Asks once more with room enough, as if the state had moved on where the buffer was too short. */
@@ -126,6 +128,16 @@ uint32_t revroute_route(revroute *session, uint32_t node, uint32_t *nodes, size_
         size_t links;
         engine_size(session, &nodes_before, &links);
         return node < nodes_before ? status : engine_route(session, nodes_before - 1, nodes, room, length);
+    }
+    return status;
+}
+
+uint32_t revroute_links(revroute *session, uint32_t *ends, size_t room, size_t *length) {
+    uint32_t status = engine_links(session, ends, room, length);
+    if (FAULT == a_link_told_backwards && status == REVROUTE_ANSWERED && *length) {
+        uint32_t tail = ends[*length - 2];
+        ends[*length - 2] = ends[*length - 1];
+        ends[*length - 1] = tail;
     }
     return status;
 }

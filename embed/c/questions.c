@@ -96,6 +96,23 @@ static void compare_routes(revroute *session, size_t count) {
         stop("there is a route from behind the last node");
 }
 
+/* The links, as the line tells them. */
+static void compare_links(revroute *session) {
+    char told[TEXT], made[TEXT];
+    size_t length, none;
+    uint32_t status = revroute_links(session, (uint32_t[1]){0}, 0, &length);
+    if ((status == REVROUTE_ANSWERED) != (length == 0) || length % 2) stop("no room was enough for the links");
+    uint32_t *ends = grown(NULL, (length + 1) * sizeof *ends);
+    ends[0] = 77;
+    if (length && (revroute_links(session, ends, length - 1, &none) != REVROUTE_TOO_SHORT || ends[0] != 77 || none != length)) stop("links were written though they have no room");
+    if (revroute_links(session, ends, length, &length) != REVROUTE_ANSWERED) stop("there are no links");
+    char *text = made + sprintf(made, "links");
+    for (size_t at = 0; at < length; at += 2) text += sprintf(text, " %lu>%lu", (unsigned long)ends[at], (unsigned long)ends[at + 1]);
+    ask(session, "[\"links\"]", told);
+    if (strcmp(told, made)) stop("the links differ from the line's");
+    free(ends);
+}
+
 /* The report and the size, as the round's line and the links tell them. */
 static void compare_numbers(revroute *session, size_t count, const char *answer) {
     char told[TEXT], made[64];
@@ -169,6 +186,7 @@ static size_t step(revroute *session, const char *asked, bool is_network) {
         look_at_rerouted(session, is_network ? NULL : before, hops, after);
         compare(session, hops, after);
         compare_routes(session, after);
+        compare_links(session);
         compare_numbers(session, after, answer);
         look_at_rerouted(session, is_network ? NULL : before, hops, after);
     } else {
@@ -188,8 +206,9 @@ static void look_at_nothing(revroute *session) {
     uint64_t turned = 7, cut_off = 7;
     uint32_t nodes = 7;
     size_t links = 7, length = 7;
-    uint32_t ends[] = {revroute_report(session, &turned, &cut_off), revroute_size(session, &nodes, &links), revroute_route(session, 0, &nodes, 1, &length)};
-    for (size_t at = 0; at < 3; at++)
+    uint32_t ends[] = {revroute_report(session, &turned, &cut_off), revroute_size(session, &nodes, &links), revroute_route(session, 0, &nodes, 1, &length),
+                       revroute_links(session, &nodes, 1, &length)};
+    for (size_t at = 0; at < 4; at++)
         if (ends[at] != REVROUTE_NO_NETWORK) stop("there is an answer before there is a network");
     if (turned || cut_off || nodes || links || length) stop("there are numbers before there is a network");
 }

@@ -98,7 +98,7 @@ uint32_t revroute_finish(revroute *session, uint8_t *answer, size_t room, size_t
 /* Gives back all memory of a session, which is then as REVROUTE_NEW made it: it can be closed again, or used. */
 void revroute_close(revroute *session);
 
-/* Questions. They change nothing and, but for the route, take no memory; as any call, each has the session for itself while it runs.
+/* Questions. They change nothing and, but for a route and the links, take no memory; as any call, each has the session for itself while it runs.
  *
  * Those that write into an array of `room` places write to its front, and leave the rest: *length is how many they are, which
  * REVROUTE_TOO_SHORT tells as well. After any end but REVROUTE_ANSWERED the array is as it was. */
@@ -119,6 +119,10 @@ uint32_t revroute_counts(revroute *session, uint64_t *counts, size_t room, size_
 /* The way from a node to the destination, hop by hop, with both ends. REVROUTE_NO_ROUTE where there is none, and
  * REVROUTE_NO_MEMORY where memory ran out. */
 uint32_t revroute_route(revroute *session, uint32_t node, uint32_t *nodes, size_t room, size_t *length);
+
+/* The links in rising order of tail, then head: the two nodes of each, tail first, one link after the other, so *length is twice their
+ * number. REVROUTE_NO_MEMORY where memory ran out. */
+uint32_t revroute_links(revroute *session, uint32_t *ends, size_t room, size_t *length);
 
 /* What the last round reported: how many turns it took, and how many nodes it cut off. Before the first network REVROUTE_NO_NETWORK, and
  * both are 0. */

@@ -1,5 +1,5 @@
 -- What a question is answered.
-use Rattle.std.specs.Prelude.{◌≡◌, ℕ, ◌<◌, ◌≤◌, ◌⊎◌, ◌∷◌, List, length, slice_get, Option, Some, None}
+use Rattle.std.specs.Prelude.{◌≡◌, ℕ, ◌<◌, ◌≤◌, ◌⊎◌, [], ◌∷◌, List, length, slice_get, Option, Some, None}
 use Rattle.fr_route.specs.Routes.{IsHop, IsRoute}
 use Rattle.fr_route.specs.States.{State, IsCutOff}
 use Rattle.fr_route.specs.declared.hops.Hop.{Hop}
@@ -54,6 +54,11 @@ pub record IsRouteWritten (s : State) (x : ℕ) (before after : List ℕ) (size 
 -- the route from x has so many nodes
 abbrev pub IsRouteLength : State → ℕ → ℕ → Type 0
 IsRouteLength s x size = (rest : List ℕ) × (IsRoute s.links s.dest x rest × (size ≡ length (x ∷ rest)))
+
+-- tail and head of each link, one link after the other
+abbrev pub ends : List (ℕ × ℕ) → List ℕ
+ends [] = []
+ends (l ∷ ls) = l.0 ∷ l.1 ∷ ends ls
 
 -- there is no way from x to the destination: x is no node, or it is cut off
 abbrev pub HasNoRoute : State → ℕ → Type 0

@@ -12,7 +12,7 @@ ghost use Rattle.fr_route.specs.States.{IsReport};
 ghost use Rattle.fr_route.specs.Told.{IsLineTold};
 ghost use Rattle.revroute_c.specs.Replies.{least_room, IsAnswered, IsWanted, IsWritten};
 ghost use Rattle.revroute_c.specs.Pieces.{longest_line, EndsLine, IsTooLong, IsWantedAtEnd};
-ghost use Rattle.revroute_c.specs.Questions.{AreHopsWritten, HasNoRoute, IsRouteLength, IsRouteWritten, TellsHop};
+ghost use Rattle.revroute_c.specs.Questions.{AreHopsWritten, HasNoRoute, IsRouteLength, IsRouteWritten, TellsHop, ends};
 
 mod engine;
 mod handle;
@@ -25,8 +25,8 @@ use fr_route::{VERSION, is_blank};
 use handle::Handle;
 use pieces::{BEGUN, TOO_LONG, finish_line, take_anew, take_front};
 use questions::{
-    HOP_OF_NO_NETWORK, NO_NETWORK, NO_ROUTE, counts_in, hop_in, hops_in, report_in, route_in,
-    size_in,
+    HOP_OF_NO_NETWORK, NO_NETWORK, NO_ROUTE, counts_in, hop_in, hops_in, links_in, report_in,
+    route_in, size_in,
 };
 use replies::{ANSWERED, BLANK, LEAST_ROOM, NO_MEMORY, TOO_SHORT, hand_out, reply, reply_anew};
 use std::alloc::Global;
@@ -268,6 +268,33 @@ pub extern "C" fn revroute_route(
     *size = 0;
     match handle.engine_mut() {
         Some(engine) => route_in(&engine.session, alloc, node, nodes, size),
+        None => NO_NETWORK,
+    }
+}
+
+/// Writes tail and head of each link, in rising order of tail, then head, one link after the other, into the front of the place, and how many
+/// numbers these are to `size`: two for each link. `TOO_SHORT` says that the place has less room, `NO_NETWORK` that there is no network yet, and
+/// `NO_MEMORY` that an allocation was refused; `size` is 0 after these two. After each of the three the place is as it was. Linear in nodes and
+/// links.
+#[unsafe(no_mangle)]
+pub extern "C" fn revroute_links(
+    alloc: Global,
+    handle: &mut Handle,
+    place: &mut [u32],
+    size: &mut usize,
+) -> u32
+    ensures same { (handle.new.session ≡ handle.old.session) × (handle.new.rerouted ≡ handle.old.rerouted) × (handle.new.begun ≡ handle.old.begun) }
+    ensures kept { handle.new.at ≡ handle.old.at }
+    ensures written { result ≡ ANSWERED → IfSome handle.old.session (λ s. IsWritten (ends s.links) place.old place.new × (size.new ≡ length (ends s.links))) }
+    ensures too_short { result ≡ TOO_SHORT → (length place.old < size.new) × IfSome handle.old.session (λ s. size.new ≡ length (ends s.links)) }
+    ensures no_network { (result ≡ NO_NETWORK) ↔ (handle.old.session ≡ None) }
+    ensures unchanged { ¬ (result ≡ ANSWERED) → place.new ≡ place.old }
+    ensures none { TOO_SHORT < result → size.new ≡ 0 }
+    ensures status { (result ≡ ANSWERED) ⊎ ((TOO_SHORT ≤ result) × (result ≤ NO_NETWORK)) }
+{
+    *size = 0;
+    match handle.engine_mut() {
+        Some(engine) => links_in(&engine.session, alloc, place, size),
         None => NO_NETWORK,
     }
 }

@@ -1,13 +1,13 @@
 //! Questions: they change nothing.
 
-ghost use Rattle.std.specs.Prelude.{◌≡◌, ◌<◌, ◌≤◌, ◌⊎◌, ◌↔◌, length, None, IfSome};
+ghost use Rattle.std.specs.Prelude.{◌≡◌, ◌<◌, ◌≤◌, ◌⊎◌, ◌↔◌, length, None, IfOk, IfSome};
 ghost use Rattle.fr_route.specs.States.{IsReport};
-ghost use Rattle.revroute_c.specs.Questions.{number_of, AreHopNumbers, AreHopsWritten, HasNoRoute, IsHopNumber, IsRouteLength, IsRouteWritten, TellsHop};
+ghost use Rattle.revroute_c.specs.Questions.{number_of, AreHopNumbers, AreHopsWritten, HasNoRoute, IsHopNumber, IsRouteLength, IsRouteWritten, TellsHop, ends};
 ghost use Rattle.revroute_c.specs.Replies.{IsWritten};
 
 use crate::replies::{ANSWERED, NO_MEMORY, TOO_SHORT, hand_out};
 use fr_route::{Hop, Router, Session, Walked};
-use std::alloc::Global;
+use std::alloc::{AllocError, Global};
 
 /// There is no network yet.
 pub(crate) const NO_NETWORK: u32 = 4;
@@ -180,4 +180,42 @@ pub(crate) fn size_in(session: &Session, nodes: &mut u32, links: &mut usize) -> 
     *nodes = router.net().nodes();
     *links = router.net().link_count();
     ANSWERED
+}
+
+/// Writes tail and head of each link, if there is a network. `size` has to be 0.
+pub(crate) fn links_in(session: &Session, alloc: Global, place: &mut [u32], size: &mut usize) -> u32
+    requires { size.old ≡ 0 }
+    ensures written { result ≡ ANSWERED → IfSome session.now (λ s. IsWritten (ends s.links) place.old place.new × (size.new ≡ length (ends s.links))) }
+    ensures too_short { result ≡ TOO_SHORT → (length place.old < size.new) × IfSome session.now (λ s. size.new ≡ length (ends s.links)) }
+    ensures no_network { (result ≡ NO_NETWORK) ↔ (session.now ≡ None) }
+    ensures unchanged { ¬ (result ≡ ANSWERED) → place.new ≡ place.old }
+    ensures none { TOO_SHORT < result → size.new ≡ 0 }
+    ensures status { (result ≡ ANSWERED) ⊎ ((TOO_SHORT ≤ result) × (result ≤ NO_NETWORK)) }
+{
+    let Some(router) = session.router() else {
+        return NO_NETWORK;
+    };
+    match ends_in(router, alloc) {
+        Ok(found) => hand_out(&found, place, size),
+        Err(_memory) => NO_MEMORY,
+    }
+}
+
+/// Tail and head of each link, one link after the other.
+fn ends_in(router: &Router, alloc: Global) -> Result<Vec<u32>, AllocError>
+    ensures { IfOk result (λ found. found.items ≡ ends router.now.links) }
+{
+    let links = router.net().links(alloc)?;
+    ends_of(alloc, &links)
+}
+
+fn ends_of(alloc: Global, links: &[(u32, u32)]) -> Result<Vec<u32>, AllocError>
+    ensures { IfOk result (λ found. found.items ≡ ends links.now) }
+{
+    let mut found = Vec::new(alloc);
+    for link in links {
+        found.push(link.0)?;
+        found.push(link.1)?;
+    }
+    Ok(found)
 }

@@ -125,7 +125,9 @@ class SessionTest(unittest.TestCase):
                     self.assertEqual(" ".join(["hops", *told]), session.answer('["hops"]'))
                     self.assertEqual(" ".join(["counts", *map(str, session.counts())]), session.answer('["counts"]'))
                     self.assertEqual("turned {} cut {}".format(*session.report()), answer)
-                    self.assertEqual(session.size(), (len(after), len(session.answer('["links"]').split()) - 1))
+                    links = session.links()
+                    self.assertEqual(" ".join(["links", *(f"{u}>{v}" for u, v in links)]), session.answer('["links"]'))
+                    self.assertEqual(session.size(), (len(after), len(links)))
                     for x in range(len(after)):
                         told = " ".join(map(str, session.route(x) or [x, "cut"]))
                         self.assertEqual(f"walk {told}", session.answer(f'["walk",{x}]'))
@@ -160,7 +162,7 @@ class SessionTest(unittest.TestCase):
     def test_before_the_first_network_there_is_nothing_to_tell(self):
         with revroute.Session() as session:
             self.assertEqual([session.next_hops(), session.rerouted(), session.counts()], [[], [], []])
-            self.assertEqual([session.report(), session.size()], [None, None])
+            self.assertEqual([session.links(), session.report(), session.size()], [[], None, None])
             self.assertRaises(IndexError, session.next_hop, 0)
             self.assertRaises(IndexError, session.route, 0)
 
@@ -172,7 +174,7 @@ class SessionTest(unittest.TestCase):
                 self.assertRaises(IndexError, session.route, node)
             self.assertRaises(TypeError, session.next_hop, "1")
             self.assertRaises(TypeError, session.route, 1.0)
-        numbers = session.next_hops, session.rerouted, session.counts, session.report, session.size
+        numbers = session.next_hops, session.rerouted, session.counts, session.links, session.report, session.size
         for question in (*numbers, lambda: session.next_hop(1), lambda: session.route(1)):
             self.assertRaises(ValueError, question)
 

@@ -131,6 +131,28 @@ impl Session {
         })
     }
 
+    /// The links, each from its tail to its head, in rising order; nothing before the first network. `O(n + m)`.
+    ///
+    /// ```
+    /// let mut session = revroute::Session::new();
+    /// session.answer(r#"["net",3,0,[[0,1],[1,2]]]"#)?;
+    /// assert_eq!(session.links()?, [(1, 0), (2, 1)]);
+    /// # Ok::<(), revroute::NoMemory>(())
+    /// ```
+    ///
+    /// # Errors
+    ///
+    /// Where memory for the lists runs out.
+    pub fn links(&mut self) -> Result<Vec<(u32, u32)>, NoMemory> {
+        let ends = self.all_of(sys::revroute_links)?;
+        let mut links = Vec::new();
+        links
+            .try_reserve_exact(ends.len() / 2)
+            .map_err(|_| NoMemory)?;
+        links.extend(ends.chunks_exact(2).map(|link| (link[0], link[1])));
+        Ok(links)
+    }
+
     /// What the last round reported; `None` before the first network. `O(1)`, without memory.
     ///
     /// ```

@@ -98,6 +98,13 @@ unsafe extern "C" {
         length: *mut usize,
     ) -> u32;
 
+    pub fn revroute_links(
+        session: *mut Handle,
+        ends: *mut u32,
+        room: usize,
+        length: *mut usize,
+    ) -> u32;
+
     pub fn revroute_report(session: *mut Handle, turned: *mut u64, cut_off: *mut u64) -> u32;
 
     pub fn revroute_size(session: *mut Handle, nodes: *mut u32, links: *mut usize) -> u32;

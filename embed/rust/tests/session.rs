@@ -223,9 +223,17 @@ fn questions_tell_what_lines_tell() -> Result<(), Box<dyn Error>> {
             tells_routes(&mut session, after.len() as u32)?;
             let Report { turned, cut_off } = session.report().expect("there is a network");
             assert_eq!(answer, format!("turned {turned} cut {cut_off}"));
-            let links = session.answer(r#"["links"]"#)?.map(|it| it.matches('>').count());
+            let links = session.links()?;
+            let told: String = links.iter().map(|(u, v)| format!(" {u}>{v}")).collect();
+            assert_eq!(
+                session.answer(r#"["links"]"#)?,
+                Some(&*format!("links{told}"))
+            );
             let size = session.size().expect("there is a network");
-            assert_eq!((size.nodes as usize, Some(size.links)), (after.len(), links));
+            assert_eq!(
+                (size.nodes as usize, size.links),
+                (after.len(), links.len())
+            );
         }
     }
     assert!(accepted > 10, "{accepted}");
@@ -239,6 +247,7 @@ fn before_the_first_network_there_is_nothing_to_tell() -> Result<(), NoMemory> {
     assert_eq!(session.next_hops()?, []);
     assert_eq!(session.rerouted()?, []);
     assert_eq!(session.counts()?, []);
+    assert_eq!(session.links()?, []);
     assert_eq!(session.route(0)?, None);
     assert_eq!((session.report(), session.size()), (None, None));
     assert_eq!(Hop::To(7).node(), Some(7));

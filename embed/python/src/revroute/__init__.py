@@ -59,7 +59,7 @@ def _load() -> ctypes.CDLL:
     library.revroute_finish.restype = ctypes.c_uint32
     library.revroute_next_hop.argtypes = [ctypes.POINTER(_Handle), ctypes.c_uint32]
     library.revroute_next_hop.restype = ctypes.c_uint32
-    for call, item in (("next_hops", ctypes.c_uint32), ("rerouted", ctypes.c_uint32), ("counts", ctypes.c_uint64)):
+    for call, item in (("next_hops", ctypes.c_uint32), ("rerouted", ctypes.c_uint32), ("links", ctypes.c_uint32), ("counts", ctypes.c_uint64)):
         question = getattr(library, f"revroute_{call}")
         question.argtypes = [ctypes.POINTER(_Handle), ctypes.POINTER(item), size, ctypes.POINTER(size)]
         question.restype = ctypes.c_uint32
@@ -327,6 +327,18 @@ class Session:
     def counts(self) -> list[int]:
         """How often each node turned in the last round, in the order of the nodes; nothing before the first network."""
         return self._filled(_library.revroute_counts, ctypes.c_uint64)
+
+    def links(self) -> list[tuple[int, int]]:
+        """The links, each from its tail to its head, in rising order; nothing before the first network.
+
+        >>> with Session() as session:
+        ...     session.answer('["net",3,0,[[0,1],[1,2]]]')
+        ...     session.links()
+        'turned 3 cut 0'
+        [(1, 0), (2, 1)]
+        """
+        ends = self._filled(_library.revroute_links, ctypes.c_uint32)
+        return [*zip(ends[::2], ends[1::2])]
 
     def route(self, node: int) -> Optional[list[int]]:
         """The nodes of the way from a node to the destination, with both ends, or None where the node is cut off.
