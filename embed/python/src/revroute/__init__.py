@@ -26,7 +26,7 @@ from pathlib import Path
 from threading import RLock, get_ident
 from typing import Any, NamedTuple, NoReturn, Optional, Union
 
-__all__ = ["AnswerLost", "LineTooLong", "NoHop", "Report", "Session", "Size", "version"]
+__all__ = ["AnswerLost", "LineTooLong", "Network", "NoHop", "Refused", "Report", "Session", "Size", "version"]
 
 _ANSWERED, _BLANK, _TOO_SHORT, _NO_MEMORY, _NO_NETWORK = range(5)
 _TOO_LONG = 9
@@ -402,6 +402,31 @@ class Session:
             finally:
                 self._caller = None
 
+    def _fill(self, places: Any, room: int) -> int:
+        """Writes all next hops into places of the caller's, and returns how many they are."""
+        with self._lock:
+            self._begin_call()
+            try:
+                status = _library.revroute_next_hops(self._at, places, room, self._count_at)
+                if status == _TOO_SHORT:
+                    raise ValueError(f"there is room for {room} of {self._count.value} hops")
+                return self._count.value
+            finally:
+                self._caller = None
+
+    def _changed(self) -> list[tuple[int, Union[int, NoHop]]]:
+        """The rerouted nodes with their next hops, of one moment."""
+        with self._lock:
+            self._begin_call()
+            try:
+                count = ctypes.c_size_t()
+                _library.revroute_rerouted(self._at, (ctypes.c_uint32 * 0)(), 0, ctypes.byref(count))
+                nodes = (ctypes.c_uint32 * count.value)()
+                _library.revroute_rerouted(self._at, nodes, count.value, ctypes.byref(count))
+                return [(node, _hop(_library.revroute_next_hop(self._at, node))) for node in nodes]
+            finally:
+                self._caller = None
+
     def close(self) -> None:
         """Ends the session, and gives its memory back. A second call does nothing."""
         with self._lock:
@@ -456,3 +481,7 @@ def version() -> str:
         if _library.revroute_version(text, room, ctypes.byref(length)) == _ANSWERED:
             return text.raw[: length.value].decode("ascii")
         room = length.value
+
+
+# The network is made of what stands above.
+from .network import Network, Refused  # noqa: E402
