@@ -99,7 +99,7 @@ fn single_value(alloc: Global, token: Token<'_>) -> Result<Value, LineFault>
 {
     match token {
         Token::String(text) => Ok(Value::String(String::from_str(alloc, text)?)),
-        Token::Number(text) => Ok(Value::Number(number(text).ok_or(LineFault::NotJson)?)),
+        Token::Number(text) => number(text).map(Value::Number).ok_or(LineFault::NotJson),
         Token::Bool(b) => Ok(Value::Bool(b)),
         Token::Null => Ok(Value::Null),
         _ => Err(LineFault::NotJson),
