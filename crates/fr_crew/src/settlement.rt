@@ -64,8 +64,11 @@ pub fn settle<R: Threads + Wait + Sync, G: Gate + Sync>(
     ensures no_start { (plan.now.budget ≡ 0) ⊎ (plan.now.workers ≡ 1) → IfErr result (λ fault. fault ≢ Start) }
     ensures still { AreSettled net.nodes dest net.links (replicate net.nodes 0) → IfErr result (λ fault. fault ≢ Start) }
 {
+    if plan.budget() == 0 {
+        return settle_alone(alloc, net, dest);
+    }
     let turns = none_yet(alloc, &net, dest)?;
-    if plan.budget() == 0 || are_settled(&net, dest, turns.counts()) {
+    if are_settled(&net, dest, turns.counts()) {
         return Ok(finished(net, dest, turns, 0));
     }
     settled_by_crew(rt, alloc, net, dest, turns, plan, gate)

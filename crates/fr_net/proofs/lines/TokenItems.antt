@@ -141,20 +141,6 @@ unfolding value
 too_deep zero behind e = (refl, refl)
 too_deep (suc d) behind e = absurd (omega arith)
 
--- so there each token is a value by itself, or none
-pub single_where_none : (depth : ℕ) (k : reader.Token) (ts behind : List Token) → depth ≡ 0 → ts ≡ token_of k ∷ behind
-    → converted of_json (value depth ts) ≡ option_map (λ d. (d, behind)) (single_data (token_of k))
-single_where_none depth reader.Token.BeginArray ts behind none first = ap (converted of_json) (ap (value depth) first ∙ (too_deep depth behind none).0)
-single_where_none depth reader.Token.BeginObject ts behind none first = ap (converted of_json) (ap (value depth) first ∙ (too_deep depth behind none).1)
-single_where_none depth reader.Token.EndObject ts behind none first = single_read depth reader.Token.EndObject ts behind (λ e. cc) (λ e. cc) first
-single_where_none depth reader.Token.EndArray ts behind none first = single_read depth reader.Token.EndArray ts behind (λ e. cc) (λ e. cc) first
-single_where_none depth (reader.Token.Key s) ts behind none first = single_read depth (reader.Token.Key s) ts behind (λ e. cc) (λ e. cc) first
-single_where_none depth (reader.Token.String s) ts behind none first = single_read depth (reader.Token.String s) ts behind (λ e. cc) (λ e. cc) first
-single_where_none depth (reader.Token.Number s) ts behind none first = single_read depth (reader.Token.Number s) ts behind (λ e. cc) (λ e. cc) first
-single_where_none depth (reader.Token.Bool b) ts behind none first = single_read depth (reader.Token.Bool b) ts behind (λ e. cc) (λ e. cc) first
-single_where_none depth reader.Token.Null ts behind none first = single_read depth reader.Token.Null ts behind (λ e. cc) (λ e. cc) first
-single_where_none depth reader.Token.Bad ts behind none first = single_read depth reader.Token.Bad ts behind (λ e. cc) (λ e. cc) first
-
 first_of_members : (key : List ℕ) (j : json.Json) (d : Data) (found : Members) → of_json j ≡ Some d → (o : Option (json.Members × List Token))
     → converted (λ ms. of_members ms found) (parse_map (json.member key j) o) ≡ converted (λ ms. of_members ms (put key d found)) o
 first_of_members key j d found e None = refl

@@ -29,13 +29,10 @@ pub(crate) fn value(
         → (fault ≡ NotJson) × (converted of_json (json_value depth reader.old) ≡ None)) }
 {
     let token = next_token(reader)?;
-    let Some(inside) = depth.checked_sub(1) else {
-        // Where nothing may nest, what opens an array or an object is no value.
-        return single_value(alloc, token);
-    };
     match token {
-        Token::BeginArray => items(alloc, reader, inside).map(Value::Array),
-        Token::BeginObject => members(alloc, reader, inside).map(Value::Object),
+        Token::BeginArray if depth > 0 => items(alloc, reader, depth - 1).map(Value::Array),
+        Token::BeginObject if depth > 0 => members(alloc, reader, depth - 1).map(Value::Object),
+        // Where nothing may nest, what opens an array or an object is no value.
         _ => single_value(alloc, token),
     }
 }
@@ -99,7 +96,7 @@ fn single_value(alloc: Global, token: Token<'_>) -> Result<Value, LineFault>
 {
     match token {
         Token::String(text) => Ok(Value::String(String::from_str(alloc, text)?)),
-        Token::Number(text) => Ok(Value::Number(number(text).ok_or(LineFault::NotJson)?)),
+        Token::Number(text) => number(text).map(Value::Number).ok_or(LineFault::NotJson),
         Token::Bool(b) => Ok(Value::Bool(b)),
         Token::Null => Ok(Value::Null),
         _ => Err(LineFault::NotJson),

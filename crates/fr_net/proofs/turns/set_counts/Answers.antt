@@ -1,13 +1,9 @@
-use Rattle.std.proofs.Common.{arith, get_or, get_or-set_other, get_or-set_same, inl, inr, length, length-set, refl, sym, ℕ, ◌<◌, ◌∙◌, ◌≡◌}
+use Rattle.std.proofs.Common.{arith, get_or, get_or-set_other, get_or-set_same, inl, inr, length, length-set, refl, sym, ℕ, ◌<◌, ◌∙◌}
 use Rattle.std.proofs.lemmas.Bool.{cases_eq}
 use Rattle.fr_net.proofs.turns.set_counts.Goals as goal
-use Rattle.fr_net.proofs.turns.set_counts.Goals.{After-row_known-1}
-
-is_node : (c : After-row_known-1) → get_or c.args.nodes.now c.loop-x.x-index 0 < length c.loop-x.counts
-is_node c = omega (arith, c.requires c.loop-x.x-index 0 c.loop-x-test.true, c.loop-x.invariant.one_each)
 
 pub bounds-counts-x : goal.bounds-counts-x
-bounds-counts-x c = is_node c
+bounds-counts-x c = omega (arith, c.requires c.loop-x.x-index 0 c.loop-x-test.true, c.loop-x.invariant.one_each)
 
 pub loop-x-preserved : goal.loop-x-preserved
 loop-x-preserved c =
@@ -16,10 +12,11 @@ loop-x-preserved c =
     let i = c.loop-x.x-index in
     let x : ℕ = get_or nodes i 0 in
     let before = c.loop-x.invariant in
+    let inside : x < length counts = omega (arith, c.requires i 0 c.loop-x-test.true, before.one_each) in
     record {
       one_each = length-set counts x c.args.count ∙ before.one_each;
       these = λ j lt. elim (cases_eq (get_or nodes j 0) x) [
-        | inl same ↦ rw same (get_or-set_same counts x c.args.count 0 (is_node c))
+        | inl same ↦ rw same (get_or-set_same counts x c.args.count 0 inside)
         | inr apart ↦
             let early : j < i = elim (cases_eq j i) [ inl last ↦ absurd (apart (rw last refl)) | inr other ↦ omega (arith, lt, other) ] in
             get_or-set_other counts x (get_or nodes j 0) c.args.count 0 apart ∙ before.these j early

@@ -1,4 +1,4 @@
-use Rattle.std.proofs.Common.{List, ap, arith, length, refl, ◌∙◌}
+use Rattle.std.proofs.Common.{List, ap, arith, length, ◌∙◌}
 use Rattle.std.proofs.lemmas.Result.{IfOk-weaker}
 use Rattle.fr_net.specs.CycleSearch.{nodes_of}
 use Rattle.fr_net.specs.declared.cycle.Step.{Step}

@@ -32,6 +32,21 @@ loop-at-init c =
       all_room = c.in_ok-all.ensures.capacity;
     }
 
+pub edit-requires : goal.edit-requires
+edit-requires c = c.loop-at.invariant.graph
+
+pub push_reserved-requires : goal.push_reserved-requires
+push_reserved-requires c = omega (arith, c.loop-at.invariant.one_each, c.loop-at.invariant.all_room, c.loop-at-test.true)
+
+pub undo_all-requires-clause-graph : goal.undo_all-requires-clause-graph
+undo_all-requires-clause-graph c = c.in-Err.ensures.unchanged.graph
+
+pub returns-in-Err-clause-graph : goal.returns-in-Err-clause-graph
+returns-in-Err-clause-graph c = c.undo_all.ensures.graph
+
+pub returns-clause-graph : goal.returns-clause-graph
+returns-clause-graph c = c.loop-at.invariant.graph
+
 pub undo_all-requires-clause-done : goal.undo_all-requires-clause-done
 undo_all-requires-clause-done c = (shown c.args.self.now, still (goal.at.undo_all-requires-clause-done c).In-Err)
 

@@ -23,6 +23,18 @@ ends c =
       | else-branch w ↦ rw w.tail-is nodes
     ]
 
+pub leads_back-requires-clause-graph : goal.leads_back-requires-clause-graph
+leads_back-requires-clause-graph c = c.requires
+
+pub leads_back-requires-clause-nodes : goal.leads_back-requires-clause-nodes
+leads_back-requires-clause-nodes c = c.in_ok-test_join.ensures.nodes
+
+pub make_room-requires-clause-graph : goal.make_room-requires-clause-graph
+make_room-requires-clause-graph c = c.in_ok-leads_back.ensures.same.graph
+
+pub put-requires-clause-graph : goal.put-requires-clause-graph
+put-requires-clause-graph c = c.in_ok-make_room.ensures.same.graph
+
 pub put-requires-clause-few : goal.put-requires-clause-few
 put-requires-clause-few c = omega (arith, ap (λ (m : Network). length m.links) (same (goal.at.put-requires-clause-few c).After-make_room).same, c.in_ok-test_join.ensures.few)
 

@@ -6,6 +6,9 @@ use Rattle.fr_net.specs.Heights.{HasHeadsFirst}
 use Rattle.fr_net.specs.Links.{AreBelow}
 use Rattle.fr_net.proofs.graph.Graph.renew_heights.Goals as goal
 
+pub find_cycle-requires-clause-one_each : goal.find_cycle-requires-clause-one_each
+find_cycle-requires-clause-one_each c = c.requires.graph.rows.one_each
+
 pub find_cycle-requires-clause-below : goal.find_cycle-requires-clause-below
 find_cycle-requires-clause-below c = entries_below c.args.self.now.nodes (shown c.args.self.now).links c.args.self.now.rows c.requires.graph.rows
 

@@ -1,4 +1,4 @@
-use Rattle.std.proofs.Common.{List, Ok, Some, [], ap, arith, get_or, length, map, ok_or, option_and_then, option_map, sym, ℕ, ◌<◌, ◌∙◌, ◌∷◌, ◌≡◌, ◌≤◌}
+use Rattle.std.proofs.Common.{List, Some, [], ap, arith, get_or, length, map, ok_or, option_and_then, option_map, sym, ℕ, ◌<◌, ◌∙◌, ◌∷◌, ◌≡◌, ◌≤◌}
 use Rattle.serde_json.specs.View.{view}
 use Rattle.serde_json.specs.declared.value.Value.{Value}
 use Rattle.fr_net.specs.Requests.{links_in, network_request, new_network, number_in}

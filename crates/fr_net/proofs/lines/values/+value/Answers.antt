@@ -4,6 +4,7 @@ use Rattle.json.proofs.Grammar.{read_key-shorter, value_is}
 use Rattle.json.specs.Json.{after_end_array, items, members, parse_map, read_key, value}
 use Rattle.json.specs.Reads.{token_of}
 use Rattle.json.specs.Token.{Token}
+use Rattle.json.specs.declared.token.Token as reader
 use Rattle.serde_json.proofs.Views.{view-Array, view-Object}
 use Rattle.serde_json.specs.Data.{Data, array, no_members, object}
 use Rattle.serde_json.specs.Read.{converted, of_items, of_json, of_members}
@@ -13,8 +14,10 @@ use Rattle.serde_json.specs.declared.value.Value.TheVariants.{Array, Object}
 use Rattle.fr_net.specs.declared.lines.requests.LineFault.{LineFault}
 use Rattle.fr_net.specs.declared.lines.requests.LineFault.TheVariants.{Memory, NotJson}
 use Rattle.fr_net.proofs.lines.HandedOn.{handed_on}
-use Rattle.fr_net.proofs.lines.TokenItems.{item_refused, key_refused, member_refused, no_item, no_member, none_yet, one_item, one_member, one_more, single_read, single_where_none, then_items, then_none, value_of_array, value_of_object, value_takes}
+use Rattle.fr_net.proofs.lines.TokenItems.{item_refused, key_refused, member_refused, no_item, no_member, none_yet, one_item, one_member, one_more, single_read, then_items, then_none, too_deep, value_of_array, value_of_object, value_takes}
+use Rattle.fr_net.specs.LineTokens.{single_data}
 use Rattle.fr_net.proofs.lines.values.+value.Goals as goal
+use Rattle.fr_net.proofs.lines.values.+value.Goals.{value-in_default-via-in-BeginArray+else-depth-gt0, value-in_default-via-in-BeginObject+else-depth-gt0-2, value-in_default-via-in_default}
 
 single_told : (depth : ℕ) (ts behind : List Token) (o : Option Data) (r : Result Value LineFault) → converted of_json (value depth ts) ≡ option_map (λ d. (d, behind)) o
     → IfOk r (λ v. o ≡ Some (view v)) → IfErr r (λ fault. fault ≢ Memory → (fault ≡ NotJson) × (o ≡ None))
@@ -52,31 +55,39 @@ object_told depth inside ts behind rest (Ok m) (Err fault) one opens ok refused 
 object_told depth inside ts behind rest (Err fault) r one opens ok refused told =
     rw told (tt, λ other. let why = refused other in (why.0, value_of_object depth inside ts behind one opens ∙ ap (parse_map object) why.1))
 
-pub value-returns-in_default : goal.value-returns-in_default
-value-returns-in_default t c =
-    let none : c.args.depth ≡ 0 = omega (arith, c.in_default.ensures) in
-    let read = single_where_none c.args.depth c.in_ok-token.token _ _ none c.in_ok-token.ensures.ok in
-    let told = single_told c.args.depth c.args.reader.now c.next_token.new.reader _ c.single_value.result read c.single_value.ensures.ok c.single_value.ensures.refused in
-    record { ok = told.0; refused = told.1 }
-
 pub value-returns-in-BeginArray : goal.value-returns-in-BeginArray
 value-returns-in-BeginArray t c =
-    let one : c.args.depth ≡ c.in-Some.inside + 1 = omega (arith, c.in-Some.ensures) in
+    let inside = c.args.depth - 1 in
+    let one : c.args.depth ≡ inside + 1 = omega arith in
     let opens : c.args.reader.now ≡ Token.begin_array ∷ c.next_token.new.reader = c.in_ok-token.ensures.ok ∙ ap (λ k. token_of k ∷ c.next_token.new.reader) c.in-BeginArray.is in
-    let told = array_told c.args.depth c.in-Some.inside c.args.reader.now c.next_token.new.reader c.items.new.reader c.items.result c.map.result one opens c.items.ensures.ok c.items.ensures.refused c.map.ensures.cases in
+    let told = array_told c.args.depth inside c.args.reader.now c.next_token.new.reader c.items.new.reader c.items.result c.map.result one opens c.items.ensures.ok c.items.ensures.refused c.map.ensures.cases in
     record { ok = told.0; refused = told.1 }
 
 pub value-returns-in-BeginObject : goal.value-returns-in-BeginObject
 value-returns-in-BeginObject t c =
-    let one : c.args.depth ≡ c.in-Some.inside + 1 = omega (arith, c.in-Some.ensures) in
+    let inside = c.args.depth - 1 in
+    let one : c.args.depth ≡ inside + 1 = omega arith in
     let opens : c.args.reader.now ≡ Token.begin_object ∷ c.next_token.new.reader = c.in_ok-token.ensures.ok ∙ ap (λ k. token_of k ∷ c.next_token.new.reader) c.in-BeginObject.is in
-    let told = object_told c.args.depth c.in-Some.inside c.args.reader.now c.next_token.new.reader c.members.new.reader c.members.result c.map-in-BeginObject.result one opens c.members.ensures.ok c.members.ensures.refused c.map-in-BeginObject.ensures.cases in
+    let told = object_told c.args.depth inside c.args.reader.now c.next_token.new.reader c.members.new.reader c.members.result c.map-in-BeginObject.result one opens c.members.ensures.ok c.members.ensures.refused c.map-in-BeginObject.ensures.cases in
     record { ok = told.0; refused = told.1 }
 
-pub value-returns-in_default-token : goal.value-returns-in_default-token
-value-returns-in_default-token t c =
-    let read = single_read c.args.depth c.in_ok-token.token _ _ c.in_default-token.not-BeginArray c.in_default-token.not-BeginObject c.in_ok-token.ensures.ok in
-    let told = single_told c.args.depth c.args.reader.now c.next_token.new.reader _ c.single_value-in_default-token.result read c.single_value-in_default-token.ensures.ok c.single_value-in_default-token.ensures.refused in
+pub value-returns-in_default : goal.value-returns-in_default
+value-returns-in_default t c =
+    let depth = c.args.depth in
+    let k = c.in_ok-token.token in
+    let behind = c.next_token.new.reader in
+    let first : c.args.reader.now ≡ token_of k ∷ behind = c.in_ok-token.ensures.ok in
+    let alone : reader.Token → Option (Data × List Token) = λ token. option_map (λ d. (d, behind)) (single_data (token_of token)) in
+    let read : converted of_json (value depth c.args.reader.now) ≡ alone k = elim c.in_default.branch [
+      | value-in_default-via-in-BeginArray+else-depth-gt0 w ↦
+          let is = w.in-BeginArray.is in
+          ap (λ ts. converted of_json (value depth ts)) (first ∙ ap (λ token. token_of token ∷ behind) is) ∙ ap (converted of_json) (too_deep depth behind (omega (arith, w.if-depth-gt0.false))).0 ∙ sym (ap alone is)
+      | value-in_default-via-in-BeginObject+else-depth-gt0-2 w ↦
+          let is = w.in-BeginObject.is in
+          ap (λ ts. converted of_json (value depth ts)) (first ∙ ap (λ token. token_of token ∷ behind) is) ∙ ap (converted of_json) (too_deep depth behind (omega (arith, w.if-depth-gt0-2.false))).1 ∙ sym (ap alone is)
+      | value-in_default-via-in_default w ↦ single_read depth k c.args.reader.now behind w.in_default.not-BeginArray w.in_default.not-BeginObject first
+    ] in
+    let told = single_told depth c.args.reader.now behind _ c.single_value.result read c.single_value.ensures.ok c.single_value.ensures.refused in
     record { ok = told.0; refused = told.1 }
 
 pub items-items-init : goal.items-items-init
