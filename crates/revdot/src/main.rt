@@ -12,6 +12,7 @@ mod story;
 mod strips;
 mod turns;
 mod viewer;
+mod writing;
 
 use drawing::{Picture, draw};
 use fr_command::RunFault;
