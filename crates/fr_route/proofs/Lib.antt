@@ -18,3 +18,4 @@ pub mod Joining
 pub mod Inside
 pub mod Telling
 pub mod Answered
+pub mod Tried

@@ -2,12 +2,14 @@
 use Rattle.std.proofs.Common.{List, ap, arith, get_or, inl, inr, length, subst, sym, ℕ, ⊎_elim, ◌+◌, ◌<◌, ◌∙◌, ◌≡◌, ◌≤◌}
 use Rattle.std.proofs.lemmas.Bool.{cases_eq}
 use Rattle.std.proofs.lemmas.List.{get_or_default}
+use Rattle.std.proofs.lemmas.Option.{get_or_from_slice_get}
 use Rattle.fr_net.proofs.Neighbours.{row_of_in, row_of_out}
 use Rattle.fr_net.specs.Links.{IsNet}
 use Rattle.fr_net.specs.Rows.{row}
 use Rattle.fr_net.specs.declared.rows.First.{First}
 use Rattle.fr_net.specs.declared.rows.First.TheVariants.{Inward, Outward}
 use Rattle.fr_route.specs.Outcomes.{AreRenewed, SendsTo}
+use Rattle.fr_route.specs.Routes.{IsHop}
 use Rattle.fr_route.specs.States.{State}
 use Rattle.fr_route.specs.declared.hops.Hop.{Hop}
 use Rattle.fr_route.specs.declared.hops.Hop.TheVariants.{To}
@@ -15,6 +17,17 @@ use Rattle.fr_route.specs.declared.hops.Hop.TheVariants.{To}
 -- nothing is made anew
 pub renewed_none : (s : State) (hops : List Hop) (left : ℕ → Hop → Type 0) → ((x : ℕ) (hop : Hop) → left x hop) → AreRenewed s hops hops left
 renewed_none s hops left all = record { each = λ x hop at. inr (at, all x hop) }
+
+-- the hop that stands at x is right
+pub renewed_right : (s : State) (hops : List Hop) (x : ℕ) (hop d : Hop) → IsHop s x hop → get_or hops x d ≡ hop → AreRenewed s hops hops (λ y _. ¬ (y ≡ x))
+renewed_right s hops x hop d right is = record {
+  each = λ y other at. ⊎_elim
+      (λ e.
+      let same : hop ≡ other = sym is ∙ (ap (λ (z : ℕ). get_or hops z d) (sym e) ∙ get_or_from_slice_get hops y other d at) in
+      inl (subst (λ (z : ℕ). IsHop s z other) (sym e) (subst (IsHop s x) same right)))
+      (λ apart. inr (at, apart))
+      (cases_eq y x);
+}
 
 -- one after the other
 pub renewed_then : (s : State) (a b c : List Hop) (first then left : ℕ → Hop → Type 0) → AreRenewed s a b first → AreRenewed s b c then → ((x : ℕ) (hop : Hop) → first x hop → then x hop → left x hop) → AreRenewed s a c left

@@ -12,3 +12,4 @@ pub mod Told
 pub mod Refusals
 pub mod Laws
 pub mod Sessions
+pub mod Tries

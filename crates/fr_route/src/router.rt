@@ -1,14 +1,14 @@
 //! A router: a settled network with its next hops and routes, and the changes after which it is settled anew.
 
-ghost use Rattle.std.specs.Prelude.{◌≡◌, ◌≢◌, ◌<◌, ◌≤◌, [], ◌∷◌, length, replicate, vec_capacity, Ok, Some, IfOk, IfErr, IfSome, OnErr, OnOk};
+ghost use Rattle.std.specs.Prelude.{◌≡◌, ◌≢◌, ◌<◌, [], ◌∷◌, length, replicate, Ok, Some, IfOk, IfErr, IfSome, OnErr, OnOk};
 ghost use Rattle.fr_crew.specs.Settlements.{HoldsSinks, IsCounted};
 ghost use Rattle.fr_crew.specs.Ways.{Settles, NeverStarts};
-ghost use Rattle.fr_route.specs.declared.change.Report.{Report};
 ghost use Rattle.fr_route.specs.declared.fault.RouteFault.TheVariants.{Start, Memory};
 ghost use Rattle.fr_route.specs.States.{IsRound, IsReport};
 ghost use Rattle.fr_route.specs.Routes.{IsHop, AreHops, IsWalked};
 ghost use Rattle.fr_route.specs.Changes.{IsOpenFault, IsChanged, IsRouteFault, IsStill};
 ghost use Rattle.fr_route.specs.Reroutes.{AreJoined, AreRerouted};
+ghost use Rattle.fr_route.specs.Tries.{IsTried};
 ghost use Rattle.fr_route.specs.Outcomes.{IsEdited, IsEditingFault, IsOutcome, cut_off_nodes, movable};
 
 use crate::change::{Change, Report};
@@ -322,13 +322,7 @@ impl Router {
     ) -> Result<T, RouteFault>
         requires settles { Settles F.pre F.post way.now }
         requires tells { K.IsAlwaysCallable tell.now }
-        ensures changed { IfOk result (λ _. IsChanged self.old change.now self.new) }
-        ensures told { IfOk result (λ told. (report : Report) × IsReport self.new report.turned report.cut × K.post tell.now report (Ok told)) }
-        ensures rerouted { IfOk result (λ _. self.old.nodes ≤ vec_capacity rerouted.old → AreRerouted self.old self.new rerouted.new.items) }
-        ensures fault { IfErr result (IsRouteFault self.old change.now) }
-        ensures unchanged { OnErr result (self.new ≡ self.old) }
-        ensures untold { OnErr result (rerouted.new.items ≡ rerouted.old.items) }
-        ensures no_start { NeverStarts F.post way.now → IfErr result (λ fault. fault ≢ Start) }
+        ensures { IsTried (NeverStarts F.post way.now) self.old (IsChanged self.old change.now) (IsRouteFault self.old change.now) (λ report told. K.post tell.now report (Ok told)) rerouted.old result self.new rerouted.new }
     {
         match change {
             Change::Cut { u, v } => {
@@ -365,13 +359,7 @@ impl Router {
     ) -> Result<T, RouteFault>
         requires settles { Settles F.pre F.post way.now }
         requires tells { K.IsAlwaysCallable tell.now }
-        ensures edited { IfOk result (λ _. IsEdited self.old (edit ∷ []) self.old.dest self.new) }
-        ensures told { IfOk result (λ told. (report : Report) × IsReport self.new report.turned report.cut × K.post tell.now report (Ok told)) }
-        ensures rerouted { IfOk result (λ _. self.old.nodes ≤ vec_capacity rerouted.old → AreRerouted self.old self.new rerouted.new.items) }
-        ensures fault { IfErr result (IsEditingFault self.old (edit ∷ []) self.old.dest) }
-        ensures unchanged { OnErr result (self.new ≡ self.old) }
-        ensures untold { OnErr result (rerouted.new.items ≡ rerouted.old.items) }
-        ensures no_start { NeverStarts F.post way.now → IfErr result (λ fault. fault ≢ Start) }
+        ensures { IsTried (NeverStarts F.post way.now) self.old (IsEdited self.old (edit ∷ []) self.old.dest) (IsEditingFault self.old (edit ∷ []) self.old.dest) (λ report told. K.post tell.now report (Ok told)) rerouted.old result self.new rerouted.new }
     {
         self.edit_by(alloc, &[edit], self.dest, way, tell, rerouted)
     }
@@ -393,13 +381,7 @@ impl Router {
         requires settles { Settles F.pre F.post way.now }
         requires tells { K.IsAlwaysCallable tell.now }
         requires node { dest < self.old.nodes }
-        ensures edited { IfOk result (λ _. IsEdited self.old edits.now dest self.new) }
-        ensures told { IfOk result (λ told. (report : Report) × IsReport self.new report.turned report.cut × K.post tell.now report (Ok told)) }
-        ensures rerouted { IfOk result (λ _. self.old.nodes ≤ vec_capacity rerouted.old → AreRerouted self.old self.new rerouted.new.items) }
-        ensures fault { IfErr result (IsEditingFault self.old edits.now dest) }
-        ensures unchanged { OnErr result (self.new ≡ self.old) }
-        ensures untold { OnErr result (rerouted.new.items ≡ rerouted.old.items) }
-        ensures no_start { NeverStarts F.post way.now → IfErr result (λ fault. fault ≢ Start) }
+        ensures { IsTried (NeverStarts F.post way.now) self.old (IsEdited self.old edits.now dest) (IsEditingFault self.old edits.now dest) (λ report told. K.post tell.now report (Ok told)) rerouted.old result self.new rerouted.new }
     {
         let (movable, turns) = self.before_edits(alloc, edits, dest)?;
         let from = movable.as_slice();

@@ -1,6 +1,6 @@
 //! What the requests so far have made, and the answer to the next one.
 
-ghost use Rattle.std.specs.Prelude.{◌≡◌, ◌≢◌, ℕ, ◌<◌, ◌≤◌, ◌⊎◌, ◌↔◌, length, replicate, true, false, Some, None, IfOk, IfErr, OnErr, OnOk, IfSome, IfNone, string_bytes, vec_capacity};
+ghost use Rattle.std.specs.Prelude.{◌≡◌, ◌≢◌, ◌<◌, ◌≤◌, ◌⊎◌, ◌↔◌, length, replicate, true, false, Some, None, IfOk, IfErr, OnErr, OnOk, IfSome, IfNone, string_bytes, vec_capacity};
 ghost use Rattle.std.specs.Option.{option_copied};
 ghost use Rattle.fr_net.specs.Requests.{ask, make_edits, new_network, walk_from, plain, reading};
 ghost use Rattle.fr_crew.specs.Settlements.{HoldsSinks};

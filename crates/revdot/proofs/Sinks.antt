@@ -1,10 +1,41 @@
 -- Sinks, by the ends of links.
-use Rattle.std.proofs.Common.{◌≡◌, ◌∙◌, ℕ, ◌<◌, ◌==◌, Bool, true, false, List, length, get_or, slice_index_or, refl, subst, sym, arith, eq-eqb, eqb-true}
-use Rattle.std.proofs.lemmas.List.{get_or_default}
+use Rattle.std.proofs.Common.{◌≡◌, ◌≢◌, ◌∙◌, ℕ, ◌+◌, ◌<◌, ◌==◌, ◌||◌, ⊎_elim, Bool, true, false, List, ap, length, length-set, get_or, set, slice_index_or, take, refl, subst, sym, arith, eq-eqb, eqb-true, ne_eqb}
+use Rattle.std.proofs.Math.Bool.{or-false, or-true}
+use Rattle.std.proofs.lemmas.Bool.{cases_eq}
+use Rattle.std.proofs.lemmas.List.{get_or-set_other, get_or-set_same, get_or_default}
+use Rattle.std.proofs.lemmas.List.Folds.{list_any_more}
+use Rattle.std.specs.List.{list_any}
 use Rattle.fr_net.specs.Links.{Points}
 use Rattle.fr_net.specs.Turn.{IsSink}
 use Rattle.fr_command.proofs.PlayTargets.{found, found_at}
 use Rattle.revdot.specs.Ends.{HaveEnds}
+
+-- the marks of the ends of one link more
+marked_more : (end_of : ℕ × ℕ → ℕ) (n k t : ℕ) (marks : List Bool) (links : List (ℕ × ℕ)) (d : ℕ × ℕ) → length marks ≡ n → k < length links → end_of (get_or links k d) ≡ t
+    → ((x : ℕ) → x < n → slice_index_or marks x false ≡ list_any (λ (l : ℕ × ℕ). end_of l == x) (take k links))
+    → (x : ℕ) → x < n → slice_index_or (set marks t true) x false ≡ list_any (λ (l : ℕ × ℕ). end_of l == x) (take (k + 1) links)
+marked_more end_of n k t marks links d long inside is before x low =
+    let ends : ℕ × ℕ → Bool = λ l. end_of l == x in
+    let more : list_any ends (take (k + 1) links) ≡ (list_any ends (take k links) || (end_of (get_or links k d) == x)) = list_any_more ends links k d inside in
+    ⊎_elim
+    (λ (e : x ≡ t).
+    let here : (end_of (get_or links k d) == x) ≡ true = eq-eqb (end_of (get_or links k d)) x (is ∙ sym e) in
+    subst (λ (y : ℕ). slice_index_or (set marks t true) y false ≡ true) (sym e) (get_or-set_same marks t true false (omega (arith, low, long, e)))
+    ∙ sym (more ∙ (ap (λ (b : Bool). list_any ends (take k links) || b) here ∙ or-true (list_any ends (take k links)))))
+    (λ (apart : x ≢ t).
+    let other : (end_of (get_or links k d) == x) ≡ false = ne_eqb (end_of (get_or links k d)) x (λ e. apart (sym e ∙ is)) in
+    get_or-set_other marks t x true false apart
+    ∙ (before x low ∙ sym (more ∙ (ap (λ (b : Bool). list_any ends (take k links) || b) other ∙ or-false (list_any ends (take k links))))))
+    (cases_eq x t)
+
+-- and of both its ends
+pub ends_more : (n k t h : ℕ) (tails heads : List Bool) (links : List (ℕ × ℕ)) (d : ℕ × ℕ) → k < length links → get_or links k d ≡ (t, h) → HaveEnds n tails heads (take k links) → HaveEnds n (set tails t true) (set heads h true) (take (k + 1) links)
+ends_more n k t h tails heads links d inside is ends = record {
+  tails_long = length-set tails t true ∙ ends.tails_long;
+  heads_long = length-set heads h true ∙ ends.heads_long;
+  tails_are = marked_more (λ (l : ℕ × ℕ). l.0) n k t tails links d ends.tails_long inside (ap (λ (l : ℕ × ℕ). l.0) is) ends.tails_are;
+  heads_are = marked_more (λ (l : ℕ × ℕ). l.1) n k h heads links d ends.heads_long inside (ap (λ (l : ℕ × ℕ). l.1) is) ends.heads_are;
+}
 
 -- a mark as it is read
 pub mark_at : (marks : List Bool) (x n : ℕ) (read mark : Bool) → length marks ≡ n → x < n → read ≡ get_or marks x read → read ≡ mark → slice_index_or marks x false ≡ mark

@@ -8,7 +8,8 @@ ghost use Rattle.revdot.specs.Drawings.{IsDrawing, IsPictureOf, WritesDrawing, W
 use crate::settled::push_settled;
 use crate::standing::session_after;
 use crate::strips::push_strip;
-use fr_command::{RunFault, read_input, write_whole};
+use crate::writing::write_out;
+use fr_command::{RunFault, read_input};
 use fr_route::Session;
 use std::alloc::{AllocError, Global};
 use std::io::{Read, Write};
@@ -46,11 +47,7 @@ pub fn draw<R: Read, W: Write>(
     let Ok(text) = drawn(alloc, &input, picture) else {
         return Err(RunFault::Memory);
     };
-    write_whole(writer, text.as_bytes())?;
-    match writer.flush() {
-        Ok(()) => Ok(()),
-        Err(_) => Err(RunFault::Write),
-    }
+    write_out(writer, text.as_bytes())
 }
 
 /// The picture of the network that an input leaves.

@@ -13,6 +13,7 @@ mod story;
 mod strips;
 mod turns;
 mod viewer;
+mod writing;
 
 use drawing::{Picture, draw};
 use fr_command::RunFault;

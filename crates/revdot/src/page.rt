@@ -6,7 +6,8 @@ ghost use Rattle.fr_command.specs.Outputs.{ReadsInput, ReadsOneTooMany, ReadsAtM
 ghost use Rattle.revdot.specs.Pages.{IsPage, WritesPage, WritesBeginningOfPage};
 
 use crate::story::push_story;
-use fr_command::{RunFault, read_input, write_whole};
+use crate::writing::write_out;
+use fr_command::{RunFault, read_input};
 use std::alloc::{AllocError, Global};
 use std::io::{Read, Write};
 
@@ -36,11 +37,7 @@ pub fn page<R: Read, W: Write>(
     let Ok(text) = page_of(alloc, &input, first_part, last_part) else {
         return Err(RunFault::Memory);
     };
-    write_whole(writer, text.as_bytes())?;
-    match writer.flush() {
-        Ok(()) => Ok(()),
-        Err(_) => Err(RunFault::Write),
-    }
+    write_out(writer, text.as_bytes())
 }
 
 /// The page of an input.

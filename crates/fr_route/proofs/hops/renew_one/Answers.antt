@@ -1,9 +1,29 @@
-use Rattle.std.proofs.Common.{arith, sym, ◌∙◌}
+use Rattle.std.proofs.Common.{Some, arith, inl, inr, slice_get, sym, ℕ, ◌∙◌, ◌≡◌, ◌⊎◌}
 use Rattle.std.proofs.lemmas.Bool.{false≢true}
 use Rattle.fr_route.specs.States.{State, state_with}
+use Rattle.fr_route.specs.Routes.{IsHop}
+use Rattle.fr_route.specs.declared.hops.Hop.{Hop}
 use Rattle.fr_route.specs.declared.hops.Hop.TheVariants.{Here}
-use Rattle.fr_route.proofs.Noting.{notes_one}
+use Rattle.fr_route.proofs.Noting.{notes_none, notes_one}
+use Rattle.fr_route.proofs.Renewing.{renewed_right}
+use Rattle.fr_route.proofs.Written.{written}
 use Rattle.fr_route.proofs.hops.renew_one.Goals as goal
+
+pub returns-then-is_same : goal.returns-then-is_same
+returns-then-is_same c =
+    let s : State = state_with c.args.net.now c.args.dest c.args.counts.now in
+    record {
+      renewed = renewed_right s c.args.hops.now c.args.x c.hop_of-hop.result Here c.hop_of-hop.ensures (c.is_same.ensures.0 c.if-is_same.true);
+      noted = notes_none s c.args.hops.now c.args.rerouted.now;
+    }
+
+pub returns-clause-renewed : goal.returns-clause-renewed
+returns-clause-renewed c =
+    let s : State = state_with c.args.net.now c.args.dest c.args.counts.now in
+    let hops = c.args.hops.now in
+    record {
+      each = written (λ (y : ℕ) (hop : Hop). IsHop s y hop ⊎ ((slice_get hops y ≡ Some hop) × ¬ (y ≡ c.args.x))) hops c.args.x c.hop_of-hop.result (inl c.hop_of-hop.ensures) (λ y hop apart at. inr (at, apart));
+    }
 
 pub returns-clause-noted : goal.returns-clause-noted
 returns-clause-noted c =

@@ -15,7 +15,7 @@ returns-in-Ok g c =
     let told = c.in-Ok.ensures.told in
     let line : IsReportLine c.change_by.new.self (string_bytes c.in-Ok.text) = (told.0.turned, told.0.cut, told.1, search rules) in
     change_done _ c.args.telling c.args.rerouted.now.items c.args.router.now c.args.change.now c.change_by.new.self c.in-Ok.text c.change_by.new.rerouted.items
-    c.in-Ok.ensures.changed line (search rules)
+    c.in-Ok.ensures.made line (search rules)
     (λ t. c.in-Ok.ensures.rerouted (omega (arith, c.in_ok-make_room.ensures.room t, c.nodes.ensures.value, c.net.ensures.nodes)))
 
 pub returns-in-Err : goal.returns-in-Err

@@ -16,7 +16,7 @@ returns-in-Ok g c =
     let told = c.in-Ok.ensures.told in
     let line : IsReportLine c.edit_by.new.self (string_bytes c.in-Ok.line) = (told.0.turned, told.0.cut, told.1, search rules) in
     edits_done _ c.args.telling c.args.rerouted.now.items c.args.router.now c.args.edits.now c.edit_by.new.self c.in-Ok.line c.edit_by.new.rerouted.items
-    (subst (λ (d : ℕ). IsEdited c.args.router.now c.args.edits.now d c.edit_by.new.self) c.dest-dest.ensures.value c.in-Ok.ensures.edited) line (search rules)
+    (subst (λ (d : ℕ). IsEdited c.args.router.now c.args.edits.now d c.edit_by.new.self) c.dest-dest.ensures.value c.in-Ok.ensures.made) line (search rules)
     (λ t. c.in-Ok.ensures.rerouted (omega (arith, c.in_ok-make_room.ensures.room t, c.nodes.ensures.value, c.net.ensures.nodes)))
 
 pub returns-in-Err : goal.returns-in-Err

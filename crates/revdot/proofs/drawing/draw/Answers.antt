@@ -1,35 +1,25 @@
-use Rattle.std.proofs.Common.{[], append-nil, drop, string_bytes, sym, take}
-use Rattle.std.proofs.lemmas.List.{take-append-drop}
-use Rattle.std.proofs.KnownBytes.{Appends-kept}
+use Rattle.std.proofs.Common.{List, string_bytes, ℕ}
+use Rattle.std.proofs.lemmas.Result.{IfErr-at_err, on_ok_weaker}
+use Rattle.std.specs.Io.KnownBytes.{Appends}
+use Rattle.fr_command.specs.Outputs.{IsBeginning}
 use Rattle.revdot.specs.Drawings.{IsDrawing, IsOnly}
 use Rattle.revdot.proofs.OneDrawing.{drawing_unique}
 use Rattle.revdot.proofs.drawing.draw.Goals as goal
 
-pub returns-in_err-write_whole-clause-write : goal.returns-in_err-write_whole-clause-write
-returns-in_err-write_whole-clause-write g c _ =
+pub returns-clause-ok : goal.returns-clause-ok
+returns-clause-ok g c =
     let bytes = c.in_ok-input.input.items in
     let out = string_bytes c.in-Ok.text in
     let drawing : IsDrawing c.args.picture bytes out = rw c.deref.ensures.value at c.in-Ok.ensures in
     let only : IsOnly c.args.picture bytes out = λ other is. drawing_unique c.args.picture bytes other out is drawing in
-    let part = rw c.as_bytes.ensures.value at c.in_err-write_whole.ensures.err in
-    (bytes, c.in_ok-input.ensures.ok, (out, take part.0 out, drawing, only, (drop part.0 out, sym (take-append-drop part.0 out)), part.1))
+    on_ok_weaker c.write_out.result (λ (written : Appends (g.W.Write.contents c.args.writer.now) (g.W.Write.contents c.write_out.new.writer) out). (bytes, c.in_ok-input.ensures.ok, (out, drawing, only, written)))
+    (rw c.as_bytes.ensures.value at c.write_out.ensures.ok)
 
 pub returns-clause-write : goal.returns-clause-write
-returns-clause-write g c _ =
+returns-clause-write g c = λ fault.
     let bytes = c.in_ok-input.input.items in
     let out = string_bytes c.in-Ok.text in
     let drawing : IsDrawing c.args.picture bytes out = rw c.deref.ensures.value at c.in-Ok.ensures in
     let only : IsOnly c.args.picture bytes out = λ other is. drawing_unique c.args.picture bytes other out is drawing in
-    let whole = rw c.as_bytes.ensures.value at c.in_ok-write_whole.ensures.ok in
-    let kept = Appends-kept (g.W.Write.contents c.args.writer.now) (g.W.Write.contents c.write_whole.new.writer) (g.W.Write.contents c.flush.new.self) out whole c.flush.ensures.bytes in
-    (bytes, c.in_ok-input.ensures.ok, (out, out, drawing, only, ([], sym (append-nil out)), kept))
-
-pub returns-in-Ok-flush-clause-ok : goal.returns-in-Ok-flush-clause-ok
-returns-in-Ok-flush-clause-ok g c =
-    let bytes = c.in_ok-input.input.items in
-    let out = string_bytes c.in-Ok.text in
-    let drawing : IsDrawing c.args.picture bytes out = rw c.deref.ensures.value at c.in-Ok.ensures in
-    let only : IsOnly c.args.picture bytes out = λ other is. drawing_unique c.args.picture bytes other out is drawing in
-    let whole = rw c.as_bytes.ensures.value at c.in_ok-write_whole.ensures.ok in
-    let kept = Appends-kept (g.W.Write.contents c.args.writer.now) (g.W.Write.contents c.write_whole.new.writer) (g.W.Write.contents c.flush.new.self) out whole c.flush.ensures.bytes in
-    (bytes, c.in_ok-input.ensures.ok, (out, drawing, only, kept))
+    let part = IfErr-at_err (λ _. (front : List ℕ) × IsBeginning front out × Appends (g.W.Write.contents c.args.writer.now) (g.W.Write.contents c.write_out.new.writer) front) fault (rw c.as_bytes.ensures.value at c.write_out.ensures.err) in
+    (bytes, c.in_ok-input.ensures.ok, (out, part.0, drawing, only, part.1, part.2))

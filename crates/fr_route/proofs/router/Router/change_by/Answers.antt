@@ -1,43 +1,38 @@
-use Rattle.std.proofs.Common.{IfErr, IfOk, subst, sym}
-use Rattle.std.proofs.lemmas.Result.{IfErr-weaker, IfOk-weaker}
+use Rattle.std.proofs.Common.{[], ◌∷◌}
+use Rattle.fr_net.specs.declared.edit.Edit.TheVariants as edit
 use Rattle.fr_route.specs.Changes.{IsChanged, IsRouteFault}
-use Rattle.fr_route.specs.States.{State}
-use Rattle.fr_route.specs.declared.change.Change.{Change}
+use Rattle.fr_route.specs.Outcomes.{IsEdited, IsEditingFault}
+use Rattle.fr_route.specs.declared.change.Change.TheVariants.{Add, Cut, Join}
 use Rattle.fr_route.proofs.Changing.{add_by, cut_by, join_by}
+use Rattle.fr_route.proofs.Tried.{tried_as}
 use Rattle.fr_route.proofs.router.Router.change_by.Goals as goal
 
-pub returns-in-Cut-clause-changed : goal.returns-in-Cut-clause-changed
-returns-in-Cut-clause-changed g c =
-    let s : State = c.args.self.now in
-    subst (λ (change : Change). IfOk c.one_edit_by.result (λ _. IsChanged s change c.one_edit_by.new.self)) (sym c.in-Cut.is)
-    (IfOk-weaker c.one_edit_by.result _ _ (λ told edited. (cut_by s c.in-Cut.u c.in-Cut.v).done c.one_edit_by.new.self edited) c.one_edit_by.ensures.edited)
+pub returns-in-Cut : goal.returns-in-Cut
+returns-in-Cut g c =
+    let s = c.args.self.now in
+    let u = c.in-Cut.u in
+    let v = c.in-Cut.v in
+    let by = cut_by s u v in
+    rw c.in-Cut.is
+    (tried_as _ s (IsEdited s (edit.Cut u v ∷ []) s.dest) (IsChanged s (Cut u v)) (IsEditingFault s (edit.Cut u v ∷ []) s.dest) (IsRouteFault s (Cut u v)) _ c.args.rerouted.now c.one_edit_by.result c.one_edit_by.new.self c.one_edit_by.new.rerouted
+    by.done by.undone c.one_edit_by.ensures)
 
-pub returns-in-Cut-clause-fault : goal.returns-in-Cut-clause-fault
-returns-in-Cut-clause-fault g c =
-    let s : State = c.args.self.now in
-    subst (λ (change : Change). IfErr c.one_edit_by.result (IsRouteFault s change)) (sym c.in-Cut.is)
-    (IfErr-weaker c.one_edit_by.result _ _ (λ fault why. (cut_by s c.in-Cut.u c.in-Cut.v).undone fault why) c.one_edit_by.ensures.fault)
+pub returns-in-Add : goal.returns-in-Add
+returns-in-Add g c =
+    let s = c.args.self.now in
+    let u = c.in-Add.u in
+    let v = c.in-Add.v in
+    let by = add_by s u v in
+    rw c.in-Add.is
+    (tried_as _ s (IsEdited s (edit.Add u v ∷ []) s.dest) (IsChanged s (Add u v)) (IsEditingFault s (edit.Add u v ∷ []) s.dest) (IsRouteFault s (Add u v)) _ c.args.rerouted.now c.one_edit_by-in-Add.result c.one_edit_by-in-Add.new.self c.one_edit_by-in-Add.new.rerouted
+    by.done by.undone c.one_edit_by-in-Add.ensures)
 
-pub returns-in-Add-clause-changed : goal.returns-in-Add-clause-changed
-returns-in-Add-clause-changed g c =
-    let s : State = c.args.self.now in
-    subst (λ (change : Change). IfOk c.one_edit_by-in-Add.result (λ _. IsChanged s change c.one_edit_by-in-Add.new.self)) (sym c.in-Add.is)
-    (IfOk-weaker c.one_edit_by-in-Add.result _ _ (λ told edited. (add_by s c.in-Add.u c.in-Add.v).done c.one_edit_by-in-Add.new.self edited) c.one_edit_by-in-Add.ensures.edited)
-
-pub returns-in-Add-clause-fault : goal.returns-in-Add-clause-fault
-returns-in-Add-clause-fault g c =
-    let s : State = c.args.self.now in
-    subst (λ (change : Change). IfErr c.one_edit_by-in-Add.result (IsRouteFault s change)) (sym c.in-Add.is)
-    (IfErr-weaker c.one_edit_by-in-Add.result _ _ (λ fault why. (add_by s c.in-Add.u c.in-Add.v).undone fault why) c.one_edit_by-in-Add.ensures.fault)
-
-pub returns-in-Join-clause-changed : goal.returns-in-Join-clause-changed
-returns-in-Join-clause-changed g c =
-    let s : State = c.args.self.now in
-    subst (λ (change : Change). IfOk c.one_edit_by-in-Join.result (λ _. IsChanged s change c.one_edit_by-in-Join.new.self)) (sym c.in-Join.is)
-    (IfOk-weaker c.one_edit_by-in-Join.result _ _ (λ told edited. (join_by s c.in-Join.u c.in-Join.v).done c.one_edit_by-in-Join.new.self edited) c.one_edit_by-in-Join.ensures.edited)
-
-pub returns-in-Join-clause-fault : goal.returns-in-Join-clause-fault
-returns-in-Join-clause-fault g c =
-    let s : State = c.args.self.now in
-    subst (λ (change : Change). IfErr c.one_edit_by-in-Join.result (IsRouteFault s change)) (sym c.in-Join.is)
-    (IfErr-weaker c.one_edit_by-in-Join.result _ _ (λ fault why. (join_by s c.in-Join.u c.in-Join.v).undone fault why) c.one_edit_by-in-Join.ensures.fault)
+pub returns-in-Join : goal.returns-in-Join
+returns-in-Join g c =
+    let s = c.args.self.now in
+    let u = c.in-Join.u in
+    let v = c.in-Join.v in
+    let by = join_by s u v in
+    rw c.in-Join.is
+    (tried_as _ s (IsEdited s (edit.Join u v ∷ []) s.dest) (IsChanged s (Join u v)) (IsEditingFault s (edit.Join u v ∷ []) s.dest) (IsRouteFault s (Join u v)) _ c.args.rerouted.now c.one_edit_by-in-Join.result c.one_edit_by-in-Join.new.self c.one_edit_by-in-Join.new.rerouted
+    by.done by.undone c.one_edit_by-in-Join.ensures)

@@ -65,11 +65,11 @@ edit_if-requires g c = record {
   );
 }
 
-pub returns-in_err-outcome-clause-fault : goal.returns-in_err-outcome-clause-fault
-returns-in_err-outcome-clause-fault g c =
+pub returns-in_err-outcome : goal.returns-in_err-outcome
+returns-in_err-outcome g c =
     let s : State = state_of c.self.inside in
     let edits = c.args.edits.now in
-    let at = (goal.at.returns-in_err-outcome-clause-fault g c).After-self in
+    let at = (goal.at.returns-in_err-outcome g c).After-self in
     let below = in_range g at in
     let reason = c.in_err-outcome.field-0.0 in
     let fault : (r : NotEdited RouteFault) → c.in_err-outcome.field-0.0 ≡ r → IsEditingFault s edits c.args.dest (of_not_edited r) =
@@ -83,7 +83,15 @@ returns-in_err-outcome-clause-fault g c =
           (subst (λ (m : Network). IsStill m c.args.dest → fault ≢ Start) {y = why.0} why.1.1.1.2 told.1.0)
     ] in
     let p = err_from_is_err_and c.from_residual-in_err-outcome.result c.from_residual-in_err-outcome.ensures.1 in
-    rw (p.1, p.2) (subst (λ (now : State). IsEditingFault now edits c.args.dest (of_not_edited reason)) (now_is g at) (fault reason refl))
+    rw (p.1, p.2) (record {
+      made = tt;
+      told = tt;
+      rerouted = tt;
+      fault = subst (λ (now : State). IsEditingFault now edits c.args.dest (of_not_edited reason)) (now_is g at) (fault reason refl);
+      unchanged = search rules;
+      untold = search rules;
+      no_start = search rules;
+    })
 
 pub put_in_place-requires-clause-one_each : goal.put_in_place-requires-clause-one_each
 put_in_place-requires-clause-one_each g c =
@@ -123,32 +131,28 @@ invariant_of-self-2 g c =
     outcome.counts outcome.report c.put_in_place.ensures.net
     (subst (AreHops (state_after net c.args.dest counts) net.nodes) (sym items) c.put_in_place.ensures.hops) spare)
 
-pub returns-clause-edited : goal.returns-clause-edited
-returns-clause-edited g c =
-    let at = goal.at.returns-clause-edited g c in
-    let s : State = state_of c.self.inside in
-    let net : Network = c.edit_if.new.self in
-    let made = edits_made g at.In_ok-outcome in
-    let is = made_net s c.args.edits.now net c.self.invariant.round made in
-    let here : AreMade (net_at c.args.self.now) c.args.edits.now net = subst (λ (now : State). AreMade (net_at now) c.args.edits.now net) (now_is g at.After-self) made in
-    (c.in_ok-outcome.ensures.few, (net, (here, rw (c.keep_turns.ensures.last, c.put_in_place.ensures.net) (ended net c.args.dest c.in_ok-outcome.outcome.turns is (outcome_is g at.In_ok-outcome).counts))))
-
-pub returns-clause-told : goal.returns-clause-told
-returns-clause-told g c =
-    let at = goal.at.returns-clause-told g c in
-    (c.in_ok-outcome.outcome.report, rw (c.keep_turns.ensures.last, c.put_in_place.ensures.net) (outcome_is g at.In_ok-outcome).report, search rules)
-
-pub returns-clause-rerouted : goal.returns-clause-rerouted
-returns-clause-rerouted g c = λ room.
-    let at = goal.at.returns-clause-rerouted g c in
+pub returns : goal.returns
+returns g c =
+    let at = goal.at.returns g c in
     let s : State = state_of c.self.inside in
     let net : Network = c.edit_if.new.self in
     let after : State = state_after net c.args.dest c.in_ok-outcome.outcome.turns in
-    let nodes : net.nodes ≡ s.nodes = made_nodes c.self.inside.net c.args.edits.now net (edits_made g at.In_ok-outcome) in
+    let made = edits_made g at.In_ok-outcome in
+    let outcome = outcome_is g at.In_ok-outcome in
+    let nodes : net.nodes ≡ s.nodes = made_nodes c.self.inside.net c.args.edits.now net made in
     let before : AreHops s s.nodes c.deref_mut.result.now = rw c.deref_mut.ensures.value c.self.invariant.hops in
     let hops : AreHops after s.nodes c.put_in_place.new.hops = subst (λ (n : ℕ). AreHops after n c.put_in_place.new.hops) nodes c.put_in_place.ensures.hops in
     let as_many : s.nodes ≡ c.args.self.now.nodes = ap (λ (now : State). now.nodes) (now_is g at.After-self) in
-    let others = c.put_in_place.ensures.rerouted (omega (arith, room, nodes, as_many)) in
-    rw (c.keep_turns.ensures.last, c.put_in_place.ensures.net)
-    (subst (λ (now : State). AreRerouted now after c.put_in_place.new.rerouted.items) (now_is g at.After-self)
-    (rerouted_by s after s.nodes c.deref_mut.result.now c.put_in_place.new.hops c.put_in_place.new.rerouted.items before hops nodes others))
+    let here : AreMade (net_at c.args.self.now) c.args.edits.now net = subst (λ (now : State). AreMade (net_at now) c.args.edits.now net) (now_is g at.After-self) made in
+    rw (c.keep_turns.ensures.last, c.put_in_place.ensures.net) (record {
+      made = (c.in_ok-outcome.ensures.few, (net, (here, ended net c.args.dest c.in_ok-outcome.outcome.turns (made_net s c.args.edits.now net c.self.invariant.round made) outcome.counts)));
+      told = (c.in_ok-outcome.outcome.report, outcome.report, search rules);
+      rerouted = λ room.
+          let others = c.put_in_place.ensures.rerouted (omega (arith, room, nodes, as_many)) in
+          subst (λ (now : State). AreRerouted now after c.put_in_place.new.rerouted.items) (now_is g at.After-self)
+          (rerouted_by s after s.nodes c.deref_mut.result.now c.put_in_place.new.hops c.put_in_place.new.rerouted.items before hops nodes others);
+      fault = tt;
+      unchanged = tt;
+      untold = tt;
+      no_start = λ h. tt;
+    })
