@@ -9,12 +9,13 @@ mod calls;
 mod sessions;
 mod telling;
 
-use calls::{CALLS, Call, answer_of};
+use calls::{CALLS, Call, make};
 use sessions::tell_session;
 use std::alloc::Global;
 use std::rt::HostRuntime;
 use std::sync::Wait;
 use std::thread::Threads;
+use telling::Answer;
 
 fn main(rt: HostRuntime) {
     for call in CALLS {
@@ -26,7 +27,9 @@ fn main(rt: HostRuntime) {
 /// Makes a call, once more if need be, and writes its answer.
 fn tell_call<R: Threads + Wait + Sync + Alloc<A = Global> + Print + Eprint>(rt: &R, call: Call) {
     for _ in 0..2 {
-        if let Some(text) = answer_of(rt, call) {
+        let mut answer = Answer::new(rt.alloc());
+        make(rt, &mut answer, call);
+        if let Some(text) = answer.whole() {
             let _ = rt.println(text);
             return;
         }

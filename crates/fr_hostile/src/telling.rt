@@ -2,9 +2,8 @@
 
 ghost use Rattle.std.specs.Prelude.{◌≡◌, Ok, IfSome};
 
-use fr_net::{Net, NetFault};
-use fr_route::fault_number;
-use std::fmt::Display;
+use std::alloc::Global;
+use std::fmt::{Debug, Display, Write};
 
 /// What a call gave; the fault is told, which has to be want of memory or of a thread.
 pub fn told<T: Drop, E: Display + Drop, R: Eprint>(rt: &R, outcome: Result<T, E>) -> Option<T>
@@ -24,20 +23,65 @@ pub fn tell<E: Display + Drop, R: Eprint>(rt: &R, fault: E) {
     let _ = rt.eprintln(fault);
 }
 
-/// The number of the fault of links that a call names, or 0 if it names none. Want of memory is told.
-pub fn number_told<R: Eprint>(rt: &R, outcome: Result<Net, NetFault>) -> Option<u32> {
-    match outcome {
-        Ok(_) => Some(0),
-        Err(fault) => fault_told(rt, fault),
-    }
+/// What calls came to, as text. It lacks something where memory or a thread was missing.
+#[derive(Drop)]
+pub struct Answer {
+    text: String,
+    is_whole: bool,
 }
 
-/// The number of a fault of links. Want of memory has none, and is told.
-fn fault_told<R: Eprint>(rt: &R, fault: NetFault) -> Option<u32> {
-    let number = fault_number(&fault);
-    if number == 0 {
-        tell(rt, fault);
-        return None;
+impl Answer {
+    /// No text yet.
+    pub fn new(alloc: Global) -> Answer {
+        Answer {
+            text: String::new(alloc),
+            is_whole: true,
+        }
     }
-    Some(number)
+
+    /// The text, if it lacks nothing.
+    pub fn whole(&self) -> Option<&str> {
+        if self.is_whole {
+            Some(self.text.as_str())
+        } else {
+            None
+        }
+    }
+
+    /// What a call gave; the fault is told, and the answer then lacks something.
+    pub fn told<T: Drop, E: Display + Drop, R: Eprint>(
+        &mut self,
+        rt: &R,
+        outcome: Result<T, E>,
+    ) -> Option<T>
+        ensures { IfSome result (λ value. outcome ≡ Ok value) }
+    {
+        let value = told(rt, outcome);
+        if value.is_none() {
+            self.is_whole = false;
+        }
+        value
+    }
+
+    /// Tells of a fault, for which the answer lacks something.
+    pub fn lack<E: Display + Drop, R: Eprint>(&mut self, rt: &R, fault: E) {
+        self.is_whole = false;
+        tell(rt, fault);
+    }
+
+    /// Puts words behind it, and a blank between.
+    pub fn say(&mut self, words: &str) {
+        let blank = if self.text.is_empty() { "" } else { " " };
+        if self.text.push_str(blank).is_err() || self.text.push_str(words).is_err() {
+            self.is_whole = false;
+        }
+    }
+
+    /// Puts a value behind it as a programmer reads it, and a blank between.
+    pub fn put<T: Debug>(&mut self, value: &T) {
+        self.say("");
+        if write!(self.text, "{value:?}").is_err() {
+            self.is_whole = false;
+        }
+    }
 }

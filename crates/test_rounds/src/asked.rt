@@ -1,5 +1,6 @@
 //! Which word of a case asks for what.
 
+use crate::answers::Answer;
 use crate::fault::Fault;
 use crate::values::{items, named, word};
 use crate::{counts, crews, gates, live_walks, rounds, threads};
@@ -51,21 +52,14 @@ const WORDS: [(&str, Asked); 17] = [
     ("slow", Asked::Slow),
 ];
 
-/// What comes of the case of a line.
+/// Puts what comes of the case of a line.
 pub fn answer<R: Threads + Wait + Sync + Alloc<A = Global>>(
     rt: &R,
+    text: &mut Answer,
     line: &str,
-) -> Result<String, Fault> {
-    let case = read(rt.alloc(), line)?;
-    let mut text = String::new(rt.alloc());
-    put_answer(rt, &mut text, items(&case)?)?;
-    Ok(text)
-}
-
-/// The value of a line.
-fn read(alloc: Global, line: &str) -> Result<Value, Fault> {
-    match Value::from_str(alloc, line) {
-        Ok(value) => Ok(value),
+) -> Result<(), Fault> {
+    match Value::from_str(rt.alloc(), line) {
+        Ok(case) => put_answer(rt, text, &case),
         Err(_) => Err(Fault::NoCase),
     }
 }
@@ -73,10 +67,10 @@ fn read(alloc: Global, line: &str) -> Result<Value, Fault> {
 /// Puts what comes of a case.
 fn put_answer<R: Threads + Wait + Sync + Alloc<A = Global>>(
     rt: &R,
-    text: &mut String,
-    case: &[Value],
+    text: &mut Answer,
+    case: &Value,
 ) -> Result<(), Fault> {
-    let [first, case @ ..] = case else {
+    let [first, case @ ..] = items(case)? else {
         return Err(Fault::NoCase);
     };
     match named(word(first)?, &WORDS)? {

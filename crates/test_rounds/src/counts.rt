@@ -4,9 +4,10 @@ ghost use Rattle.std.specs.Prelude.{◌≡◌, ◌<◌, ◌↔◌, IfOk, IfSome,
 ghost use Rattle.fr_crew.specs.Settlements.{HoldsSinks};
 ghost use Rattle.fr_net.specs.Turn.{IsSink};
 
+use crate::answers::Answer;
 use crate::crews::{named_plan, plan};
 use crate::fault::Fault;
-use crate::values::{named, network, number, put, put_links, small_number, word};
+use crate::values::{named, network, number, small_number, word};
 use fr_core::is_sink;
 use fr_crew::{Gate, OpenGate, Plan, settled_counts, settled_counts_alone};
 use fr_net::{Net, Turns};
@@ -89,7 +90,7 @@ fn counted<R: Threads + Wait + Sync + Alloc<A = Global>, G: Gate + Sync>(
 /// and the links, which stay.
 pub fn counts<R: Threads + Wait + Sync + Alloc<A = Global>>(
     rt: &R,
-    text: &mut String,
+    text: &mut Answer,
     asked: &[Value],
 ) -> Result<(), Fault> {
     let [nodes, dest, links, from, workers, budget] = asked else {
@@ -98,18 +99,20 @@ pub fn counts<R: Threads + Wait + Sync + Alloc<A = Global>>(
     let (dest, plan) = (small_number(dest)?, named_plan(workers, budget)?);
     let net = network(rt.alloc(), nodes, links)?;
     let turns = counted(rt, &net, dest, word(from)?, &plan, &OpenGate)?;
-    put_counts(rt.alloc(), text, &turns, &net)
+    put_counts(rt.alloc(), text, &turns, &net);
+    Ok(())
 }
 
 /// `["counts alone", nodes, destination, links, "sinks" or "all"]`: the same on this thread.
-pub fn counts_alone(alloc: Global, text: &mut String, asked: &[Value]) -> Result<(), Fault> {
+pub fn counts_alone(alloc: Global, text: &mut Answer, asked: &[Value]) -> Result<(), Fault> {
     let [nodes, dest, links, from] = asked else {
         return Err(Fault::NoCase);
     };
     let dest = small_number(dest)?;
     let net = network(alloc, nodes, links)?;
     let turns = counted_alone(alloc, &net, dest, word(from)?)?;
-    put_counts(alloc, text, &turns, &net)
+    put_counts(alloc, text, &turns, &net);
+    Ok(())
 }
 
 /// The settled counts by this thread, from the nodes that the word says.
@@ -119,16 +122,16 @@ fn counted_alone(alloc: Global, net: &Net, dest: u32, word: &str) -> Result<Turn
     Ok(settled_counts_alone(net, dest, from.as_deref(), none)?)
 }
 
-fn put_counts(alloc: Global, text: &mut String, turns: &Turns, net: &Net) -> Result<(), Fault> {
-    put(text, "counts ", &turns.counts())?;
-    text.push_str(", ")?;
-    Ok(put_links(alloc, text, net)?)
+fn put_counts(alloc: Global, text: &mut Answer, turns: &Turns, net: &Net) {
+    text.put("counts ", &turns.counts());
+    text.say(", ");
+    text.put_links(alloc, net);
 }
 
 /// `["calls of one", nodes, destination, links, "sinks" or "all", budget]`: how many calls one worker makes, and the settled counts.
 pub fn calls_of_one<R: Threads + Wait + Sync + Alloc<A = Global>>(
     rt: &R,
-    text: &mut String,
+    text: &mut Answer,
     asked: &[Value],
 ) -> Result<(), Fault> {
     let [nodes, dest, links, from, budget] = asked else {
@@ -139,7 +142,7 @@ pub fn calls_of_one<R: Threads + Wait + Sync + Alloc<A = Global>>(
     let net = network(rt.alloc(), nodes, links)?;
     let gate = CountingGate(AtomicU64::new(0));
     let turns = counted(rt, &net, dest, word(from)?, &plan, &gate)?;
-    put(text, "calls ", &gate.0.load(Ordering::SeqCst))?;
-    put(text, ", counts ", &turns.counts())?;
+    text.put("calls ", &gate.0.load(Ordering::SeqCst));
+    text.put(", counts ", &turns.counts());
     Ok(())
 }

@@ -1,11 +1,12 @@
 //! Networks that crews settle, and their plans.
 
+use crate::answers::Answer;
 use crate::fault::Fault;
-use crate::values::{items, network, number, put, put_links, small_number};
+use crate::values::{items, network, number, small_number};
 use fr_crew::{Gate, OpenGate, Plan, Settled, settle};
 use fr_net::Net;
 use serde_json::Value;
-use std::alloc::{AllocError, Global};
+use std::alloc::Global;
 use std::sync::Wait;
 use std::thread::Threads;
 
@@ -35,27 +36,27 @@ fn listed_plan(listed: &[Value]) -> Result<Option<Plan>, Fault> {
 }
 
 /// `["plan", workers, seed, budget]`: what the plan tells, if there is one.
-pub fn plan_of(text: &mut String, asked: &[Value]) -> Result<(), Fault> {
+pub fn plan_of(text: &mut Answer, asked: &[Value]) -> Result<(), Fault> {
     match listed_plan(asked)? {
-        Some(plan) => put_plan(text, &plan)?,
-        None => text.push_str("no such plan")?,
+        Some(plan) => put_plan(text, &plan),
+        None => text.say("no such plan"),
     }
     Ok(())
 }
 
-fn put_plan(text: &mut String, plan: &Plan) -> Result<(), AllocError> {
-    put(text, "workers ", &plan.workers())?;
-    put(text, ", seed ", &plan.seed())?;
-    put(text, ", budget ", &plan.budget())
+fn put_plan(text: &mut Answer, plan: &Plan) {
+    text.put("workers ", &plan.workers());
+    text.put(", seed ", &plan.seed());
+    text.put(", budget ", &plan.budget());
 }
 
 /// `["same plans", plan, plan]`: whether two plans are equal.
-pub fn same_plans(text: &mut String, asked: &[Value]) -> Result<(), Fault> {
+pub fn same_plans(text: &mut Answer, asked: &[Value]) -> Result<(), Fault> {
     let [one, other] = asked else {
         return Err(Fault::NoCase);
     };
     let (one, other) = (listed_plan(items(one)?)?, listed_plan(items(other)?)?);
-    put(text, "", &(one == other))?;
+    text.put("", &(one == other));
     Ok(())
 }
 
@@ -75,35 +76,36 @@ fn settled<R: Threads + Wait + Sync + Alloc<A = Global>>(
 /// `["settle", nodes, destination, links, workers, budget]`: who made how many turns, and the settled network.
 pub fn settle_all<R: Threads + Wait + Sync + Alloc<A = Global>>(
     rt: &R,
-    text: &mut String,
+    text: &mut Answer,
     asked: &[Value],
 ) -> Result<(), Fault> {
     let it = settled(rt, asked)?;
-    put_turns(text, &it)?;
-    Ok(put_end(rt.alloc(), text, &it)?)
+    put_turns(text, &it);
+    put_end(rt.alloc(), text, &it);
+    Ok(())
 }
 
 /// `["end", nodes, destination, links, workers, budget]`: the settled network alone, since who made how many turns depends on the order
 /// of the workers' steps.
 pub fn settle_to_end<R: Threads + Wait + Sync + Alloc<A = Global>>(
     rt: &R,
-    text: &mut String,
+    text: &mut Answer,
     asked: &[Value],
 ) -> Result<(), Fault> {
-    let it = settled(rt, asked)?;
-    Ok(put_end(rt.alloc(), text, &it)?)
+    put_end(rt.alloc(), text, &settled(rt, asked)?);
+    Ok(())
 }
 
-fn put_turns(text: &mut String, it: &Settled) -> Result<(), AllocError> {
-    put(text, "by workers ", &it.by_workers)?;
-    put(text, ", by the finisher ", &it.by_finisher)?;
-    text.push_str(", ")
+fn put_turns(text: &mut Answer, it: &Settled) {
+    text.put("by workers ", &it.by_workers);
+    text.put(", by the finisher ", &it.by_finisher);
+    text.say(", ");
 }
 
-fn put_end(alloc: Global, text: &mut String, it: &Settled) -> Result<(), AllocError> {
-    put(text, "counts ", &it.counts)?;
-    text.push_str(", ")?;
-    put_links(alloc, text, &it.net)
+fn put_end(alloc: Global, text: &mut Answer, it: &Settled) {
+    text.put("counts ", &it.counts);
+    text.say(", ");
+    text.put_links(alloc, &it.net);
 }
 
 /// The nodes below `nodes`, each from `first` on with a link to the next.
@@ -118,7 +120,7 @@ pub fn long_chain(alloc: Global, nodes: u32, first: u32) -> Result<Net, Fault> {
 /// `["long chain", nodes, first, workers, budget]`: how many turns the chain of all nodes from the first on takes.
 pub fn settle_chain<R: Threads + Wait + Sync + Alloc<A = Global>>(
     rt: &R,
-    text: &mut String,
+    text: &mut Answer,
     asked: &[Value],
 ) -> Result<(), Fault> {
     let [nodes, first, workers, budget] = asked else {
@@ -132,16 +134,12 @@ pub fn settle_chain<R: Threads + Wait + Sync + Alloc<A = Global>>(
 /// Settles a network whose destination is node 0, and puts how many turns it took.
 pub fn put_total<R: Threads + Wait + Sync + Alloc<A = Global>, G: Gate + Sync>(
     rt: &R,
-    text: &mut String,
+    text: &mut Answer,
     net: Net,
     plan: &Plan,
     gate: &G,
 ) -> Result<(), Fault> {
     let it = settle(rt, rt.alloc(), net, 0, plan, gate)?;
-    put(
-        text,
-        "turns ",
-        &it.by_workers.saturating_add(it.by_finisher),
-    )?;
+    text.put("turns ", &it.by_workers.saturating_add(it.by_finisher));
     Ok(())
 }

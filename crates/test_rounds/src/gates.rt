@@ -1,9 +1,10 @@
 //! Gates that hold workers, and one that listens: two threads really run, the gate is called around each call, and no answer depends on
 //! who is slow.
 
+use crate::answers::Answer;
 use crate::crews::{long_chain, named_plan, plan, put_total};
 use crate::fault::Fault;
-use crate::values::{network, put, small_number};
+use crate::values::{network, small_number};
 use fr_crew::{Gate, Plan, Settled, settle};
 use fr_net::Net;
 use serde_json::Value;
@@ -192,7 +193,7 @@ impl Gate for ListeningGate {
 /// it, and by one worker how many there were.
 pub fn told<R: Threads + Wait + Sync + Alloc<A = Global>>(
     rt: &R,
-    text: &mut String,
+    text: &mut Answer,
     asked: &[Value],
 ) -> Result<(), Fault> {
     let [nodes, dest, links, workers, budget] = asked else {
@@ -202,17 +203,16 @@ pub fn told<R: Threads + Wait + Sync + Alloc<A = Global>>(
     let net = network(rt.alloc(), nodes, links)?;
     let gate = ListeningGate::new(rt.alloc(), plan.workers())?;
     let _settled = settle(rt, rt.alloc(), net, dest, &plan, &gate)?;
-    put_told(text, &plan, &gate)?;
+    put_told(text, &plan, &gate);
     Ok(())
 }
 
 /// Puts what a gate was told behind a text: how many calls there are by more workers than one depends on the order of their steps.
-fn put_told(text: &mut String, plan: &Plan, gate: &ListeningGate) -> Result<(), AllocError> {
-    put(text, "in order ", &gate.was_in_order())?;
+fn put_told(text: &mut Answer, plan: &Plan, gate: &ListeningGate) {
+    text.put("in order ", &gate.was_in_order());
     if plan.workers() == 1 {
-        put(text, ", calls ", &gate.calls())?;
+        text.put(", calls ", &gate.calls());
     }
-    Ok(())
 }
 
 /// Two workers settle the square beside this gate.
@@ -229,7 +229,7 @@ fn settled_square<R: Threads + Wait + Sync + Alloc<A = Global>>(
 /// and the counts of the square.
 pub fn one_held<R: Threads + Wait + Sync + Alloc<A = Global>>(
     rt: &R,
-    text: &mut String,
+    text: &mut Answer,
     asked: &[Value],
 ) -> Result<(), Fault> {
     let [held, until] = asked else {
@@ -237,15 +237,15 @@ pub fn one_held<R: Threads + Wait + Sync + Alloc<A = Global>>(
     };
     let gate = HoldingGate::new(Held::One(small_number(held)?), (small_number(until)?, 1));
     let it = settled_square(rt, &gate)?;
-    put(text, "counts ", &it.counts)?;
-    put(text, ", passed ", &gate.was_passed())?;
+    text.put("counts ", &it.counts);
+    text.put(", passed ", &gate.was_passed());
     Ok(())
 }
 
 /// The long chain, where the odd of eight workers are held until the tenth call of worker 0 is answered.
 pub fn odd_held<R: Threads + Wait + Sync + Alloc<A = Global>>(
     rt: &R,
-    text: &mut String,
+    text: &mut Answer,
 ) -> Result<(), Fault> {
     let plan = plan(8, 1_000_000)?;
     let gate = HoldingGate::new(Held::Odd, (0, 10));
@@ -255,7 +255,7 @@ pub fn odd_held<R: Threads + Wait + Sync + Alloc<A = Global>>(
 /// The long chain, where one of eight workers is slow.
 pub fn slow<R: Threads + Wait + Sync + Alloc<A = Global>>(
     rt: &R,
-    text: &mut String,
+    text: &mut Answer,
 ) -> Result<(), Fault> {
     let plan = plan(8, 1_000_000)?;
     let gate = SlowGate(AtomicU64::new(0));

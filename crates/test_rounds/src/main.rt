@@ -4,6 +4,7 @@
 //! run: what depends on it is not printed.
 #![tactic(auto)]
 
+mod answers;
 mod asked;
 mod counts;
 mod crews;
@@ -14,6 +15,7 @@ mod rounds;
 mod threads;
 mod values;
 
+use answers::Answer;
 use asked::answer;
 use std::alloc::Global;
 use std::io;
@@ -38,8 +40,9 @@ fn tell<R: Threads + Wait + Sync + Alloc<A = Global> + Print>(
         return Ok(());
     }
     rt.print("  ")?;
-    match answer(rt, line) {
-        Ok(text) => rt.println(text),
+    let mut text = Answer::new(rt.alloc());
+    match answer(rt, &mut text, line) {
+        Ok(()) => rt.println(text.text()),
         Err(fault) => rt.println(fault),
     }
 }

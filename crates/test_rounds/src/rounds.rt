@@ -4,8 +4,9 @@ ghost use Rattle.std.specs.Prelude.{◌≡◌, ◌≤◌, ◌<◌, length, IfOk,
 ghost use Rattle.std.specs.List.{AllByRecursion as Each};
 ghost use Rattle.fr_round.specs.Knowledge.{IsOwn};
 
+use crate::answers::Answer;
 use crate::fault::Fault;
-use crate::values::{items, named, network, number, put, put_links, small_number, word};
+use crate::values::{items, named, network, number, small_number, word};
 use fr_core::{Reply, Target};
 use fr_net::Net;
 use fr_round::{Closed, OpenFault, OpenWhy, Refusal, Round, Worker};
@@ -92,51 +93,49 @@ pub fn opened_by_three(alloc: Global, net: Net) -> Result<(Round, (Worker, Worke
 }
 
 /// `["open", nodes, links, destination, workers]`: what an open round tells, or why it is not opened and which links are handed back.
-pub fn open(alloc: Global, text: &mut String, asked: &[Value]) -> Result<(), Fault> {
+pub fn open(alloc: Global, text: &mut Answer, asked: &[Value]) -> Result<(), Fault> {
     let [nodes, links, dest, workers] = asked else {
         return Err(Fault::NoCase);
     };
     let (dest, count) = (small_number(dest)?, small_number(workers)?);
     let net = network(alloc, nodes, links)?;
     match opened(alloc, net, dest, count) {
-        Ok((round, workers)) => put_round(text, &round, &workers)?,
-        Err(fault) => put_fault(alloc, text, &fault)?,
+        Ok((round, workers)) => put_round(text, &round, &workers),
+        Err(fault) => put_fault(alloc, text, &fault),
     }
     Ok(())
 }
 
-fn put_fault(alloc: Global, text: &mut String, fault: &OpenFault) -> Result<(), AllocError> {
-    put(text, "", &fault.why)?;
-    text.push_str(", ")?;
-    put_links(alloc, text, &fault.net)
+fn put_fault(alloc: Global, text: &mut Answer, fault: &OpenFault) {
+    text.put("", &fault.why);
+    text.say(", ");
+    text.put_links(alloc, &fault.net);
 }
 
 /// Puts what an open round tells, and each of its workers.
-fn put_round(text: &mut String, round: &Round, workers: &[Worker]) -> Result<(), AllocError>
+fn put_round(text: &mut Answer, round: &Round, workers: &[Worker])
     requires { Each (IsOwn round.now) workers.now }
 {
     is_shared(round);
-    put(text, "destination ", &round.dest())?;
-    put(text, ", nodes ", &round.net().nodes())?;
-    put(text, ", workers ", &round.workers())?;
+    text.put("destination ", &round.dest());
+    text.put(", nodes ", &round.net().nodes());
+    text.put(", workers ", &round.workers());
     for worker in workers {
-        put_worker(text, round, worker)?;
+        put_worker(text, round, worker);
     }
-    Ok(())
 }
 
 /// Puts the number of a worker, its turns, and the count of each node that it has seen.
-fn put_worker(text: &mut String, round: &Round, worker: &Worker) -> Result<(), AllocError>
+fn put_worker(text: &mut Answer, round: &Round, worker: &Worker)
     requires { IsOwn round.now worker.now }
 {
     is_sent(worker);
-    put(text, "; worker ", &worker.number())?;
-    put(text, " turned ", &worker.turned())?;
-    text.push_str(" and saw")?;
+    text.put("; worker ", &worker.number());
+    text.put(" turned ", &worker.turned());
+    text.say(" and saw");
     for x in 0..round.net().nodes() {
-        put(text, " ", &worker.seen(x))?;
+        text.put(" ", &worker.seen(x));
     }
-    Ok(())
 }
 
 /// The workers that a case has come back.
@@ -151,37 +150,46 @@ fn who_comes(value: &Value) -> Result<Back, Fault> {
 }
 
 /// `["calls", nodes, links, [[worker, "turn" or "look", node], ..], back]`: the replies, and what the round closes with.
-pub fn calls(alloc: Global, text: &mut String, asked: &[Value]) -> Result<(), Fault> {
+pub fn calls(alloc: Global, text: &mut Answer, asked: &[Value]) -> Result<(), Fault> {
     let [nodes, links, calls, handed] = asked else {
         return Err(Fault::NoCase);
     };
-    let (calls, handed) = (items(calls)?, who_comes(handed)?);
+    let handed = who_comes(handed)?;
+    let calls = calls_in(alloc, calls)?;
     let (round, mut a, mut b) = opened_by_two(alloc, network(alloc, nodes, links)?)?;
-    put_replies(text, &round, &mut a, &mut b, calls)?;
-    put_closed(text, &closed(alloc, round, a, b, handed)?)
+    put_replies(text, &round, &mut a, &mut b, &calls);
+    put_closed(text, &closed(alloc, round, a, b, handed)?);
+    Ok(())
+}
+
+/// The calls of a list, each with its worker.
+fn calls_in(alloc: Global, value: &Value) -> Result<Vec<(u64, Target)>, Fault> {
+    let mut calls = Vec::new(alloc);
+    for value in items(value)? {
+        calls.push(call(value)?)?;
+    }
+    Ok(calls)
 }
 
 /// Makes the calls, and puts each reply.
 fn put_replies(
-    text: &mut String,
+    text: &mut Answer,
     round: &Round,
     a: &mut Worker,
     b: &mut Worker,
-    calls: &[Value],
-) -> Result<(), Fault>
+    calls: &[(u64, Target)],
+)
     requires { IsOwn round.now a.old × IsOwn round.now b.old }
     ensures { IsOwn round.now a.new × IsOwn round.now b.new }
 {
-    for value in calls {
-        let (worker, target) = call(value)?;
-        let replied = if worker == 0 {
-            reply(round, a, target)
+    for (worker, target) in calls {
+        let replied = if *worker == 0 {
+            reply(round, a, *target)
         } else {
-            reply(round, b, target)
+            reply(round, b, *target)
         };
-        put_reply(text, replied)?;
+        put_reply(text, replied);
     }
-    Ok(())
 }
 
 /// The worker and the target of a call.
@@ -210,12 +218,12 @@ fn reply(round: &Round, worker: &mut Worker, target: Target) -> Result<Reply, Re
 }
 
 /// Puts the reply to a call, or why it was refused.
-fn put_reply(text: &mut String, replied: Result<Reply, Refusal>) -> Result<(), AllocError> {
+fn put_reply(text: &mut Answer, replied: Result<Reply, Refusal>) {
     match replied {
-        Ok(reply) => put(text, "", &reply)?,
-        Err(refusal) => put(text, "", &refusal)?,
+        Ok(reply) => text.put("", &reply),
+        Err(refusal) => text.put("", &refusal),
     }
-    text.push_str("; ")
+    text.say("; ");
 }
 
 /// Ends a round where these workers come back.
@@ -246,10 +254,9 @@ fn handed_back(
 }
 
 /// Puts what a round has closed with.
-pub fn put_closed(text: &mut String, closed: &Closed) -> Result<(), Fault> {
-    put(text, "counts ", &closed.counts)?;
-    put(text, ", turned ", &closed.turned)?;
-    Ok(())
+pub fn put_closed(text: &mut Answer, closed: &Closed) {
+    text.put("counts ", &closed.counts);
+    text.put(", turned ", &closed.turned);
 }
 
 /// Ends a round where both workers come back.

@@ -3,10 +3,10 @@
 ghost use Rattle.std.specs.Prelude.{◌≡◌, IfOk};
 ghost use Rattle.fr_round.specs.Knowledge.{IsOwn};
 
+use crate::answers::Answer;
 use crate::fault::Fault;
 use crate::live_walks::put_walk;
 use crate::rounds::{closed_by_both, opened_by_three, opened_by_two, put_closed};
-use crate::values::put;
 use fr_core::Reply;
 use fr_crew::LiveEnd::Here;
 use fr_crew::{LiveWalk, live_walk};
@@ -57,15 +57,16 @@ fn two_threads<R: Threads + Sync>(
 /// the round closes with.
 pub fn two_turn<R: Threads + Sync + Alloc<A = Global>>(
     rt: &R,
-    text: &mut String,
+    text: &mut Answer,
 ) -> Result<(), Fault> {
     let net = Net::new(rt.alloc(), 3, &CHAIN[..2])?;
     let (round, a, b) = opened_by_two(rt.alloc(), net)?;
     let ((a, first), (b, second)) = two_threads(rt, &round, a, b);
     let closed = closed_by_both(rt.alloc(), round, a, b)?;
-    put(text, "turned ", &(first, second))?;
-    text.push_str(", ")?;
-    put_closed(text, &closed)
+    text.put("turned ", &(first, second));
+    text.say(", ");
+    put_closed(text, &closed);
+    Ok(())
 }
 
 /// Turns nodes of the chain until none can turn, whatever others do.
@@ -194,22 +195,22 @@ fn closed_by_three(
 /// at the end.
 pub fn walk_beside_two<R: Threads + Sync + Alloc<A = Global>>(
     rt: &R,
-    text: &mut String,
+    text: &mut Answer,
 ) -> Result<(), Fault> {
     let alloc = rt.alloc();
     let (round, turning, walking) = opened_by_three(alloc, Net::new(alloc, 5, &CHAIN)?)?;
     let (turning, (mut walking, right)) = walk_beside(rt, alloc, &round, turning, walking);
-    put(text, "right ", &right)?;
-    text.push_str(", ")?;
-    put_walk(text, &live_walk(alloc, &round, &mut walking, 4, 4))?;
+    text.put("right ", &right);
+    text.say(", ");
+    put_walk(text, &live_walk(alloc, &round, &mut walking, 4, 4));
     let turned = turning.0.turned().saturating_add(turning.1.turned());
-    put(text, ", turned ", &turned)?;
-    put_three(text, &closed_by_three(alloc, round, turning, walking)?)
+    text.put(", turned ", &turned);
+    put_three(text, &closed_by_three(alloc, round, turning, walking)?);
+    Ok(())
 }
 
 /// Puts all turns and the counts with which the round has closed.
-fn put_three(text: &mut String, closed: &Closed) -> Result<(), Fault> {
-    put(text, " of ", &all_turns(&closed.turned))?;
-    put(text, ", counts ", &closed.counts)?;
-    Ok(())
+fn put_three(text: &mut Answer, closed: &Closed) {
+    text.put(" of ", &all_turns(&closed.turned));
+    text.put(", counts ", &closed.counts);
 }

@@ -1,10 +1,9 @@
-//! What the items of a case say, and what is put into an answer.
+//! What the items of a case say.
 
 use crate::fault::Fault;
 use fr_net::Net;
 use serde_json::Value;
-use std::alloc::{AllocError, Global};
-use std::fmt::Debug;
+use std::alloc::Global;
 
 /// The items of a list.
 pub fn items(value: &Value) -> Result<&[Value], Fault> {
@@ -66,16 +65,4 @@ pub fn network(alloc: Global, nodes: &Value, links: &Value) -> Result<Net, Fault
     let nodes = small_number(nodes)?;
     let links = pairs(alloc, links)?;
     Ok(Net::new(alloc, nodes, &links)?)
-}
-
-/// Puts a label and a value behind a text.
-pub fn put<T: Debug>(text: &mut String, label: &str, value: &T) -> Result<(), AllocError> {
-    text.push_str(label)?;
-    write!(text, "{value:?}")
-}
-
-/// Puts the links of a network behind a text.
-pub fn put_links(alloc: Global, text: &mut String, net: &Net) -> Result<(), AllocError> {
-    let links = net.links(alloc)?;
-    put(text, "links ", &links)
 }
