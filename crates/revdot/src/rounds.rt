@@ -161,9 +161,18 @@ fn push_asked(
         × (string_bytes story.new ≡ string_bytes story.old ++ asked)) }
     ensures same { OnOk result (session.new ≡ session.old) }
 {
+    let answer = asked(alloc, session, question)?;
+    story.push_str(&answer)?;
+    story.push_str("\n")
+}
+
+/// The answer of a session to a question.
+fn asked(alloc: Global, session: &mut Session, question: Question) -> Result<String, AllocError>
+    ensures text { IfOk result (λ text. IsAnswer session.old (ask question) (string_bytes text) session.old) }
+    ensures same { OnOk result (session.new ≡ session.old) }
+{
     let Ok(answer) = session.answer_alone(alloc, &Request::Ask(question)) else {
         return Err(AllocError);
     };
-    story.push_str(&answer)?;
-    story.push_str("\n")
+    Ok(answer)
 }
