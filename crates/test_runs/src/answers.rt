@@ -4,13 +4,12 @@ use crate::cases::Case;
 use crate::gates::tell_held;
 use crate::inputs::{MadeReader, by_turns, long_chain};
 use crate::outcomes::{tell_first, tell_outcome};
-use crate::runs::{FEW_PLANS, PLANS, run_by, run_of, tell_plans};
+use crate::runs::{FEW_PLANS, PLANS, run_alone, run_of, tell_plans};
 use crate::streams::{tell_narrow_writes, tell_slow_reads};
 use crate::tasks::{draw_at, outcome_of, task_at};
 use crate::words::{tell_faults, tell_words};
 use crate::{changes, plays};
 use fr_command::Task;
-use fr_crew::OpenGate;
 use serde_json::Value;
 use std::sync::Wait;
 use std::thread::Threads;
@@ -22,7 +21,7 @@ pub fn tell_answer<R: Threads + Wait + Sync + AllocGlobal + Print>(
     case: &Case<'_>,
 ) -> Option<()> {
     match word {
-        "run" => tell_run(rt, case),
+        "run" => tell_run(rt, &case.input(rt.alloc())),
         "made" => tell_made(rt, case),
         "gate" => tell_gate(rt, case),
         "batch" => tell_batch(rt, case),
@@ -39,11 +38,11 @@ pub fn tell_answer<R: Threads + Wait + Sync + AllocGlobal + Print>(
 }
 
 /// `["run"]`: a run of the lines under each of the plans.
-fn tell_run<R: Threads + Wait + Sync + AllocGlobal + Print>(rt: &R, case: &Case<'_>) -> Option<()> {
-    let input = case.input(rt.alloc());
-    let outcome = run_of(rt, &input, (1, 0))?;
+fn tell_run<R: Threads + Wait + Sync + AllocGlobal + Print>(rt: &R, input: &str) -> Option<()> {
+    let outcome = run_of(rt, input);
     tell_outcome(rt, &outcome);
-    tell_plans(rt, &input, PLANS, &outcome)
+    tell_plans(rt, input, PLANS, &outcome);
+    Some(())
 }
 
 /// `["made", [byte, count], [byte, count]]`: a run of an input of one byte so often, and then of another.
@@ -55,7 +54,7 @@ fn tell_made<R: Threads + Wait + Sync + AllocGlobal + Print>(
         first: bytes_in(case.value(1)?)?,
         second: bytes_in(case.value(2)?)?,
     };
-    tell_outcome(rt, &run_by(rt, &mut reader, (1, 0), &OpenGate)?);
+    tell_outcome(rt, &run_alone(rt, &mut reader));
     Some(())
 }
 
@@ -72,7 +71,8 @@ fn tell_gate<R: Threads + Wait + Sync + AllocGlobal + Print>(
     case: &Case<'_>,
 ) -> Option<()> {
     let (held, until) = (case.small(1)?, case.small(2)?);
-    tell_held(rt, &case.input(rt.alloc()), held, until)
+    tell_held(rt, &case.input(rt.alloc()), held, until);
+    Some(())
 }
 
 /// `["batch", count]`: a run of a batch of so many edits.
@@ -81,7 +81,7 @@ fn tell_batch<R: Threads + Wait + Sync + AllocGlobal + Print>(
     case: &Case<'_>,
 ) -> Option<()> {
     let input = by_turns(rt.alloc(), case.small(1)?);
-    tell_outcome(rt, &run_of(rt, &input, (1, 0))?);
+    tell_outcome(rt, &run_of(rt, &input));
     Some(())
 }
 
@@ -92,9 +92,10 @@ fn tell_chain<R: Threads + Wait + Sync + AllocGlobal + Print>(
 ) -> Option<()> {
     let (nodes, first) = (case.small(1)?, case.small(2)?);
     let input = long_chain(rt.alloc(), nodes, first);
-    let outcome = run_of(rt, &input, (1, 0))?;
+    let outcome = run_of(rt, &input);
     tell_first(rt, &outcome);
-    tell_plans(rt, &input, FEW_PLANS, &outcome)
+    tell_plans(rt, &input, FEW_PLANS, &outcome);
+    Some(())
 }
 
 /// `["play", workers, seed, steps]`: a play on the network of the lines.

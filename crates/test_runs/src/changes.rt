@@ -70,13 +70,21 @@ fn changes_as_opened(alloc: Global, router: &mut Router, change: Change) -> bool
 
 /// The router that opens on what a change makes of another one's network, if it can be made.
 fn opened_anew(alloc: Global, router: &Router, change: &Change) -> Option<Router> {
-    let (net, dest) = (router.net(), router.dest());
-    let (net, dest) = match change {
-        Change::Cut { u, v } => (net.with_cut(alloc, *u, *v).ok()?, dest),
-        Change::Add { u, v } => (net.with_link(alloc, *u, *v).ok()?, dest),
-        Change::Join { u, v } => (net.with_join(alloc, *u, *v).ok()?, dest),
-        Change::Batch(edits) => (net.with_edits(alloc, edits).ok()?, dest),
-        Change::Destination { dest } => (net.copied(alloc).ok()?, *dest),
+    let dest = match change {
+        Change::Destination { dest } => *dest,
+        _ => router.dest(),
     };
+    let net = changed(alloc, router.net(), change)?;
     Router::open_alone(alloc, net, dest).ok()
+}
+
+/// What a change makes of a network, if it can be made.
+fn changed(alloc: Global, net: &Net, change: &Change) -> Option<Net> {
+    match change {
+        Change::Cut { u, v } => net.with_cut(alloc, *u, *v).ok(),
+        Change::Add { u, v } => net.with_link(alloc, *u, *v).ok(),
+        Change::Join { u, v } => net.with_join(alloc, *u, *v).ok(),
+        Change::Batch(edits) => net.with_edits(alloc, edits).ok(),
+        Change::Destination { .. } => net.copied(alloc).ok(),
+    }
 }

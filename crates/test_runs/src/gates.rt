@@ -3,7 +3,7 @@
 use crate::outcomes::tell_outcome;
 use crate::runs::run_by;
 use crate::telling::tell;
-use fr_crew::Gate;
+use fr_crew::{Gate, Plan};
 use std::sync::Wait;
 use std::sync::atomic::{AtomicBool, AtomicU64, Ordering};
 use std::thread::Threads;
@@ -71,9 +71,10 @@ pub fn tell_held<R: Threads + Wait + Sync + AllocGlobal + Print>(
     input: &str,
     held: u32,
     until: u32,
-) -> Option<()> {
+) {
+    let plan = Plan::new(2, 0, 1000).unwrap();
     let gate = HoldingGate::new(held, until);
-    let outcome = run_by(rt, &mut input.as_bytes(), (2, 1000), &gate)?;
+    let outcome = run_by(rt, &mut input.as_bytes(), &plan, &gate);
     tell_outcome(rt, &outcome);
     tell(
         rt,
@@ -83,5 +84,4 @@ pub fn tell_held<R: Threads + Wait + Sync + AllocGlobal + Print>(
             "not passed"
         },
     );
-    Some(())
 }

@@ -9,7 +9,7 @@ use fr_net::{Net, Request, read_line};
 use rand_core::SeedableRng;
 use rand_core::utils::NextWord;
 use rand_pcg::Lcg64Xsh32;
-use std::alloc::{AllocError, Global};
+use std::alloc::Global;
 use std::sync::Wait;
 use std::thread::Threads;
 
@@ -55,38 +55,38 @@ fn entries_on_line(alloc: Global, draw: Draw, seed: u64, line: &str) -> Option<V
 
 /// The entries of a play on a network.
 fn entries_on(alloc: Global, draw: Draw, seed: u64, net: &Net) -> Option<Vec<Entry>> {
-    let schedule = schedule(alloc, draw, seed).ok()?;
-    let targets = targets(alloc, draw, net.nodes()).ok()?;
+    let schedule = schedule(alloc, draw, seed);
+    let targets = targets(alloc, draw, net.nodes());
     play(alloc, net, 0, targets, &schedule).ok()
 }
 
-/// The schedule that is drawn here.
-fn schedule(alloc: Global, draw: Draw, seed: u64) -> Result<Vec<u32>, AllocError> {
+/// The schedule that is drawn here. Where it finds no room, it lacks something, which shows when it is played.
+fn schedule(alloc: Global, draw: Draw, seed: u64) -> Vec<u32> {
     let mut generator = Lcg64Xsh32::seed_from_u64(seed);
     let mut schedule = Vec::new(alloc);
     for _step in 0..draw.steps() {
-        schedule.push(generator.next_word() % draw.workers())?;
+        let _ = schedule.push(generator.next_word() % draw.workers());
     }
-    Ok(schedule)
+    schedule
 }
 
 /// The targets of the workers.
-fn targets(alloc: Global, draw: Draw, nodes: u32) -> Result<Vec<Vec<Target>>, AllocError> {
+fn targets(alloc: Global, draw: Draw, nodes: u32) -> Vec<Vec<Target>> {
     let mut targets = Vec::new(alloc);
     for _worker in 0..draw.workers() {
-        targets.push(turns(alloc, draw.steps(), nodes)?)?;
+        let _ = targets.push(turns(alloc, draw.steps(), nodes));
     }
-    Ok(targets)
+    targets
 }
 
 /// So many turns: of the nodes 1, 2 and so on, and again from the first.
-fn turns(alloc: Global, steps: u32, nodes: u32) -> Result<Vec<Target>, AllocError> {
+fn turns(alloc: Global, steps: u32, nodes: u32) -> Vec<Target> {
     let mut turns = Vec::new(alloc);
     let others = nodes.saturating_sub(1).max(1);
     for place in 0..steps {
-        turns.push(Target::Turn(place % others + 1))?;
+        let _ = turns.push(Target::Turn(place % others + 1));
     }
-    Ok(turns)
+    turns
 }
 
 /// The line of an entry.

@@ -27,26 +27,30 @@ pub const PLANS: &[(u32, u64)] = &[
 /// The same for long inputs.
 pub const FEW_PLANS: &[(u32, u64)] = &[(1, 0), (1, 20_000), (2, 20_000), (8, 20_000)];
 
-/// What a run comes to by so many workers, each with so many calls; `None` where there is no such plan.
+/// What a run comes to under a plan.
 pub fn run_by<T: Threads + Wait + Sync + AllocGlobal, R: Read, G: Gate + Sync>(
     rt: &T,
     reader: &mut R,
-    numbers: (u32, u64),
+    plan: &Plan,
     gate: &G,
-) -> Option<Outcome> {
-    let plan = Plan::new(numbers.0, 0, numbers.1)?;
+) -> Outcome {
     let mut out = Vec::new(rt.alloc());
-    let end = run(rt, rt.alloc(), reader, &mut out, &plan, gate);
-    Some(Outcome { out, end })
+    let end = run(rt, rt.alloc(), reader, &mut out, plan, gate);
+    Outcome { out, end }
 }
 
-/// The same for an input as a text, with the gate open.
-pub fn run_of<T: Threads + Wait + Sync + AllocGlobal>(
+/// What a run of a reader comes to by one worker that makes no call, with the gate open.
+pub fn run_alone<T: Threads + Wait + Sync + AllocGlobal, R: Read>(
     rt: &T,
-    input: &str,
-    numbers: (u32, u64),
-) -> Option<Outcome> {
-    run_by(rt, &mut input.as_bytes(), numbers, &OpenGate)
+    reader: &mut R,
+) -> Outcome {
+    let plan = Plan::new(1, 0, 0).unwrap();
+    run_by(rt, reader, &plan, &OpenGate)
+}
+
+/// The same for an input as a text.
+pub fn run_of<T: Threads + Wait + Sync + AllocGlobal>(rt: &T, input: &str) -> Outcome {
+    run_alone(rt, &mut input.as_bytes())
 }
 
 /// Tells whether the run of an input comes to this under each of the plans, or the first under which it comes to something else.
@@ -55,15 +59,32 @@ pub fn tell_plans<R: Threads + Wait + Sync + AllocGlobal + Print>(
     input: &str,
     plans: &[(u32, u64)],
     wanted: &Outcome,
-) -> Option<()> {
+) {
     for (workers, budget) in plans {
-        let outcome = run_of(rt, input, (*workers, *budget))?;
-        if outcome != *wanted {
-            let _ = println!(rt; "  by {workers} workers with {budget} calls:");
-            tell_outcome(rt, &outcome);
-            return Some(());
+        if !comes_to(rt, input, *workers, *budget, wanted) {
+            return;
         }
     }
     tell(rt, "by all plans");
-    Some(())
+}
+
+/// Whether the run of an input by so many workers, each with so many calls, comes to this. What else it comes to is told.
+fn comes_to<R: Threads + Wait + Sync + AllocGlobal + Print>(
+    rt: &R,
+    input: &str,
+    workers: u32,
+    budget: u64,
+    wanted: &Outcome,
+) -> bool {
+    let Some(plan) = Plan::new(workers, 0, budget) else {
+        tell(rt, "no such plan");
+        return false;
+    };
+    let outcome = run_by(rt, &mut input.as_bytes(), &plan, &OpenGate);
+    let comes = outcome == *wanted;
+    if !comes {
+        let _ = println!(rt; "  by {workers} workers with {budget} calls:");
+        tell_outcome(rt, &outcome);
+    }
+    comes
 }

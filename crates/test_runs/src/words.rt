@@ -4,20 +4,28 @@ use crate::cases::Case;
 use crate::telling::{tell, tell_lines, tell_value};
 use fr_command::{RunFault, TaskFault, run_end, task_end, task_of};
 use fr_route::{AnswerFault, RouteFault};
+use serde_json::Value;
+use std::alloc::Global;
 use std::fmt::Display;
 
 /// `["words", [word, ..]]`: the task that the words ask for, or the status and the text. `["words", [word, ..], begin, middle, end]`: the
 /// status, and whether the text begins, goes on and ends so.
 pub fn tell_words<R: AllocGlobal + Print>(rt: &R, case: &Case<'_>) -> Option<()> {
-    let mut words = Vec::new(rt.alloc());
-    for word in case.value(1)?.as_array()? {
-        words.push(word.as_str()?).ok()?;
-    }
+    let words = texts_of(rt.alloc(), case.value(1)?.as_array()?);
     match task_of(rt.alloc(), &words) {
         Ok(task) => tell_value(rt, &task),
         Err(fault) => tell_end(rt, &fault, case),
     }
     Some(())
+}
+
+/// The texts of a list.
+fn texts_of(alloc: Global, list: &[Value]) -> Vec<&str> {
+    let mut texts = Vec::new(alloc);
+    for value in list {
+        let _ = texts.push(value.as_str().unwrap_or("no text"));
+    }
+    texts
 }
 
 /// Tells how the program ends for a fault.
