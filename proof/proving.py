@@ -88,6 +88,16 @@ def libraries(progress, name, jobs):
     return own_rlib
 
 
+def libraries_beside(name, said):
+    """Waits until an rt ci that runs, whose words go to a file, has proved the libraries below a crate, and returns where each is."""
+    wanted = {f"rt: {it} proved" for it in crates.below(name)}
+    while not wanted <= (lines := set(said.read_text(errors="replace").splitlines())):
+        if any(re.fullmatch(r"\d+ passed, \d+ failed", it) for it in lines):
+            sys.exit(f"a library below {name} is not proved")
+        time.sleep(1)
+    return gate_rlib
+
+
 def link(made):
     """Makes a program of what was compiled, in its place."""
     kit, compiled = crates.kit(), made.with_suffix(".o")
