@@ -1,5 +1,5 @@
 -- Links and edits of C as those of a network.
-use Rattle.std.specs.Prelude.{◌≡◌, ◌==◌, ℕ, List, Bool, Option, None, nat_lt, position, if◌then◌else◌}
+use Rattle.std.specs.Prelude.{◌≡◌, ◌==◌, ℕ, List, Bool, None, nat_lt, position, if◌then◌else◌}
 use Rattle.fr_net.specs.declared.edit.Edit.{Edit}
 use Rattle.fr_net.specs.declared.edit.Edit.TheVariants.{Cut, Add, Join}
 use Rattle.revroute_c.specs.declared.records.Link.{Link}

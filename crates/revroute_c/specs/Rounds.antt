@@ -1,6 +1,6 @@
 -- What the calls answer that begin a round, and why they are refused. The requests are those of the lines.
 use Rattle.std.specs.Prelude.{◌≡◌, ℕ, ◌<◌, ◌≤◌, ◌⊎◌, List, [], ◌∷◌, length, map, position, slice_get, Option, Some, None}
-use Rattle.fr_net.specs.Batches.{AreMade, IsRefusedAt}
+use Rattle.fr_net.specs.Batches.{IsRefusedAt}
 use Rattle.fr_net.specs.Faults.{IsFaultless, IsFirstFault}
 use Rattle.fr_net.specs.Limits.{most_edits}
 use Rattle.fr_net.specs.Network.{Network}
