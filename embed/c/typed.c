@@ -13,7 +13,7 @@
 #include <revroute.h>
 #include <stdbool.h>
 
-enum { MOST = 9, NETWORKS = 2500, STEPS = 80, MOST_EDITS = 1024, MOST_LINKS = 64, TEXT = 1 << 16, FENCED = 1 << 16, UNTOUCHED = 77 };
+enum { MOST = 9, NETWORKS = 2600, STEPS = 80, MOST_EDITS = 1024, MOST_LINKS = 64, TEXT = 1 << 16, FENCED = 1 << 16, UNTOUCHED = 77 };
 
 static uint64_t drawn = 20261125;
 static size_t accepted, refused, wanting;
@@ -192,26 +192,32 @@ static uint32_t ask_walk(revroute *session, const step *it, size_t room, uint32_
     return revroute_closed_walk_of(it->nodes, fenced(it->links, it->count * sizeof *it->links), it->count, place, room, length);
 }
 
-/* The closed walk of a step that is refused for one, and that there is none of another. */
-static void look_at_walk(revroute *session, const step *it, const table *net, const revroute_refusal *r) {
-    size_t length, told;
+/* How many nodes the closed walk has for which a step will be refused, or 0 where there is none. */
+static size_t walk_length(revroute *session, const step *it) {
+    size_t length = UNTOUCHED;
     uint32_t *place = (uint32_t *)(void *)place_end - 1;
     revroute before = *session;
     *place = UNTOUCHED;
     uint32_t status = ask_walk(session, it, 1, place, &length);
-    if (*place != UNTOUCHED) stop("a walk was written where it has no room");
-    if (r && r->number == REVROUTE_CLOSED_WALK) {
-        if (status != REVROUTE_TOO_SHORT) stop("there is no closed walk where one is refused");
-        place = (uint32_t *)(void *)place_end - length;
-        if (ask_walk(session, it, length - 1, place + 1, &told) != REVROUTE_TOO_SHORT || told != length) stop("a walk fits where it does not");
-        if (ask_walk(session, it, length, place, &told) != REVROUTE_ANSWERED || told != length) stop("a walk has no room where it has");
-        expect_walk(net, place, length, r->u, r->v);
-    } else if (status != REVROUTE_NO_WALK || length) stop("there is a closed walk where none is refused");
-    if (session->at != before.at) stop("a question wrote the handle");
+    if (*place != UNTOUCHED || session->at != before.at) stop("a walk was written where it has no room");
+    bool is_none = status == REVROUTE_NO_WALK || (it->what == CHANGE && !session->at && status == REVROUTE_NO_NETWORK);
+    if ((status != REVROUTE_TOO_SHORT && !is_none) || (length == 0) != is_none) stop("a walk has a wrong length");
+    return length;
+}
+
+/* The closed walk of a step that is refused for one. */
+static void look_at_walk(revroute *session, const step *it, const table *net, revroute_refusal r, size_t length) {
+    size_t told;
+    uint32_t *place = (uint32_t *)(void *)place_end - length;
+    if ((r.number == REVROUTE_CLOSED_WALK) != (length != 0)) stop("there is a closed walk where none is refused, or none where one is");
+    if (!length) return;
+    if (ask_walk(session, it, length - 1, place + 1, &told) != REVROUTE_TOO_SHORT || told != length) stop("a walk fits where it does not");
+    if (ask_walk(session, it, length, place, &told) != REVROUTE_ANSWERED || told != length) stop("a walk has no room where it has");
+    expect_walk(net, place, length, r.u, r.v);
 }
 
 /* Which edit is the first that cannot be made, and why. */
-static void look_at_change(revroute *session, const step *it, const state *before, end ended) {
+static void look_at_change(revroute *session, const step *it, const state *before, end ended, size_t length) {
     revroute_refusal r = ended.refusal;
     bool is_refused = ended.status == REVROUTE_REFUSED;
     table net = table_of(before);
@@ -232,11 +238,11 @@ static void look_at_change(revroute *session, const step *it, const state *befor
     } else if (number == REVROUTE_UNKNOWN_EDIT || number == REVROUTE_TOO_MANY) expect_nodes(r, 0, 0);
     else if (number) expect_nodes(r, e.u, e.v);
     if (number == REVROUTE_CLOSED_WALK) net.points[e.u][e.v] = true;
-    look_at_walk(session, it, &net, number ? &r : NULL);
+    look_at_walk(session, it, &net, r, length);
 }
 
 /* Whether the first fault of the links is the one that is told, and its nodes are those of a link or two. */
-static void look_at_open(revroute *session, const step *it, end ended) {
+static void look_at_open(revroute *session, const step *it, end ended, size_t length) {
     revroute_refusal r = ended.refusal;
     table net = {it->nodes, {{false}}};
     bool is_outside = false, is_self = false, is_twice = false, is_walk = false, is_named = false;
@@ -259,25 +265,34 @@ static void look_at_open(revroute *session, const step *it, end ended) {
     if (number && is_pair == (r.u == r.v)) stop("a refused network names nodes that it does not");
     if (number == REVROUTE_RANGE && r.u < it->nodes) stop("a node is told that is one");
     if (number && !is_named && !(!it->nodes && !r.u) && !(number == REVROUTE_RANGE && !is_outside && r.u == it->dest)) stop("a refused network names no link of it");
-    look_at_walk(session, it, &net, number ? &r : NULL);
+    look_at_walk(session, it, &net, r, length);
 }
 
-static void draw_edits(step *it, uint32_t nodes) {
+/* An edit, mostly one that can be made. */
+static revroute_edit draw_edit(const table *net) {
+    uint32_t u = draw(net->nodes + (draw(20) == 0)), v = draw(net->nodes + (draw(20) == 0));
+    uint32_t fitting = u < net->nodes && v < net->nodes && joins(net, u, v) ? REVROUTE_CUT : REVROUTE_JOIN - (draw(3) == 0);
+    return (revroute_edit){draw(6) ? fitting : draw(10) ? draw(3) : 3 + draw(9), u, v};
+}
+
+static void draw_edits(step *it, const table *net) {
     it->count = draw(8) ? 1 + draw(4) * draw(2) : draw(20);
     if (draw(400) == 0) it->count = MOST_EDITS + draw(2);
-    for (size_t at = 0; at < it->count; at++)
-        it->edits[at] = (revroute_edit){draw(60) ? draw(3) : 3 + draw(9), draw(nodes + (draw(9) == 0)), draw(nodes + (draw(9) == 0))};
+    for (size_t at = 0; at < it->count; at++) it->edits[at] = draw_edit(net);
     if (it->count >= MOST_EDITS && draw(2))
         for (size_t at = 0; at < it->count; at++) it->edits[at] = (revroute_edit){at % 2 ? REVROUTE_CUT : REVROUTE_JOIN, 0, 1};
 }
 
-static step draw_step(uint32_t nodes) {
+static step draw_step(revroute *session) {
     static step it;
+    state now = state_of(session);
+    table net = table_of(&now);
+    uint32_t nodes = now.nodes;
     it.what = !nodes || draw(40) == 0 ? OPEN : draw(8) ? CHANGE : MOVE;
     it.nodes = draw(50) ? 1 + draw(MOST) : 0;
     it.count = 0;
     it.dest = draw((it.what == OPEN ? it.nodes : nodes) + (draw(9) == 0) + 1);
-    if (it.what == CHANGE) draw_edits(&it, nodes);
+    if (it.what == CHANGE) draw_edits(&it, &net);
     if (it.what == OPEN)
         for (uint32_t u = 0; u < it.nodes; u++)
             for (uint32_t v = 0; v < u; v++)
@@ -309,12 +324,13 @@ static void take(revroute *by_line, revroute *by_call, const step *it) {
     uint32_t status = revroute_answer(by_line, (const uint8_t *)text, strlen(text), (uint8_t *)answer, REVROUTE_LEAST_ROOM, &length);
     if (status != REVROUTE_ANSWERED) stop("a line has no answer");
     answer[length] = '\0';
+    size_t walk = it->what == MOVE ? 0 : walk_length(by_call, it);
     end ended = draw(16) ? call(by_call, it) : call_poor(by_call, it);
     compare(answer, ended);
     state after = state_of(by_line);
     expect_state(by_call, &after, "after a call something is otherwise than after the line");
-    if (it->what == CHANGE && before.status == REVROUTE_ANSWERED) look_at_change(by_call, it, &before, ended);
-    if (it->what == OPEN) look_at_open(by_call, it, ended);
+    if (it->what == CHANGE && before.status == REVROUTE_ANSWERED) look_at_change(by_call, it, &before, ended, walk);
+    if (it->what == OPEN) look_at_open(by_call, it, ended, walk);
     expect_state(by_call, &after, "a question changed something");
 }
 
@@ -340,10 +356,7 @@ int main(void) {
     for (int network = 0; network < NETWORKS; network++) {
         revroute by_line = REVROUTE_NEW, by_call = REVROUTE_NEW;
         for (int at = 0; at < STEPS; at++) {
-            uint32_t nodes;
-            size_t links;
-            revroute_size(&by_call, &nodes, &links);
-            step it = draw_step(nodes);
+            step it = draw_step(&by_call);
             take(&by_line, &by_call, &it);
         }
         revroute_close(&by_line);
