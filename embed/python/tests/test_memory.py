@@ -4,6 +4,7 @@ import ctypes
 import unittest
 
 import revroute
+from revroute._calls import library
 
 try:
     from _testcapi import remove_mem_hooks, set_nomemory
@@ -35,7 +36,7 @@ def ask_poor(session, line, first, last):
 
 class MemoryTest(unittest.TestCase):
     def test_without_memory_the_session_is_as_it_was(self):
-        left = ctypes.c_long.in_dll(revroute._library, "refusing_left")
+        left = ctypes.c_long.in_dll(library, "refusing_left")
         with revroute.Session() as session:
             for line in LINES:
                 number, is_met = 0, True
@@ -51,7 +52,7 @@ class MemoryTest(unittest.TestCase):
                 left.value = 0
                 self.assertGreater(number, 1, line)
             self.assertEqual(session.answer('["links"]'), "links 1>2 2>3 3>0")
-        self.assertEqual(ctypes.c_long.in_dll(revroute._library, "refusing_held").value, 0)
+        self.assertEqual(ctypes.c_long.in_dll(library, "refusing_held").value, 0)
 
     def test_an_answer_that_is_lost_is_no_want_of_memory_and_can_be_asked_for_again(self):
         with revroute.Session() as session:
@@ -66,7 +67,7 @@ class MemoryTest(unittest.TestCase):
             self.assertEqual(session.answer('["links"]'), "links")
 
     def test_a_route_without_memory_changes_nothing(self):
-        left = ctypes.c_long.in_dll(revroute._library, "refusing_left")
+        left = ctypes.c_long.in_dll(library, "refusing_left")
         with revroute.Session() as session:
             session.answer(CHAIN)
             left.value = 1
@@ -75,7 +76,7 @@ class MemoryTest(unittest.TestCase):
             self.assertEqual(session.route(3), [3, 2, 1, 0])
 
     def test_pieces_go_on_where_memory_was_missing(self):
-        left = ctypes.c_long.in_dll(revroute._library, "refusing_left")
+        left = ctypes.c_long.in_dll(library, "refusing_left")
         given, number, wanted = "\n".join(LINES).encode() + b"\n", 0, ["turned 6 cut 0", "turned 12 cut 3", "turned 3 cut 0", "walk 1 2 3 0"]
         refused = 1
         while refused:
@@ -93,7 +94,7 @@ class MemoryTest(unittest.TestCase):
                     left.value = 0
                 self.assertEqual(found, wanted, number)
         self.assertGreater(number, 3)
-        self.assertEqual(ctypes.c_long.in_dll(revroute._library, "refusing_held").value, 0)
+        self.assertEqual(ctypes.c_long.in_dll(library, "refusing_held").value, 0)
 
     def test_an_answer_to_a_piece_that_is_lost_can_be_asked_for_again(self):
         with revroute.Session() as session:
