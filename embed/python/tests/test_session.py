@@ -80,7 +80,7 @@ def ends_well(what):
         warnings.simplefilter("ignore", DeprecationWarning)
         child = os.fork()
     if child:
-        return os.waitstatus_to_exitcode(os.waitpid(child, 0)[1]) == 0
+        return os.waitpid(child, 0)[1] == 0
     signal.alarm(5)
     try:
         what()

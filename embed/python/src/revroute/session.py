@@ -118,7 +118,8 @@ class Session:
         self._length, self._count, self._taken = ctypes.c_size_t(), ctypes.c_size_t(), ctypes.c_size_t()
         # Pieces that are not taken to their end, each with its address and length; how much of the first is; the answers that are due.
         self._pieces: list[tuple[bytes, int, int]] = []
-        self._begun, self._answers = 0, list[str]()
+        self._answers: list[str] = []
+        self._begun = 0
         self._is_closed = self._answered = False
         self._lost: Optional[AnswerLost] = None
         self._make_room(_FIRST_ROOM)
