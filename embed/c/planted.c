@@ -4,9 +4,14 @@
 #include <string.h>
 
 uint32_t engine_answer(revroute *, const uint8_t *, size_t, uint8_t *, size_t, size_t *);
+uint32_t engine_change(revroute *, const revroute_edit *, size_t, revroute_round *, revroute_refusal *);
 void engine_close(revroute *);
+uint32_t engine_closed_walk(revroute *, const revroute_edit *, size_t, uint32_t *, size_t, size_t *);
+uint32_t engine_closed_walk_of(uint32_t, const revroute_link *, size_t, uint32_t *, size_t, size_t *);
 uint32_t engine_finish(revroute *, uint8_t *, size_t, size_t *);
 uint32_t engine_links(revroute *, uint32_t *, size_t, size_t *);
+uint32_t engine_move(revroute *, uint32_t, revroute_round *, revroute_refusal *);
+uint32_t engine_open(revroute *, uint32_t, uint32_t, const revroute_link *, size_t, revroute_round *, revroute_refusal *);
 uint32_t engine_report(revroute *, uint64_t *, uint64_t *);
 uint32_t engine_route(revroute *, uint32_t, uint32_t *, size_t, size_t *);
 uint32_t engine_size(revroute *, uint32_t *, size_t *);
@@ -40,7 +45,21 @@ enum {
     a_route_of_a_node_that_is_none,
     a_report_of_another_round,
     a_link_too_few,
-    a_link_told_backwards
+    a_link_told_backwards,
+    a_round_of_another_call,
+    a_round_written_by_a_refusal,
+    a_refusal_of_the_last_edit,
+    a_refusal_of_the_link_turned_round,
+    a_refused_change_made_in_part,
+    a_change_without_its_last_edit,
+    no_memory_that_loses_the_network,
+    the_edits_read_too_far,
+    a_network_that_tells_no_node,
+    a_network_refused_for_its_last_fault,
+    a_destination_that_stays,
+    a_walk_without_its_end,
+    a_walk_that_is_not_found,
+    a_walk_that_makes_the_edits
 };
 
 /* Asks once more with room enough, as if the state had moved on where the buffer was too short. */
@@ -155,6 +174,65 @@ uint32_t revroute_size(revroute *session, uint32_t *nodes, size_t *links) {
     uint32_t status = engine_size(session, nodes, links);
     if (FAULT == a_link_too_few && *links) --*links;
     return status;
+}
+
+uint32_t revroute_open(revroute *session, uint32_t nodes, uint32_t dest, const revroute_link *links, size_t count,
+                       revroute_round *round, revroute_refusal *refusal) {
+    if (FAULT == a_network_refused_for_its_last_fault && dest >= nodes) links += count, count = 0;
+    uint32_t status = engine_open(session, nodes, dest, links, count, round, refusal);
+    revroute_round spare;
+    revroute_edit none = {0, 0, 0};
+    if (FAULT == a_network_that_tells_no_node && status == REVROUTE_ANSWERED) engine_change(session, &none, 0, &spare, refusal);
+    return status;
+}
+
+uint32_t revroute_change(revroute *session, const revroute_edit *edits, size_t count, revroute_round *round,
+                         revroute_refusal *refusal) {
+    static revroute_round last;
+    if (FAULT == the_edits_read_too_far && edits[count].kind == 0xff) return REVROUTE_NO_MEMORY;
+    if (FAULT == a_change_without_its_last_edit && count > 1) count--;
+    uint32_t status = engine_change(session, edits, count, round, refusal);
+    if (FAULT == a_round_of_another_call && status == REVROUTE_ANSWERED) {
+        revroute_round now = *round;
+        *round = last;
+        last = now;
+    }
+    if (FAULT == no_memory_that_loses_the_network && status == REVROUTE_NO_MEMORY) engine_close(session);
+    if (status != REVROUTE_REFUSED) return status;
+    if (FAULT == a_round_written_by_a_refusal) round->turned = 0;
+    if (FAULT == a_refusal_of_the_last_edit && refusal->at < count) refusal->at = count - 1;
+    if (FAULT == a_refusal_of_the_link_turned_round) {
+        uint32_t u = refusal->u;
+        refusal->u = refusal->v;
+        refusal->v = u;
+    }
+    revroute_refusal spare;
+    revroute_round part;
+    if (FAULT == a_refused_change_made_in_part && refusal->at < count) engine_change(session, edits, refusal->at, &part, &spare);
+    return status;
+}
+
+uint32_t revroute_move(revroute *session, uint32_t dest, revroute_round *round, revroute_refusal *refusal) {
+    if (FAULT != a_destination_that_stays) return engine_move(session, dest, round, refusal);
+    return engine_change(session, &(revroute_edit){0, 0, 0}, 0, round, refusal);
+}
+
+uint32_t revroute_closed_walk(revroute *session, const revroute_edit *edits, size_t count, uint32_t *nodes, size_t room,
+                              size_t *length) {
+    uint32_t status = engine_closed_walk(session, edits, count, nodes, room, length);
+    revroute_round round;
+    revroute_refusal refusal;
+    if (FAULT == a_walk_that_makes_the_edits) engine_change(session, edits, count, &round, &refusal);
+    if (FAULT == a_walk_without_its_end && status == REVROUTE_ANSWERED) --*length;
+    return status;
+}
+
+uint32_t revroute_closed_walk_of(uint32_t nodes, const revroute_link *links, size_t count, uint32_t *walk, size_t room,
+                                 size_t *length) {
+    uint32_t status = engine_closed_walk_of(nodes, links, count, walk, room, length);
+    if (FAULT != a_walk_that_is_not_found || status != REVROUTE_TOO_SHORT) return status;
+    *length = 0;
+    return REVROUTE_NO_WALK;
 }
 
 void revroute_close(revroute *session) {

@@ -1,23 +1,26 @@
 /* revroute: routing for one destination by full link reversal, for programs in C and in what calls C.
  *
- * A session holds a network and answers lines, one at a time: a request in JSON goes in, a line of text comes out.
- * docs/LINES.md has the requests and their answers; docs/EMBED.md has programs, and says what is proved of a call.
+ * A session holds a network. It is made and changed by calls with numbers, or by lines, one at a time: a request in JSON goes in, a line of
+ * text comes out. docs/LINES.md has the requests and their answers; docs/EMBED.md has programs, and says what is proved of a call.
  *
  *     revroute session = REVROUTE_NEW;
- *     uint8_t answer[4096];
- *     size_t length;
- *     const char *line = "[\"walk\",3]";
- *     uint32_t status = revroute_answer(&session, (const uint8_t *)line, strlen(line), answer, sizeof answer, &length);
+ *     revroute_link links[] = {{0, 1}, {1, 2}, {2, 3}};
+ *     revroute_edit cut = {REVROUTE_CUT, 0, 1};
+ *     revroute_round round;
+ *     revroute_refusal refusal;
+ *     if (revroute_open(&session, 4, 0, links, 3, &round, &refusal) == REVROUTE_ANSWERED
+ *         && revroute_change(&session, &cut, 1, &round, &refusal) == REVROUTE_REFUSED) ..
+ *     uint32_t next = revroute_next_hop(&session, 3);
  *     ..
  *     revroute_close(&session);
  *
  * What a caller owes, since no call tests it:
  *
- * - No pointer is null, not even that of a line or of a buffer of no bytes, nor that of a session: what a session holds may be.
- * - A pointer to bytes covers as many of them as the length beside it tells, so no length stands for 'unbounded'. Line and buffer may
- *   stand anywhere; a session and a length are aligned, as variables of their types are.
- * - The session, the line, the buffer and the length do not overlap. Until the call returns nobody else uses them; others
- *   may read the line.
+ * - No pointer is null, not even that of a line, of a buffer of no bytes or of an array of nothing, nor that of a session: what a session
+ *   holds may be.
+ * - A pointer to bytes or to an array covers as many as the length beside it tells, so no length stands for 'unbounded'. Line and buffer may
+ *   stand anywhere; all else is aligned, as variables of its type are.
+ * - What a call is given does not overlap. Until the call returns nobody else uses it; others may read what is const.
  * - A session is used by one call at a time. It may go from one thread to another, if its calls do not overlap and each sees
  *   what those before it wrote, as behind a lock or a join. Different sessions share nothing: each thread can have its own.
  * - A session is made by REVROUTE_NEW, and only these calls read or write it then. It is not copied: closing two copies
@@ -26,7 +29,7 @@
  *   signal handler, or in the child that a process with threads has forked.
  * - The thread has 256 KiB of stack left. A request was seen to take 52, a line that nests as deep as JSON may here 141.
  *
- * A buffer and a length need not be written before a call, as above: it reads no byte of them.
+ * What a call writes need not be written before it, as above: it reads no byte of that.
  *
  * A call waits for nobody, starts no thread, reads no file and keeps no pointer of its caller's.
  */
@@ -61,10 +64,14 @@ enum {
     REVROUTE_TOO_SHORT = 2,
     /* Memory ran out: the line can be asked again. *length is 0. */
     REVROUTE_NO_MEMORY = 3,
-    /* There is no network yet: no line has given one. *length is 0. */
+    /* There is no network yet: no call has given one. *length is 0. */
     REVROUTE_NO_NETWORK = 4,
     /* There is no way to the destination: the node is not joined with it, or it is no node. *length is 0. */
     REVROUTE_NO_ROUTE = 5,
+    /* The network, the change or the destination is refused, and *refusal says why. */
+    REVROUTE_REFUSED = 6,
+    /* There is no closed walk: nothing refuses that, or something else does. *length is 0. */
+    REVROUTE_NO_WALK = 7,
     /* No line has ended: the bytes are kept behind the session. *length is 0. */
     REVROUTE_BEGUN = 8,
     /* The line is longer than 16,777,216 bytes: nothing was taken. *length is 0. */
@@ -77,6 +84,87 @@ enum {
 #define REVROUTE_CUT_OFF UINT32_C(0xfffffffe)
 #define REVROUTE_NO_SUCH_NODE UINT32_C(0xfffffffd)
 #define REVROUTE_NO_HOP UINT32_C(0xfffffffc)
+
+/* A link from `tail` to `head`. Nodes are numbered from 0. */
+typedef struct revroute_link {
+    uint32_t tail;
+    uint32_t head;
+} revroute_link;
+
+/* What an edit does to the link between u and v. */
+enum {
+    /* Takes it out, whichever way it points. */
+    REVROUTE_CUT = 0,
+    /* Adds the link from u to v. */
+    REVROUTE_ADD = 1,
+    /* Adds it from u to v, or from v to u where the other would close a walk. */
+    REVROUTE_JOIN = 2
+};
+
+typedef struct revroute_edit {
+    uint32_t kind;
+    uint32_t u;
+    uint32_t v;
+} revroute_edit;
+
+/* What a round came to: how many turns it took, and how many nodes are cut off. */
+typedef struct revroute_round {
+    uint64_t turned;
+    uint64_t cut_off;
+} revroute_round;
+
+/* Why a call is refused: the number with which lines refuse the same. */
+enum {
+    /* The kind of an edit is none of the three. u and v are 0. */
+    REVROUTE_UNKNOWN_EDIT = 2,
+    /* u, and so v, is no node. Of a network of no node, 0 is none. */
+    REVROUTE_RANGE = 4,
+    /* A link would join node u, and so v, with itself. */
+    REVROUTE_SELF_LINK = 5,
+    /* More than one link would join u and v. */
+    REVROUTE_TWICE = 6,
+    /* A closed walk would follow the link from u to v: that of the edit, or of a network one that is on it. */
+    REVROUTE_CLOSED_WALK = 7,
+    /* No link joins u and v. */
+    REVROUTE_NO_LINK = 8,
+    /* There would be more than 4,096 nodes or 32,768 links, or there are more than 1,024 edits. u and v are 0. */
+    REVROUTE_TOO_MANY = 9
+};
+
+/* `at` is the first edit that is refused, counted from 0, or the number of edits where these are too many; of a network or a destination 0. */
+typedef struct revroute_refusal {
+    uint32_t number;
+    uint32_t u;
+    uint32_t v;
+    size_t at;
+} revroute_refusal;
+
+/* The calls that begin a round. REVROUTE_ANSWERED: it stands, *round has what it came to, and revroute_rerouted the nodes that it rerouted.
+ * REVROUTE_REFUSED: *refusal says why. After this one, REVROUTE_NO_MEMORY and REVROUTE_NO_NETWORK the session, its own bytes too, and *round are
+ * as they were; *refusal is written by REVROUTE_REFUSED alone. Lines that have begun in pieces stay. */
+
+/* Takes a network of so many nodes, with this destination and these links, in place of the one that was there, if any. It is refused for
+ * links that are no network, as one is where no closed walk follows the links and no two of them join the same nodes, and else for a
+ * destination that is no node. Linear in nodes and links, and the turns of the round. */
+uint32_t revroute_open(revroute *session, uint32_t nodes, uint32_t dest, const revroute_link *links, size_t count,
+                       revroute_round *round, revroute_refusal *refusal);
+
+/* Makes edits one after the other, and one round behind the last. Where one is refused none is made; one of an unknown kind is refused before
+ * all others. A round takes time for what it turns and for the neighbours of that; a refusal is linear in nodes and links. */
+uint32_t revroute_change(revroute *session, const revroute_edit *edits, size_t count, revroute_round *round,
+                         revroute_refusal *refusal);
+
+/* Moves the destination. */
+uint32_t revroute_move(revroute *session, uint32_t dest, revroute_round *round, revroute_refusal *refusal);
+
+/* The closed walk for which revroute_change refuses these edits, its first node again at the end, into an array of `room` places, as questions
+ * write theirs; or REVROUTE_NO_WALK, REVROUTE_TOO_SHORT, REVROUTE_NO_MEMORY or REVROUTE_NO_NETWORK. Nothing changes. Linear in nodes and links. */
+uint32_t revroute_closed_walk(revroute *session, const revroute_edit *edits, size_t count, uint32_t *nodes, size_t room,
+                              size_t *length);
+
+/* The same of the links with which revroute_open refuses a network of so many nodes. */
+uint32_t revroute_closed_walk_of(uint32_t nodes, const revroute_link *links, size_t count, uint32_t *walk, size_t room,
+                                 size_t *length);
 
 /* Answers a line of line_length bytes, which is without its line end, into the buffer `answer` of `room` bytes, and returns how
  * that ended. A line that is refused is answered as well, by `refused` and a number. The buffer is as it was behind the answer;
@@ -109,7 +197,7 @@ uint32_t revroute_next_hop(revroute *session, uint32_t node);
 /* The same of all nodes, in their order, by the same values. */
 uint32_t revroute_next_hops(revroute *session, uint32_t *hops, size_t room, size_t *length);
 
-/* The nodes whose next hop the last accepted round changed, in rising order: after a new network all that are not cut off. Lines that are
+/* The nodes whose next hop the last accepted round changed, in rising order: after a new network all that are not cut off. What is
  * refused, and questions, leave them. There are none before the first network. */
 uint32_t revroute_rerouted(revroute *session, uint32_t *nodes, size_t room, size_t *length);
 

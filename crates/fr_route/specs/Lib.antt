@@ -13,3 +13,4 @@ pub mod Refusals
 pub mod Laws
 pub mod Sessions
 pub mod Tries
+pub mod Lending

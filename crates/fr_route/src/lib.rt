@@ -8,7 +8,8 @@
 //! and answers are in [`laws`].
 //!
 //! For those who answer lines in another way there are the parts of an answer: [`is_blank`], [`fault_number`],
-//! [`links_line`] and [`counts_line`].
+//! [`links_line`] and [`counts_line`]; for those who change the network of a session with no line at all, [`Session::router_mut`] and
+//! [`Session::put_router`].
 //!
 //! Costs are told for n nodes, m links, and d links at a node, as read off the code.
 #![tactic(auto)]
@@ -29,7 +30,7 @@ pub use blank::is_blank;
 pub use change::{Change, Report};
 pub use fault::{AnswerFault, RouteFault};
 pub use hops::{Hop, Walked};
-pub use refusals::fault_number;
+pub use refusals::{NOT_A_REQUEST, fault_number};
 pub use router::Router;
 pub use session::Session;
 pub use texts::{counts_line, links_line};

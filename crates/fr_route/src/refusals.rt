@@ -6,6 +6,9 @@ ghost use Rattle.fr_route.specs.Refusals.{number_of};
 
 use fr_net::NetFault;
 
+/// The number by which an answer says that a line is no request.
+pub const NOT_A_REQUEST: u32 = 2;
+
 /// Why a line is refused.
 #[derive(Clone, Copy)]
 pub(crate) enum Refusal {
@@ -52,7 +55,7 @@ impl Refusal {
     {
         match self {
             Refusal::NotJson => 1,
-            Refusal::NotRequest => 2,
+            Refusal::NotRequest => NOT_A_REQUEST,
             Refusal::NoNetwork => 3,
             Refusal::NoNode => 4,
             Refusal::SelfLink => 5,

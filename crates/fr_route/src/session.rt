@@ -1,6 +1,6 @@
 //! What the requests so far have made, and the answer to the next one.
 
-ghost use Rattle.std.specs.Prelude.{◌≡◌, ◌≢◌, ◌<◌, ◌≤◌, ◌⊎◌, ◌↔◌, length, replicate, true, false, Some, None, IfOk, IfErr, OnErr, OnOk, IfSome, IfNone, string_bytes, vec_capacity};
+ghost use Rattle.std.specs.Prelude.{◌≡◌, ◌≢◌, ◌<◌, ◌≤◌, ◌⊎◌, ◌↔◌, length, replicate, true, false, Some, None, IfOk, IfErr, OnErr, OnOk, IfSome, IfNone, MatchOption, string_bytes, vec_capacity};
 ghost use Rattle.std.specs.Option.{option_copied};
 ghost use Rattle.fr_net.specs.Requests.{ask, make_edits, new_network, walk_from, plain, reading};
 ghost use Rattle.fr_crew.specs.Settlements.{HoldsSinks};
@@ -49,6 +49,9 @@ impl Model for Session {
 }
 
 impl Session {
+    ghost use Rattle.std.specs.Borrow.{sem};
+    ghost use Rattle.fr_route.specs.Lending.{LendsRouter};
+
     /// A session that holds no network yet. `O(1)`.
     pub fn new() -> Session
         ensures { result ≡ None }
@@ -64,6 +67,24 @@ impl Session {
         ensures { option_copied result ≡ self.now }
     {
         self.router.as_ref()
+    }
+
+    /// The same, to be changed where it stands: what it is then is the state of the session. `O(1)`.
+    pub fn router_mut(&mut self) -> Option<&mut Router>
+        ensures* writes_back { sem 𝓛 (LendsRouter self.entry result) }
+        ensures value { MatchOption result (self.old ≡ None) (λ router. self.old ≡ Some router.now) }
+    {
+        match &mut self.router {
+            Some(router) => Some(router),
+            None => None,
+        }
+    }
+
+    /// Puts a router in the place of the one that was there, if any. `O(1)`, and what giving back the memory of that one costs.
+    pub fn put_router(&mut self, router: Router)
+        ensures { self.new ≡ Some router }
+    {
+        self.router = Some(router);
     }
 
     /// The answer to a line, or None for a blank one; `specs/Answers.antt` says what the answer to a line is. The session is

@@ -4,23 +4,30 @@
 //! allocator takes no bytes, so C passes nothing for it.
 #![tactic(auto)]
 
-ghost use Rattle.std.specs.Prelude.{◌≡◌, ◌≤◌, ◌<◌, ◌⊎◌, ◌↔◌, true, [], None, length, IfSome, ◌==◌, ◌≢◌, ◌++◌, ℕ, List, position};
+ghost use Rattle.std.specs.Prelude.{◌≡◌, ◌≤◌, ◌<◌, ◌⊎◌, ◌↔◌, true, [], None, length, IfSome, ◌==◌, ◌≢◌, ◌++◌, ℕ, List, map, position};
 ghost use denote.RawPtr.{null_ptr};
-ghost use Rattle.fr_net.specs.Requests.{reading};
+ghost use Rattle.fr_net.specs.Requests.{make_edits, move_dest, new_network, reading};
 ghost use Rattle.fr_route.specs.Blank.{is_blank as is_blank_line};
 ghost use Rattle.fr_route.specs.States.{IsReport};
 ghost use Rattle.fr_route.specs.Told.{IsLineTold};
 ghost use Rattle.revroute_c.specs.Replies.{least_room, IsAnswered, IsWanted, IsWritten};
 ghost use Rattle.revroute_c.specs.Pieces.{longest_line, EndsLine, IsTooLong, IsWantedAtEnd};
+ghost use Rattle.revroute_c.specs.ClosedWalks.{HasNoWalkOfChange, HasNoWalkOfNetwork, IsGiven, IsLength, IsWalkOfChange, IsWalkOfNetwork};
+ghost use Rattle.revroute_c.specs.Records.{AreKnown, edit_of, link_of};
+ghost use Rattle.revroute_c.specs.Rounds.{IsChangeRefused, IsMoveRefused, IsNewRefused, IsNewRound};
 ghost use Rattle.revroute_c.specs.Questions.{AreHopsWritten, HasNoRoute, IsRouteLength, IsRouteWritten, TellsHop, ends};
 
+mod closed_walks;
 mod engine;
 mod handle;
 mod loose;
 mod pieces;
 mod questions;
+mod records;
 mod replies;
+mod rounds;
 
+use closed_walks::{NO_WALK, walk_of_change, walk_of_network};
 use fr_route::{VERSION, is_blank};
 use handle::Handle;
 use pieces::{BEGUN, TOO_LONG, finish_line, take_anew, take_front};
@@ -28,7 +35,9 @@ use questions::{
     HOP_OF_NO_NETWORK, NO_NETWORK, NO_ROUTE, counts_in, hop_in, hops_in, links_in, report_in,
     route_in, size_in,
 };
+use records::{Link, LinkEdit, Refusal, Round, first_unknown, unknown_at};
 use replies::{ANSWERED, BLANK, LEAST_ROOM, NO_MEMORY, TOO_SHORT, hand_out, reply, reply_anew};
+use rounds::{REFUSED, change_in, move_in, open_anew, open_in};
 use std::alloc::Global;
 
 /// Answers a line, without its line end, in the session behind the handle; a null handle is a session that holds no network yet.
@@ -145,6 +154,141 @@ pub extern "C" fn revroute_finish(
         Some(engine) => finish_line(engine, alloc, answer, size),
         None => BLANK,
     }
+}
+
+/// Takes the network with nodes 0 to `nodes - 1`, this destination and these links in place of the one that was there, as a line `["net",..]`
+/// does, and begins a round: `ANSWERED`, and `round` has how many turns it took and how many nodes are cut off. `REFUSED` says that there are
+/// too many nodes or links, or that they are no network, or else that the destination is no node: `refusal` has the number of the lines, and
+/// the nodes of the first fault. `NO_MEMORY` says that an allocation was refused. After these two the session, the handle's own bytes and
+/// `round` are as they were. `O(n + m)`, and what [`Router::open_alone`](fr_route::Router::open_alone) costs.
+#[unsafe(no_mangle)]
+pub extern "C" fn revroute_open(
+    alloc: Global,
+    handle: &mut Handle,
+    nodes: u32,
+    dest: u32,
+    links: &[Link],
+    round: &mut Round,
+    refusal: &mut Refusal,
+) -> u32
+    ensures answered { result ≡ ANSWERED → IsNewRound handle.old.session (new_network nodes dest (map link_of links.now)) handle.new.session handle.old.rerouted handle.new.rerouted round.new }
+    ensures refused { result ≡ REFUSED → IsNewRefused nodes dest (map link_of links.now) refusal.new }
+    ensures unchanged { ¬ (result ≡ ANSWERED) → (handle.new.session ≡ handle.old.session) × (handle.new.rerouted ≡ handle.old.rerouted) × (round.new ≡ round.old) }
+    ensures unrefused { ¬ (result ≡ REFUSED) → refusal.new ≡ refusal.old }
+    ensures begun { handle.new.begun ≡ handle.old.begun }
+    ensures kept { ¬ (result ≡ ANSWERED) → handle.new.at ≡ handle.old.at }
+    ensures status { (result ≡ ANSWERED) ⊎ (result ≡ NO_MEMORY) ⊎ (result ≡ REFUSED) }
+{
+    match handle.engine_mut() {
+        Some(engine) => open_in(engine, alloc, nodes, dest, links, round, refusal),
+        None => open_anew(handle, alloc, nodes, dest, links, round, refusal),
+    }
+}
+
+/// Makes edits one after the other, with one round behind the last, as a line `["batch",..]` does, and as that of a single change does for one
+/// edit. `REFUSED` says that an edit is of an unknown kind, which is tested first, or that there are more than 1,024, or else that one
+/// cannot be made: `refusal` has the number of the lines, which edit it is, and its nodes. `NO_NETWORK` says that there is no network yet,
+/// and the rest is as for [`revroute_open`]. It costs what [`Router::change_telling_alone`](fr_route::Router::change_telling_alone) does, and
+/// where an edit is refused `O(n + m)` more for the evidence.
+#[unsafe(no_mangle)]
+pub extern "C" fn revroute_change(
+    alloc: Global,
+    handle: &mut Handle,
+    edits: &[LinkEdit],
+    round: &mut Round,
+    refusal: &mut Refusal,
+) -> u32
+    ensures known { result ≡ ANSWERED → AreKnown edits.now }
+    ensures answered { result ≡ ANSWERED → IsNewRound handle.old.session (make_edits (map edit_of edits.now)) handle.new.session handle.old.rerouted handle.new.rerouted round.new }
+    ensures refused { result ≡ REFUSED → IsChangeRefused handle.old.session edits.now refusal.new }
+    ensures no_network { (result ≡ NO_NETWORK) ↔ (AreKnown edits.now × (handle.old.session ≡ None)) }
+    ensures unchanged { ¬ (result ≡ ANSWERED) → (handle.new.session ≡ handle.old.session) × (handle.new.rerouted ≡ handle.old.rerouted) × (round.new ≡ round.old) }
+    ensures unrefused { ¬ (result ≡ REFUSED) → refusal.new ≡ refusal.old }
+    ensures begun { handle.new.begun ≡ handle.old.begun }
+    ensures kept { handle.new.at ≡ handle.old.at }
+    ensures status { (result ≡ ANSWERED) ⊎ (result ≡ NO_MEMORY) ⊎ (result ≡ NO_NETWORK) ⊎ (result ≡ REFUSED) }
+{
+    if let Some(at) = first_unknown(edits) {
+        *refusal = unknown_at(at);
+        return REFUSED;
+    }
+    match handle.engine_mut() {
+        Some(engine) => change_in(engine, alloc, edits, round, refusal),
+        None => NO_NETWORK,
+    }
+}
+
+/// Moves the destination, and begins a round, as a line `["dest",..]` does. `REFUSED` says that it is no node; the rest is as for
+/// [`revroute_change`], and so is the cost.
+#[unsafe(no_mangle)]
+pub extern "C" fn revroute_move(
+    alloc: Global,
+    handle: &mut Handle,
+    dest: u32,
+    round: &mut Round,
+    refusal: &mut Refusal,
+) -> u32
+    ensures answered { result ≡ ANSWERED → IsNewRound handle.old.session (move_dest dest) handle.new.session handle.old.rerouted handle.new.rerouted round.new }
+    ensures refused { result ≡ REFUSED → IsMoveRefused handle.old.session dest refusal.new }
+    ensures no_network { (result ≡ NO_NETWORK) ↔ (handle.old.session ≡ None) }
+    ensures unchanged { ¬ (result ≡ ANSWERED) → (handle.new.session ≡ handle.old.session) × (handle.new.rerouted ≡ handle.old.rerouted) × (round.new ≡ round.old) }
+    ensures unrefused { ¬ (result ≡ REFUSED) → refusal.new ≡ refusal.old }
+    ensures begun { handle.new.begun ≡ handle.old.begun }
+    ensures kept { handle.new.at ≡ handle.old.at }
+    ensures status { (result ≡ ANSWERED) ⊎ (result ≡ NO_MEMORY) ⊎ (result ≡ NO_NETWORK) ⊎ (result ≡ REFUSED) }
+{
+    match handle.engine_mut() {
+        Some(engine) => move_in(engine, alloc, dest, round, refusal),
+        None => NO_NETWORK,
+    }
+}
+
+/// Writes the closed walk for which [`revroute_change`] refuses these edits, its first node again at the end, into the front of the place, and
+/// how many nodes it has to `size`. `NO_WALK` says that none refuses them; `TOO_SHORT`, `NO_NETWORK` and `NO_MEMORY` are as for
+/// [`revroute_links`]. Nothing changes. `O(n + m)`, and what the edits cost.
+#[unsafe(no_mangle)]
+pub extern "C" fn revroute_closed_walk(
+    alloc: Global,
+    handle: &mut Handle,
+    edits: &[LinkEdit],
+    nodes: &mut [u32],
+    size: &mut usize,
+) -> u32
+    ensures same { (handle.new.session ≡ handle.old.session) × (handle.new.rerouted ≡ handle.old.rerouted) × (handle.new.begun ≡ handle.old.begun) }
+    ensures kept { handle.new.at ≡ handle.old.at }
+    ensures written { result ≡ ANSWERED → IsGiven (IsWalkOfChange handle.old.session edits.now) nodes.old nodes.new size.new }
+    ensures too_short { result ≡ TOO_SHORT → (length nodes.old < size.new) × IsLength (IsWalkOfChange handle.old.session edits.now) size.new }
+    ensures no_network { (result ≡ NO_NETWORK) ↔ (handle.old.session ≡ None) }
+    ensures no_walk { result ≡ NO_WALK → HasNoWalkOfChange handle.old.session edits.now }
+    ensures unchanged { ¬ (result ≡ ANSWERED) → nodes.new ≡ nodes.old }
+    ensures none { TOO_SHORT < result → size.new ≡ 0 }
+    ensures status { (result ≡ ANSWERED) ⊎ ((TOO_SHORT ≤ result) × (result ≤ NO_NETWORK)) ⊎ (result ≡ NO_WALK) }
+{
+    *size = 0;
+    match handle.engine_mut() {
+        Some(engine) => walk_of_change(&engine.session, alloc, edits, nodes, size),
+        None => NO_NETWORK,
+    }
+}
+
+/// The same for the links with which [`revroute_open`] refuses a network of so many nodes, with no session. `O(n + m)`.
+#[unsafe(no_mangle)]
+pub extern "C" fn revroute_closed_walk_of(
+    alloc: Global,
+    nodes: u32,
+    links: &[Link],
+    walk: &mut [u32],
+    size: &mut usize,
+) -> u32
+    ensures written { result ≡ ANSWERED → IsGiven (IsWalkOfNetwork nodes (map link_of links.now)) walk.old walk.new size.new }
+    ensures too_short { result ≡ TOO_SHORT → (length walk.old < size.new) × IsLength (IsWalkOfNetwork nodes (map link_of links.now)) size.new }
+    ensures no_walk { result ≡ NO_WALK → HasNoWalkOfNetwork nodes (map link_of links.now) }
+    ensures unchanged { ¬ (result ≡ ANSWERED) → walk.new ≡ walk.old }
+    ensures none { TOO_SHORT < result → size.new ≡ 0 }
+    ensures status { (result ≡ ANSWERED) ⊎ (result ≡ TOO_SHORT) ⊎ (result ≡ NO_MEMORY) ⊎ (result ≡ NO_WALK) }
+{
+    *size = 0;
+    walk_of_network(alloc, nodes, links, walk, size)
 }
 
 /// Gives back all memory of the session behind the handle, which then is null again.

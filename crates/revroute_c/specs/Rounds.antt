@@ -1,0 +1,87 @@
+-- What the calls answer that begin a round, and why they are refused. The requests are those of the lines.
+use Rattle.std.specs.Prelude.{◌≡◌, ℕ, ◌<◌, ◌≤◌, ◌⊎◌, List, [], ◌∷◌, length, map, position, slice_get, Option, Some, None}
+use Rattle.fr_net.specs.Batches.{IsRefusedAt}
+use Rattle.fr_net.specs.Faults.{IsFaultless, IsFirstFault}
+use Rattle.fr_net.specs.Limits.{most_edits}
+use Rattle.fr_net.specs.Network.{Network}
+use Rattle.fr_net.specs.Requests.{PlainRequest}
+use Rattle.fr_net.specs.declared.fault.NetFault.{NetFault}
+use Rattle.fr_net.specs.declared.fault.NetFault.TheVariants.{TooMany, Range, SelfLink, Twice, Cycle, NoLink, Memory}
+use Rattle.fr_route.specs.Answers.{IsAccepted, fault_number}
+use Rattle.fr_route.specs.States.{State, IsReport, net_at}
+use Rattle.fr_route.specs.Told.{TellsOf}
+use Rattle.revroute_c.specs.Records.{AreKnown, edit_of, is_unknown}
+use Rattle.revroute_c.specs.declared.records.LinkEdit.{LinkEdit}
+use Rattle.revroute_c.specs.declared.records.Refusal.{Refusal}
+use Rattle.revroute_c.specs.declared.records.Round.{Round}
+
+-- the request is accepted: then come the state after it, the nodes that it tells of in place of those before, and what its round reports
+pub record IsNewRound (old : Option State) (request : PlainRequest) (new : Option State) (before told : List ℕ) (round : Round) : Type 0 where
+  pub after : State
+  pub accepted : IsAccepted old request after
+  pub new_is : new ≡ Some after
+  pub tells : TellsOf old request after before told
+  pub report : IsReport after round.turned round.cut_off
+
+-- the first step of a walk
+abbrev pub first_step : List ℕ → ℕ × ℕ
+first_step [] = (0, 0)
+first_step (u ∷ []) = (0, 0)
+first_step (u ∷ v ∷ vs) = (u, v)
+
+-- the nodes that a fault of links names: the node that is none, or that a link joins with itself, or the two nodes of a link
+abbrev pub nodes_named : NetFault → ℕ × ℕ
+nodes_named TooMany = (0, 0)
+nodes_named (Range x) = (x, x)
+nodes_named (SelfLink x) = (x, x)
+nodes_named (Twice u v) = (u, v)
+nodes_named (Cycle walk) = first_step walk.items
+nodes_named NoLink = (0, 0)
+nodes_named Memory = (0, 0)
+
+-- and those of a fault of an edit, which are the edit's own where there is no link, or a closed walk would follow it
+abbrev pub nodes_of_edit : LinkEdit → NetFault → ℕ × ℕ
+nodes_of_edit e (Cycle walk) = (e.u, e.v)
+nodes_of_edit e NoLink = (e.u, e.v)
+nodes_of_edit e fault = nodes_named fault
+
+-- the refusal for a fault at this place, with these nodes
+abbrev pub refusal_at : ℕ → NetFault → ℕ × ℕ → Refusal
+refusal_at at fault nodes = record { number = fault_number fault; u = nodes.0; v = nodes.1; at = at }
+
+-- why no network is taken: its links have this first fault, or else the destination is no node
+abbrev pub IsNewFault : ℕ → ℕ → List (ℕ × ℕ) → NetFault → Type 0
+IsNewFault n d links fault = IsFirstFault n links fault ⊎ (IsFaultless n links × (n ≤ d) × (fault ≡ Range d))
+
+-- a network is refused
+abbrev pub IsNewRefused : ℕ → ℕ → List (ℕ × ℕ) → Refusal → Type 0
+IsNewRefused n d links r = (fault : NetFault) × IsNewFault n d links fault × (r ≡ refusal_at 0 fault (nodes_named fault))
+
+-- an edit of a network is the first that is refused
+pub record IsEditRefused (net : Network) (edits : List LinkEdit) (r : Refusal) : Type 0 where
+  pub at : ℕ
+  pub fault : NetFault
+  pub edit : LinkEdit
+  pub refused : IsRefusedAt net (map edit_of edits) at fault
+  pub edit_is : slice_get edits at ≡ Some edit
+  pub is : r ≡ refusal_at at fault (nodes_of_edit edit fault)
+
+-- edits of known kinds are refused: there are more than the limit admits, or else one of them is
+abbrev pub AreRefused : Network → List LinkEdit → Refusal → Type 0
+AreRefused net edits r =
+    ((most_edits < length edits) × (r ≡ refusal_at (length edits) TooMany (0, 0)))
+    ⊎ ((length edits ≤ most_edits) × IsEditRefused net edits r)
+
+-- the first edit of an unknown kind is refused
+abbrev pub IsUnknownRefused : List LinkEdit → Refusal → Type 0
+IsUnknownRefused edits r = (at : ℕ) × (position is_unknown edits ≡ Some at) × (r ≡ record { number = 2; u = 0; v = 0; at = at })
+
+-- a change is refused: an edit is of an unknown kind, or else the network of the session refuses one
+abbrev pub IsChangeRefused : Option State → List LinkEdit → Refusal → Type 0
+IsChangeRefused None edits r = IsUnknownRefused edits r
+IsChangeRefused (Some s) edits r = IsUnknownRefused edits r ⊎ (AreKnown edits × AreRefused (net_at s) edits r)
+
+-- a destination is refused, which is no node
+abbrev pub IsMoveRefused : Option State → ℕ → Refusal → Type 0
+IsMoveRefused None d r = ⊥
+IsMoveRefused (Some s) d r = (s.nodes ≤ d) × (r ≡ refusal_at 0 (Range d) (d, d))

@@ -1,0 +1,86 @@
+//! The closed walk that refuses a change or a network, found again.
+
+ghost use Rattle.std.specs.Prelude.{◌≡◌, ◌≢◌, ◌≤◌, ◌<◌, ◌⊎◌, ◌↔◌, length, map, None};
+ghost use Rattle.fr_net.specs.declared.fault.NetFault.TheVariants.{Memory};
+ghost use Rattle.revroute_c.specs.ClosedWalks.{HasNoWalkOfChange, HasNoWalkOfNetwork, IsGiven, IsLength, IsNoWalk, IsWalkOf, IsWalkOfChange, IsWalkOfNetwork};
+ghost use Rattle.revroute_c.specs.Records.{link_of};
+
+use crate::questions::NO_NETWORK;
+use crate::records::{Link, LinkEdit, first_unknown};
+use crate::replies::{ANSWERED, NO_MEMORY, TOO_SHORT, hand_out};
+use crate::rounds::{edited, network_of};
+use fr_net::{EditFault, MAX_EDITS, NetFault};
+use fr_route::Session;
+use std::alloc::Global;
+
+/// No closed walk refuses that.
+pub(crate) const NO_WALK: u32 = 7;
+
+/// Writes the closed walk for which these edits are refused, if there is one. `size` has to be 0.
+pub(crate) fn walk_of_change(
+    session: &Session,
+    alloc: Global,
+    edits: &[LinkEdit],
+    nodes: &mut [u32],
+    size: &mut usize,
+) -> u32
+    requires { size.old ≡ 0 }
+    ensures written { result ≡ ANSWERED → IsGiven (IsWalkOfChange session.now edits.now) nodes.old nodes.new size.new }
+    ensures too_short { result ≡ TOO_SHORT → (length nodes.old < size.new) × IsLength (IsWalkOfChange session.now edits.now) size.new }
+    ensures no_network { (result ≡ NO_NETWORK) ↔ (session.now ≡ None) }
+    ensures no_walk { result ≡ NO_WALK → HasNoWalkOfChange session.now edits.now }
+    ensures unchanged { ¬ (result ≡ ANSWERED) → nodes.new ≡ nodes.old }
+    ensures none { TOO_SHORT < result → size.new ≡ 0 }
+    ensures status { (result ≡ ANSWERED) ⊎ ((TOO_SHORT ≤ result) × (result ≤ NO_NETWORK)) ⊎ (result ≡ NO_WALK) }
+{
+    let Some(router) = session.router() else {
+        return NO_NETWORK;
+    };
+    if edits.len() > MAX_EDITS || first_unknown(edits).is_some() {
+        return NO_WALK;
+    }
+    match edited(router.net(), alloc, edits) {
+        Ok(_edited) => NO_WALK,
+        Err(EditFault { at: _, fault }) => hand_out_walk(&fault, nodes, size),
+    }
+}
+
+/// Writes the closed walk for which a network is refused, if there is one. `size` has to be 0.
+pub(crate) fn walk_of_network(
+    alloc: Global,
+    count: u32,
+    links: &[Link],
+    nodes: &mut [u32],
+    size: &mut usize,
+) -> u32
+    requires { size.old ≡ 0 }
+    ensures written { result ≡ ANSWERED → IsGiven (IsWalkOfNetwork count (map link_of links.now)) nodes.old nodes.new size.new }
+    ensures too_short { result ≡ TOO_SHORT → (length nodes.old < size.new) × IsLength (IsWalkOfNetwork count (map link_of links.now)) size.new }
+    ensures no_walk { result ≡ NO_WALK → HasNoWalkOfNetwork count (map link_of links.now) }
+    ensures unchanged { ¬ (result ≡ ANSWERED) → nodes.new ≡ nodes.old }
+    ensures none { TOO_SHORT < result → size.new ≡ 0 }
+    ensures status { (result ≡ ANSWERED) ⊎ (result ≡ TOO_SHORT) ⊎ (result ≡ NO_MEMORY) ⊎ (result ≡ NO_WALK) }
+{
+    match network_of(alloc, count, links) {
+        Ok(_net) => NO_WALK,
+        Err(fault) => hand_out_walk(&fault, nodes, size),
+    }
+}
+
+/// Writes the closed walk of a fault, if it is one. `size` has to be 0.
+fn hand_out_walk(fault: &NetFault, nodes: &mut [u32], size: &mut usize) -> u32
+    requires { size.old ≡ 0 }
+    ensures written { result ≡ ANSWERED → IsGiven (IsWalkOf fault.now) nodes.old nodes.new size.new }
+    ensures too_short { result ≡ TOO_SHORT → (length nodes.old < size.new) × IsLength (IsWalkOf fault.now) size.new }
+    ensures no_memory { result ≡ NO_MEMORY → fault.now ≡ Memory }
+    ensures no_walk { result ≡ NO_WALK → IsNoWalk fault.now × (fault.now ≢ Memory) }
+    ensures unchanged { ¬ (result ≡ ANSWERED) → nodes.new ≡ nodes.old }
+    ensures none { TOO_SHORT < result → size.new ≡ 0 }
+    ensures status { (result ≡ ANSWERED) ⊎ (result ≡ TOO_SHORT) ⊎ (result ≡ NO_MEMORY) ⊎ (result ≡ NO_WALK) }
+{
+    match fault {
+        NetFault::Cycle(walk) => hand_out(walk, nodes, size),
+        NetFault::Memory => NO_MEMORY,
+        _ => NO_WALK,
+    }
+}

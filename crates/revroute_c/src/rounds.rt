@@ -1,0 +1,266 @@
+//! Calls with numbers that begin a round: a network, edits, another destination.
+
+ghost use Rattle.std.specs.Prelude.{◌≡◌, ◌≢◌, ◌≤◌, ◌<◌, ◌⊎◌, ◌↔◌, length, map, None, Some, IfOk, IfErr, IfSome};
+ghost use denote.RawPtr.{null_ptr};
+ghost use Rattle.fr_net.specs.Batches.{AreMade, IsBatchFault};
+ghost use Rattle.fr_net.specs.Faults.{IsFirstFault, IsNetworkOf};
+ghost use Rattle.fr_net.specs.Limits.{most_edits};
+ghost use Rattle.fr_net.specs.Requests.{make_edits, move_dest, new_network};
+ghost use Rattle.fr_net.specs.declared.fault.EditFault.{EditFault};
+ghost use Rattle.fr_net.specs.declared.fault.NetFault.TheVariants.{Memory};
+ghost use Rattle.fr_route.specs.Answers.{IsAccepted};
+ghost use Rattle.revroute_c.specs.Engines.{no_engine};
+ghost use Rattle.revroute_c.specs.Lending.{held_by};
+ghost use Rattle.revroute_c.specs.Records.{AreKnown, edit_of, link_of};
+ghost use Rattle.revroute_c.specs.Rounds.{IsChangeRefused, IsEditRefused, IsMoveRefused, IsNewFault, IsNewRefused, IsNewRound, first_step, nodes_named, nodes_of_edit, refusal_at};
+
+use crate::engine::Engine;
+use crate::handle::Handle;
+use crate::questions::NO_NETWORK;
+use crate::records::{Link, LinkEdit, Refusal, Round, edits_of, pairs_of, round_of};
+use crate::replies::{ANSWERED, NO_MEMORY};
+use fr_net::{EditFault, MAX_EDITS, MAX_LINKS, Net, NetFault};
+use fr_route::{Change, RouteFault, Router, fault_number};
+use std::alloc::Global;
+
+/// The call is refused, and nothing has changed.
+pub(crate) const REFUSED: u32 = 6;
+
+/// The first step of a walk.
+fn step_of(walk: &[u32]) -> (u32, u32)
+    ensures { result ≡ first_step walk.now }
+{
+    if walk.len() < 2 {
+        return (0, 0);
+    }
+    (walk[0], walk[1])
+}
+
+/// The nodes that a fault of links names.
+fn named_nodes(fault: &NetFault) -> (u32, u32)
+    ensures { result ≡ nodes_named fault.now }
+{
+    match fault {
+        NetFault::Range(x) => (*x, *x),
+        NetFault::SelfLink(x) => (*x, *x),
+        NetFault::Twice(u, v) => (*u, *v),
+        NetFault::Cycle(walk) => step_of(walk),
+        NetFault::TooMany | NetFault::NoLink | NetFault::Memory => (0, 0),
+    }
+}
+
+/// The nodes that a fault of an edit names.
+fn edited_nodes(edit: LinkEdit, fault: &NetFault) -> (u32, u32)
+    ensures { result ≡ nodes_of_edit edit fault.now }
+{
+    match fault {
+        NetFault::Cycle(_) | NetFault::NoLink => (edit.u, edit.v),
+        _ => named_nodes(fault),
+    }
+}
+
+/// The refusal for a fault at this place, with these nodes.
+fn refusal_for(at: usize, fault: &NetFault, nodes: (u32, u32)) -> Refusal
+    ensures { result ≡ refusal_at at fault.now nodes }
+{
+    Refusal {
+        number: fault_number(fault),
+        u: nodes.0,
+        v: nodes.1,
+        at,
+    }
+}
+
+/// The network of these links.
+pub(crate) fn network_of(alloc: Global, nodes: u32, links: &[Link]) -> Result<Net, NetFault>
+    ensures ok { IfOk result (IsNetworkOf nodes (map link_of links.now)) }
+    ensures refused { IfErr result (λ fault. fault ≢ Memory → IsFirstFault nodes (map link_of links.now) fault) }
+{
+    if links.len() > MAX_LINKS {
+        return Err(NetFault::TooMany);
+    }
+    let pairs = pairs_of(alloc, links)?;
+    Net::new(alloc, nodes, &pairs)
+}
+
+/// The router of a network of these links; a destination that is no node is out of range.
+fn opened(alloc: Global, nodes: u32, dest: u32, links: &[Link]) -> Result<Router, NetFault>
+    ensures accepted { IfOk result (IsAccepted None (new_network nodes dest (map link_of links.now))) }
+    ensures refused { IfErr result (λ fault. fault ≢ Memory → IsNewFault nodes dest (map link_of links.now) fault) }
+{
+    let net = network_of(alloc, nodes, links)?;
+    if dest >= nodes {
+        return Err(NetFault::Range(dest));
+    }
+    match Router::open_alone(alloc, net, dest) {
+        Ok(router) => Ok(router),
+        Err(RouteFault::Memory) => Err(NetFault::Memory),
+        Err(RouteFault::Net(_) | RouteFault::Range | RouteFault::Start) => unreachable!(),
+    }
+}
+
+/// Takes a network in place of the last one, and tells which nodes are not cut off.
+pub(crate) fn open_in(
+    engine: &mut Engine,
+    alloc: Global,
+    nodes: u32,
+    dest: u32,
+    links: &[Link],
+    round: &mut Round,
+    refusal: &mut Refusal,
+) -> u32
+    ensures answered { result ≡ ANSWERED → IsNewRound engine.old.session (new_network nodes dest (map link_of links.now)) engine.new.session engine.old.rerouted engine.new.rerouted round.new }
+    ensures refused { result ≡ REFUSED → IsNewRefused nodes dest (map link_of links.now) refusal.new }
+    ensures begun { engine.new.begun ≡ engine.old.begun }
+    ensures unchanged { ¬ (result ≡ ANSWERED) → (engine.new ≡ engine.old) × (round.new ≡ round.old) }
+    ensures unrefused { ¬ (result ≡ REFUSED) → refusal.new ≡ refusal.old }
+    ensures status { (result ≡ ANSWERED) ⊎ (result ≡ NO_MEMORY) ⊎ (result ≡ REFUSED) }
+{
+    let router = match opened(alloc, nodes, dest, links) {
+        Ok(router) => router,
+        Err(NetFault::Memory) => return NO_MEMORY,
+        Err(fault) => {
+            *refusal = refusal_for(0, &fault, named_nodes(&fault));
+            return REFUSED;
+        }
+    };
+    let Ok(()) = router.joined(&mut engine.rerouted) else {
+        return NO_MEMORY;
+    };
+    *round = round_of(router.report());
+    engine.session.put_router(router);
+    ANSWERED
+}
+
+/// The same in a new session, which the null handle holds from then on if the network is taken.
+pub(crate) fn open_anew(
+    handle: &mut Handle,
+    alloc: Global,
+    nodes: u32,
+    dest: u32,
+    links: &[Link],
+    round: &mut Round,
+    refusal: &mut Refusal,
+) -> u32
+    requires null { handle.old.at ≡ null_ptr }
+    requires held { held_by handle.old ≡ no_engine }
+    ensures answered { result ≡ ANSWERED → IsNewRound handle.old.session (new_network nodes dest (map link_of links.now)) handle.new.session handle.old.rerouted handle.new.rerouted round.new }
+    ensures refused { result ≡ REFUSED → IsNewRefused nodes dest (map link_of links.now) refusal.new }
+    ensures begun { handle.new.begun ≡ handle.old.begun }
+    ensures unchanged { ¬ (result ≡ ANSWERED) → (handle.new ≡ handle.old) × (round.new ≡ round.old) }
+    ensures unrefused { ¬ (result ≡ REFUSED) → refusal.new ≡ refusal.old }
+    ensures status { (result ≡ ANSWERED) ⊎ (result ≡ NO_MEMORY) ⊎ (result ≡ REFUSED) }
+{
+    let Ok(mut engine) = Box::new(alloc, Engine::new(alloc)) else {
+        return NO_MEMORY;
+    };
+    let status = open_in(&mut engine, alloc, nodes, dest, links, round, refusal);
+    if status == ANSWERED {
+        Handle::put(handle, engine);
+    }
+    status
+}
+
+/// The network with these edits made, each of a known kind; or the first that is refused.
+pub(crate) fn edited(net: &Net, alloc: Global, edits: &[LinkEdit]) -> Result<Net, EditFault>
+    ensures few { IfOk result (λ _. length edits.now ≤ most_edits) }
+    ensures made { IfOk result (AreMade net.now (map edit_of edits.now)) }
+    ensures refused { IfErr result (λ refused. refused.fault ≢ Memory → IsBatchFault net.now (map edit_of edits.now) refused) }
+{
+    let made = edits_of(alloc, edits)?;
+    net.with_edits(alloc, &made)
+}
+
+/// Tells which of these edits a network refuses first, and why, where it refuses them.
+fn tell_refused(net: &Net, alloc: Global, edits: &[LinkEdit], refusal: &mut Refusal) -> u32
+    requires few { length edits.now ≤ most_edits }
+    requires refused { (refused : EditFault) × IsBatchFault net.now (map edit_of edits.now) refused }
+    ensures refused { result ≡ REFUSED → IsEditRefused net.now edits.now refusal.new }
+    ensures unrefused { ¬ (result ≡ REFUSED) → refusal.new ≡ refusal.old }
+    ensures status { (result ≡ NO_MEMORY) ⊎ (result ≡ REFUSED) }
+{
+    match edited(net, alloc, edits) {
+        Ok(_edited) => unreachable!(),
+        Err(
+            EditFault {
+                at: _,
+                fault: NetFault::Memory,
+            },
+        ) => NO_MEMORY,
+        Err(EditFault { at, fault }) => {
+            *refusal = refusal_for(at, &fault, edited_nodes(edits[at], &fault));
+            REFUSED
+        }
+    }
+}
+
+/// Makes edits of known kinds, with one round behind them, and tells which nodes it reroutes.
+pub(crate) fn change_in(
+    engine: &mut Engine,
+    alloc: Global,
+    edits: &[LinkEdit],
+    round: &mut Round,
+    refusal: &mut Refusal,
+) -> u32
+    requires { AreKnown edits.now }
+    ensures answered { result ≡ ANSWERED → IsNewRound engine.old.session (make_edits (map edit_of edits.now)) engine.new.session engine.old.rerouted engine.new.rerouted round.new }
+    ensures refused { result ≡ REFUSED → IsChangeRefused engine.old.session edits.now refusal.new }
+    ensures no_network { (result ≡ NO_NETWORK) ↔ (engine.old.session ≡ None) }
+    ensures begun { engine.new.begun ≡ engine.old.begun }
+    ensures unchanged { ¬ (result ≡ ANSWERED) → (engine.new ≡ engine.old) × (round.new ≡ round.old) }
+    ensures unrefused { ¬ (result ≡ REFUSED) → refusal.new ≡ refusal.old }
+    ensures status { (result ≡ ANSWERED) ⊎ (result ≡ NO_MEMORY) ⊎ (result ≡ NO_NETWORK) ⊎ (result ≡ REFUSED) }
+{
+    let Some(router) = engine.session.router_mut() else {
+        return NO_NETWORK;
+    };
+    if edits.len() > MAX_EDITS {
+        *refusal = refusal_for(edits.len(), &NetFault::TooMany, (0, 0));
+        return REFUSED;
+    }
+    let Ok(made) = edits_of(alloc, edits) else {
+        return NO_MEMORY;
+    };
+    match router.change_telling_alone(alloc, Change::Batch(made), &mut engine.rerouted) {
+        Ok(report) => {
+            *round = round_of(report);
+            ANSWERED
+        }
+        Err(RouteFault::Net(_)) => tell_refused(router.net(), alloc, edits, refusal),
+        Err(RouteFault::Memory) => NO_MEMORY,
+        Err(RouteFault::Range | RouteFault::Start) => unreachable!(),
+    }
+}
+
+/// Moves the destination, with one round behind it, and tells which nodes it reroutes.
+pub(crate) fn move_in(
+    engine: &mut Engine,
+    alloc: Global,
+    dest: u32,
+    round: &mut Round,
+    refusal: &mut Refusal,
+) -> u32
+    ensures answered { result ≡ ANSWERED → IsNewRound engine.old.session (move_dest dest) engine.new.session engine.old.rerouted engine.new.rerouted round.new }
+    ensures refused { result ≡ REFUSED → IsMoveRefused engine.old.session dest refusal.new }
+    ensures no_network { (result ≡ NO_NETWORK) ↔ (engine.old.session ≡ None) }
+    ensures begun { engine.new.begun ≡ engine.old.begun }
+    ensures unchanged { ¬ (result ≡ ANSWERED) → (engine.new ≡ engine.old) × (round.new ≡ round.old) }
+    ensures unrefused { ¬ (result ≡ REFUSED) → refusal.new ≡ refusal.old }
+    ensures status { (result ≡ ANSWERED) ⊎ (result ≡ NO_MEMORY) ⊎ (result ≡ NO_NETWORK) ⊎ (result ≡ REFUSED) }
+{
+    let Some(router) = engine.session.router_mut() else {
+        return NO_NETWORK;
+    };
+    match router.change_telling_alone(alloc, Change::Destination { dest }, &mut engine.rerouted) {
+        Ok(report) => {
+            *round = round_of(report);
+            ANSWERED
+        }
+        Err(RouteFault::Range) => {
+            *refusal = refusal_for(0, &NetFault::Range(dest), (dest, dest));
+            REFUSED
+        }
+        Err(RouteFault::Memory) => NO_MEMORY,
+        Err(RouteFault::Net(_) | RouteFault::Start) => unreachable!(),
+    }
+}
