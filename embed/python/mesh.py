@@ -34,7 +34,7 @@ def main():
         for node, hop in network.changed():
             table[node] = hop
         if lost(table, up) or table.count(NoHop.CUT_OFF) != network.report.cut_off:
-            raise SystemExit(f"the tables lead nowhere from {lost(table, up)}")
+            raise SystemExit(f"the tables are wrong: {table}")
         if down and draw.random() < 0.5:
             link = down.pop(draw.randrange(len(down)))
             network.join(*link)

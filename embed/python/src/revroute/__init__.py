@@ -10,8 +10,22 @@ Report(turned=1, cut_off=0)
 >>> network.changed()
 [(1, 3), (3, 2)]
 
-Changes are `cut`, `add`, `join`, `batch` and `move`; questions `next_hop`, `hops`, `hops_into`, `changed`, `walk`, `counts`, `links`, `size`
-and `report`. `Network.from_networkx` takes a graph of networkx with its names. What cannot be is Refused, in words and with evidence.
+Changes, each a round with a Report, or Refused in words and with evidence:
+
+    cut(u, v)         takes out the link between two nodes
+    add(u, v)         adds a link from u to v
+    join(u, v)        adds a link whichever way it can point
+    batch(edits)      makes edits such as ("cut", u, v), and one round
+    move(dest)        takes another destination
+
+Questions:
+
+    next_hop(node)    where a node sends on to; hops() and hops_into(buffer) for all nodes
+    walk(node)        the way from a node to the destination
+    changed()         the nodes whose next hop the last change changed, with the hop
+    counts(), links(), report, size, dest
+
+`Network.from_networkx(graph, dest)` takes a graph of networkx with its names, and `to_networkx()` gives one.
 
 A `Session` answers lines instead, those of the program `revroute run`.
 """

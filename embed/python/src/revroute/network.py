@@ -75,6 +75,10 @@ class Network(Generic[Name]):
     A change is made whole or, where it is Refused or a MemoryError, not at all; each ends in a settled network. What is no node is
     NoSuchNode, and where a change has it by number, Refused. A closed network is a ValueError. Any thread may call, one at a time:
     others wait. What would wait for itself is a RuntimeError, as a session has it.
+
+    With n nodes and m links `next_hop`, `size` and `report` are O(1), `walk` and `changed` as long as what they answer, `hops`, `hops_into`,
+    `counts` and `dest` O(n), `links`, `move` and a new network O(n + m) and the round; a change is O(n + m) at most, and where few nodes turn
+    the links of these and of those that sent on to them.
     """
 
     HERE, CUT_OFF = 0xFFFFFFFF, 0xFFFFFFFE
@@ -95,12 +99,8 @@ class Network(Generic[Name]):
         self._live = self._session._live
         count = min(max(count, 0), _NO_NODE)
         given, home = _packed(ends), self._number(dest)
-        words = given.buffer_info()[0], len(ends) // 2
-
-        def closed_walk(*places: Any) -> int:
-            return library.revroute_closed_walk_of(count, *words, *places)  # type: ignore[no-any-return]
-
-        made = self._session._begin_round(library.revroute_open, (count, *_packed([home]), *words), closed_walk)
+        words = count, *_packed([home]), given.buffer_info()[0], len(ends) // 2
+        made = self._session._begin_round(library.revroute_open, _closed_walk_of, *words)
         self._reported(made, lambda at: [*ends, home])
 
     @classmethod
@@ -154,7 +154,7 @@ class Network(Generic[Name]):
     def move(self, dest: Name) -> Report:
         """Takes another destination."""
         home = self._number(dest)
-        made = self._session._begin_round(library.revroute_move, (*_packed([home]),), lambda *places: _calls.NO_WALK)
+        made = self._session._begin_round(library.revroute_move, None, *_packed([home]))
         return self._reported(made, lambda at: [home])
 
     def next_hop(self, node: Name) -> Union[Name, NoHop]:
@@ -237,11 +237,7 @@ class Network(Generic[Name]):
     def _change(self, edits: list[int]) -> Report:
         given = _packed(edits)
         words = given.buffer_info()[0], len(edits) // 3
-
-        def closed_walk(*places: Any) -> int:
-            return self._session._outside(library.revroute_closed_walk, *words, *places)
-
-        made = self._session._begin_round(library.revroute_change, words, closed_walk)
+        made = self._session._begin_round(library.revroute_change, library.revroute_closed_walk, *words)
         return made if isinstance(made, Report) else self._reported(made, lambda at: edits[3 * at + 1 : 3 * at + 3])
 
     def _reported(self, made: Union[Report, _Why], given: Callable[[int], list[int]]) -> Report:
@@ -265,6 +261,11 @@ class Network(Generic[Name]):
 
     def _hop_of(self, hop: int) -> Union[Name, NoHop]:
         return self._name(hop) if hop < _calls.NO_HOP else _hop(hop)  # type: ignore[return-value]
+
+
+def _closed_walk_of(session: Any, nodes: int, dest: int, *words: Any) -> int:
+    """The closed walk of links, with the words by which they are refused."""
+    return library.revroute_closed_walk_of(nodes, *words)  # type: ignore[no-any-return]
 
 
 def _packed(numbers: list[int]) -> array[int]:

@@ -208,31 +208,30 @@ class Session:
         lost, self._lost = self._lost, None
         raise lost or MemoryError from None
 
-    def _begin_round(self, call: Any, words: tuple[int, ...], closed_walk: Callable[..., int]) -> Union[Report, _Why]:
-        """Makes one of the calls that begin a round, with its words, and tells what it came to."""
+    def _begin_round(self, call: Any, closed_walk: Any, *words: int) -> Union[Report, _Why]:
+        """Makes one of the calls that begin a round, with its words, and tells what it came to; by the same words the closed walk is asked
+        for that refuses it."""
         with self._lock:
             self._begin_call()
             try:
                 status = self._outside(call, *words, self._round_at, self._refusal_at)
+                if status == _calls.ANSWERED:
+                    try:
+                        return Report(self._round.turned, self._round.cut_off)
+                    except MemoryError:
+                        self._lose()
                 if status == _calls.NO_MEMORY:
                     raise MemoryError
-                if status == _calls.REFUSED:
-                    return self._why(closed_walk)
-                try:
-                    return Report(self._round.turned, self._round.cut_off)
-                except MemoryError:
-                    self._lose()
+                if status == _calls.NO_NETWORK:
+                    raise ValueError("there is no network")
+                it = self._refusal
+                if it.number == _calls.CLOSED_WALK:
+                    nodes = self._places(ctypes.c_uint32, lambda *places: self._outside(closed_walk, *words, *places))
+                else:
+                    nodes = {_calls.RANGE: [it.u], _calls.SELF_LINK: [it.u], _calls.TOO_MANY: []}.get(it.number, [it.u, it.v])
+                return _Why(it.number, tuple(nodes), it.at)
             finally:
                 self._caller = None
-
-    def _why(self, closed_walk: Callable[..., int]) -> _Why:
-        """Why the call was refused, with a closed walk that is found again where it was one."""
-        it = self._refusal
-        if it.number == _calls.CLOSED_WALK:
-            nodes = self._places(ctypes.c_uint32, closed_walk)
-        else:
-            nodes = {_calls.RANGE: [it.u], _calls.SELF_LINK: [it.u], _calls.TOO_MANY: []}.get(it.number, [it.u, it.v])
-        return _Why(it.number, tuple(nodes), it.at)
 
     def take(self, piece: Union[str, bytes, bytearray, memoryview]) -> list[str]:
         """The answers to the lines that end in a piece, which may be cut anywhere, as from a socket. What behind the last line end has begun is kept.
