@@ -66,23 +66,32 @@ static void ask(revroute *session) {
     kept = sum;
 }
 
-static void *ask_as_one(void *session) {
+typedef struct {
+    revroute session;
+    double begin, end;
+} asked;
+
+static void *ask_as_one(void *of) {
+    asked *one = of;
     pthread_barrier_wait(&together);
-    ask(session);
-    pthread_barrier_wait(&together);
+    one->begin = now();
+    ask(&one->session);
+    one->end = now();
     return NULL;
 }
 
-/* Each thread asks a network of its own. */
-static void ask_together(revroute *sessions, double *spent) {
+/* The time of threads that ask a network of their own each: from the first that begins to the last that ends. */
+static double ask_together(asked *all) {
     pthread_t threads[THREADS];
+    double begin = 1e18, end = 0;
     for (int at = 0; at < THREADS; at++)
-        if (pthread_create(&threads[at], NULL, ask_as_one, &sessions[at])) stop("no thread");
-    pthread_barrier_wait(&together);
-    double begin = now();
-    pthread_barrier_wait(&together);
-    *spent = now() - begin;
-    for (int at = 0; at < THREADS; at++) pthread_join(threads[at], NULL);
+        if (pthread_create(&threads[at], NULL, ask_as_one, &all[at])) stop("no thread");
+    for (int at = 0; at < THREADS; at++) {
+        pthread_join(threads[at], NULL);
+        if (all[at].begin < begin) begin = all[at].begin;
+        if (all[at].end > end) end = all[at].end;
+    }
+    return end - begin;
 }
 
 static void tell_tables(revroute *session) {
@@ -141,17 +150,17 @@ static uint32_t summed(void) {
 int main(void) {
     read_input();
     shuffle();
-    double asked = (double)nodes * ROUNDS, least = 1e18, spent;
-    printf("hop %.3f\n", best(ask) / asked);
-    revroute sessions[THREADS];
-    pthread_barrier_init(&together, NULL, THREADS + 1);
-    for (int at = 0; at < THREADS; at++) sessions[at] = opened();
+    double count = (double)nodes * ROUNDS, least = 1e18;
+    printf("hop %.3f\n", best(ask) / count);
+    asked all[THREADS];
+    pthread_barrier_init(&together, NULL, THREADS);
+    for (int at = 0; at < THREADS; at++) all[at].session = opened();
     for (int run = 0; run < RUNS; run++) {
-        ask_together(sessions, &spent);
+        double spent = ask_together(all);
         if (spent < least) least = spent;
     }
-    for (int at = 0; at < THREADS; at++) revroute_close(&sessions[at]);
-    printf("hop4 %.3f\n", least / asked / THREADS);
+    for (int at = 0; at < THREADS; at++) revroute_close(&all[at].session);
+    printf("hop4 %.3f\n", least / count / THREADS);
     printf("hops %.0f\n", best(tell_tables) / TABLES);
     printf("change %.0f\n", best(change) / (double)change_count);
     printf("line %.0f\n", best(change_by_lines) / (double)change_count);

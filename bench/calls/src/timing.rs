@@ -92,22 +92,27 @@ fn ask<T: Calls>(network: &T, order: &[u32]) {
     black_box(sum);
 }
 
-/// The time of as many threads as there are networks, each of which asks its own.
+/// The time of as many threads as there are networks, each of which asks its own: from the first that begins to the last that ends.
 fn ask_together<T: Calls>(networks: &mut [T], order: &[u32]) -> Duration {
-    let together = &Barrier::new(networks.len() + 1);
-    thread::scope(|scope| {
-        for network in networks {
-            scope.spawn(move || {
-                together.wait();
-                ask(network, order);
-                together.wait();
-            });
-        }
-        together.wait();
-        let begin = Instant::now();
-        together.wait();
-        begin.elapsed()
-    })
+    let together = &Barrier::new(networks.len());
+    let spans: Vec<(Instant, Instant)> = thread::scope(|scope| {
+        let ask_one = |network: &mut T| {
+            together.wait();
+            let begin = Instant::now();
+            ask(network, order);
+            (begin, Instant::now())
+        };
+        let threads: Vec<_> = networks
+            .iter_mut()
+            .map(|it| scope.spawn(move || ask_one(it)))
+            .collect();
+        let ended = threads.into_iter().map(|it| it.join());
+        ended.map(|it| it.expect("a thread ends well")).collect()
+    });
+    let begin = spans.iter().map(|it| it.0).min();
+    let end = spans.iter().map(|it| it.1).max();
+    end.zip(begin)
+        .map_or(Duration::ZERO, |(end, begin)| end - begin)
 }
 
 /// Prints all times.
