@@ -1,7 +1,7 @@
 import revroute
 
-with revroute.Session() as session:
-    print(session.answer('["net",4,0,[[0,1],[1,2],[2,3]]]'))  # turned 6 cut 0
-    print(session.answer('["walk",3]'))                       # walk 3 2 1 0
-    print(session.answer('["cut",1,0]'))                      # turned 12 cut 3
-    print(session.answer('["walk",3]'))                       # walk 3 cut
+network = revroute.Network(5, 0, [(1, 0), (2, 0), (3, 1), (3, 2), (4, 3)])
+print(network.walk(4))    # [4, 3, 1, 0]
+print(network.cut(1, 0))  # Report(turned=1, cut_off=0)
+print(network.changed())  # [(1, 3), (3, 2)]
+print(network.walk(4))    # [4, 3, 2, 0]

@@ -4,44 +4,46 @@ the tables are followed from every node, by no more than what was pushed."""
 import random
 
 import revroute
+from revroute import NoHop
 
-SIDE, CHANGES = 20, 2000
+SIDE, HOME, CHANGES = 20, 0, 2000
 
 
-def lost(table, dest):
-    """The nodes from which the tables lead round in a loop, or to a node that sends nothing on."""
-    leads, found = {dest}, []
+def lost(table, up):
+    """The nodes from which the tables lead round in a loop, over a link that is down, or to a node that sends nothing on."""
+    leads, found = {HOME}, []
     for start, hop in enumerate(table):
         way, node = [], start
-        while node not in leads and node not in way and not isinstance(table[node], revroute.NoHop):
+        while node not in leads and node not in way and ({node, table[node]} in up):
             way.append(node)
             node = table[node]
         if node in leads:
             leads.update(way)
-        elif hop is not revroute.NoHop.CUT_OFF:
+        elif hop is not NoHop.CUT_OFF:
             found.append(start)
     return found
 
 
 def main():
-    draw = random.Random(1)
-    edges = [(x, x + step) for x in range(SIDE * SIDE) for step in ((1,) if x % SIDE < SIDE - 1 else ()) + (SIDE,) if x + step < SIDE * SIDE]
-    network = revroute.Network(SIDE * SIDE, 0, [(v, u) for u, v in edges])
-    table = [revroute.NoHop.CUT_OFF] * (SIDE * SIDE)
-    up, down = edges, []
+    draw, nodes = random.Random(1), range(SIDE * SIDE)
+    links = [(x, y) for x in nodes for y in (x - 1, x - SIDE) if y >= 0 and (y == x - SIDE or x % SIDE)]
+    network = revroute.Network(len(nodes), HOME, links)
+    table = [NoHop.CUT_OFF for _ in nodes]
+    up, down = {*map(frozenset, links)}, []
     for _ in range(CHANGES):
         for node, hop in network.changed():
             table[node] = hop
-        if lost(table, 0):
-            raise SystemExit(f"the tables lead nowhere from {lost(table, 0)}")
+        if lost(table, up) or table.count(NoHop.CUT_OFF) != network.report.cut_off:
+            raise SystemExit(f"the tables are wrong: {table}")
         if down and draw.random() < 0.5:
-            edge = down.pop(draw.randrange(len(down)))
-            network.join(*edge)
-            up.append(edge)
+            link = down.pop(draw.randrange(len(down)))
+            network.join(*link)
+            up.add(link)
         else:
-            edge = up.pop(draw.randrange(len(up)))
-            network.cut(*edge)
-            down.append(edge)
+            link = draw.choice([*up])
+            network.cut(*link)
+            up.remove(link)
+            down.append(link)
     print(f"{CHANGES} changes, every table leads to the destination")
 
 

@@ -5,6 +5,7 @@
 
 mod ask;
 mod crew;
+mod edit;
 mod net;
 mod request;
 mod round;

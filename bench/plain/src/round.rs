@@ -1,8 +1,8 @@
 //! The network as the last round left it.
 
+use crate::edit::{Edit, Refusal};
 use crate::net::Net;
-use crate::request::{Edit, Refusal};
-use crate::settle::{settled_counts, Method};
+use crate::settle::{Method, settled_counts};
 use std::cell::OnceCell;
 
 #[derive(Clone, Copy, PartialEq, Eq)]

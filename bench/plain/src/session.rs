@@ -1,7 +1,8 @@
 //! Request after request, and the text of each answer.
 
 use crate::net::Net;
-use crate::request::{read_line, Refusal, Request};
+use crate::edit::Refusal;
+use crate::request::{read_line, Request};
 use crate::round::{Hop, Round};
 use crate::settle::Method;
 use std::io::{self, BufRead, BufReader, Read, Write};

@@ -55,7 +55,8 @@ fn by_turns(net: &Net, dest: u32, mut counts: Vec<u32>) -> Vec<u32> {
     } else {
         (0..cap).map(|x| outward_at(net, &counts, x)).collect()
     };
-    let can_turn = |counts: &[u32], x: u32| x != dest && net.degree(x) > 0 && counts[x as usize] < cap;
+    let can_turn =
+        |counts: &[u32], x: u32| x != dest && net.degree(x) > 0 && counts[x as usize] < cap;
     let mut sinks: VecDeque<u32> = (0..cap)
         .filter(|&x| outward[x as usize] == 0 && can_turn(&counts, x))
         .collect();

@@ -4,6 +4,7 @@ import ctypes
 import unittest
 
 import revroute
+from revroute._calls import library
 
 try:
     from _testcapi import remove_mem_hooks, set_nomemory
@@ -21,6 +22,18 @@ class NoText:
         raise MemoryError
 
 
+def poor(what, first, last):
+    """Does something while Python's allocations from the first to the last are refused. Returns what was raised, or None."""
+    set_nomemory(first, last)
+    try:
+        what()
+    except BaseException as fault:
+        remove_mem_hooks()
+        return fault
+    finally:
+        remove_mem_hooks()
+
+
 def ask_poor(session, line, first, last):
     """Asks while Python's allocations from the first to the last, or all behind it, are refused. Returns what came of it."""
     set_nomemory(first, last)
@@ -35,7 +48,7 @@ def ask_poor(session, line, first, last):
 
 class MemoryTest(unittest.TestCase):
     def test_without_memory_the_session_is_as_it_was(self):
-        left = ctypes.c_long.in_dll(revroute._library, "refusing_left")
+        left = ctypes.c_long.in_dll(library, "refusing_left")
         with revroute.Session() as session:
             for line in LINES:
                 number, is_met = 0, True
@@ -51,7 +64,7 @@ class MemoryTest(unittest.TestCase):
                 left.value = 0
                 self.assertGreater(number, 1, line)
             self.assertEqual(session.answer('["links"]'), "links 1>2 2>3 3>0")
-        self.assertEqual(ctypes.c_long.in_dll(revroute._library, "refusing_held").value, 0)
+        self.assertEqual(ctypes.c_long.in_dll(library, "refusing_held").value, 0)
 
     def test_an_answer_that_is_lost_is_no_want_of_memory_and_can_be_asked_for_again(self):
         with revroute.Session() as session:
@@ -66,7 +79,7 @@ class MemoryTest(unittest.TestCase):
             self.assertEqual(session.answer('["links"]'), "links")
 
     def test_a_route_without_memory_changes_nothing(self):
-        left = ctypes.c_long.in_dll(revroute._library, "refusing_left")
+        left = ctypes.c_long.in_dll(library, "refusing_left")
         with revroute.Session() as session:
             session.answer(CHAIN)
             left.value = 1
@@ -75,7 +88,7 @@ class MemoryTest(unittest.TestCase):
             self.assertEqual(session.route(3), [3, 2, 1, 0])
 
     def test_pieces_go_on_where_memory_was_missing(self):
-        left = ctypes.c_long.in_dll(revroute._library, "refusing_left")
+        left = ctypes.c_long.in_dll(library, "refusing_left")
         given, number, wanted = "\n".join(LINES).encode() + b"\n", 0, ["turned 6 cut 0", "turned 12 cut 3", "turned 3 cut 0", "walk 1 2 3 0"]
         refused = 1
         while refused:
@@ -93,7 +106,7 @@ class MemoryTest(unittest.TestCase):
                     left.value = 0
                 self.assertEqual(found, wanted, number)
         self.assertGreater(number, 3)
-        self.assertEqual(ctypes.c_long.in_dll(revroute._library, "refusing_held").value, 0)
+        self.assertEqual(ctypes.c_long.in_dll(library, "refusing_held").value, 0)
 
     def test_an_answer_to_a_piece_that_is_lost_can_be_asked_for_again(self):
         with revroute.Session() as session:
@@ -103,6 +116,52 @@ class MemoryTest(unittest.TestCase):
             session._room = buffer, answer, room
             self.assertEqual(session.last_answer(), "turned 6 cut 0")
             self.assertEqual(session.take(b""), ["turned 12 cut 3"])
+
+    def test_without_memory_the_network_is_as_it_was(self):
+        left = ctypes.c_long.in_dll(library, "refusing_left")
+        network = revroute.Network(4, 0, [(0, 1), (1, 2), (2, 3)])
+        for change in (
+            lambda: network.add(0, 3),
+            lambda: network.cut(1, 0),
+            lambda: network.batch([("add", 3, 0), ("join", 1, 3)]),
+            lambda: network.move(2),
+            lambda: revroute.Network(3, 0, [(0, 1), (1, 2), (2, 0)]),
+        ):
+            number, is_met = 0, True
+            while is_met:
+                was = network.links(), network.changed(), network.report
+                number += 1
+                left.value = number
+                try:
+                    change()
+                    is_met = False
+                except MemoryError:
+                    left.value = 0
+                    self.assertEqual((network.links(), network.changed(), network.report), was)
+                except revroute.Refused as refused:
+                    self.assertEqual((refused.number, refused.nodes[0]), (7, refused.nodes[-1]))
+                    is_met = False
+                left.value = 0
+            self.assertGreater(number, 1)
+        self.assertEqual((network.walk(0), network.dest), ([0, 3, 2], 2))
+        network.close()
+        self.assertEqual(ctypes.c_long.in_dll(library, "refusing_held").value, 0)
+
+    @unittest.skipUnless(set_nomemory, "Python has no heap that refuses")
+    def test_where_python_has_no_memory_a_change_of_a_network_is_made_or_not(self):
+        for many in (1, 2):
+            number, met = 0, True
+            while met:
+                number += 1
+                with revroute.Network(4, 0, [(0, 1), (1, 2), (2, 3)]) as network:
+                    met = poor(lambda: network.cut(1, 0), number, number + many)
+                    made = network.report, network.next_hop(3)
+                if isinstance(met, MemoryError):
+                    self.assertEqual(made, ((6, 0), 2), number)
+                else:
+                    self.assertEqual(made, ((12, 3), revroute.NoHop.CUT_OFF), number)
+                    self.assertIn(type(met), (type(None), revroute.AnswerLost))
+            self.assertGreater(number, 1)
 
     @unittest.skipUnless(set_nomemory, "Python has no heap that refuses")
     def test_where_python_has_no_memory_a_change_is_no_want_of_memory(self):

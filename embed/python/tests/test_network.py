@@ -1,15 +1,27 @@
 """Networks by calls, compared with sessions by lines, and graphs of networkx where that is installed."""
 
 import array
+import copy
+import doctest
+import gc
 import importlib.util
+import os
 import pickle
 import random
+import signal
+import threading
 import unittest
+import warnings
+from concurrent.futures import ThreadPoolExecutor
+from unittest import mock
 
 import revroute
-from revroute import Network, NoHop, Refused
+import revroute.network
+from revroute import Network, NoHop, NoSuchNode, Refused
+from revroute._calls import library
 
 HAS_NETWORKX = importlib.util.find_spec("networkx") is not None
+HAS_NUMPY = importlib.util.find_spec("numpy") is not None
 
 
 def drawn(draw, nodes):
@@ -18,7 +30,54 @@ def drawn(draw, nodes):
 
 
 def drawn_edit(draw, nodes):
-    return draw.choice(["cut", "add", "join"]), draw.randrange(nodes), draw.randrange(nodes)
+    behind = nodes + draw.choice((0, 0, 0, 0, 1))
+    return draw.choice(["cut", "add", "join"]), draw.randrange(behind), draw.randrange(behind)
+
+
+def leads(links, start, end):
+    """Whether links lead from one node to another."""
+    found = [start]
+    for node in found:
+        found += [v for u, v in links if u == node and v not in found]
+    return end in found
+
+
+def make(links, edit):
+    """Makes an accepted edit in a list of links."""
+    kind, u, v = edit
+    if kind == "cut":
+        links[:] = [it for it in links if it not in ((u, v), (v, u))]
+    elif kind == "join" and leads(links, v, u):
+        links.append((v, u))
+    else:
+        links.append((u, v))
+
+
+def shows(refused, edit, links, nodes):
+    """Whether the evidence shows why an edit is refused, where these links stand before it."""
+    _, u, v = edit
+    joined = (u, v) in links or (v, u) in links
+    if refused.number == 7:
+        walk = refused.nodes
+        steps = [*zip(walk, walk[1:])]
+        return walk[0] == walk[-1] and (u, v) in steps and all(it == (u, v) or it in links for it in steps)
+    return {
+        4: all(it >= nodes and it in (u, v) for it in refused.nodes) and len(refused.nodes) == 1,
+        5: refused.nodes == (u,) == (v,),
+        6: refused.nodes == (u, v) and joined,
+        8: refused.nodes == (u, v) and not joined,
+    }[refused.number]
+
+
+def in_call(name, before):
+    """A call of the library with something done before it, while the network is in the call."""
+    true_call = getattr(library, f"revroute_{name}")
+
+    def call(*words):
+        before()
+        return true_call(*words)
+
+    return mock.patch.object(library, f"revroute_{name}", call)
 
 
 class ByLines:
@@ -55,7 +114,7 @@ class NetworkTests(unittest.TestCase):
         return hops
 
     def test_calls_tell_what_lines_tell(self):
-        accepted = 0
+        accepted = refused = 0
         for seed in range(60):
             draw = random.Random(seed)
             nodes = draw.randrange(1, 9)
@@ -63,15 +122,16 @@ class NetworkTests(unittest.TestCase):
             network, lines = Network(nodes, dest, links), ByLines(nodes, dest, links)
             before = self.look(network, lines, [NoHop.CUT_OFF] * nodes)
             for _ in range(30):
-                one, other = drawn_edit(draw, nodes), drawn_edit(draw, nodes)
-                dest = draw.randrange(nodes)
-                call, line = draw.choice(
+                edits = [drawn_edit(draw, nodes) for _ in range(draw.randrange(4))]
+                one, dest = drawn_edit(draw, nodes), draw.randrange(nodes + 1)
+                call, line, asked = draw.choice(
                     [
-                        (lambda: getattr(network, one[0])(*one[1:]), [*one]),
-                        (lambda: network.batch([one, other]), ["batch", [[*one], [*other]]]),
-                        (lambda: network.move(dest), ["dest", dest]),
+                        (lambda: getattr(network, one[0])(*one[1:]), [*one], [one]),
+                        (lambda: network.batch(edits), ["batch", [[*it] for it in edits]], edits),
+                        (lambda: network.move(dest), ["dest", dest], None),
                     ]
                 )
+                links = network.links()
                 told = lines.session.answer(str(line).replace("'", '"'))
                 try:
                     report = call()
@@ -79,10 +139,17 @@ class NetworkTests(unittest.TestCase):
                     self.assertEqual(network.report, report)
                     before = self.look(network, lines, before)
                     accepted += 1
-                except Refused as refused:
-                    self.assertEqual(f"refused {refused.number}", told)
-                    self.assertEqual(network.hops(), before)
-        self.assertGreater(accepted, 500)
+                except Refused as it:
+                    self.assertEqual(f"refused {it.number}", told)
+                    self.assertEqual((network.hops(), network.links()), (before, links))
+                    refused += 1
+                    if asked is None:
+                        self.assertEqual((it.nodes, it.at), ((dest,), 0))
+                    else:
+                        for edit in asked[: it.at]:
+                            make(links, edit)
+                        self.assertTrue(shows(it, asked[it.at], links, nodes), (it, asked, links))
+        self.assertGreater(min(accepted, refused), 400)
 
     def test_each_refusal_has_its_number(self):
         for number, nodes, links in (
@@ -104,8 +171,167 @@ class NetworkTests(unittest.TestCase):
             with self.assertRaises(Refused) as met:
                 change()
             self.assertEqual(met.exception.number, number)
-            self.assertEqual(pickle.loads(pickle.dumps(met.exception)).number, number)
+            again = pickle.loads(pickle.dumps(met.exception))
+            self.assertEqual([str(again), again.nodes, again.at], [str(met.exception), met.exception.nodes, met.exception.at])
         self.assertEqual(network.links(), [(1, 0), (2, 1)])
+
+    def test_refusals_say_what_is_wrong(self):
+        network = Network(5, 0, [(1, 0), (2, 0), (3, 1), (3, 2), (4, 3)])
+        for call, words in (
+            (lambda: network.join(1, 5), "refused 4: there is no node 5"),
+            (lambda: network.add(1, 1), "refused 5: a link would join node 1 with itself"),
+            (lambda: network.add(0, 1), "refused 6: more than one link would join 0 and 1"),
+            (lambda: network.cut(0, 4), "refused 8: no link joins 0 and 4"),
+            (lambda: network.batch([("cut", 1, 0), ("cut", 0, 1)]), "refused 8, edit 1: no link joins 0 and 1"),
+            (lambda: network.move(7), "refused 4: there is no node 7"),
+            (lambda: Network(3, 7, [(0, 1)]), "refused 4: there is no node 7"),
+        ):
+            with self.assertRaises(Refused) as met:
+                call()
+            self.assertEqual(str(met.exception), words)
+        with self.assertRaises(Refused) as met:
+            Network(3, 0, [(0, 1), (2, 1), (1, 2)])
+        self.assertEqual((met.exception.number, {*met.exception.nodes}), (6, {1, 2}))
+        with self.assertRaises(Refused) as met:
+            network.add(0, 4)
+        self.assertEqual({*met.exception.nodes} - {1, 2}, {0, 3, 4})
+        self.assertIn(" ".join(map(str, met.exception.nodes)), str(met.exception))
+        named = Network(3, "a", [("b", "a"), ("c", "b")], names="abc")
+        with self.assertRaises(Refused) as met:
+            named.add("a", "c")
+        walk = met.exception.nodes
+        self.assertEqual({*zip(walk, walk[1:])}, {("a", "c"), ("c", "b"), ("b", "a")})
+
+    def test_numbers_of_no_node_are_told_as_they_were_asked(self):
+        network = Network(3, 0, [(1, 0), (2, 1)])
+        for number in (3, -1, (1 << 32) - 1, 1 << 32, 1 << 80, -(1 << 80)):
+            for call, nodes, at in (
+                (lambda: network.join(1, number), (number,), 0),
+                (lambda: network.cut(number, 1), (number, 1), 0),
+                (lambda: network.cut(-7, number), (-7, number), 0),
+                (lambda: network.batch([("join", 2, 0), ("add", number, -7)]), (number,), 1),
+                (lambda: network.move(number), (number,), 0),
+                (lambda: Network(3, number), (number,), 0),
+                (lambda: Network(3, -7, [(0, 1), (number, 2)]), (number,), 0),
+            ):
+                with self.assertRaises(Refused) as met:
+                    call()
+                self.assertEqual((met.exception.nodes, met.exception.at), (nodes, at))
+            self.assertRaises(NoSuchNode, network.next_hop, number)
+            self.assertRaises(NoSuchNode, network.walk, number)
+        self.assertEqual(network.links(), [(1, 0), (2, 1)])
+
+    def test_what_is_no_number_is_an_error(self):
+        network = Network(3, 0, [(1, 0), (2, 1)])
+        for wrong in ("1", 1.0, None, (1, 2), b"\1", [1], object()):
+            for call in (
+                lambda: network.next_hop(wrong),
+                lambda: network.walk(wrong),
+                lambda: network.cut(1, wrong),
+                lambda: network.batch([("cut", wrong, 0)]),
+                lambda: network.move(wrong),
+                lambda: Network(wrong, 0),
+                lambda: Network(3, wrong),
+                lambda: Network(3, 0, [(0, wrong)]),
+            ):
+                self.assertRaises(TypeError, call)
+        for links in ([0, 1], [(0, 1, 2)], [(0,)], 7):
+            self.assertRaises((TypeError, ValueError), Network, 3, 0, links)
+        self.assertRaises((TypeError, ValueError), network.batch, [("cut", 1)])
+        self.assertEqual(network.hops(), [NoHop.HERE, 0, 1])
+
+    def test_it_tells_what_it_is(self):
+        network = Network(3, 1, [(0, 1)])
+        self.assertEqual(repr(network), "<revroute.Network of 3 nodes and 1 links, destination 1>")
+        self.assertEqual((network.dest, network.size, network.report), (1, (3, 1), (0, 1)))
+        network.move(0)
+        self.assertEqual((network.dest, network.report), (0, (1, 1)))
+        network.close()
+        self.assertEqual(repr(network), "<revroute.Network, closed>")
+        self.assertEqual(repr(Network(2, "a", names="ab")), "<revroute.Network of 2 nodes and 0 links, destination 'a'>")
+        for copied in (copy.copy, copy.deepcopy, pickle.dumps):
+            self.assertRaises(TypeError, copied, Network(1, 0))
+
+    def test_a_question_waits_for_a_change_of_another_thread(self):
+        is_in, goes_on, asked = threading.Event(), threading.Event(), []
+
+        def before():
+            is_in.set()
+            goes_on.wait(20)
+
+        network = Network(5, 0, [(1, 0), (2, 0), (3, 1), (3, 2), (4, 3)])
+        with in_call("change", before), ThreadPoolExecutor(3) as pool:
+            changing = pool.submit(network.cut, 1, 0)
+            is_in.wait(20)
+            asking = [pool.submit(network.next_hop, 1), pool.submit(network.hops)]
+            threading.Event().wait(0.1)
+            asked = [it.done() for it in asking]
+            goes_on.set()
+            self.assertEqual(changing.result(20), (1, 0))
+            self.assertEqual([it.result(20) for it in asking], [3, [NoHop.HERE, 3, 0, 2, 3]])
+        self.assertEqual(asked, [False, False])
+
+    def test_threads_with_one_network_see_one_change_after_the_other(self):
+        network = Network(3, 0, [(1, 0), (2, 0), (2, 1)])
+
+        def flap(_):
+            network.batch([("cut", 1, 0), ("join", 1, 0)])
+            return network.next_hop(1), network.walk(2)
+
+        with ThreadPoolExecutor(8) as pool:
+            for hop, walk in pool.map(flap, range(2000)):
+                self.assertIn((hop, walk), [(0, [2, 0])])
+
+    def test_a_call_that_interrupts_another_is_an_error(self):
+        refused = []
+
+        def handle(*_):
+            for call in (network.hops, lambda: network.next_hop(1), lambda: network.cut(2, 1), network.close):
+                with self.assertRaises(RuntimeError):
+                    call()
+                refused.append(call)
+
+        before = signal.signal(signal.SIGUSR1, handle)
+        signal.alarm(20)
+        try:
+            network = Network(3, 0, [(1, 0), (2, 1)])
+            with in_call("change", lambda: signal.raise_signal(signal.SIGUSR1)):
+                self.assertEqual(network.cut(1, 0), (6, 2))
+        finally:
+            signal.alarm(0)
+            signal.signal(signal.SIGUSR1, before)
+        self.assertEqual(len(refused), 4)
+        self.assertEqual(network.next_hop(1), NoHop.CUT_OFF)
+
+    def test_a_child_is_refused_a_network_that_was_in_a_call(self):
+        is_in, goes_on = threading.Event(), threading.Event()
+        network, other = Network(2, 0, [(1, 0)]), Network(2, 1, [(1, 0)])
+        with in_call("change", lambda: (is_in.set(), goes_on.wait(20))), ThreadPoolExecutor(1) as pool:
+            changing = pool.submit(network.cut, 1, 0)
+            is_in.wait(20)
+            with warnings.catch_warnings():
+                warnings.simplefilter("ignore", DeprecationWarning)
+                child = os.fork()
+            if not child:
+                signal.alarm(5)
+                try:
+                    network.next_hop(1)
+                except RuntimeError:
+                    os._exit(not (other.next_hop(0) == 1 and other.move(0) == (1, 0)))
+                os._exit(1)
+            self.assertEqual(os.waitpid(child, 0)[1], 0)
+            goes_on.set()
+            self.assertEqual(changing.result(20), (0, 1))
+
+    def test_what_is_left_behind_is_closed(self):
+        networks = [Network(2, 0, [(1, 0)]) for _ in range(100)]
+        ends = [it._session._end for it in networks]
+        gc.disable()
+        try:
+            del networks
+            self.assertFalse([it for it in ends if it.alive])
+        finally:
+            gc.enable()
 
     def test_what_is_no_node_is_an_error(self):
         network = Network(2, 0, [(1, 0)])
@@ -136,8 +362,18 @@ class NetworkTests(unittest.TestCase):
         view = memoryview(bytearray(12)).cast("I")
         self.assertEqual((network.hops_into(view), [*view]), (3, wanted))
         self.assertRaises(ValueError, network.hops_into, array.array("I", [7] * 2))
-        for wrong in (bytes(12), bytearray(12), array.array("Q", [7] * 3), memoryview(array.array("I", [7] * 8))[::2]):
-            self.assertRaises((TypeError, ValueError), network.hops_into, wrong)
+        for wrong in (bytes(12), bytearray(12), array.array("Q", [7] * 3), array.array("f", [7] * 3), memoryview(array.array("I", [7] * 8))[::2], [7] * 3, None):
+            self.assertRaises(TypeError, network.hops_into, wrong)
+
+    @unittest.skipUnless(HAS_NUMPY, "numpy is not installed")
+    def test_numbers_of_numpy_are_numbers(self):
+        import numpy
+
+        network = Network(numpy.int64(3), numpy.uint32(0), [(numpy.int32(1), 0)])
+        hops = numpy.full(4, 7, numpy.uint32)
+        self.assertEqual((network.hops_into(hops), [*hops]), (3, [Network.HERE, 0, Network.CUT_OFF, 7]))
+        self.assertRaises(TypeError, network.hops_into, numpy.zeros(3, numpy.float32))
+        self.assertEqual(network.next_hop(numpy.int64(1)), 0)
 
     def test_a_closed_network_is_an_error(self):
         with Network(2, 0, [(1, 0)]) as network:
@@ -145,6 +381,8 @@ class NetworkTests(unittest.TestCase):
         for call in (network.hops, network.changed, network.links, network.counts, lambda: network.walk(1), lambda: network.cut(1, 0)):
             self.assertRaises(ValueError, call)
         self.assertRaises(ValueError, network.hops_into, array.array("I", [7] * 2))
+        for call in (lambda: network.next_hop(1), lambda: network.batch([]), lambda: network.move(1), lambda: network.size, lambda: network.dest):
+            self.assertRaises(ValueError, call)
 
     @unittest.skipUnless(HAS_NETWORKX, "networkx is not installed")
     def test_graphs_become_networks(self):
@@ -169,7 +407,16 @@ class NetworkTests(unittest.TestCase):
         edges = networkx.DiGraph([("b", "a"), ("c", "b")])
         self.assertEqual(Network.from_networkx(edges, "a").walk("c"), ["c", "b", "a"])
         self.assertRaises(Refused, Network.from_networkx, networkx.DiGraph([(1, 2), (2, 1)]), 1)
-        self.assertRaises(KeyError, Network.from_networkx, edges, "d")
+        with self.assertRaises(KeyError) as met:
+            Network.from_networkx(edges, "d")
+        self.assertEqual(str(met.exception), "there is no node 'd' in the network")
+        self.assertRaises(NoSuchNode, Network.from_networkx, networkx.Graph([("a", "b")]), "d")
+
+
+def load_tests(loader, tests, pattern):
+    for it in (revroute, revroute.network):
+        tests.addTests(doctest.DocTestSuite(it))
+    return tests
 
 
 if __name__ == "__main__":

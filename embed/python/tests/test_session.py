@@ -16,6 +16,9 @@ from pathlib import Path
 from unittest import mock
 
 import revroute
+import revroute.session
+from revroute import _calls
+from revroute._calls import library
 
 EXAMPLES = Path(__file__).resolve().parents[3] / "examples"
 CHAIN = '["net",4,0,[[0,1],[1,2],[2,3]]]'
@@ -59,7 +62,7 @@ class TextOfItsOwn(str):
 
 def in_call(before=lambda: None, behind=lambda: None):
     """The library's call with something done before it and behind it, while the session is in the call."""
-    true_call = revroute._library.revroute_answer
+    true_call = library.revroute_answer
 
     def call(*words):
         before()
@@ -67,7 +70,7 @@ def in_call(before=lambda: None, behind=lambda: None):
         behind()
         return status
 
-    return mock.patch.object(revroute._library, "revroute_answer", call)
+    return mock.patch.object(library, "revroute_answer", call)
 
 
 def ends_well(what):
@@ -77,7 +80,7 @@ def ends_well(what):
         warnings.simplefilter("ignore", DeprecationWarning)
         child = os.fork()
     if child:
-        return os.waitstatus_to_exitcode(os.waitpid(child, 0)[1]) == 0
+        return os.waitpid(child, 0)[1] == 0
     signal.alarm(5)
     try:
         what()
@@ -329,7 +332,7 @@ class SessionTest(unittest.TestCase):
             with in_call(lambda: (is_in.set(), goes_on.wait(20))), ThreadPoolExecutor(1) as pool:
                 found = pool.submit(session.answer, CHAIN)
                 is_in.wait(20)
-                with mock.patch.object(revroute._library, "revroute_answer", revroute._load().revroute_answer):
+                with mock.patch.object(library, "revroute_answer", _calls.load().revroute_answer):
                     is_well = ends_well(ask)
                 goes_on.set()
                 self.assertEqual(found.result(), "turned 6 cut 0")
@@ -366,7 +369,7 @@ class SessionTest(unittest.TestCase):
 
 
 def load_tests(loader, tests, pattern):
-    tests.addTests(doctest.DocTestSuite(revroute))
+    tests.addTests(doctest.DocTestSuite(revroute.session))
     return tests
 
 

@@ -1,12 +1,10 @@
-use revroute::{NoMemory, Session};
+use revroute::{Network, Refused};
 
-fn main() -> Result<(), NoMemory> {
-    let net = r#"["net",4,0,[[0,1],[1,2],[2,3]]]"#;
-    let mut session = Session::new();
-    for line in [net, r#"["walk",3]"#, r#"["cut",1,0]"#, r#"["walk",3]"#] {
-        if let Some(text) = session.answer(line)? {
-            println!("{text}");
-        }
-    }
+fn main() -> Result<(), Refused> {
+    let mut network = Network::new(5, 0, &[(1, 0), (2, 0), (3, 1), (3, 2), (4, 3)])?;
+    println!("{:?}", network.walk(4).collect::<Vec<_>>()); // [4, 3, 1, 0]
+    println!("{:?}", network.cut(1, 0)?); // Report { turned: 1, cut_off: 0 }
+    println!("{:?}", network.changed()?); // [(1, To(3)), (3, To(2))]
+    println!("{:?}", network.walk(4).collect::<Vec<_>>()); // [4, 3, 2, 0]
     Ok(())
 }

@@ -1,6 +1,7 @@
 //! Lines that come in pieces cut anywhere, as from a socket.
 
-use crate::{NoMemory, Session, make_room, sys, text_of};
+use crate::session::make_room;
+use crate::{NoMemory, Session, sys, text_of};
 use std::fmt;
 
 /// Why a piece was not taken. The session is as it was, and so is the piece.
@@ -56,7 +57,7 @@ impl Session {
             // SAFETY: the handle is new or the library's own, the piece and the buffer are slices, and none of the five overlap.
             let status = unsafe {
                 sys::revroute_take(
-                    &mut self.handle,
+                    self.engine.handle(),
                     piece.as_ptr(),
                     piece.len(),
                     self.buffer.as_mut_ptr(),
@@ -88,7 +89,7 @@ impl Session {
             // SAFETY: the handle is new or the library's own, the buffer is a slice, and none of the three overlap.
             let status = unsafe {
                 sys::revroute_finish(
-                    &mut self.handle,
+                    self.engine.handle(),
                     self.buffer.as_mut_ptr(),
                     self.buffer.len(),
                     &mut length,

@@ -26,6 +26,10 @@ pub const NO_MEMORY: u32 = 3;
 pub const NO_NETWORK: u32 = 4;
 /// There is no way to the destination.
 pub const NO_ROUTE: u32 = 5;
+/// The call is refused, and its refusal tells why.
+pub const REFUSED: u32 = 6;
+/// No closed walk refuses this.
+pub const NO_WALK: u32 = 7;
 /// No line has ended, and the bytes are kept.
 pub const BEGUN: u32 = 8;
 /// The line is longer than a line may be, and nothing was taken.
@@ -40,7 +44,98 @@ pub const NO_SUCH_NODE: u32 = 0xffff_fffd;
 /// In place of a next hop: there is no network yet.
 pub const NO_HOP: u32 = 0xffff_fffc;
 
+/// What an edit does to the link between its nodes: takes it out, adds it, or adds it whichever way it can point.
+pub const CUT: u32 = 0;
+pub const ADD: u32 = 1;
+pub const JOIN: u32 = 2;
+
+/// Why a call is refused, by the numbers of the lines.
+pub const NO_SUCH: u32 = 4;
+pub const SELF_LINK: u32 = 5;
+pub const TWICE: u32 = 6;
+pub const CLOSED_WALK: u32 = 7;
+pub const NO_LINK: u32 = 8;
+pub const TOO_MANY: u32 = 9;
+
+/// A link.
+#[repr(C)]
+#[derive(Clone, Copy)]
+pub struct Link {
+    pub tail: u32,
+    pub head: u32,
+}
+
+/// An edit of one link.
+#[repr(C)]
+#[derive(Clone, Copy)]
+pub struct Edit {
+    pub kind: u32,
+    pub u: u32,
+    pub v: u32,
+}
+
+/// What a round came to.
+#[repr(C)]
+#[derive(Default)]
+pub struct Round {
+    pub turned: u64,
+    pub cut_off: u64,
+}
+
+/// Why a call is refused, with the nodes that are evidence, and which of the edits.
+#[repr(C)]
+#[derive(Default)]
+pub struct Refusal {
+    pub number: u32,
+    pub u: u32,
+    pub v: u32,
+    pub at: usize,
+}
+
 unsafe extern "C" {
+    pub fn revroute_open(
+        session: *mut Handle,
+        nodes: u32,
+        dest: u32,
+        links: *const Link,
+        count: usize,
+        round: *mut Round,
+        refusal: *mut Refusal,
+    ) -> u32;
+
+    pub fn revroute_change(
+        session: *mut Handle,
+        edits: *const Edit,
+        count: usize,
+        round: *mut Round,
+        refusal: *mut Refusal,
+    ) -> u32;
+
+    pub fn revroute_move(
+        session: *mut Handle,
+        dest: u32,
+        round: *mut Round,
+        refusal: *mut Refusal,
+    ) -> u32;
+
+    pub fn revroute_closed_walk(
+        session: *mut Handle,
+        edits: *const Edit,
+        count: usize,
+        nodes: *mut u32,
+        room: usize,
+        length: *mut usize,
+    ) -> u32;
+
+    pub fn revroute_closed_walk_of(
+        nodes: u32,
+        links: *const Link,
+        count: usize,
+        walk: *mut u32,
+        room: usize,
+        length: *mut usize,
+    ) -> u32;
+
     pub fn revroute_answer(
         session: *mut Handle,
         line: *const u8,

@@ -1,13 +1,17 @@
 //! Without memory: each allocation of the library refused in turn, by the heap that embed/check puts under it.
 #![cfg(refusing_heap)]
 
-use revroute::{NoMemory, Session};
+use revroute::{Edit, Network, NoMemory, Refused, Report, Session};
 use std::ffi::c_long;
+use std::sync::{Mutex, PoisonError};
 
 unsafe extern "C" {
     /// Which allocation is refused, counted down; 0 for none.
     static mut refusing_left: c_long;
 }
+
+/// Held while an allocation is refused, since the counter is one for all threads.
+static COUNTER: Mutex<()> = Mutex::new(());
 
 const LINES: [&str; 4] = [
     r#"["net",4,0,[[0,1],[1,2],[2,3]]]"#,
@@ -16,40 +20,81 @@ const LINES: [&str; 4] = [
     r#"["walk",1]"#,
 ];
 
-/// Asks with the allocation of this number refused, and returns whether it was met.
-fn ask_poor(session: &mut Session, line: &str, number: c_long) -> Result<Option<String>, NoMemory> {
-    // SAFETY: the tests of this file are one, so nobody else uses the counter.
+/// Does something with the allocation of this number refused.
+fn poor<T>(number: c_long, what: impl FnOnce() -> T) -> T {
+    // SAFETY: whoever calls it holds the lock, so nobody else uses the counter.
     unsafe { refusing_left = number };
-    let answer = session.answer(line).map(|it| it.map(String::from));
+    let ended = what();
     // SAFETY: as above.
     unsafe { refusing_left = 0 };
-    answer
+    ended
 }
 
 #[test]
 fn without_memory_the_session_is_as_it_was() -> Result<(), NoMemory> {
+    let _held = COUNTER.lock().unwrap_or_else(PoisonError::into_inner);
     let mut session = Session::new();
     for line in LINES {
         let mut number = 1;
         loop {
             let links = session.answer(r#"["links"]"#)?.map(String::from);
-            match ask_poor(&mut session, line, number) {
+            match poor(number, || session.answer(line).map(|_| ())) {
                 Err(NoMemory) => {
                     assert_eq!(session.answer(r#"["links"]"#)?, links.as_deref(), "{line}")
                 }
-                Ok(_) => break,
+                Ok(()) => break,
             }
             number += 1;
         }
         assert!(number > 1, "{line} takes memory");
     }
     assert_eq!(session.answer(r#"["links"]"#)?, Some("links 1>2 2>3 3>0"));
-    // SAFETY: as above.
-    unsafe { refusing_left = 1 };
-    let route = session.route(1);
-    // SAFETY: as above.
-    unsafe { refusing_left = 0 };
-    assert_eq!(route, Err(NoMemory));
+    assert_eq!(poor(1, || session.route(1)), Err(NoMemory));
     assert_eq!(session.route(1)?, Some(vec![1, 2, 3, 0]));
+    Ok(())
+}
+
+/// Makes a change with each allocation refused in turn, after which all is as it was, and returns what it comes to with none refused.
+fn made_poor(
+    network: &mut Network,
+    change: impl Fn(&mut Network) -> Result<Report, Refused>,
+) -> Result<Report, Refused> {
+    let mut number = 1;
+    loop {
+        let was = (network.links()?, network.changed()?, network.report());
+        match poor(number, || change(network)) {
+            Err(Refused::NoMemory) => {
+                let is = (network.links()?, network.changed()?, network.report());
+                assert_eq!(is, was);
+            }
+            ended => {
+                assert!(number > 1, "it takes memory");
+                return ended;
+            }
+        }
+        number += 1;
+    }
+}
+
+#[test]
+fn without_memory_the_network_is_as_it_was() -> Result<(), Refused> {
+    let _held = COUNTER.lock().unwrap_or_else(PoisonError::into_inner);
+    let links = [(0, 1), (1, 2), (2, 3)];
+    let mut number = 1;
+    let mut network = loop {
+        match poor(number, || Network::new(4, 0, &links)) {
+            Err(Refused::NoMemory) => number += 1,
+            ended => break ended?,
+        }
+    };
+    assert!(number > 1, "a network takes memory");
+    let refused = made_poor(&mut network, |it| it.add(0, 3));
+    assert_eq!(refused, Err(Refused::ClosedWalk(vec![0, 3, 2, 1, 0])));
+    made_poor(&mut network, |it| it.cut(1, 0))?;
+    let edits = [Edit::Add(3, 0), Edit::Join(1, 3)];
+    made_poor(&mut network, |it| Ok(it.batch(&edits)?))?;
+    made_poor(&mut network, |it| it.set_destination(2))?;
+    assert_eq!(network.report().cut_off, 0);
+    assert_eq!(poor(1, || network.links()), Err(NoMemory));
     Ok(())
 }

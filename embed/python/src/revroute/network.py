@@ -3,75 +3,105 @@
 from __future__ import annotations
 
 import ctypes
-import json
+from array import array
 from collections import deque
 from operator import index
-from typing import TYPE_CHECKING, Any, Generic, Hashable, Iterable, Optional, Sequence, TypeVar, Union
+from typing import TYPE_CHECKING, Any, Callable, Generic, Hashable, Iterable, NoReturn, Optional, Sequence, TypeVar, Union
 
-from . import NoHop, Report, Session, _hop, _library
+from . import _calls
+from ._calls import library
+from .session import NoHop, NoSuchNode, Report, Session, Size, _hop, _Why
 
 if TYPE_CHECKING:
     import networkx
 
 Name = TypeVar("Name", bound=Hashable)
 
+_NUMBERS = range(0xFFFFFFFF)
+# what stands for a number that the library has none for: no node of any network
+_NO_NODE = 0xFFFFFFFF
+_KINDS = {"cut": _calls.CUT, "add": _calls.ADD, "join": _calls.JOIN}
 _REASONS = {
-    4: "a node that is named is none of the network, or there is no node",
-    5: "a link would join a node with itself",
-    6: "more than one link would join two nodes",
-    7: "the links would close a walk",
-    8: "no link joins the two nodes",
-    9: "there would be more nodes, links or edits than the limits",
+    4: "there is no node {0!r}",
+    5: "a link would join node {0!r} with itself",
+    6: "more than one link would join {0!r} and {1!r}",
+    7: "the links would lead round: {0}",
+    8: "no link joins {0!r} and {1!r}",
+    9: "there would be more than 4,096 nodes, 32,768 links or 1,024 edits",
 }
 
 
 class Refused(ValueError):
-    """A network that cannot be made, or a change that cannot: nothing has changed. `number` is that of the answer `refused`."""
+    """A network that cannot be made, or a change that cannot: nothing has changed.
 
-    def __init__(self, number: int) -> None:
-        super().__init__(f"refused {number}: {_REASONS[number]}")
-        self.number = number
+    `number` is that of the answer `refused` of a session. `nodes` shows why: the closed walk, its first node again at the end (7); the
+    node that is none (4) or that a link would join with itself (5); the two nodes that more than one link would join (6) or that none
+    joins (8). `at` is the place of the edit in a batch, counted from 0; the number of edits where they are too many.
+
+    >>> network = Network(3, 0, [(1, 0), (2, 1)])
+    >>> try:
+    ...     network.batch([("cut", 1, 0), ("cut", 0, 2)])
+    ... except Refused as refused:
+    ...     refused.number, refused.nodes, refused.at
+    (8, (0, 2), 1)
+    """
+
+    def __init__(self, number: int, nodes: Sequence[Any] = (), at: int = 0) -> None:
+        self.number, self.nodes, self.at = number, tuple(nodes), at
+        words = [" ".join(map(repr, nodes))] if number == _calls.CLOSED_WALK else nodes
+        edit = f", edit {at}" if at and number != _calls.TOO_MANY else ""
+        super().__init__(f"refused {number}{edit}: {_REASONS[number].format(*words)}")
 
     def __reduce__(self) -> Any:
-        return Refused, (self.number,)
+        return Refused, (self.number, self.nodes, self.at)
 
 
 class Network(Generic[Name]):
     """A network whose links lead from every node that is joined with the destination to it, and do so again after each change.
 
     >>> network = Network(5, 0, [(1, 0), (2, 0), (3, 1), (3, 2), (4, 3)])
-    >>> network.walk(4)
-    [4, 3, 1, 0]
+    >>> network
+    <revroute.Network of 5 nodes and 5 links, destination 0>
     >>> network.cut(1, 0)
     Report(turned=1, cut_off=0)
     >>> network.changed()
     [(1, 3), (3, 2)]
-    >>> network.add(0, 4)
+    >>> network.cut(1, 0)
     Traceback (most recent call last):
-    revroute.network.Refused: refused 7: the links would close a walk
+    revroute.network.Refused: refused 8: no link joins 1 and 0
 
     Nodes are the numbers from 0; with `names`, or by `from_networkx`, they have the caller's names, in all calls and answers.
 
-    A change is made whole or, where it is Refused or a MemoryError, not at all; each ends in a settled network. What a session raises
-    this raises as well. A name that is no node's is a KeyError, a number an IndexError, of a change Refused. Any thread may call, one
-    at a time.
+    A change is made whole or, where it is Refused or a MemoryError, not at all; each ends in a settled network. What is no node is
+    NoSuchNode, and where a change has it by number, Refused. A closed network is a ValueError. Any thread may call, one at a time:
+    others wait. What would wait for itself is a RuntimeError, as a session has it.
+
+    With n nodes and m links `next_hop`, `size` and `report` are O(1), `walk` and `changed` as long as what they answer, `hops`, `hops_into`,
+    `counts` and `dest` O(n), `links`, `move` and a new network O(n + m) and the round; a change is O(n + m) at most, and where few nodes turn
+    the links of these and of those that sent on to them.
     """
 
     HERE, CUT_OFF = 0xFFFFFFFF, 0xFFFFFFFE
     """What `hops_into` writes for the destination, and for a node that is cut off."""
 
     def __init__(self, nodes: int, dest: Name, links: Iterable[tuple[Name, Name]] = (), *, names: Optional[Sequence[Name]] = None) -> None:
-        if index(nodes) > 0xFFFFFFFF:
-            raise Refused(9)
-        if names is not None and len(names) != nodes:
+        count = index(nodes)
+        if names is not None and len(names) != count:
             raise ValueError("there is not one name for each node")
         self._names = None if names is None else list(names)
         self._numbers = None if names is None else {name: at for at, name in enumerate(names)}
-        if self._numbers is not None and len(self._numbers) != nodes:
+        if self._numbers is not None and len(self._numbers) != count:
             raise ValueError("two nodes have one name")
+        # the nodes that next_hop asks for at once: none where they have names
+        self._bound = count if names is None else 0
+        ends = [self._number(node) for u, v in links for node in (u, v)]
         self._session = Session()
-        self.report = self._made(["net", index(nodes), self._number(dest), [[self._number(u), self._number(v)] for u, v in links]])
-        """What the last round reported."""
+        self._live = self._session._live
+        count = min(max(count, 0), _NO_NODE)
+        given, home = _packed(ends), self._number(dest)
+        words = count, *_packed([home]), given.buffer_info()[0], len(ends) // 2
+        made = self._session._begin_round(library.revroute_open, _closed_walk_of, *words)
+        self._reported(made, lambda at: [*ends, home])
 
     @classmethod
     def from_networkx(cls, graph: Any, dest: Name) -> Network[Name]:
@@ -81,6 +111,8 @@ class Network(Generic[Name]):
         destination, or where both have as many, to that which comes first in the graph: that closes no walk.
         """
         names = list(graph)
+        if dest not in graph:
+            raise NoSuchNode(dest)
         place = {name: at for at, name in enumerate(names)}
         links = graph.edges()
         if not graph.is_directed():
@@ -94,48 +126,60 @@ class Network(Generic[Name]):
         import networkx
 
         graph = networkx.DiGraph()
-        graph.add_nodes_from(self._name(node) for node in range(self._size()))
+        graph.add_nodes_from(self._name(node) for node in range(self.size.nodes))
         graph.add_edges_from(self.links())
         return graph
 
     def cut(self, u: Name, v: Name) -> Report:
         """Takes out the link between two nodes, whichever way it points."""
-        return self._change(["cut", self._number(u), self._number(v)])
+        return self._change([_calls.CUT, self._number(u), self._number(v)])
 
     def add(self, u: Name, v: Name) -> Report:
         """Adds a link from u to v; Refused where it would close a walk."""
-        return self._change(["add", self._number(u), self._number(v)])
+        return self._change([_calls.ADD, self._number(u), self._number(v)])
 
     def join(self, u: Name, v: Name) -> Report:
         """Adds a link from u to v, or from v to u where that would close a walk."""
-        return self._change(["join", self._number(u), self._number(v)])
+        return self._change([_calls.JOIN, self._number(u), self._number(v)])
 
     def batch(self, edits: Iterable[tuple[str, Name, Name]]) -> Report:
         """Makes edits, each of the kinds "cut", "add" and "join" with its two nodes, one after the other, and then one round."""
-        made = [[kind, self._number(u), self._number(v)] for kind, u, v in edits]
-        for kind, *_ in made:
-            if kind not in ("cut", "add", "join"):
+        made: list[int] = []
+        for kind, u, v in edits:
+            if kind not in _KINDS:
                 raise ValueError(f"no edit is of the kind {kind!r}")
-        return self._change(["batch", made])
+            made += _KINDS[kind], self._number(u), self._number(v)
+        return self._change(made)
 
     def move(self, dest: Name) -> Report:
         """Takes another destination."""
-        return self._change(["dest", self._number(dest)])
+        home = self._number(dest)
+        made = self._session._begin_round(library.revroute_move, None, *_packed([home]))
+        return self._reported(made, lambda at: [home])
 
     def next_hop(self, node: Name) -> Union[Name, NoHop]:
         """Where a node sends on what is for the destination, or why it does not."""
-        return self._hop_of(self._session.next_hop(self._number(node)))
+        try:
+            if 0 <= node < self._bound:  # type: ignore[operator]
+                hop = _calls.next_hop(self._live, node)
+                if hop < _calls.NO_HOP:
+                    return hop  # type: ignore[no-any-return]
+        except (TypeError, ctypes.ArgumentError):
+            pass
+        hop = self._session.next_hop(self._number(node))
+        return hop if isinstance(hop, NoHop) else self._name(hop)
 
     def hops(self) -> list[Union[Name, NoHop]]:
         """The next hop of each node, in order."""
-        return [self._hop_of(hop) for hop in self._session.next_hops()]
+        names, least = self._names, _calls.NO_HOP
+        return [_hop(it) if it >= least else it if names is None else names[it] for it in self._session._hops()]  # type: ignore[misc]
 
     def hops_into(self, buffer: Any) -> int:
         """Writes the next hop of each node, by numbers, to the front of a buffer of 32-bit numbers, as an array, a memoryview or numpy's
         uint32, and returns how many there are. HERE and CUT_OFF stand for what is no node."""
         view = memoryview(buffer)
-        if view.readonly or view.itemsize != 4 or not view.c_contiguous:
-            raise TypeError("the buffer has to be one of 32-bit numbers that can be written")
+        if view.readonly or view.itemsize != 4 or view.format.lstrip("@=<") not in ("I", "L") or not view.c_contiguous:
+            raise TypeError("the buffer has to be one of numbers of 32 bits without a sign, in one piece, that can be written")
         room = view.nbytes // 4
         return self._session._fill((ctypes.c_uint32 * room).from_buffer(view.cast("B")), room)
 
@@ -156,6 +200,21 @@ class Network(Generic[Name]):
         route = self._session.route(self._number(node))
         return None if route is None else [self._name(it) for it in route]
 
+    @property
+    def report(self) -> Report:
+        """What the last round reported."""
+        return self._session.report() or Report(0, 0)
+
+    @property
+    def size(self) -> Size:
+        """How many nodes and links there are."""
+        return self._session.size() or Size(0, 0)
+
+    @property
+    def dest(self) -> Name:
+        """The destination."""
+        return self._name(self._session._hops().index(_calls.HERE))
+
     def close(self) -> None:
         """Gives the memory back."""
         self._session.close()
@@ -166,30 +225,55 @@ class Network(Generic[Name]):
     def __exit__(self, *_: object) -> None:
         self.close()
 
-    def _made(self, request: list[Any]) -> Report:
-        answer = self._session.answer(json.dumps(request, separators=(",", ":"))) or ""
-        word, number, *rest = answer.split(" ")
-        if word == "refused":
-            # what is no number of a node is no request
-            raise Refused(4 if number == "2" else int(number))
-        return Report(int(number), int(rest[1]))
+    def __reduce__(self) -> NoReturn:
+        raise TypeError("a network can neither be copied nor pickled")
 
-    def _change(self, request: list[Any]) -> Report:
-        self.report = self._made(request)
-        return self.report
+    def __repr__(self) -> str:
+        if self._session._is_closed:
+            return "<revroute.Network, closed>"
+        nodes, links = self.size
+        return f"<revroute.Network of {nodes} nodes and {links} links, destination {self.dest!r}>"
 
-    def _size(self) -> int:
-        size = self._session.size()
-        return size.nodes if size else 0
+    def _change(self, edits: list[int]) -> Report:
+        given = _packed(edits)
+        words = given.buffer_info()[0], len(edits) // 3
+        made = self._session._begin_round(library.revroute_change, library.revroute_closed_walk, *words)
+        return made if isinstance(made, Report) else self._reported(made, lambda at: edits[3 * at + 1 : 3 * at + 3])
+
+    def _reported(self, made: Union[Report, _Why], given: Callable[[int], list[int]]) -> Report:
+        """What a round reported, or why there is none: with the caller's numbers where the library has had none for them."""
+        if isinstance(made, Report):
+            return made
+        unknown = (it for it in given(made.at) if it not in _NUMBERS)
+        nodes = [next(unknown) if it == _NO_NODE else self._name(it) for it in made.nodes]
+        raise Refused(made.number, nodes, made.at)
 
     def _number(self, node: Name) -> int:
-        return self._numbers[node] if self._numbers is not None else index(node)  # type: ignore[call-overload, no-any-return]
+        if self._numbers is None:
+            return index(node)  # type: ignore[arg-type]
+        try:
+            return self._numbers[node]
+        except KeyError:
+            raise NoSuchNode(node) from None
 
     def _name(self, number: int) -> Name:
         return self._names[number] if self._names is not None else number  # type: ignore[return-value]
 
-    def _hop_of(self, hop: Union[int, NoHop]) -> Union[Name, NoHop]:
-        return hop if isinstance(hop, NoHop) else self._name(hop)
+    def _hop_of(self, hop: int) -> Union[Name, NoHop]:
+        return self._name(hop) if hop < _calls.NO_HOP else _hop(hop)  # type: ignore[return-value]
+
+
+def _closed_walk_of(session: Any, nodes: int, dest: int, *words: Any) -> int:
+    """The closed walk of links, with the words by which they are refused."""
+    return library.revroute_closed_walk_of(nodes, *words)  # type: ignore[no-any-return]
+
+
+def _packed(numbers: list[int]) -> array[int]:
+    """An array of the numbers that is nowhere null, with one that is no node in place of what has not 32 bits."""
+    try:
+        return array("I", numbers or [0])
+    except OverflowError:
+        return array("I", [it if it in _NUMBERS else _NO_NODE for it in numbers])
 
 
 def _steps(graph: Any, dest: Any) -> dict[Any, int]:

@@ -1,0 +1,168 @@
+/* Times the typed calls of revroute.h, and each change beside its line, as timing.rs does: the best of several runs, nanoseconds a call. */
+#include <pthread.h>
+#include <revroute.h>
+#include <stdio.h>
+#include <stdlib.h>
+#include <string.h>
+#include <time.h>
+
+enum { RUNS = 9, THREADS = 4, ROUNDS = 500, TABLES = 200, NODES = 4096, LINKS = 32768, CHANGES = 4096, TEXT = 40 };
+
+static uint32_t nodes, dest, order[NODES], table[NODES];
+static revroute_link links[LINKS];
+static revroute_edit changes[CHANGES];
+static char lines[CHANGES][TEXT];
+static size_t link_count, change_count;
+static pthread_barrier_t together;
+static volatile uint32_t kept;
+
+static void stop(const char *why) {
+    fprintf(stderr, "%s\n", why);
+    exit(1);
+}
+
+static void read_input(void) {
+    char word[8];
+    uint32_t u, v;
+    while (scanf("%7s %u %u", word, &u, &v) == 3) {
+        if (!strcmp(word, "net")) nodes = u, dest = v;
+        else if (!strcmp(word, "link")) links[link_count++] = (revroute_link){u, v};
+        else {
+            changes[change_count] = (revroute_edit){*word == 'c' ? REVROUTE_CUT : REVROUTE_ADD, u, v};
+            sprintf(lines[change_count++], "[\"%s\",%u,%u]", word, u, v);
+        }
+    }
+}
+
+static void shuffle(void) {
+    uint64_t drawn = 1;
+    for (uint32_t x = 0; x < nodes; x++) order[x] = x;
+    for (uint32_t at = nodes - 1; at; at--) {
+        drawn = drawn * 6364136223846793005u + 1442695040888963407u;
+        uint32_t other = (uint32_t)(drawn >> 33) % (at + 1), node = order[at];
+        order[at] = order[other];
+        order[other] = node;
+    }
+}
+
+static double now(void) {
+    struct timespec time;
+    clock_gettime(CLOCK_MONOTONIC, &time);
+    return (double)time.tv_sec * 1e9 + (double)time.tv_nsec;
+}
+
+static revroute opened(void) {
+    revroute session = REVROUTE_NEW;
+    revroute_round round;
+    revroute_refusal refusal;
+    if (revroute_open(&session, nodes, dest, links, link_count, &round, &refusal) != REVROUTE_ANSWERED) stop("there is no network");
+    return session;
+}
+
+static void ask(revroute *session) {
+    uint32_t sum = 0;
+    for (int round = 0; round < ROUNDS; round++)
+        for (uint32_t at = 0; at < nodes; at++) sum += revroute_next_hop(session, order[at]);
+    kept = sum;
+}
+
+typedef struct {
+    revroute session;
+    double begin, end;
+} asked;
+
+static void *ask_as_one(void *of) {
+    asked *one = of;
+    pthread_barrier_wait(&together);
+    one->begin = now();
+    ask(&one->session);
+    one->end = now();
+    return NULL;
+}
+
+/* The time of threads that ask a network of their own each: from the first that begins to the last that ends. */
+static double ask_together(asked *all) {
+    pthread_t threads[THREADS];
+    double begin = 1e18, end = 0;
+    for (int at = 0; at < THREADS; at++)
+        if (pthread_create(&threads[at], NULL, ask_as_one, &all[at])) stop("no thread");
+    for (int at = 0; at < THREADS; at++) {
+        pthread_join(threads[at], NULL);
+        if (all[at].begin < begin) begin = all[at].begin;
+        if (all[at].end > end) end = all[at].end;
+    }
+    return end - begin;
+}
+
+static void tell_tables(revroute *session) {
+    size_t length;
+    for (int at = 0; at < TABLES; at++)
+        if (revroute_next_hops(session, table, NODES, &length) != REVROUTE_ANSWERED) stop("there are no hops");
+    kept = table[nodes - 1];
+}
+
+/* Makes the changes, with a hop asked for behind each. */
+static void change(revroute *session) {
+    revroute_round round;
+    revroute_refusal refusal;
+    for (size_t at = 0; at < change_count; at++) {
+        if (revroute_change(session, &changes[at], 1, &round, &refusal) != REVROUTE_ANSWERED) stop("a change is refused");
+        kept = revroute_next_hop(session, dest);
+    }
+}
+
+static void change_by_lines(revroute *session) {
+    uint8_t answer[REVROUTE_LEAST_ROOM];
+    size_t length;
+    for (size_t at = 0; at < change_count; at++) {
+        if (revroute_answer(session, (const uint8_t *)lines[at], strlen(lines[at]), answer, sizeof answer, &length) || *answer != 't') stop("a line is refused");
+        kept = revroute_next_hop(session, dest);
+    }
+}
+
+/* The best time of what is done with a fresh network. */
+static double best(void (*what)(revroute *)) {
+    double least = 1e18;
+    for (int run = 0; run < RUNS; run++) {
+        revroute session = opened();
+        double begin = now();
+        what(&session);
+        double spent = now() - begin;
+        if (spent < least) least = spent;
+        revroute_close(&session);
+    }
+    return least;
+}
+
+/* The sum over the next hops behind all changes. */
+static uint32_t summed(void) {
+    revroute session = opened();
+    uint32_t sum = 0;
+    change(&session);
+    for (uint32_t x = 0; x < nodes; x++) {
+        uint32_t hop = revroute_next_hop(&session, x);
+        sum += (hop < nodes ? hop : UINT32_MAX) * x;
+    }
+    revroute_close(&session);
+    return sum;
+}
+
+int main(void) {
+    read_input();
+    shuffle();
+    double count = (double)nodes * ROUNDS, least = 1e18;
+    printf("hop %.3f\n", best(ask) / count);
+    asked all[THREADS];
+    pthread_barrier_init(&together, NULL, THREADS);
+    for (int at = 0; at < THREADS; at++) all[at].session = opened();
+    for (int run = 0; run < RUNS; run++) {
+        double spent = ask_together(all);
+        if (spent < least) least = spent;
+    }
+    for (int at = 0; at < THREADS; at++) revroute_close(&all[at].session);
+    printf("hop4 %.3f\n", least / count / THREADS);
+    printf("hops %.0f\n", best(tell_tables) / TABLES);
+    printf("change %.0f\n", best(change) / (double)change_count);
+    printf("line %.0f\n", best(change_by_lines) / (double)change_count);
+    printf("table %u\n", summed());
+}

@@ -1,0 +1,70 @@
+//! Times the same calls on the network of `bench/plain`, in place.
+
+// of these only what is timed is called
+#![allow(dead_code)]
+
+#[path = "../../../plain/src/edit.rs"]
+mod edit;
+#[path = "../../../plain/src/net.rs"]
+mod net;
+#[path = "../../../plain/src/round.rs"]
+mod round;
+#[path = "../../../plain/src/settle.rs"]
+mod settle;
+#[path = "../timing.rs"]
+mod timing;
+
+use edit::Edit;
+use net::Net;
+use round::{Hop, Round};
+use settle::Method;
+use timing::{Calls, Change, Input};
+
+/// The plain crew is not called here.
+mod crew {
+    use crate::net::Net;
+
+    pub fn turned_by(_: &Net, _: u32, _: usize) -> Vec<u32> {
+        unreachable!("one thread turns")
+    }
+}
+
+struct Called(Round);
+
+fn number(hop: Hop) -> u32 {
+    match hop {
+        Hop::To(node) => node,
+        Hop::Here | Hop::CutOff => u32::MAX,
+    }
+}
+
+impl Calls for Called {
+    fn open(input: &Input) -> Called {
+        let net = Net::new(input.nodes, &input.links);
+        let round = net.and_then(|net| Round::open(net, input.dest, Method::Turns));
+        Called(round.unwrap_or_else(|_| panic!("a network")))
+    }
+
+    fn hop(&self, node: u32) -> u32 {
+        number(self.0.hops()[node as usize])
+    }
+
+    fn hops(&self, list: &mut Vec<u32>) {
+        list.clear();
+        list.extend(self.0.hops().iter().map(|&hop| number(hop)));
+    }
+
+    fn change(&mut self, change: Change) {
+        let edit = match change {
+            Change::Cut(u, v) => Edit::Cut { u, v },
+            Change::Add(u, v) => Edit::Add { u, v },
+        };
+        let ended = self.0.edit(edit, Method::Turns);
+        ended.unwrap_or_else(|_| panic!("an accepted change"));
+    }
+}
+
+fn main() -> std::io::Result<()> {
+    timing::tell::<Called>(&timing::read()?);
+    Ok(())
+}

@@ -1,0 +1,80 @@
+"""The calls of `embed/c/revroute.h`, as C declares them.
+
+`library` gives up the interpreter's lock while a call runs, and `questions` keeps it, as it is for calls that are over in no time.
+"""
+
+from __future__ import annotations
+
+import ctypes
+from pathlib import Path
+from typing import Any
+
+ANSWERED, BLANK, TOO_SHORT, NO_MEMORY, NO_NETWORK, NO_ROUTE, REFUSED, NO_WALK, BEGUN, TOO_LONG = range(10)
+HERE, CUT_OFF, NO_SUCH_NODE, NO_HOP = range(0xFFFFFFFF, 0xFFFFFFFB, -1)
+CUT, ADD, JOIN = range(3)
+UNKNOWN_EDIT, RANGE, SELF_LINK, TWICE, CLOSED_WALK, NO_LINK, TOO_MANY = 2, *range(4, 10)
+
+
+class Handle(ctypes.Structure):
+    """What the library holds of a session. Only the library reads it, and it is never copied."""
+
+    _fields_ = [("at", ctypes.c_void_p)]
+
+
+class Round(ctypes.Structure):
+    """What a round came to."""
+
+    _fields_ = [("turned", ctypes.c_uint64), ("cut_off", ctypes.c_uint64)]
+
+
+class Refusal(ctypes.Structure):
+    """Why a call is refused, with the nodes that are evidence, and which of the edits."""
+
+    _fields_ = [("number", ctypes.c_uint32), ("u", ctypes.c_uint32), ("v", ctypes.c_uint32), ("at", ctypes.c_size_t)]
+
+
+_number, _wide, _size = ctypes.c_uint32, ctypes.c_uint64, ctypes.c_size_t
+# what is read of a caller goes by its address, as it stands in an array
+_given, _handle = ctypes.c_void_p, ctypes.POINTER(Handle)
+_text, _length, _numbers = ctypes.POINTER(ctypes.c_char), ctypes.POINTER(_size), ctypes.POINTER(_number)
+_ended = [ctypes.POINTER(Round), ctypes.POINTER(Refusal)]
+_WORDS: dict[str, list[Any]] = {
+    "answer": [_handle, ctypes.c_char_p, _size, _text, _size, _length],
+    "take": [_handle, _given, _size, _text, _size, _length, _length],
+    "finish": [_handle, _text, _size, _length],
+    "open": [_handle, _number, _number, _given, _size, *_ended],
+    "change": [_handle, _given, _size, *_ended],
+    "move": [_handle, _number, *_ended],
+    "closed_walk": [_handle, _given, _size, _numbers, _size, _length],
+    "closed_walk_of": [_number, _given, _size, _numbers, _size, _length],
+    "next_hop": [_handle, _number],
+    "next_hops": [_handle, _numbers, _size, _length],
+    "rerouted": [_handle, _numbers, _size, _length],
+    "counts": [_handle, ctypes.POINTER(_wide), _size, _length],
+    "links": [_handle, _numbers, _size, _length],
+    "route": [_handle, _number, _numbers, _size, _length],
+    "report": [_handle, ctypes.POINTER(_wide), ctypes.POINTER(_wide)],
+    "size": [_handle, _numbers, _length],
+    "version": [_text, _size, _length],
+    "close": [_handle],
+}
+
+
+def load(kind: Any = ctypes.CDLL) -> Any:
+    """The library, whose calls have their types."""
+    path = Path(__file__).with_name("librevroute.so")
+    try:
+        library = kind(str(path))
+    except OSError as error:
+        raise ImportError(f"{error}: embed/build makes a wheel that carries the library") from error
+    for name, words in _WORDS.items():
+        call = getattr(library, f"revroute_{name}")
+        call.argtypes, call.restype = words, _number
+    library.revroute_close.restype = None
+    return library
+
+
+library, questions = load(), load(ctypes.PyDLL)
+# without types, which take longer to look at than the call: it is given a c_void_p and a number that is less than that of the nodes
+next_hop = load(ctypes.PyDLL).revroute_next_hop
+next_hop.argtypes = None

@@ -1,0 +1,120 @@
+//! What stands behind a session or a network: the handle of the library, and the questions to it.
+
+use crate::{Hop, NoMemory, Report, Size, listed, sys};
+use std::cell::UnsafeCell;
+
+/// The owner of a handle. Questions change nothing, though the library takes the handle as its own for each: so it stands in a cell, and
+/// no two threads ask at once.
+pub struct Engine {
+    handle: UnsafeCell<sys::Handle>,
+}
+
+// SAFETY: the library proves that a handle may go to another thread; the cell keeps it from being shared by two.
+unsafe impl Send for Engine {}
+
+/// A question that fills an array of `room` places, and tells how many it has.
+type Fill<T> = unsafe extern "C" fn(*mut sys::Handle, *mut T, usize, *mut usize) -> u32;
+
+impl Engine {
+    /// One with no network yet, which holds no memory.
+    pub const fn new() -> Engine {
+        Engine {
+            handle: UnsafeCell::new(sys::Handle::NEW),
+        }
+    }
+
+    /// The handle, for a call that changes what stands behind it.
+    pub fn handle(&mut self) -> *mut sys::Handle {
+        self.handle.get()
+    }
+
+    #[inline]
+    pub fn next_hop(&self, node: u32) -> Option<Hop> {
+        // SAFETY: the handle is new or the library's own, and no other call has it.
+        Hop::of(unsafe { sys::revroute_next_hop(self.handle.get(), node) })
+    }
+
+    pub fn next_hops(&self) -> Result<Vec<Hop>, NoMemory> {
+        let values = self.all_of(sys::revroute_next_hops)?;
+        listed(
+            values
+                .iter()
+                .map(|&it| Hop::of(it).expect("a node has a hop")),
+        )
+    }
+
+    pub fn rerouted(&self) -> Result<Vec<u32>, NoMemory> {
+        self.all_of(sys::revroute_rerouted)
+    }
+
+    pub fn counts(&self) -> Result<Vec<u64>, NoMemory> {
+        self.all_of(sys::revroute_counts)
+    }
+
+    pub fn links(&self) -> Result<Vec<(u32, u32)>, NoMemory> {
+        let ends = self.all_of(sys::revroute_links)?;
+        listed(ends.chunks_exact(2).map(|link| (link[0], link[1])))
+    }
+
+    pub fn route(&self, node: u32) -> Result<Option<Vec<u32>>, NoMemory> {
+        // SAFETY: as `all_of` hands them on.
+        filled(|nodes, room, length| unsafe {
+            sys::revroute_route(self.handle.get(), node, nodes, room, length)
+        })
+    }
+
+    pub fn report(&self) -> Option<Report> {
+        let (mut turned, mut cut_off) = (0, 0);
+        // SAFETY: the handle is new or the library's own, no other call has it, and the three do not overlap.
+        let status = unsafe { sys::revroute_report(self.handle.get(), &mut turned, &mut cut_off) };
+        (status == sys::ANSWERED).then_some(Report { turned, cut_off })
+    }
+
+    pub fn size(&self) -> Option<Size> {
+        let (mut nodes, mut links) = (0, 0);
+        // SAFETY: the handle is new or the library's own, no other call has it, and the three do not overlap.
+        let status = unsafe { sys::revroute_size(self.handle.get(), &mut nodes, &mut links) };
+        (status == sys::ANSWERED).then_some(Size { nodes, links })
+    }
+
+    /// What a question has for each node, or nothing before the first network.
+    fn all_of<T: Copy + Default>(&self, fill: Fill<T>) -> Result<Vec<T>, NoMemory> {
+        // SAFETY: no other call has the handle; the places are those of a slice, which does not overlap its length.
+        let found = filled(|places, room, length| unsafe {
+            fill(self.handle.get(), places, room, length)
+        })?;
+        Ok(found.unwrap_or_default())
+    }
+}
+
+impl Drop for Engine {
+    fn drop(&mut self) {
+        // SAFETY: the handle is new or the library's own, and no call has it.
+        unsafe { sys::revroute_close(self.handle.get()) }
+    }
+}
+
+/// What a call writes into as many places as it asks for, or `None` where it has no answer.
+pub fn filled<T: Copy + Default>(
+    fill: impl Fn(*mut T, usize, *mut usize) -> u32,
+) -> Result<Option<Vec<T>>, NoMemory> {
+    let mut found: Vec<T> = Vec::new();
+    loop {
+        let mut length = 0;
+        match fill(found.as_mut_ptr(), found.len(), &mut length) {
+            sys::ANSWERED => {
+                found.truncate(length);
+                return Ok(Some(found));
+            }
+            sys::TOO_SHORT => {
+                found
+                    .try_reserve_exact(length - found.len())
+                    .map_err(|_| NoMemory)?;
+                found.resize(length, T::default());
+            }
+            sys::NO_MEMORY => return Err(NoMemory),
+            sys::NO_NETWORK | sys::NO_ROUTE | sys::NO_WALK => return Ok(None),
+            _ => unreachable!("a call that fills has six ends"),
+        }
+    }
+}

@@ -1,0 +1,415 @@
+//! A network by typed calls.
+
+use crate::engine::{Engine, filled};
+use crate::{Hop, NoMemory, Refused, RefusedEdit, Report, Size, listed, sys};
+use std::fmt;
+use std::iter::FusedIterator;
+
+/// A network whose links lead from every node that is joined with the destination to it.
+///
+/// Nodes are the numbers from 0. Each change ends in such a network again, or is [`Refused`] with nothing changed. What takes a node
+/// to ask about panics, as indexing does, where the number is no node.
+///
+/// It can be sent to another thread, and each thread can have its own:
+///
+/// ```
+/// let network = revroute::Network::new(2, 0, &[(0, 1)])?;
+/// let hop = std::thread::spawn(move || network.next_hop(1));
+/// assert_eq!(hop.join().unwrap(), revroute::Hop::To(0));
+/// # Ok::<(), revroute::Refused>(())
+/// ```
+pub struct Network {
+    engine: Engine,
+    destination: u32,
+}
+
+/// An edit of a batch, by the two nodes of its link.
+#[derive(Debug, Clone, Copy, PartialEq, Eq, Hash)]
+pub enum Edit {
+    /// Takes out the link, whichever way it points.
+    Cut(u32, u32),
+    /// Adds a link from the first node to the second.
+    Add(u32, u32),
+    /// Adds a link from the first node to the second, or the other way where that would close a walk.
+    Join(u32, u32),
+}
+
+impl From<Edit> for sys::Edit {
+    fn from(edit: Edit) -> sys::Edit {
+        let (kind, u, v) = match edit {
+            Edit::Cut(u, v) => (sys::CUT, u, v),
+            Edit::Add(u, v) => (sys::ADD, u, v),
+            Edit::Join(u, v) => (sys::JOIN, u, v),
+        };
+        sys::Edit { kind, u, v }
+    }
+}
+
+impl Network {
+    /// A network of nodes, a destination, and links, each from its tail to its head, turned until they lead to the destination.
+    /// `O(n + m)` and the round: turns while these are few, else a search, which is `O(n + m)` too.
+    ///
+    /// ```
+    /// use revroute::{Network, Refused, Report};
+    ///
+    /// let network = Network::new(4, 0, &[(0, 1), (1, 2), (2, 3)])?;
+    /// assert_eq!(network.report(), Report { turned: 6, cut_off: 0 });
+    /// let round = Network::new(3, 0, &[(0, 1), (1, 2), (2, 0)]);
+    /// assert!(matches!(round, Err(Refused::ClosedWalk(walk)) if walk.len() == 4));
+    /// # Ok::<(), Refused>(())
+    /// ```
+    ///
+    /// # Errors
+    ///
+    /// By all of [`Refused`] but [`NoLink`](Refused::NoLink).
+    pub fn new(nodes: u32, dest: u32, links: &[(u32, u32)]) -> Result<Network, Refused> {
+        let links = listed(links.iter().map(|&(tail, head)| sys::Link { tail, head }))?;
+        let mut engine = Engine::new();
+        let (mut round, mut refusal) = (sys::Round::default(), sys::Refusal::default());
+        // SAFETY: the handle is new, the links are a slice, and none of the four overlap.
+        let status = unsafe {
+            let handle = engine.handle();
+            let (list, count) = (links.as_ptr(), links.len());
+            sys::revroute_open(handle, nodes, dest, list, count, &mut round, &mut refusal)
+        };
+        ended(status, round, || {
+            refused(&refusal, |walk, room, length| {
+                // SAFETY: the links and the places of the walk are slices, and none of the three overlap.
+                unsafe {
+                    let (list, count) = (links.as_ptr(), links.len());
+                    sys::revroute_closed_walk_of(nodes, list, count, walk, room, length)
+                }
+            })
+        })?;
+        Ok(Network {
+            engine,
+            destination: dest,
+        })
+    }
+
+    /// Takes out the link between two nodes, whichever way it points. Where no node turns `O(d)`; else the rows of those that turn, and
+    /// of those that sent on to them; `O(n + m)` at most.
+    ///
+    /// ```
+    /// use revroute::{Network, Refused, Report};
+    ///
+    /// let mut network = Network::new(3, 0, &[(1, 0), (2, 0), (2, 1)])?;
+    /// assert_eq!(network.cut(1, 0)?, Report { turned: 1, cut_off: 0 });
+    /// assert_eq!(network.cut(1, 0), Err(Refused::NoLink(1, 0)));
+    /// # Ok::<(), Refused>(())
+    /// ```
+    ///
+    /// # Errors
+    ///
+    /// [`NoLink`](Refused::NoLink), also of what is no node, and [`NoMemory`](Refused::NoMemory).
+    pub fn cut(&mut self, u: u32, v: u32) -> Result<Report, Refused> {
+        Ok(self.change(&[Edit::Cut(u, v).into()])?)
+    }
+
+    /// Adds a link from u to v. As `cut` costs, and where the link does not fall, the rows between the heights of its ends.
+    ///
+    /// ```
+    /// use revroute::{Network, Refused};
+    ///
+    /// let mut network = Network::new(3, 0, &[(1, 0), (2, 1)])?;
+    /// assert_eq!(network.add(0, 2), Err(Refused::ClosedWalk(vec![0, 2, 1, 0])));
+    /// network.add(2, 0)?;
+    /// # Ok::<(), Refused>(())
+    /// ```
+    ///
+    /// # Errors
+    ///
+    /// By all of [`Refused`] but [`NoLink`](Refused::NoLink).
+    pub fn add(&mut self, u: u32, v: u32) -> Result<Report, Refused> {
+        Ok(self.change(&[Edit::Add(u, v).into()])?)
+    }
+
+    /// Adds a link from u to v, or from v to u where that would close a walk. It costs what `add` does.
+    ///
+    /// ```
+    /// let mut network = revroute::Network::new(3, 0, &[(1, 0), (2, 1)])?;
+    /// network.join(0, 2)?;
+    /// assert_eq!(network.links()?, [(1, 0), (2, 0), (2, 1)]);
+    /// # Ok::<(), revroute::Refused>(())
+    /// ```
+    ///
+    /// # Errors
+    ///
+    /// By all of [`Refused`] but [`NoLink`](Refused::NoLink) and [`ClosedWalk`](Refused::ClosedWalk).
+    pub fn join(&mut self, u: u32, v: u32) -> Result<Report, Refused> {
+        Ok(self.change(&[Edit::Join(u, v).into()])?)
+    }
+
+    /// Makes edits one after the other, and then one round. Each costs what it does alone.
+    ///
+    /// ```
+    /// use revroute::{Edit, Network, Refused, RefusedEdit};
+    ///
+    /// let mut network = Network::new(3, 0, &[(1, 0), (2, 1)])?;
+    /// network.batch(&[Edit::Cut(1, 0), Edit::Add(2, 0)])?;
+    /// assert!(network.walk(1).eq([1, 2, 0]));
+    /// let refused = network.batch(&[Edit::Join(1, 0), Edit::Add(1, 1)]);
+    /// assert_eq!(refused, Err(RefusedEdit { at: 1, why: Refused::SelfLink(1) }));
+    /// # Ok::<(), Refused>(())
+    /// ```
+    ///
+    /// # Errors
+    ///
+    /// By all of [`Refused`], with the place of the first edit that cannot be made.
+    pub fn batch(&mut self, edits: &[Edit]) -> Result<Report, RefusedEdit> {
+        let made = listed(edits.iter().map(|&edit| edit.into())).map_err(|_| RefusedEdit {
+            at: edits.len(),
+            why: Refused::NoMemory,
+        })?;
+        self.change(&made)
+    }
+
+    /// Takes another destination. `O(n + m)`, and the round.
+    ///
+    /// ```
+    /// let mut network = revroute::Network::new(3, 0, &[(1, 0), (2, 1)])?;
+    /// network.set_destination(2)?;
+    /// assert!(network.walk(0).eq([0, 1, 2]));
+    /// # Ok::<(), revroute::Refused>(())
+    /// ```
+    ///
+    /// # Errors
+    ///
+    /// [`NoSuchNode`](Refused::NoSuchNode) and [`NoMemory`](Refused::NoMemory).
+    pub fn set_destination(&mut self, dest: u32) -> Result<Report, Refused> {
+        let (mut round, mut refusal) = (sys::Round::default(), sys::Refusal::default());
+        // SAFETY: the handle is the library's own, no other call has it, and the three do not overlap.
+        let status =
+            unsafe { sys::revroute_move(self.engine.handle(), dest, &mut round, &mut refusal) };
+        let report = ended(status, round, || Refused::NoSuchNode(refusal.u))?;
+        self.destination = dest;
+        Ok(report)
+    }
+
+    /// Where a node sends on what is for the destination. `O(1)`, without memory.
+    ///
+    /// ```
+    /// use revroute::{Hop, Network};
+    ///
+    /// let network = Network::new(4, 0, &[(0, 1), (1, 2)])?;
+    /// let hops = [0, 1, 2, 3].map(|node| network.next_hop(node));
+    /// assert_eq!(hops, [Hop::Here, Hop::To(0), Hop::To(1), Hop::CutOff]);
+    /// # Ok::<(), revroute::Refused>(())
+    /// ```
+    ///
+    /// # Panics
+    ///
+    /// Where there is no such node.
+    #[inline]
+    #[track_caller]
+    pub fn next_hop(&self, node: u32) -> Hop {
+        match self.engine.next_hop(node) {
+            Some(hop) => hop,
+            None => panic!("there is no node {node}"),
+        }
+    }
+
+    /// Where each node sends on to, in the order of the nodes. `O(n)`.
+    ///
+    /// ```
+    /// use revroute::{Hop, Network};
+    ///
+    /// let network = Network::new(3, 0, &[(0, 1)])?;
+    /// assert_eq!(network.hops()?, [Hop::Here, Hop::To(0), Hop::CutOff]);
+    /// # Ok::<(), revroute::Refused>(())
+    /// ```
+    ///
+    /// # Errors
+    ///
+    /// Where memory for the list runs out.
+    pub fn hops(&self) -> Result<Vec<Hop>, NoMemory> {
+        self.engine.next_hops()
+    }
+
+    /// The nodes of the way from a node to the destination, with both ends, hop by hop; none where the node is cut off. `O(1)` for each,
+    /// without memory.
+    ///
+    /// ```
+    /// let network = revroute::Network::new(4, 0, &[(0, 1), (1, 2)])?;
+    /// assert!(network.walk(2).eq([2, 1, 0]));
+    /// assert_eq!(network.walk(3).next(), None);
+    /// # Ok::<(), revroute::Refused>(())
+    /// ```
+    ///
+    /// # Panics
+    ///
+    /// Where there is no such node.
+    #[track_caller]
+    pub fn walk(&self, node: u32) -> Walk<'_> {
+        let is_joined = self.next_hop(node) != Hop::CutOff;
+        Walk {
+            network: self,
+            next: is_joined.then_some(node),
+        }
+    }
+
+    /// The nodes whose next hop the last change changed, in rising order, each with what it is now; at first all that are not cut off.
+    /// What is refused leaves them. `O(k)` for k nodes.
+    ///
+    /// ```
+    /// use revroute::{Hop, Network};
+    ///
+    /// let mut network = Network::new(5, 0, &[(1, 0), (2, 0), (3, 1), (3, 2), (4, 3)])?;
+    /// network.cut(1, 0)?;
+    /// assert_eq!(network.changed()?, [(1, Hop::To(3)), (3, Hop::To(2))]);
+    /// # Ok::<(), revroute::Refused>(())
+    /// ```
+    ///
+    /// # Errors
+    ///
+    /// Where memory for the lists runs out.
+    pub fn changed(&self) -> Result<Vec<(u32, Hop)>, NoMemory> {
+        let nodes = self.engine.rerouted()?;
+        listed(nodes.iter().map(|&node| (node, self.next_hop(node))))
+    }
+
+    /// How often each node turned in the last round, in the order of the nodes. `O(n)`.
+    ///
+    /// ```
+    /// let network = revroute::Network::new(3, 0, &[(0, 1), (1, 2)])?;
+    /// assert_eq!(network.counts()?, [0, 1, 2]);
+    /// # Ok::<(), revroute::Refused>(())
+    /// ```
+    ///
+    /// # Errors
+    ///
+    /// Where memory for the list runs out.
+    pub fn counts(&self) -> Result<Vec<u64>, NoMemory> {
+        self.engine.counts()
+    }
+
+    /// The links, each from its tail to its head, in rising order. `O(n + m)`.
+    ///
+    /// ```
+    /// let network = revroute::Network::new(3, 0, &[(0, 1), (1, 2)])?;
+    /// assert_eq!(network.links()?, [(1, 0), (2, 1)]);
+    /// # Ok::<(), revroute::Refused>(())
+    /// ```
+    ///
+    /// # Errors
+    ///
+    /// Where memory for the lists runs out.
+    pub fn links(&self) -> Result<Vec<(u32, u32)>, NoMemory> {
+        self.engine.links()
+    }
+
+    /// What the last round reported. `O(1)`, without memory.
+    ///
+    /// ```
+    /// let network = revroute::Network::new(4, 0, &[(0, 1), (1, 2)])?;
+    /// assert_eq!(network.report(), revroute::Report { turned: 3, cut_off: 1 });
+    /// # Ok::<(), revroute::Refused>(())
+    /// ```
+    pub fn report(&self) -> Report {
+        self.engine.report().expect("there is a network")
+    }
+
+    /// How many nodes and links there are. `O(1)`, without memory.
+    ///
+    /// ```
+    /// let network = revroute::Network::new(4, 0, &[(0, 1), (1, 2)])?;
+    /// assert_eq!(network.size(), revroute::Size { nodes: 4, links: 2 });
+    /// # Ok::<(), revroute::Refused>(())
+    /// ```
+    pub fn size(&self) -> Size {
+        self.engine.size().expect("there is a network")
+    }
+
+    /// The destination. `O(1)`, without memory.
+    ///
+    /// ```
+    /// assert_eq!(revroute::Network::new(4, 2, &[])?.destination(), 2);
+    /// # Ok::<(), revroute::Refused>(())
+    /// ```
+    pub fn destination(&self) -> u32 {
+        self.destination
+    }
+
+    fn change(&mut self, edits: &[sys::Edit]) -> Result<Report, RefusedEdit> {
+        let (mut round, mut refusal) = (sys::Round::default(), sys::Refusal::default());
+        let (handle, list, count) = (self.engine.handle(), edits.as_ptr(), edits.len());
+        // SAFETY: the handle is the library's own, no other call has it, the edits are a slice, and none of the four overlap.
+        let status = unsafe { sys::revroute_change(handle, list, count, &mut round, &mut refusal) };
+        ended(status, round, || {
+            refused(&refusal, |walk, room, length| {
+                // SAFETY: as above, with the places of the walk, which are a slice.
+                unsafe { sys::revroute_closed_walk(handle, list, count, walk, room, length) }
+            })
+        })
+        .map_err(|why| RefusedEdit {
+            at: match why {
+                Refused::NoMemory => count,
+                _ => refusal.at,
+            },
+            why,
+        })
+    }
+}
+
+impl fmt::Debug for Network {
+    fn fmt(&self, f: &mut fmt::Formatter<'_>) -> fmt::Result {
+        let Size { nodes, links } = self.size();
+        f.debug_struct("Network")
+            .field("nodes", &nodes)
+            .field("links", &links)
+            .field("destination", &self.destination)
+            .finish_non_exhaustive()
+    }
+}
+
+/// The way from a node to the destination: see [`Network::walk`].
+#[derive(Debug, Clone)]
+pub struct Walk<'a> {
+    network: &'a Network,
+    next: Option<u32>,
+}
+
+impl Iterator for Walk<'_> {
+    type Item = u32;
+
+    fn next(&mut self) -> Option<u32> {
+        let node = self.next?;
+        self.next = self.network.next_hop(node).node();
+        Some(node)
+    }
+}
+
+impl FusedIterator for Walk<'_> {}
+
+/// What a call came to, by its status: the report of its round, or why it is refused.
+fn ended(status: u32, round: sys::Round, why: impl FnOnce() -> Refused) -> Result<Report, Refused> {
+    match status {
+        sys::ANSWERED => Ok(Report {
+            turned: round.turned,
+            cut_off: round.cut_off,
+        }),
+        sys::REFUSED => Err(why()),
+        sys::NO_MEMORY => Err(Refused::NoMemory),
+        _ => unreachable!("a change of a network has three ends"),
+    }
+}
+
+/// A refusal with its evidence. A closed walk is found again, which may want memory.
+fn refused(
+    refusal: &sys::Refusal,
+    closed_walk: impl Fn(*mut u32, usize, *mut usize) -> u32,
+) -> Refused {
+    let (u, v) = (refusal.u, refusal.v);
+    match refusal.number {
+        sys::NO_SUCH => Refused::NoSuchNode(u),
+        sys::SELF_LINK => Refused::SelfLink(u),
+        sys::TWICE => Refused::Twice(u, v),
+        sys::NO_LINK => Refused::NoLink(u, v),
+        sys::TOO_MANY => Refused::TooMany,
+        sys::CLOSED_WALK => match filled(closed_walk) {
+            Ok(walk) => Refused::ClosedWalk(walk.expect("a closed walk refuses it")),
+            Err(NoMemory) => Refused::NoMemory,
+        },
+        _ => unreachable!("there are six refusals"),
+    }
+}

@@ -1,0 +1,370 @@
+//! Networks by typed calls, beside a session that is told the same by lines.
+
+use revroute::{Edit, Hop, Network, Refused, RefusedEdit, Report, Session, Size};
+use std::error::Error;
+use std::thread;
+
+/// Numbers that are drawn, the same at each start.
+struct Draw(u64);
+
+impl Draw {
+    fn below(&mut self, bound: u32) -> u32 {
+        self.0 = self
+            .0
+            .wrapping_mul(6364136223846793005)
+            .wrapping_add(1442695040888963407);
+        ((self.0 >> 33) % u64::from(bound)) as u32
+    }
+
+    /// An edit, at times of what is no node.
+    fn edit(&mut self, nodes: u32) -> Edit {
+        let behind = nodes + u32::from(self.below(10) == 0);
+        let (u, v) = (self.below(behind), self.below(behind));
+        [Edit::Cut, Edit::Add, Edit::Join][self.below(3) as usize](u, v)
+    }
+
+    /// Links that close no walk, since each points to the lesser number.
+    fn links(&mut self, nodes: u32) -> Vec<(u32, u32)> {
+        let pairs = (0..nodes).flat_map(|u| (0..u).map(move |v| (u, v)));
+        pairs.filter(|_| self.below(5) < 2).collect()
+    }
+}
+
+/// The same network by lines alone.
+struct Lines(Session);
+
+impl Lines {
+    fn answer(&mut self, line: &str) -> String {
+        let answer = self.0.answer(line).expect("there is memory");
+        String::from(answer.expect("a request has an answer"))
+    }
+
+    fn words(&mut self, line: &str) -> Vec<String> {
+        let answer = self.answer(line);
+        answer.split(' ').skip(1).map(String::from).collect()
+    }
+
+    fn hops(&mut self) -> Vec<Hop> {
+        let hop = |word: String| match &*word {
+            "here" => Hop::Here,
+            "cut" => Hop::CutOff,
+            node => Hop::To(node.parse().expect("a node")),
+        };
+        self.words(r#"["hops"]"#).into_iter().map(hop).collect()
+    }
+
+    fn links(&mut self) -> Vec<(u32, u32)> {
+        let ends = |word: String| {
+            let (tail, head) = word.split_once('>').expect("a link");
+            (tail.parse().expect("a node"), head.parse().expect("a node"))
+        };
+        self.words(r#"["links"]"#).into_iter().map(ends).collect()
+    }
+}
+
+fn words_of(edit: Edit) -> String {
+    match edit {
+        Edit::Cut(u, v) => format!(r#"["cut",{u},{v}]"#),
+        Edit::Add(u, v) => format!(r#"["add",{u},{v}]"#),
+        Edit::Join(u, v) => format!(r#"["join",{u},{v}]"#),
+    }
+}
+
+fn line_of_links(nodes: u32, dest: u32, links: &[(u32, u32)]) -> String {
+    let links: Vec<String> = links.iter().map(|(u, v)| format!("[{u},{v}]")).collect();
+    format!(r#"["net",{nodes},{dest},[{}]]"#, links.join(","))
+}
+
+fn told_of(report: Report) -> String {
+    format!("turned {} cut {}", report.turned, report.cut_off)
+}
+
+/// The number of a refusal in lines.
+fn number(refused: &Refused) -> u32 {
+    match refused {
+        Refused::NoMemory => panic!("there is memory"),
+        Refused::NoSuchNode(_) => 4,
+        Refused::SelfLink(_) => 5,
+        Refused::Twice(..) => 6,
+        Refused::ClosedWalk(_) => 7,
+        Refused::NoLink(..) => 8,
+        Refused::TooMany => 9,
+    }
+}
+
+/// Looks that all questions answer what lines do, and that the changed hops are those that differ from before.
+fn compare(network: &Network, lines: &mut Lines, before: &[Hop]) -> Result<(), Box<dyn Error>> {
+    let hops = network.hops()?;
+    assert_eq!(hops, lines.hops());
+    let counts: Vec<String> = network.counts()?.iter().map(u64::to_string).collect();
+    assert_eq!(counts, lines.words(r#"["counts"]"#));
+    assert_eq!(network.links()?, lines.links());
+    let Size { nodes, links } = network.size();
+    assert_eq!((nodes as usize, links), (hops.len(), lines.links().len()));
+    for x in 0..nodes {
+        assert_eq!(network.next_hop(x), hops[x as usize]);
+        let mut told = lines.words(&format!(r#"["walk",{x}]"#));
+        if told.last().is_some_and(|it| it == "cut") {
+            told.clear();
+        }
+        assert!(network.walk(x).map(|it| it.to_string()).eq(told));
+    }
+    let differ = (0..nodes).zip(hops).zip(before);
+    let differ = differ.filter(|((_, hop), was)| hop != *was);
+    assert!(differ.map(|(now, _)| now).eq(network.changed()?));
+    Ok(())
+}
+
+/// Whether links lead from one node to another.
+fn leads(links: &[(u32, u32)], from: u32, to: u32) -> bool {
+    let (mut found, mut next) = (vec![from], 0);
+    while next < found.len() {
+        let tail = found[next];
+        let heads = links
+            .iter()
+            .filter(|link| link.0 == tail)
+            .map(|link| link.1);
+        let fresh: Vec<u32> = heads.filter(|it| !found.contains(it)).collect();
+        found.extend(fresh);
+        next += 1;
+    }
+    found.contains(&to)
+}
+
+/// Makes an accepted edit in a list of links.
+fn make(links: &mut Vec<(u32, u32)>, edit: Edit) {
+    match edit {
+        Edit::Cut(u, v) => links.retain(|&link| link != (u, v) && link != (v, u)),
+        Edit::Join(u, v) if leads(links, v, u) => links.push((v, u)),
+        Edit::Add(u, v) | Edit::Join(u, v) => links.push((u, v)),
+    }
+}
+
+/// Looks that the evidence shows why an edit is refused, where `links` stand before it.
+fn shows(why: &Refused, edit: Edit, links: &[(u32, u32)], nodes: u32) {
+    let (Edit::Cut(u, v) | Edit::Add(u, v) | Edit::Join(u, v)) = edit;
+    let joined = links.contains(&(u, v)) || links.contains(&(v, u));
+    match why {
+        Refused::NoSuchNode(node) => assert!(*node >= nodes && [u, v].contains(node)),
+        Refused::SelfLink(node) => assert_eq!((*node, *node), (u, v)),
+        Refused::Twice(one, other) => assert!((*one, *other) == (u, v) && joined),
+        Refused::NoLink(one, other) => assert!((*one, *other) == (u, v) && !joined),
+        Refused::ClosedWalk(walk) => {
+            assert!(edit == Edit::Add(u, v) && walk.first() == walk.last());
+            let steps: Vec<(u32, u32)> = walk.windows(2).map(|it| (it[0], it[1])).collect();
+            assert!(steps.contains(&(u, v)), "{walk:?}");
+            assert!(steps.iter().all(|it| *it == (u, v) || links.contains(it)));
+        }
+        Refused::NoMemory | Refused::TooMany => panic!("{why}"),
+    }
+}
+
+/// A change, by both.
+enum Asked {
+    One(Edit),
+    Batch(Vec<Edit>),
+    Destination(u32),
+}
+
+impl Asked {
+    fn drawn(draw: &mut Draw, nodes: u32) -> Asked {
+        match draw.below(5) {
+            0 => Asked::Destination(draw.below(nodes + 1)),
+            1 => Asked::Batch((0..draw.below(4)).map(|_| draw.edit(nodes)).collect()),
+            _ => Asked::One(draw.edit(nodes)),
+        }
+    }
+
+    fn line(&self) -> String {
+        match self {
+            Asked::One(edit) => words_of(*edit),
+            Asked::Batch(edits) => {
+                let edits: Vec<String> = edits.iter().map(|&it| words_of(it)).collect();
+                format!(r#"["batch",[{}]]"#, edits.join(","))
+            }
+            Asked::Destination(dest) => format!(r#"["dest",{dest}]"#),
+        }
+    }
+
+    /// Makes the change by its call, and looks at the evidence where it is refused.
+    fn make(&self, network: &mut Network, mut links: Vec<(u32, u32)>) -> Result<Report, Refused> {
+        let nodes = network.size().nodes;
+        match self {
+            Asked::One(edit) => {
+                let ended = match *edit {
+                    Edit::Cut(u, v) => network.cut(u, v),
+                    Edit::Add(u, v) => network.add(u, v),
+                    Edit::Join(u, v) => network.join(u, v),
+                };
+                ended.inspect_err(|why| shows(why, *edit, &links, nodes))
+            }
+            Asked::Batch(edits) => {
+                let ended = network.batch(edits).inspect_err(|it| {
+                    edits[..it.at]
+                        .iter()
+                        .for_each(|&edit| make(&mut links, edit));
+                    shows(&it.why, edits[it.at], &links, nodes);
+                });
+                Ok(ended?)
+            }
+            Asked::Destination(dest) => network
+                .set_destination(*dest)
+                .inspect_err(|why| assert_eq!(*why, Refused::NoSuchNode(*dest))),
+        }
+    }
+}
+
+/// Makes drawn changes both ways, and returns how many are accepted and refused.
+fn change_both(seed: u64) -> Result<(u32, u32), Box<dyn Error>> {
+    let mut draw = Draw(seed);
+    let nodes = 1 + draw.below(8);
+    let (links, dest) = (draw.links(nodes), draw.below(nodes));
+    let mut network = Network::new(nodes, dest, &links)?;
+    let mut lines = Lines(Session::new());
+    let told = lines.answer(&line_of_links(nodes, dest, &links));
+    assert_eq!(told_of(network.report()), told);
+    compare(&network, &mut lines, &vec![Hop::CutOff; nodes as usize])?;
+    let (mut accepted, mut refused) = (0, 0);
+    for _ in 0..60 {
+        let asked = Asked::drawn(&mut draw, nodes);
+        let (hops, links) = (network.hops()?, network.links()?);
+        let told = lines.answer(&asked.line());
+        match asked.make(&mut network, links.clone()) {
+            Ok(report) => {
+                assert_eq!((told_of(report), network.report()), (told, report));
+                compare(&network, &mut lines, &hops)?;
+                accepted += 1;
+            }
+            Err(why) => {
+                assert_eq!(format!("refused {}", number(&why)), told);
+                assert_eq!((network.hops()?, network.links()?), (hops, links));
+                refused += 1;
+            }
+        }
+    }
+    Ok((accepted, refused))
+}
+
+#[test]
+fn calls_tell_what_lines_tell() -> Result<(), Box<dyn Error>> {
+    let (mut accepted, mut refused) = (0, 0);
+    for seed in 0..120 {
+        let (more, refusals) = change_both(seed)?;
+        accepted += more;
+        refused += refusals;
+    }
+    assert!(accepted > 1000 && refused > 1000, "{accepted} {refused}");
+    Ok(())
+}
+
+#[test]
+fn what_is_no_network_is_refused() {
+    let many: Vec<(u32, u32)> = (0..4096)
+        .flat_map(|u| (1..9).map(move |step| (u, u + step)))
+        .collect();
+    for (nodes, dest, links, why) in [
+        (0, 0, &[][..], Refused::NoSuchNode(0)),
+        (2, 2, &[], Refused::NoSuchNode(2)),
+        (2, 0, &[(0, 2)], Refused::NoSuchNode(2)),
+        (2, 0, &[(1, 1)], Refused::SelfLink(1)),
+        (4097, 0, &[], Refused::TooMany),
+        (4096, 0, &[&many[..], &[(0, 9)]].concat(), Refused::TooMany),
+    ] {
+        assert_eq!(Network::new(nodes, dest, links).err(), Some(why));
+    }
+    let twice = Network::new(3, 0, &[(0, 1), (2, 1), (1, 2)]).err();
+    assert!(matches!(
+        twice,
+        Some(Refused::Twice(1, 2) | Refused::Twice(2, 1))
+    ));
+    let links = [(4, 3), (0, 1), (1, 2), (2, 0)];
+    let Err(Refused::ClosedWalk(walk)) = Network::new(5, 4, &links) else {
+        panic!("a closed walk is no network");
+    };
+    assert_eq!((walk.len(), walk[0]), (4, walk[3]));
+    assert!(walk.windows(2).all(|it| links.contains(&(it[0], it[1]))));
+}
+
+#[test]
+fn a_batch_has_at_most_1024_edits() -> Result<(), Box<dyn Error>> {
+    let mut network = Network::new(2, 0, &[(1, 0)])?;
+    let edits: Vec<Edit> = (0..512)
+        .flat_map(|_| [Edit::Cut(0, 1), Edit::Join(0, 1)])
+        .collect();
+    network.batch(&edits)?;
+    let longer = [&edits[..], &[Edit::Cut(0, 1)]].concat();
+    let refused = RefusedEdit {
+        at: 1025,
+        why: Refused::TooMany,
+    };
+    assert_eq!(network.batch(&longer), Err(refused));
+    assert_eq!(
+        network.batch(&[])?,
+        Report {
+            turned: 0,
+            cut_off: 0
+        }
+    );
+    assert_eq!(network.changed()?, []);
+    Ok(())
+}
+
+#[test]
+fn refusals_say_what_is_wrong() -> Result<(), Box<dyn Error>> {
+    let mut network = Network::new(5, 0, &[(1, 0), (2, 0), (3, 1), (3, 2), (4, 3)])?;
+    for (ended, said) in [
+        (network.join(1, 5), "there is no node 5"),
+        (network.add(1, 1), "a link would join node 1 with itself"),
+        (
+            network.add(0, 1),
+            "more than one link would join nodes 0 and 1",
+        ),
+        (network.cut(0, 4), "no link joins nodes 0 and 4"),
+        (network.set_destination(7), "there is no node 7"),
+    ] {
+        assert_eq!(ended.err().map(|it| it.to_string()).as_deref(), Some(said));
+    }
+    let said = network.add(0, 4).err().map(|it| it.to_string());
+    let walks = ["0 4 3 1 0", "0 4 3 2 0"].map(|walk| format!("links would lead round: {walk}"));
+    assert!(said.is_some_and(|it| walks.contains(&it)));
+    let refused = network.batch(&[Edit::Cut(1, 0), Edit::Cut(0, 1)]);
+    let said = refused.err().map(|it| it.to_string());
+    assert_eq!(said.as_deref(), Some("edit 1: no link joins nodes 0 and 1"));
+    assert_eq!(
+        format!("{network:?}"),
+        "Network { nodes: 5, links: 5, destination: 0, .. }"
+    );
+    Ok(())
+}
+
+#[test]
+fn what_is_no_node_panics() -> Result<(), Box<dyn Error>> {
+    for node in [2, 4096, u32::MAX - 4, u32::MAX - 3, u32::MAX] {
+        let network = Network::new(2, 0, &[(1, 0)])?;
+        assert!(
+            thread::spawn(move || network.next_hop(node))
+                .join()
+                .is_err()
+        );
+        let network = Network::new(2, 0, &[(1, 0)])?;
+        assert!(
+            thread::spawn(move || network.walk(node).count())
+                .join()
+                .is_err()
+        );
+    }
+    Ok(())
+}
+
+#[test]
+fn a_network_goes_from_thread_to_thread() -> Result<(), Box<dyn Error>> {
+    let mut network = Network::new(4, 0, &[(0, 1), (1, 2), (2, 3)])?;
+    for dest in [3, 1, 2, 0] {
+        network = thread::spawn(move || network.set_destination(dest).map(|_| network))
+            .join()
+            .expect("the thread changes it")?;
+        assert_eq!(network.next_hop(network.destination()), Hop::Here);
+    }
+    assert!(network.walk(3).eq([3, 2, 1, 0]));
+    Ok(())
+}
