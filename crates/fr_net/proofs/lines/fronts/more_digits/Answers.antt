@@ -1,6 +1,6 @@
 use Rattle.std.proofs.Common.{[], ap, arith, decimal, get_or, refl, ◌*◌, ◌+◌, ◌++◌, ◌-◌, ◌<◌, ◌∙◌, ◌∷◌, ◌≡◌, ◌≤◌, ◌^◌}
 use Rattle.fr_net.proofs.lines.ShortLineTexts.{front_and_rest, one_digit_more}
-use Rattle.fr_net.proofs.lines.short_lines.more_digits.Goals as goal
+use Rattle.fr_net.proofs.lines.fronts.more_digits.Goals as goal
 
 pub more-preserved : goal.more-preserved
 more-preserved c =

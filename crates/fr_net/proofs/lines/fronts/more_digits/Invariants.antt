@@ -1,5 +1,5 @@
 use Rattle.std.proofs.Common.{decimal, length, ◌++◌, ◌<◌, ◌^◌, ◌≡◌}
-use Rattle.fr_net.proofs.lines.short_lines.more_digits.Given as goal
+use Rattle.fr_net.proofs.lines.fronts.more_digits.Given as goal
 
 -- the digits so far are those of the number, and the others stand next
 abbrev pub invariant-more : goal.invariant-more
