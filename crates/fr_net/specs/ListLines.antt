@@ -1,5 +1,5 @@
 -- The lines of networks and batches, whatever white space stands in them; for private clauses.
-use Rattle.std.specs.Prelude.{ℕ, List, [], ◌∷◌, ◌++◌, ◌≡◌, if◌then◌else◌, codes, decimal}
+use Rattle.std.specs.Prelude.{ℕ, List, [], ◌∷◌, ◌++◌, ◌≡◌, ◌<◌, ◌^◌, if◌then◌else◌, codes, decimal, ⊤}
 use Rattle.std.specs.Str.{IsUtf8}
 use Rattle.json.specs.Json.{Json, Items, array, item, no_items, number, string}
 use Rattle.json.specs.Lex.{Lexeme, token, comma, between, lex, tokens}
@@ -37,14 +37,17 @@ word_of (Cut u v) = codes "cut"
 word_of (Add u v) = codes "add"
 word_of (Join u v) = codes "join"
 
-abbrev pub ends_of : Edit → ℕ × ℕ
-ends_of (Cut u v) = (u, v)
-ends_of (Add u v) = (u, v)
-ends_of (Join u v) = (u, v)
+abbrev pub link_ends : ℕ × ℕ → ℕ × ℕ
+link_ends link = link
+
+abbrev pub edit_ends : Edit → ℕ × ℕ
+edit_ends (Cut u v) = (u, v)
+edit_ends (Add u v) = (u, v)
+edit_ends (Join u v) = (u, v)
 
 -- an edit: ["cut", u, v], and its like
 abbrev pub edit_lexemes : Edit → List Lexeme
-edit_lexemes edit = token Token.begin_array ∷ word_lexeme (word_of edit) ∷ comma ∷ ends_lexemes (ends_of edit).0 (ends_of edit).1
+edit_lexemes edit = token Token.begin_array ∷ word_lexeme (word_of edit) ∷ comma ∷ ends_lexemes (edit_ends edit).0 (edit_ends edit).1
 
 abbrev pub ends_json : ℕ × ℕ → Items
 ends_json ends = item (number (decimal ends.0)) (item (number (decimal ends.1)) no_items)
@@ -53,13 +56,18 @@ abbrev pub link_json : ℕ × ℕ → Json
 link_json link = array (ends_json link)
 
 abbrev pub edit_json : Edit → Json
-edit_json edit = array (item (string (word_of edit)) (ends_json (ends_of edit)))
+edit_json edit = array (item (string (word_of edit)) (ends_json (edit_ends edit)))
 
 -- the items of a list in JSON
 abbrev pub items_json : {X : Type 0} → (X → Json) → List X → Items
 items_json json_of [] = no_items
 items_json json_of (x ∷ xs) = item (json_of x) (items_json json_of xs)
 
+-- the ends of each item are numbers of 32 bits
+abbrev pub AreSmall : {X : Type 0} → (X → ℕ × ℕ) → List X → Type 0
+AreSmall ends [] = ⊤
+AreSmall ends (x ∷ xs) = ((ends x).0 < 2 ^ 32) × ((ends x).1 < 2 ^ 32) × AreSmall ends xs
+
 -- a text has just these items and the brackets that close their list and its line
-abbrev pub ClosesAs : {X : Type 0} → List ℕ → (X → Json) → List X → Type 0
-ClosesAs text json_of xs = (tokens text ≡ items_tokens (items_json json_of xs) ++ Token.end_array ∷ []) × IsUtf8 text
+abbrev pub ClosesAs : {X : Type 0} → List ℕ → (X → Json) → (X → ℕ × ℕ) → List X → Type 0
+ClosesAs text json_of ends xs = (tokens text ≡ items_tokens (items_json json_of xs) ++ Token.end_array ∷ []) × IsUtf8 text × AreSmall ends xs

@@ -7,9 +7,10 @@ use Rattle.json.proofs.Printed.Decimals.{IsNumber-decimal}
 use Rattle.json.proofs.Printed.Numbers.{lex-number}
 use Rattle.json.proofs.Printed.Strings.{content-escape, lex-escape}
 use Rattle.json.proofs.Printed.Utf8.{IsUtf8-are_ascii, are_ascii}
-use Rattle.json.specs.Lex.{Class, Lexeme, between, class, in_string, lex, lex_byte, operator, operator_lexeme, space, string_token, token}
+use Rattle.json.specs.Lex.{Lexeme, between, class, comma, in_string, lex, lex_byte, operator, operator_lexeme, space, string_token, token}
 use Rattle.json.specs.Print.{escape}
 use Rattle.json.specs.Text.{content, plain}
+use Rattle.json.specs.Token.{Token}
 use Rattle.json.specs.Word.{ends_word, is_operator, is_space}
 use Rattle.fr_net.specs.ListLines.{Begins, number_lexeme, unspaced, word_lexeme}
 
@@ -93,3 +94,17 @@ number_begins n mark text between_them rest small is stands follows =
     begins_more text between_them rest (number_lexeme n ∷ []) (operator_lexeme mark ∷ [])
     (begins text (decimal n) between_them (number_lexeme n ∷ []) stands (IsUtf8-from_ascii (decimal n) (IsAscii-decimal n small)) (lex-number (decimal n) between_them (IsNumber-decimal n small) ended))
     (mark_begins mark between_them rest is follows)
+
+-- a line or an edit that opens with its word
+pub opens_with_word : (word line inside behind rest : List ℕ) → escape word ≡ word → are_ascii (34 ∷ (word ++ 34 ∷ [])) ≡ true → unspaced line ≡ 91 ∷ inside → unspaced inside ≡ 34 ∷ (word ++ 34 ∷ behind)
+    → unspaced behind ≡ 44 ∷ rest → Begins line (token Token.begin_array ∷ word_lexeme word ∷ comma ∷ []) rest
+opens_with_word word line inside behind rest plain_word ascii opens stands follows =
+    begins_more line behind rest (token Token.begin_array ∷ word_lexeme word ∷ []) (comma ∷ [])
+    (begins_more line inside behind (token Token.begin_array ∷ []) (word_lexeme word ∷ []) (mark_begins 91 line inside refl opens) (word_begins word inside behind plain_word ascii stands))
+    (mark_begins 44 behind rest refl follows)
+
+-- the bracket of the line, and white space
+pub closed_line : (text behind : List ℕ) → unspaced text ≡ 93 ∷ behind → unspaced behind ≡ [] → Begins text (token Token.end_array ∷ []) []
+closed_line text behind closes over =
+    let passed = space_passes behind in
+    begins_more text behind [] (token Token.end_array ∷ []) [] (mark_begins 93 text behind refl closes) (passed.0 ∙ ap (lex between) over, λ utf8. passed.1 (subst IsUtf8 (sym over) utf8))

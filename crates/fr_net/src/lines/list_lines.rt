@@ -5,7 +5,7 @@ ghost use Rattle.json.specs.Lex.{token, comma, operator_lexeme};
 ghost use Rattle.json.specs.Token.{begin_array, end_array};
 ghost use Rattle.json.specs.Word.{is_operator};
 ghost use Rattle.fr_net.specs.declared.lines.requests.LineFault.TheVariants.{Memory};
-ghost use Rattle.fr_net.specs.ListLines.{Begins, ClosesAs, number_lexeme, word_lexeme, link_lexemes, edit_lexemes, link_json, edit_json};
+ghost use Rattle.fr_net.specs.ListLines.{Begins, ClosesAs, number_lexeme, word_lexeme, link_lexemes, edit_lexemes, link_json, edit_json, link_ends, edit_ends};
 ghost use Rattle.fr_net.specs.Requests.{plain, reading};
 
 use crate::edit::Edit;
@@ -62,7 +62,7 @@ fn batch_head(line: &[u8]) -> Option<&[u8]>
 
 /// The links of a list, where behind them just its bracket and that of the line stand.
 fn links_to_end(alloc: Global, items: &[u8]) -> Result<Option<Vec<(u32, u32)>>, LineFault>
-    ensures ok { IfOk result (λ found. IfSome found (λ links. ClosesAs items.now link_json links.items)) }
+    ensures ok { IfOk result (λ found. IfSome found (λ links. ClosesAs items.now link_json link_ends links.items)) }
     ensures refused { IfErr result (λ fault. fault ≡ Memory) }
 {
     let mut links = Vec::new(alloc);
@@ -97,7 +97,7 @@ fn link_before(mark: u8, text: &[u8]) -> Option<((u32, u32), &[u8])>
 
 /// The edits of a list, where behind them just its bracket and that of the line stand.
 fn edits_to_end(alloc: Global, items: &[u8]) -> Result<Option<Vec<Edit>>, LineFault>
-    ensures ok { IfOk result (λ found. IfSome found (λ edits. ClosesAs items.now edit_json edits.items)) }
+    ensures ok { IfOk result (λ found. IfSome found (λ edits. ClosesAs items.now edit_json edit_ends edits.items)) }
     ensures refused { IfErr result (λ fault. fault ≡ Memory) }
 {
     let mut edits = Vec::new(alloc);
