@@ -5,9 +5,23 @@ ghost use Rattle.json.specs.Lex.{operator_lexeme};
 ghost use Rattle.json.specs.Word.{is_operator};
 ghost use Rattle.fr_net.specs.ListLines.{unspaced, Begins, number_lexeme};
 
-/// What is behind white space.
+/// A number above this is too large once a digit is behind it.
+const TENTH: u64 = 429_496_729;
+
+/// What is behind white space, of which there is seldom any.
 #[inline(always)]
 pub(crate) fn behind_space(text: &[u8]) -> &[u8]
+    ensures { result.now ≡ unspaced text.now }
+{
+    match text {
+        [b'!'..=u8::MAX, ..] => text,
+        _ => behind_some_space(text),
+    }
+}
+
+/// What is behind white space. It is kept out of the way of lines without any.
+#[inline(never)]
+fn behind_some_space(text: &[u8]) -> &[u8]
     ensures { result.now ≡ unspaced text.now }
 {
     let mut rest = text;
@@ -20,9 +34,21 @@ pub(crate) fn behind_space(text: &[u8]) -> &[u8]
 /// What is behind this mark, where it stands next.
 #[inline(always)]
 pub(crate) fn behind_mark(mark: u8, text: &[u8]) -> Option<&[u8]>
+    requires { is_operator mark ≡ true }
     ensures { IfSome result (λ behind. unspaced text.now ≡ mark ∷ behind.now) }
 {
-    match behind_space(text) {
+    match text {
+        [first, behind @ ..] if *first == mark => Some(behind),
+        _ => behind_spaced_mark(mark, text),
+    }
+}
+
+/// What is behind this mark, where it stands next, with white space before it.
+#[inline(always)]
+fn behind_spaced_mark(mark: u8, text: &[u8]) -> Option<&[u8]>
+    ensures { IfSome result (λ behind. unspaced text.now ≡ mark ∷ behind.now) }
+{
+    match behind_some_space(text) {
         [first, behind @ ..] if *first == mark => Some(behind),
         _ => None,
     }
@@ -57,12 +83,14 @@ fn more_digits(start: u32, digits: &[u8]) -> Option<(u32, &[u8])>
     requires { 0 < start }
     ensures { IfSome result (λ next. decimal start ++ digits.now ≡ decimal next.0 ++ next.1.now) }
 {
-    let mut number = start;
+    let mut number = u64::from(start);
     let mut rest = digits;
     'more: while let [digit @ b'0'..=b'9', behind @ ..] = rest {
-        let more = u64::from(number) * 10 + u64::from(digit - b'0');
-        number = u32::try_from(more).ok()?;
+        if number > TENTH {
+            return None;
+        }
+        number = number * 10 + u64::from(digit - b'0');
         rest = behind;
     }
-    Some((number, rest))
+    Some((u32::try_from(number).ok()?, rest))
 }

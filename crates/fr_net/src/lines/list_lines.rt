@@ -52,15 +52,16 @@ fn network_head(line: &[u8]) -> Option<(u32, u32, &[u8])>
 fn batch_head(line: &[u8]) -> Option<&[u8]>
     ensures { IfSome result (λ items. Begins line.now (token begin_array ∷ word_lexeme (codes "batch") ∷ comma ∷ token begin_array ∷ []) items.now) }
 {
-    let [b'"', b'b', b'a', b't', b'c', b'h', b'"', behind @ ..] =
-        behind_space(behind_mark(b'[', line)?)
-    else {
+    let [b'"', b'b', b'a', b't', b'c', b'h', b'"', behind @ ..] = behind_space(behind_mark(
+        b'[', line,
+    )?) else {
         return None;
     };
     behind_mark(b'[', behind_mark(b',', behind)?)
 }
 
 /// The links of a list, where behind them just its bracket and that of the line stand.
+#[inline(never)]
 fn links_to_end(alloc: Global, items: &[u8]) -> Result<Option<Vec<(u32, u32)>>, LineFault>
     ensures ok { IfOk result (λ found. IfSome found (λ links. ClosesAs items.now link_json link_ends links.items)) }
     ensures refused { IfErr result (λ fault. fault ≡ Memory) }
@@ -96,6 +97,7 @@ fn link_before(mark: u8, text: &[u8]) -> Option<((u32, u32), &[u8])>
 }
 
 /// The edits of a list, where behind them just its bracket and that of the line stand.
+#[inline(never)]
 fn edits_to_end(alloc: Global, items: &[u8]) -> Result<Option<Vec<Edit>>, LineFault>
     ensures ok { IfOk result (λ found. IfSome found (λ edits. ClosesAs items.now edit_json edit_ends edits.items)) }
     ensures refused { IfErr result (λ fault. fault ≡ Memory) }

@@ -1,4 +1,4 @@
-use Rattle.std.proofs.Common.{List, [], arith, codes, length, refl, sym, ℕ, ◌++◌, ◌∙◌, ◌∷◌, ◌≡◌, ◌≤◌}
+use Rattle.std.proofs.Common.{[], arith, codes, length, refl, sym, ◌++◌, ◌∙◌, ◌∷◌, ◌≤◌}
 use Rattle.json.specs.Lex.{comma, operator_lexeme, token}
 use Rattle.json.specs.Print.{escape_byte}
 use Rattle.json.specs.Token.{begin_array}

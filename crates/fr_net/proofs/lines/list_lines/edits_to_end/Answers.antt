@@ -1,4 +1,4 @@
-use Rattle.std.proofs.Common.{[], ap, arith, length, sym, ◌++◌, ◌<◌, ◌∷◌, ◌≡◌, ◌^◌}
+use Rattle.std.proofs.Common.{[], ap, arith, length, ◌++◌, ◌<◌, ◌∷◌, ◌≡◌, ◌^◌}
 use Rattle.json.specs.Lex.{between, comma, lex}
 use Rattle.fr_net.specs.ListLines.{edit_ends, edit_lexemes}
 use Rattle.fr_net.proofs.lines.FrontTexts.{begins_more}

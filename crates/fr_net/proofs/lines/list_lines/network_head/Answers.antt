@@ -1,4 +1,4 @@
-use Rattle.std.proofs.Common.{[], arith, codes, refl, sym, ◌++◌, ◌∙◌, ◌∷◌, ◌≡◌}
+use Rattle.std.proofs.Common.{[], arith, codes, refl, sym, ◌++◌, ◌∙◌, ◌∷◌}
 use Rattle.json.specs.Lex.{comma, token}
 use Rattle.json.specs.Print.{escape_byte}
 use Rattle.json.specs.Token.{begin_array}

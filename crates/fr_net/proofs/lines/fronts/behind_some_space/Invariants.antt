@@ -1,6 +1,6 @@
 use Rattle.std.proofs.Common.{length, ◌≡◌}
 use Rattle.fr_net.specs.ListLines.{unspaced}
-use Rattle.fr_net.proofs.lines.fronts.behind_space.Given as goal
+use Rattle.fr_net.proofs.lines.fronts.behind_some_space.Given as goal
 
 -- white space stood before the rest
 abbrev pub invariant-spaces : goal.invariant-spaces
