@@ -18,6 +18,7 @@ unspaced (b ∷ bs) = if is_space b then unspaced bs else b ∷ bs
 abbrev pub Begins : List ℕ → List Lexeme → List ℕ → Type 0
 Begins text front rest = (lex between text ≡ front ++ lex between rest) × (IsUtf8 rest → IsUtf8 text)
 
+-- a number, and a word with no escape in it
 abbrev pub number_lexeme : ℕ → Lexeme
 number_lexeme n = token (Token.number (decimal n))
 
@@ -32,23 +33,26 @@ ends_lexemes u v = number_lexeme u ∷ comma ∷ number_lexeme v ∷ token Token
 abbrev pub link_lexemes : ℕ × ℕ → List Lexeme
 link_lexemes link = token Token.begin_array ∷ ends_lexemes link.0 link.1
 
+-- what an edit begins with, and which nodes it names
 abbrev pub word_of : Edit → List ℕ
 word_of (Cut u v) = codes "cut"
 word_of (Add u v) = codes "add"
 word_of (Join u v) = codes "join"
-
-abbrev pub link_ends : ℕ × ℕ → ℕ × ℕ
-link_ends link = link
 
 abbrev pub edit_ends : Edit → ℕ × ℕ
 edit_ends (Cut u v) = (u, v)
 edit_ends (Add u v) = (u, v)
 edit_ends (Join u v) = (u, v)
 
+-- likewise a link
+abbrev pub link_ends : ℕ × ℕ → ℕ × ℕ
+link_ends link = link
+
 -- an edit: ["cut", u, v], and its like
 abbrev pub edit_lexemes : Edit → List Lexeme
 edit_lexemes edit = token Token.begin_array ∷ word_lexeme (word_of edit) ∷ comma ∷ ends_lexemes (edit_ends edit).0 (edit_ends edit).1
 
+-- the same in JSON, which brackets and commas have made a tree
 abbrev pub ends_json : ℕ × ℕ → Items
 ends_json ends = item (number (decimal ends.0)) (item (number (decimal ends.1)) no_items)
 

@@ -50,7 +50,8 @@ space_passes (b ∷ bs) = go (is_space b) refl (space_passes bs)
     go false e more = (refl, λ utf8. utf8)
 
 -- what is read of the front of a text, behind white space
-begins : (text front rest : List ℕ) (found : List Lexeme) → unspaced text ≡ front ++ rest → IsUtf8 front → lex between (front ++ rest) ≡ found ++ lex between rest → Begins text found rest
+begins : (text front rest : List ℕ) (found : List Lexeme) → unspaced text ≡ front ++ rest → IsUtf8 front
+    → lex between (front ++ rest) ≡ found ++ lex between rest → Begins text found rest
 begins text front rest found stands utf8 read =
     let passed = space_passes text in
     (passed.0 ∙ ap (lex between) stands ∙ read, λ more. passed.1 (subst IsUtf8 (sym stands) (IsUtf8-append front rest utf8 more)))
@@ -68,7 +69,8 @@ mark_begins mark text rest is stands =
     begins text (mark ∷ []) rest (operator_lexeme mark ∷ []) stands (IsUtf8-are_ascii (mark ∷ []) ascii) (ap (λ c. lex_byte between c mark rest (λ next. lex next rest)) its)
 
 -- a word that needs no escape, between quotes
-pub word_begins : (word text rest : List ℕ) → escape word ≡ word → are_ascii (34 ∷ (word ++ 34 ∷ [])) ≡ true → unspaced text ≡ 34 ∷ (word ++ 34 ∷ rest) → Begins text (word_lexeme word ∷ []) rest
+pub word_begins : (word text rest : List ℕ) → escape word ≡ word → are_ascii (34 ∷ (word ++ 34 ∷ [])) ≡ true → unspaced text ≡ 34 ∷ (word ++ 34 ∷ rest)
+    → Begins text (word_lexeme word ∷ []) rest
 unfolding lex
 word_begins word text rest plain_word ascii stands =
     let whole = append_assoc word (34 ∷ []) rest in
@@ -87,7 +89,8 @@ ends_at_mark mark (b ∷ bs) rest is stands = go (is_space b) refl stands
     go false e stands = let first : b ≡ mark = grind arith in search (rules, is, first)
 
 -- a number before a mark
-pub number_begins : (n mark : ℕ) (text between_them rest : List ℕ) → n < 2 ^ 64 → is_operator mark ≡ true → unspaced text ≡ decimal n ++ between_them → unspaced between_them ≡ mark ∷ rest
+pub number_begins : (n mark : ℕ) (text between_them rest : List ℕ) → n < 2 ^ 64 → is_operator mark ≡ true → unspaced text ≡ decimal n ++ between_them
+    → unspaced between_them ≡ mark ∷ rest
     → Begins text (number_lexeme n ∷ operator_lexeme mark ∷ []) rest
 number_begins n mark text between_them rest small is stands follows =
     let ended = ends_at_mark mark between_them rest is follows in
@@ -96,7 +99,8 @@ number_begins n mark text between_them rest small is stands follows =
     (mark_begins mark between_them rest is follows)
 
 -- a line or an edit that opens with its word
-pub opens_with_word : (word line inside behind rest : List ℕ) → escape word ≡ word → are_ascii (34 ∷ (word ++ 34 ∷ [])) ≡ true → unspaced line ≡ 91 ∷ inside → unspaced inside ≡ 34 ∷ (word ++ 34 ∷ behind)
+pub opens_with_word : (word line inside behind rest : List ℕ) → escape word ≡ word → are_ascii (34 ∷ (word ++ 34 ∷ [])) ≡ true → unspaced line ≡ 91 ∷ inside
+    → unspaced inside ≡ 34 ∷ (word ++ 34 ∷ behind)
     → unspaced behind ≡ 44 ∷ rest → Begins line (token Token.begin_array ∷ word_lexeme word ∷ comma ∷ []) rest
 opens_with_word word line inside behind rest plain_word ascii opens stands follows =
     begins_more line behind rest (token Token.begin_array ∷ word_lexeme word ∷ []) (comma ∷ [])

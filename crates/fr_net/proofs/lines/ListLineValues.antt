@@ -27,11 +27,13 @@ abbrev pub each_before_comma : {X : Type 0} → (X → List Lexeme) → List X �
 each_before_comma of_one [] = []
 each_before_comma of_one (x ∷ xs) = of_one x ++ comma ∷ each_before_comma of_one xs
 
-pub one_more_before_comma : {X : Type 0} (of_one : X → List Lexeme) (xs : List X) (x : X) → each_before_comma of_one xs ++ (of_one x ++ comma ∷ []) ≡ each_before_comma of_one (xs ++ x ∷ [])
+pub one_more_before_comma : {X : Type 0} (of_one : X → List Lexeme) (xs : List X) (x : X)
+    → each_before_comma of_one xs ++ (of_one x ++ comma ∷ []) ≡ each_before_comma of_one (xs ++ x ∷ [])
 one_more_before_comma of_one [] x = refl
 one_more_before_comma of_one (y ∷ ys) x = append_assoc (of_one y) (comma ∷ each_before_comma of_one ys) _ ∙ ap (λ ls. of_one y ++ comma ∷ ls) (one_more_before_comma of_one ys x)
 
-pub one_more_small : {X : Type 0} (ends : X → ℕ × ℕ) (xs : List X) (x : X) → AreSmall ends xs → (ends x).0 < 2 ^ 32 → (ends x).1 < 2 ^ 32 → AreSmall ends (xs ++ x ∷ [])
+pub one_more_small : {X : Type 0} (ends : X → ℕ × ℕ) (xs : List X) (x : X) → AreSmall ends xs → (ends x).0 < 2 ^ 32 → (ends x).1 < 2 ^ 32
+    → AreSmall ends (xs ++ x ∷ [])
 one_more_small ends [] x small u v = (u, v, tt)
 one_more_small ends (y ∷ ys) x small u v = (small.0, small.1, one_more_small ends ys x small.2 u v)
 
@@ -50,7 +52,8 @@ module _ {X : Type 0} (of_one : X → List Lexeme) (json_of : X → Json) (ends 
       ∙ ap (λ ts. json_tokens (json_of x) ++ ts) (list_tokens xs last after_comma refl) ∙ sym (append_assoc (json_tokens (json_of x)) _ (Token.end_array ∷ []))
 
   -- a list that ends its line
-  list_closes : (text mid : List ℕ) (xs : List X) (last : X) → Begins text (each_before_comma of_one xs) mid → Begins mid (of_one last ++ token Token.end_array ∷ token Token.end_array ∷ []) []
+  list_closes : (text mid : List ℕ) (xs : List X) (last : X) → Begins text (each_before_comma of_one xs) mid
+      → Begins mid (of_one last ++ token Token.end_array ∷ token Token.end_array ∷ []) []
       → AreSmall ends (xs ++ last ∷ []) → ClosesAs text json_of ends (xs ++ last ∷ [])
   unfolding lex
   list_closes text mid xs last before end small =
@@ -73,15 +76,18 @@ edit_placed edit after_comma more may = refl
 edit_placed edit after_key more may = absurd (false≢true may)
 
 pub links_close : (text mid : List ℕ) (links : List (ℕ × ℕ)) (last : ℕ × ℕ) → Begins text (each_before_comma link_lexemes links) mid
-    → Begins mid (link_lexemes last ++ token Token.end_array ∷ token Token.end_array ∷ []) [] → AreSmall link_ends (links ++ last ∷ []) → ClosesAs text link_json link_ends (links ++ last ∷ [])
+    → Begins mid (link_lexemes last ++ token Token.end_array ∷ token Token.end_array ∷ []) [] → AreSmall link_ends (links ++ last ∷ [])
+    → ClosesAs text link_json link_ends (links ++ last ∷ [])
 links_close = list_closes link_lexemes link_json link_ends link_placed
 
 pub edits_close : (text mid : List ℕ) (edits : List Edit) (last : Edit) → Begins text (each_before_comma edit_lexemes edits) mid
-    → Begins mid (edit_lexemes last ++ token Token.end_array ∷ token Token.end_array ∷ []) [] → AreSmall edit_ends (edits ++ last ∷ []) → ClosesAs text edit_json edit_ends (edits ++ last ∷ [])
+    → Begins mid (edit_lexemes last ++ token Token.end_array ∷ token Token.end_array ∷ []) [] → AreSmall edit_ends (edits ++ last ∷ [])
+    → ClosesAs text edit_json edit_ends (edits ++ last ∷ [])
 edits_close = list_closes edit_lexemes edit_json edit_ends edit_placed
 
 -- the request of a line whose tokens are those of a value
-reads_as : (line : List ℕ) (j : Json) (d : Data) → tokens line ≡ json_tokens j → IsUtf8 line → depth j ≤ 127 → of_json j ≡ Some d → reading line ≡ ok_or (request_of d) NotRequest
+reads_as : (line : List ℕ) (j : Json) (d : Data) → tokens line ≡ json_tokens j → IsUtf8 line → depth j ≤ 127 → of_json j ≡ Some d
+    → reading line ≡ ok_or (request_of d) NotRequest
 reads_as line j d told utf8 shallow is =
     let whole : value 127 (tokens line) ≡ Some (j, []) = ap (value 127) (told ∙ sym (append-nil (json_tokens j))) ∙ value-json_tokens j 127 [] shallow in
     ap reading_of_value (value_of_text line utf8) ∙ ap (λ found. reading_of_value (value_alone found)) whole ∙ ap reading_of_value is
@@ -136,7 +142,8 @@ network_read line items nodes dest links n d head closes =
     let listed : links_in (array (items_of (map link_data links))) ≡ Some links = rw (list_again (map link_data links)) all.1 in
     reads_as line j whole told (head.1 closes.1) (omega (arith, all.2)) is ∙ rw (lt-ltb _ _ n, lt-ltb _ _ d, listed)
 
-pub batch_read : (line items : List ℕ) (edits : List Edit) → Begins line (token Token.begin_array ∷ word_lexeme (codes "batch") ∷ comma ∷ token Token.begin_array ∷ []) items
+pub batch_read : (line items : List ℕ) (edits : List Edit)
+    → Begins line (token Token.begin_array ∷ word_lexeme (codes "batch") ∷ comma ∷ token Token.begin_array ∷ []) items
     → ClosesAs items edit_json edit_ends edits → reading line ≡ Ok (make_edits edits)
 unfolding punctuate request_of_word
 batch_read line items edits head closes =

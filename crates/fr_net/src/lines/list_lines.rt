@@ -39,7 +39,8 @@ fn network_head(line: &[u8]) -> Option<(u32, u32, &[u8])>
     ensures { IfSome result (λ head. Begins line.now (token begin_array ∷ word_lexeme (codes "net") ∷ comma ∷ number_lexeme head.0 ∷ comma
         ∷ number_lexeme head.1 ∷ comma ∷ token begin_array ∷ []) head.2.now) }
 {
-    let [b'"', b'n', b'e', b't', b'"', behind @ ..] = behind_space(behind_mark(b'[', line)?) else {
+    let word = behind_space(behind_mark(b'[', line)?);
+    let [b'"', b'n', b'e', b't', b'"', behind @ ..] = word else {
         return None;
     };
     let (nodes, rest) = number_before(b',', behind_mark(b',', behind)?)?;
@@ -52,9 +53,8 @@ fn network_head(line: &[u8]) -> Option<(u32, u32, &[u8])>
 fn batch_head(line: &[u8]) -> Option<&[u8]>
     ensures { IfSome result (λ items. Begins line.now (token begin_array ∷ word_lexeme (codes "batch") ∷ comma ∷ token begin_array ∷ []) items.now) }
 {
-    let [b'"', b'b', b'a', b't', b'c', b'h', b'"', behind @ ..] = behind_space(behind_mark(
-        b'[', line,
-    )?) else {
+    let word = behind_space(behind_mark(b'[', line)?);
+    let [b'"', b'b', b'a', b't', b'c', b'h', b'"', behind @ ..] = word else {
         return None;
     };
     behind_mark(b'[', behind_mark(b',', behind)?)

@@ -11,9 +11,9 @@ use Rattle.fr_net.proofs.lines.list_lines.batch_head.Goals as goal
 pub returns : goal.returns
 unfolding escape_byte
 returns c =
-    let bytes = c.behind_space.result.now in
+    let bytes = c.behind_space-word.result.now in
     let stands : StandFrom 0 (codes "\"batch\"") bytes = grind arith in
-    let word = sym c.behind_space.ensures ∙ front_and_rest (codes "\"batch\"") bytes c.in-34.len_at_least stands in
+    let word = sym c.behind_space-word.ensures ∙ front_and_rest (codes "\"batch\"") bytes c.in-34.len_at_least stands in
     let opens = opens_with_word (codes "batch") _ _ _ _ refl refl c.in_ok-behind_mark.ensures word c.in_ok-behind_mark-2.ensures in
     IfSome_then c.behind_mark-3.result c.behind_mark-3.ensures
     (λ items next. begins_more _ _ _ (token begin_array ∷ word_lexeme (codes "batch") ∷ comma ∷ []) (token begin_array ∷ []) opens (mark_begins 91 _ _ refl next))

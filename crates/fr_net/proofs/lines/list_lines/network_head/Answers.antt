@@ -10,9 +10,9 @@ use Rattle.fr_net.proofs.lines.list_lines.network_head.Goals as goal
 pub returns : goal.returns
 unfolding escape_byte
 returns c =
-    let bytes = c.behind_space.result.now in
+    let bytes = c.behind_space-word.result.now in
     let stands : StandFrom 0 (codes "\"net\"") bytes = grind arith in
-    let word = sym c.behind_space.ensures ∙ front_and_rest (codes "\"net\"") bytes c.in-34.len_at_least stands in
+    let word = sym c.behind_space-word.ensures ∙ front_and_rest (codes "\"net\"") bytes c.in-34.len_at_least stands in
     let nodes = number_lexeme c.in_ok-nodes.nodes ∷ comma ∷ [] in
     let dest = number_lexeme c.in_ok-dest.dest ∷ comma ∷ [] in
     let front = token begin_array ∷ word_lexeme (codes "net") ∷ comma ∷ [] in
