@@ -3,5 +3,7 @@ pub mod LineValues
 pub mod TokenItems
 pub mod WordLines
 pub mod ShortLineTexts
+pub mod FrontTexts
+pub mod ListLineValues
 pub mod ShortLineValues
 pub mod HandedOn

@@ -23,3 +23,4 @@ pub mod Requests
 pub mod LineTokens
 pub mod Laws
 pub mod ShortLines
+pub mod ListLines

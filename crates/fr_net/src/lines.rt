@@ -3,7 +3,9 @@
 //!
 //! [`Edit`]: crate::Edit
 
+mod fronts;
 mod line_reader;
+mod list_lines;
 mod read;
 mod requests;
 mod short_lines;

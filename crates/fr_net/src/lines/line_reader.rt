@@ -7,6 +7,7 @@ ghost use Rattle.fr_net.specs.declared.lines.requests.LineFault.TheVariants.{Mem
 ghost use Rattle.fr_net.specs.Requests.{plain, reading};
 ghost use Rattle.fr_net.specs.LineTokens.{Tells, reading_of_tokens};
 
+use crate::lines::list_lines::list_request;
 use crate::lines::read::{request_by_word, request_in};
 use crate::lines::requests::{LineFault, Request};
 use crate::lines::short_lines::short_request;
@@ -19,8 +20,8 @@ use std::str::from_utf8;
 /// How deep arrays and objects may nest, as `serde_json` has it.
 const DEPTH: usize = 127;
 
-/// A reader of many lines. A short request that is written without whitespace, as `["walk",3]`, it reads by its bytes. From the first
-/// other line on it keeps the memory that reading takes: a table of 16 KB, and room for the longest line so far.
+/// A reader of many lines. A short request that is written without whitespace, as `["walk",3]`, it reads by its bytes, and so a network
+/// or a batch. From the first other line on it keeps the memory that reading takes: a table of 16 KB, and room for the longest line so far.
 pub struct LineReader {
     scratch: Option<Box<Scratch>>,
 }
@@ -47,11 +48,23 @@ impl LineReader {
     {
         match short_request(line) {
             Some(request) => Ok(request),
+            None => self.read_longer(alloc, line),
+        }
+    }
+
+    /// The request that a line is which is no short one. It is kept out of the short lines' way, which pays for no locals then.
+    #[inline(never)]
+    fn read_longer(&mut self, alloc: Global, line: &[u8]) -> Result<Request, LineFault>
+        ensures ok { IfOk result (λ request. reading line.now ≡ Ok (plain request)) }
+        ensures refused { IfErr result (λ fault. fault ≢ Memory → reading line.now ≡ Err fault) }
+    {
+        match list_request(alloc, line)? {
+            Some(request) => Ok(request),
             None => self.read_tokens(alloc, line),
         }
     }
 
-    /// The request that a line is, by its tokens. It is kept out of the short lines' way, which pays for no locals then.
+    /// The request that a line is, by its tokens.
     #[inline(never)]
     fn read_tokens(&mut self, alloc: Global, line: &[u8]) -> Result<Request, LineFault>
         ensures ok { IfOk result (λ request. reading line.now ≡ Ok (plain request)) }

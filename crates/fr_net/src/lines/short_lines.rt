@@ -1,9 +1,10 @@
 //! The requests of one or two numbers or none, by the bytes of a line that is written without whitespace.
 
-ghost use Rattle.std.specs.Prelude.{◌≡◌, ◌<◌, ◌∷◌, ◌++◌, [], Ok, IfSome, decimal};
+ghost use Rattle.std.specs.Prelude.{◌≡◌, ◌∷◌, ◌++◌, [], Ok, IfSome, decimal};
 ghost use Rattle.fr_net.specs.Requests.{plain, reading};
 ghost use Rattle.fr_net.specs.ShortLines.{numbers_text};
 
+use crate::lines::fronts::number;
 use crate::lines::requests::{Question, Request};
 
 /// The request that a line is, where it is one of the short forms, written without whitespace: `["walk",3]`, `["cut",1,2]`,
@@ -111,24 +112,8 @@ fn two_numbers(rest: &[u8]) -> Option<(u32, u32)>
 fn next_number(rest: &[u8]) -> Option<(u32, &[u8])>
     ensures { IfSome result (λ next. rest.now ≡ 44 ∷ (decimal next.0 ++ next.1.now)) }
 {
-    match rest {
-        [b',', b'0', behind @ ..] => Some((0, behind)),
-        [b',', first @ b'1'..=b'9', behind @ ..] => more_digits(u32::from(first - b'0'), behind),
-        _ => None,
-    }
-}
-
-/// The number whose first digits are those of `start`, and whose others stand next; and what is behind it.
-fn more_digits(start: u32, digits: &[u8]) -> Option<(u32, &[u8])>
-    requires { 0 < start }
-    ensures { IfSome result (λ next. decimal start ++ digits.now ≡ decimal next.0 ++ next.1.now) }
-{
-    let mut number = start;
-    let mut rest = digits;
-    'more: while let [digit @ b'0'..=b'9', behind @ ..] = rest {
-        let more = u64::from(number) * 10 + u64::from(digit - b'0');
-        number = u32::try_from(more).ok()?;
-        rest = behind;
-    }
-    Some((number, rest))
+    let [b',', digits @ ..] = rest else {
+        return None;
+    };
+    number(digits)
 }
