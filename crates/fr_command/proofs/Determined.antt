@@ -1,35 +1,14 @@
 -- An input has but one output text, of which the answers to its first lines are a beginning.
-use Rattle.std.proofs.Common.{◌≡◌, ◌∙◌, ℕ, ◌++◌, Bool, true, false, List, [], ◌∷◌, take, drop, append_assoc, sym, ap, subst, Option, None, MatchBool}
+use Rattle.std.proofs.Common.{◌≡◌, ◌∙◌, ℕ, ◌++◌, List, [], ◌∷◌, take, drop, append_assoc, sym, ap, subst, Option, None}
 use Rattle.std.proofs.lemmas.List.{take-append-drop}
 use Rattle.fr_net.specs.Requests.{reading}
-use Rattle.fr_route.specs.Answers.{IsLineAnswer}
+use Rattle.fr_route.specs.Answers.{AreAnswers}
 use Rattle.fr_route.specs.Blank.{is_blank}
 use Rattle.fr_route.specs.States.{State}
-use Rattle.fr_route.proofs.Determined.{line_unique}
-use Rattle.fr_command.specs.Lines.{lines_of}
-use Rattle.fr_command.specs.Answers.{AreAnswers, IsOutput}
-use Rattle.fr_command.specs.Outputs.{IsBeginning}
-
--- the answers to a line that is not blank and to those behind it
-abbrev pub Answered : Option State → List ℕ → List (List ℕ) → List ℕ → Option State → Type 0
-Answered s line rest out last =
-    (text : List ℕ) × (between : Option State) × (more : List ℕ) × IsLineAnswer s (reading line) text between × AreAnswers between rest more last × (out ≡ (text ++ 10 ∷ []) ++ more)
-
-by_blank : (b : Bool) (P Q R S T : Type 0) → (P → R → T) → (Q → S → T) → MatchBool b P Q → MatchBool b R S → T
-by_blank true P Q R S T f g h k = f h k
-by_blank false P Q R S T f g h k = g h k
-
-pub answers_unique : (s : Option State) (lines : List (List ℕ)) (a b : List ℕ) (p q : Option State) → AreAnswers s lines a p → AreAnswers s lines b q → (a ≡ b) × (p ≡ q)
-answers_unique s [] a b p q h k = (h.0 ∙ sym k.0, h.1 ∙ sym k.1)
-answers_unique s (line ∷ rest) a b p q h k =
-    by_blank (is_blank line) (AreAnswers s rest a p) (Answered s line rest a p) (AreAnswers s rest b q) (Answered s line rest b q) ((a ≡ b) × (p ≡ q))
-    (answers_unique s rest a b p q)
-    (λ h k.
-    let one = line_unique s (reading line) h.0 k.0 h.1 k.1 h.3 k.3 in
-    let rest_too = answers_unique k.1 rest h.2 k.2 p q (subst (λ (t : Option State). AreAnswers t rest h.2 p) one.1 h.4) k.4 in
-    let texts : (h.0 ++ 10 ∷ []) ++ h.2 ≡ (k.0 ++ 10 ∷ []) ++ k.2 = (λ i. (one.0 i ++ 10 ∷ []) ++ rest_too.0 i) in
-    (h.5 ∙ (texts ∙ sym k.5), rest_too.1))
-    h k
+use Rattle.fr_route.proofs.Determined.{Answered, answers_unique, by_blank, line_unique}
+use Rattle.fr_bytes.specs.Lines.{lines_of}
+use Rattle.fr_command.specs.Outputs.{IsOutput}
+use Rattle.fr_bytes.specs.Bytes.{IsBeginning}
 
 -- an input has one output text
 pub output_unique : (bytes a b : List ℕ) → IsOutput bytes a → IsOutput bytes b → a ≡ b

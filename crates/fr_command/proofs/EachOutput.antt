@@ -3,9 +3,10 @@ use Rattle.std.proofs.Common.{ℕ, ◌++◌, Bool, true, false, List, [], ◌∷
 use Rattle.fr_route.proofs.EachAnswer.{IsReached, each_line}
 use Rattle.fr_route.specs.Blank.{is_blank}
 use Rattle.fr_route.specs.States.{State}
-use Rattle.fr_command.specs.Lines.{lines_of}
-use Rattle.fr_command.specs.Answers.{AreAnswers, IsOutput}
-use Rattle.fr_command.proofs.Determined.{Answered}
+use Rattle.fr_bytes.specs.Lines.{lines_of}
+use Rattle.fr_route.specs.Answers.{AreAnswers}
+use Rattle.fr_command.specs.Outputs.{IsOutput}
+use Rattle.fr_route.proofs.Determined.{Answered}
 
 either : (b : Bool) (P Q : List ℕ → Option State → Type 0) → (out : List ℕ) × (last : Option State) × P out last → (out : List ℕ) × (last : Option State) × Q out last
     → (out : List ℕ) × (last : Option State) × MatchBool b (P out last) (Q out last)

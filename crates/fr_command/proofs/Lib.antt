@@ -1,16 +1,8 @@
-pub mod Pieces
-pub mod Cutting
-pub mod Ending
 pub mod Taking
 pub mod Served
 pub mod Determined
 pub mod EachOutput
-pub mod Asking
 pub mod Progress
-pub mod DrawnSteps
 pub mod PlayTargets
 pub mod OnePlay
 pub mod PlayEnds
-pub mod OptionRules
-pub mod OptionNumbers
-pub mod Faulting

@@ -4,7 +4,7 @@ use Rattle.std.proofs.lemmas.List.{take-append-drop}
 use Rattle.std.proofs.KnownBytes.{Appends-kept}
 use Rattle.std.specs.Io.KnownBytes.{Appends, Keeps}
 use Rattle.fr_command.specs.Plays.{IsPlayOutput, WritesPlay, WritesPlayBeginning}
-use Rattle.fr_command.specs.declared.draws.Draw.{Draw}
+use Rattle.fr_words.specs.declared.draws.Draw.{Draw}
 use Rattle.fr_command.proofs.OnePlay.{play_output_unique}
 
 module _ (draw : Draw) (bytes out : List ℕ) (count : ℕ) (output : IsPlayOutput draw bytes out count) (old mid new : Option (List ℕ)) where

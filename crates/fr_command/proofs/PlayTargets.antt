@@ -1,11 +1,11 @@
--- Which nodes a play turns, again and again; and links that a test finds.
+-- Which nodes a play turns, again and again.
 use Rattle.std.proofs.Common.{◌≡◌, ◌∙◌, ℕ, zero, suc, ◌+◌, ◌*◌, ◌-◌, ◌%◌, ◌<◌, ◌==◌, ◌&&◌, ◌||◌, Bool, true, false, cond, not, List, [], ◌∷◌, ◌++◌, length, get_or, take, map, refl, sym, ap, subst, inl, inr, arith, ⊎_elim, length-append, append-nil, eq-eqb, ne_eqb, eqb-true}
-use Rattle.std.specs.List.{repeat, list_any, Contains}
+use Rattle.std.specs.List.{repeat}
 use Rattle.std.proofs.Math.Nat.{zero-mul, suc-mul, mod-eq_of_lt, mod-eq-sub-mod, le-mul_of_pos_right}
 use Rattle.std.proofs.Math.ListN.{get_or-append}
 use Rattle.std.proofs.lemmas.Bool.{cases_lt, or_cases, or_left, or_right}
 use Rattle.std.proofs.lemmas.List.{get_or-append_right, take_more, map-append}
-use Rattle.std.proofs.lemmas.List.Folds.{list_any_at}
+use Rattle.std.proofs.lemmas.List.Folds.{Any-from_list_any, list_any-from_Any}
 use Rattle.fr_net.specs.Links.{IsNet, Points, Joins}
 use Rattle.fr_net.specs.Rows.{row}
 use Rattle.fr_net.proofs.Neighbours.{row_linked, row_alone}
@@ -57,30 +57,21 @@ pub some_nodes : (nodes : List ℕ) → false ≡ (length nodes == 0) → 0 < le
 some_nodes [] some = let none = eq-eqb (length {A = ℕ} []) 0 refl in cc
 some_nodes (x ∷ xs) some = omega arith
 
--- a link that passes a test is found by it,
-pub found : (p : ℕ × ℕ → Bool) (links : List (ℕ × ℕ)) (l : ℕ × ℕ) → Contains links l → p l ≡ true → list_any p links ≡ true
-found p links l has passes = list_any_at p links has.0 l has.1 (ap p has.2 ∙ passes)
-
--- and a test that finds one gives it
-pub found_at : (p : ℕ × ℕ → Bool) (links : List (ℕ × ℕ)) → list_any p links ≡ true → (l : ℕ × ℕ) × Contains links l × (p l ≡ true)
-found_at p [] t = cc
-found_at p (x ∷ xs) t =
-    ⊎_elim {C = (l : ℕ × ℕ) × Contains (x ∷ xs) l × (p l ≡ true)}
-    (λ here. (x, (0, omega arith, refl), here))
-    (λ later. let h = found_at p xs later in (h.0, (suc h.1.0, (let low = h.1.1 in omega arith), h.1.2), h.2))
-    (or_cases (p x) (list_any p xs) t)
+-- whether x is an end of this link
+abbrev has_end : ℕ → ℕ × ℕ → Bool
+has_end x l = (l.0 == x) || (l.1 == x)
 
 joined_linked : (links : List (ℕ × ℕ)) (x w : ℕ) → Joins links x w → is_linked links x ≡ true
-joined_linked links x w (inl h) = found (λ (l : ℕ × ℕ). (l.0 == x) || (l.1 == x)) links (x, w) h (or_left (x == x) (w == x) (eq-eqb x x refl))
-joined_linked links x w (inr h) = found (λ (l : ℕ × ℕ). (l.0 == x) || (l.1 == x)) links (w, x) h (or_right (w == x) (x == x) (eq-eqb x x refl))
+joined_linked links x w (inl h) = list_any-from_Any (has_end x) links (h.0, (x, w), h.1, h.2, or_left (x == x) (w == x) (eq-eqb x x refl))
+joined_linked links x w (inr h) = list_any-from_Any (has_end x) links (h.0, (w, x), h.1, h.2, or_right (w == x) (x == x) (eq-eqb x x refl))
 
 linked_joined : (links : List (ℕ × ℕ)) (x : ℕ) → is_linked links x ≡ true → (w : ℕ) × Joins links x w
 linked_joined links x t =
-    let is = found_at (λ (l : ℕ × ℕ). (l.0 == x) || (l.1 == x)) links t in
+    let is = Any-from_list_any (has_end x) links t in
     ⊎_elim {C = (w : ℕ) × Joins links x w}
-    (λ tail. (is.0.1, inl (subst (λ (u : ℕ). Points links u is.0.1) (eqb-true is.0.0 x tail) is.1)))
-    (λ head. (is.0.0, inr (subst (λ (v : ℕ). Points links is.0.0 v) (eqb-true is.0.1 x head) is.1)))
-    (or_cases (is.0.0 == x) (is.0.1 == x) is.2)
+    (λ tail. (is.1.1, inl (subst (λ (u : ℕ). Points links u is.1.1) (eqb-true is.1.0 x tail) (is.0, is.2, is.3))))
+    (λ head. (is.1.0, inr (subst (λ (v : ℕ). Points links is.1.0 v) (eqb-true is.1.1 x head) (is.0, is.2, is.3))))
+    (or_cases (is.1.0 == x) (is.1.1 == x) is.4)
 
 -- whether a node has links, by its row
 pub linked_by_row : (n : ℕ) (links : List (ℕ × ℕ)) (x : ℕ) → 0 < length (row n links x) → is_linked links x ≡ true

@@ -8,17 +8,18 @@ use Rattle.std.proofs.KnownBytes.{Appends-nil, Appends-trans, Appends-kept}
 use Rattle.std.specs.Io.KnownBytes.{Appends, Keeps}
 use Rattle.fr_route.specs.Blank.{is_blank}
 use Rattle.fr_route.specs.States.{State}
-use Rattle.fr_command.specs.Lines.{lines_of, asking_count}
-use Rattle.fr_command.specs.Answers.{AreAnswers, IsOutput}
-use Rattle.fr_command.proofs.Asking.{HasAsked, none_asked, asked_more}
+use Rattle.fr_bytes.specs.Lines.{lines_of}
+use Rattle.fr_command.specs.Outputs.{asking_count, IsOutput, WritesOutput, WritesBeginning, StopsAtLine}
+use Rattle.fr_route.specs.Answers.{AreAnswers}
+use Rattle.fr_route.proofs.Asking.{HasAsked, none_asked, asked_more}
 use Rattle.fr_command.proofs.EachOutput.{each_output}
 use Rattle.fr_command.proofs.Determined.{output_unique, output_begins_with, begins-trans}
-use Rattle.fr_command.specs.Outputs.{IsBeginning, WritesOutput, WritesBeginning, StopsAtLine}
+use Rattle.fr_bytes.specs.Bytes.{IsBeginning}
 
 -- the lines of the whole input up to those that are left are answered
 pub record HasAnswered (whole : List ℕ) (left : List (List ℕ)) (now : Option State) (old new : Option (List ℕ)) (count : ℕ) : Type 0 where
   pub out : List ℕ
-  pub asked : HasAsked whole left now out
+  pub asked : HasAsked (lines_of whole) left now out
   pub writes : Appends old new out
   pub counted : count ≡ asking_count asked.done
   pub within : count + length left ≤ length whole + 1
@@ -31,7 +32,7 @@ pub at_start : (whole : List ℕ) (left : List (List ℕ)) (now : Option State) 
 unfolding none_asked
 at_start whole left now old all none = rw (all, none) record {
   out = [];
-  asked = none_asked whole;
+  asked = none_asked (lines_of whole);
   writes = Appends-nil old;
   counted = refl;
   within = omega (arith, few_lines whole);
@@ -62,7 +63,7 @@ module _ (whole line : List ℕ) (left : List (List ℕ)) (now : Option State) (
   unfolding asked_more
   one_line_more next new out answered asks are more = record {
     out = h.out ++ out;
-    asked = asked_more whole line left now next h.out out h.asked are;
+    asked = asked_more (lines_of whole) line left now next h.out out h.asked are;
     writes = Appends-trans old mid new h.out out h.writes more;
     counted = (λ i. h.counted i + asks i) ∙ sym (asking_count-more h.asked.done line);
     within = omega (arith, asks, h.within, weight-le (not (is_blank line)));
@@ -71,8 +72,8 @@ module _ (whole line : List ℕ) (left : List (List ℕ)) (now : Option State) (
   -- a write failed within the line's answer
   pub stops_writing : (last : Option State) (new : Option (List ℕ)) (answer out : List ℕ) → AreAnswers now (line ∷ []) answer last → IsBeginning out answer → Appends mid new out → WritesBeginning whole old new
   stops_writing last new answer out are begins more =
-      let more_asked = asked_more whole line left now last h.out answer h.asked are in
-      let front : take (length more_asked.done) (lines_of whole) ≡ more_asked.done = rw more_asked.cut (take-append_seam more_asked.done left) in
+      let more_asked = asked_more (lines_of whole) line left now last h.out answer h.asked are in
+      let front : take (length more_asked.done) (lines_of whole) ≡ more_asked.done = ap (take (length more_asked.done)) more_asked.cut ∙ take-append_seam more_asked.done left in
       let answers : AreAnswers None (take (length more_asked.done) (lines_of whole)) (h.out ++ answer) last =
       subst (λ (ls : List (List ℕ)). AreAnswers None ls (h.out ++ answer) last) (sym front) more_asked.are_answers in
       let part : IsBeginning (h.out ++ out) (h.out ++ answer) = (begins.0, ap (λ (o : List ℕ). h.out ++ o) begins.1 ∙ sym (append_assoc h.out out begins.0)) in

@@ -8,14 +8,14 @@ use Rattle.std.proofs.KnownBytes.{Appends-trans, Appends-nil, Appends-kept, Cons
 use Rattle.std.specs.Io.KnownBytes.{Appends, Consumes, Keeps}
 use Rattle.std.specs.List.{before_first}
 use Rattle.fr_route.specs.Blank.{is_blank}
-use Rattle.fr_command.specs.Lines.{lines_of, asking_count}
-use Rattle.fr_command.specs.Answers.{IsOutput}
+use Rattle.fr_bytes.specs.Lines.{lines_of}
+use Rattle.fr_command.specs.Outputs.{asking_count, IsOutput, WritesOutput, WritesBeginning}
 use Rattle.fr_command.specs.Conversations.{Talk, Takes, Ends, Says, AnswersBefore, silence, carried}
 use Rattle.fr_command.specs.InPieces.{StopsInPiece, BeginsInPiece}
-use Rattle.fr_command.specs.Outputs.{IsBeginning, WritesOutput, WritesBeginning, most_bytes}
+use Rattle.fr_bytes.specs.Bytes.{IsBeginning, most_bytes}
 use Rattle.fr_command.proofs.Determined.{output_unique, begins-trans}
 use Rattle.fr_command.proofs.EachOutput.{each_output}
-use Rattle.fr_command.proofs.Ending.{lines_go_on, line_goes_on, begun_alone, begun_short, first_line_is, one_line, ends_line}
+use Rattle.fr_bytes.proofs.Ending.{lines_go_on, line_goes_on, begun_alone, begun_short, first_line_is, one_line, ends_line}
 use Rattle.fr_command.proofs.Taking.{takes_on, takes_none, answer_stands, output_ends}
 
 -- a fact is one for each result

@@ -2,14 +2,16 @@
 use Rattle.std.proofs.Common.{◌≡◌, ◌∙◌, ℕ, List, [], ◌∷◌, ◌++◌, append_assoc, refl, sym, ap, subst, Option, None}
 use Rattle.std.proofs.lemmas.List.{same_from_push}
 use Rattle.fr_route.specs.States.{State}
-use Rattle.fr_command.specs.Lines.{lines_of}
-use Rattle.fr_command.specs.Answers.{AreAnswers, IsOutput}
+use Rattle.fr_bytes.specs.Lines.{lines_of}
+use Rattle.fr_route.specs.Answers.{AreAnswers}
+use Rattle.fr_command.specs.Outputs.{IsOutput}
 use Rattle.fr_command.specs.Conversations.{Talk, Takes, Ends, silence}
-use Rattle.fr_command.specs.Outputs.{IsBeginning}
-use Rattle.fr_command.proofs.Asking.{answers_append}
-use Rattle.fr_command.proofs.Determined.{answers_begin, answers_unique}
+use Rattle.fr_bytes.specs.Bytes.{IsBeginning}
+use Rattle.fr_route.proofs.Asking.{answers_append}
+use Rattle.fr_command.proofs.Determined.{answers_begin}
+use Rattle.fr_route.proofs.Determined.{answers_unique}
 use Rattle.fr_command.proofs.EachOutput.{each_answers}
-use Rattle.fr_command.proofs.Ending.{parted, lines_go_on, line_goes_on}
+use Rattle.fr_bytes.proofs.Ending.{parted, lines_go_on, line_goes_on}
 
 -- some bytes, and then others
 pub takes_on : (first mid last : Talk) (xs ys p q : List ℕ) → Takes first xs p mid → Takes mid ys q last → Takes first (xs ++ ys) (p ++ q) last

@@ -4,8 +4,8 @@ use Rattle.std.specs.List.{before_first, position_or_len}
 use Rattle.std.specs.Option.{option_map_or}
 use Rattle.std.specs.Io.KnownBytes.{Appends}
 use Rattle.fr_route.specs.States.{State}
-use Rattle.fr_command.specs.Lines.{lines_of}
-use Rattle.fr_command.specs.Answers.{AreAnswers}
+use Rattle.fr_bytes.specs.Lines.{lines_of}
+use Rattle.fr_route.specs.Answers.{AreAnswers}
 
 -- the state after the lines that have ended, and the line that has begun behind them
 pub record Talk : Type 0 where

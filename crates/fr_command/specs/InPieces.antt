@@ -2,7 +2,7 @@
 use Rattle.std.specs.Prelude.{ℕ, List, take, drop, Option}
 use Rattle.std.specs.Io.KnownBytes.{Appends}
 use Rattle.fr_command.specs.Conversations.{Talk, Takes, Says, carried}
-use Rattle.fr_command.specs.Outputs.{IsBeginning}
+use Rattle.fr_bytes.specs.Bytes.{IsBeginning}
 
 -- some bytes of the piece were taken, and the answer to them was written; and this holds of the line behind them, as far as the
 -- piece has it

@@ -1,7 +1,7 @@
 -- The laws of outputs and of conversations. Each is the contract of a function of src/laws.rt.
 use Rattle.std.specs.Prelude.{◌≡◌, ℕ, List, ◌++◌}
-use Rattle.fr_command.specs.Answers.{IsOutput}
-use Rattle.fr_command.specs.Outputs.{IsBeginning}
+use Rattle.fr_command.specs.Outputs.{IsOutput}
+use Rattle.fr_bytes.specs.Bytes.{IsBeginning}
 use Rattle.fr_command.specs.Conversations.{Talk, Takes, Ends, silence}
 
 -- each input has an output text,

@@ -1,10 +1,5 @@
-pub mod Lines
-pub mod Answers
 pub mod Outputs
 pub mod Conversations
 pub mod InPieces
 pub mod Laws
-pub mod Draws
 pub mod Plays
-pub mod Commands
-pub mod Tasks

@@ -1,34 +1,19 @@
--- What a run reads and writes. Where a reader or a writer does not tell its bytes, as standard input and output do not, the
--- words of std about them say nothing.
-use Rattle.std.specs.Prelude.{◌≡◌, ℕ, ◌+◌, ◌<◌, ◌≤◌, List, ◌++◌, length, take, Option, None, Some, false, slice_get}
-use Rattle.std.specs.Io.KnownBytes.{Consumes, IsAtEnd, Appends}
+-- What a run writes. Where a writer does not tell its bytes, as standard output does not, the words of std about it say nothing.
+use Rattle.std.specs.Prelude.{◌≡◌, ℕ, List, count_by, not, take, Option, None, Some, false, slice_get}
+use Rattle.std.specs.Io.KnownBytes.{Appends}
+use Rattle.fr_bytes.specs.Bytes.{IsBeginning}
+use Rattle.fr_bytes.specs.Lines.{lines_of}
+use Rattle.fr_route.specs.Answers.{AreAnswers}
 use Rattle.fr_route.specs.Blank.{is_blank}
 use Rattle.fr_route.specs.States.{State}
-use Rattle.fr_command.specs.Lines.{lines_of, asking_count}
-use Rattle.fr_command.specs.Answers.{AreAnswers, IsOutput}
 
--- the most bytes of an input
-abbrev pub most_bytes : ℕ
-most_bytes = 16777216
+-- the output text of an input
+abbrev pub IsOutput : List ℕ → List ℕ → Type 0
+IsOutput bytes out = (last : Option State) × AreAnswers None (lines_of bytes) out last
 
--- these bytes were all that the reader had, and no more than an input may have
-abbrev pub ReadsInput : Option (List ℕ) → Option (List ℕ) → List ℕ → Type 0
-ReadsInput before after bytes = Consumes before after bytes × IsAtEnd after × (length bytes ≤ most_bytes)
-
--- the reader has given a byte
-abbrev pub ReadsSome : Option (List ℕ) → Option (List ℕ) → Type 0
-ReadsSome before after = (bytes : List ℕ) × Consumes before after bytes × (0 < length bytes)
-
--- the reader has given more bytes than an input may have, and that by one
-abbrev pub ReadsOneTooMany : Option (List ℕ) → Option (List ℕ) → Type 0
-ReadsOneTooMany before after = (bytes : List ℕ) × Consumes before after bytes × (length bytes ≡ most_bytes + 1)
-
--- the reader has given at most one byte more than an input may have
-abbrev pub ReadsAtMostOneTooMany : Option (List ℕ) → Option (List ℕ) → Type 0
-ReadsAtMostOneTooMany before after = (bytes : List ℕ) × Consumes before after bytes × (length bytes ≤ most_bytes + 1)
-
-abbrev pub IsBeginning : List ℕ → List ℕ → Type 0
-IsBeginning front whole = (rest : List ℕ) × (whole ≡ front ++ rest)
+-- how many lines are not blank
+abbrev pub asking_count : List (List ℕ) → ℕ
+asking_count lines = count_by (λ line. not (is_blank line)) lines
 
 -- what was written is the output text of these bytes, of which there is but one, and nothing else; the count is that of their
 -- lines that are not blank

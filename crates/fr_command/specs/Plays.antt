@@ -16,12 +16,12 @@ use Rattle.fr_core.specs.declared.entry.Reply.TheVariants.{Turned, Held, Moved, 
 use Rattle.fr_core.specs.declared.targets.Target.{Target}
 use Rattle.fr_core.specs.declared.targets.Target.TheVariants.{Turn}
 use Rattle.fr_route.specs.Answers.{IsRefused}
-use Rattle.fr_command.specs.Draws.{drawn}
+use Rattle.fr_words.specs.Draws.{drawn}
 use Rattle.fr_route.specs.Blank.{is_blank}
-use Rattle.fr_command.specs.Lines.{lines_of}
-use Rattle.fr_command.specs.Outputs.{IsBeginning}
+use Rattle.fr_bytes.specs.Lines.{lines_of}
+use Rattle.fr_bytes.specs.Bytes.{IsBeginning}
 use Rattle.fr_route.specs.Texts.{counts_text, links_text, refusal_text}
-use Rattle.fr_command.specs.declared.draws.Draw.{Draw}
+use Rattle.fr_words.specs.declared.draws.Draw.{Draw}
 
 -- whether x is an end of a link
 abbrev pub is_linked : List (ℕ × ℕ) → ℕ → Bool

@@ -4,12 +4,11 @@ ghost use Rattle.std.specs.Prelude.{◌≡◌, ◌≢◌, [], ◌∷◌, List, �
 ghost use Rattle.std.specs.Io.KnownBytes.{Appends, Keeps};
 ghost use Rattle.fr_route.specs.Blank.{is_blank};
 ghost use Rattle.fr_route.specs.States.{State};
-ghost use Rattle.fr_command.specs.Answers.{AreAnswers};
-ghost use Rattle.fr_command.specs.Outputs.{IsBeginning, WritesOutput, WritesBeginning, StopsAtLine};
+ghost use Rattle.fr_route.specs.Answers.{AreAnswers};
+ghost use Rattle.fr_bytes.specs.Bytes.{IsBeginning};
+ghost use Rattle.fr_command.specs.Outputs.{WritesOutput, WritesBeginning, StopsAtLine};
 
-use crate::fault::RunFault;
-use crate::lines::Lines;
-use crate::output::write_whole;
+use fr_bytes::{Lines, RunFault, write_whole};
 use fr_crew::{Gate, Plan};
 use fr_route::{AnswerFault, Session};
 use std::alloc::Global;

@@ -2,13 +2,11 @@
 
 ghost use Rattle.std.specs.Prelude.{◌≡◌, ◌≢◌, ◌<◌, ◌≤◌, ◌+◌, ◌++◌, ◌∷◌, [], length, take, false, IfOk, OnOk, OnErr};
 ghost use Rattle.fr_route.specs.Blank.{is_blank};
-ghost use Rattle.fr_command.specs.Lines.{lines_of};
-ghost use Rattle.fr_command.specs.Outputs.{most_bytes};
+ghost use Rattle.fr_bytes.specs.Lines.{lines_of};
+ghost use Rattle.fr_bytes.specs.Bytes.{most_bytes};
 ghost use Rattle.fr_command.specs.Conversations.{Takes, Ends, silence, carried, line_size, text_of};
 
-use crate::fault::RunFault;
-use crate::input::MAX_BYTES;
-use crate::lines::front_size;
+use fr_bytes::{MAX_BYTES, RunFault, front_size};
 use fr_crew::{Gate, Plan};
 use fr_route::{AnswerFault, Session};
 use std::alloc::Global;
@@ -34,8 +32,8 @@ pub struct Conversation {
 
 impl Model for Conversation {
     ghost use Rattle.std.specs.Prelude.{◌≡◌, ◌≤◌, ◌∷◌, [], length};
-    ghost use Rattle.fr_command.specs.Lines.{lines_of};
-    ghost use Rattle.fr_command.specs.Outputs.{most_bytes};
+    ghost use Rattle.fr_bytes.specs.Lines.{lines_of};
+    ghost use Rattle.fr_bytes.specs.Bytes.{most_bytes};
     ghost use Rattle.fr_command.specs.Conversations.{Talk};
 
     ghost Value = { Talk };

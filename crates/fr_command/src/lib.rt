@@ -9,27 +9,18 @@
 #![tactic(auto)]
 
 mod answers;
-mod command;
 mod conversation;
-mod draws;
 mod entries;
-mod fault;
-mod input;
 pub mod laws;
-mod lines;
-mod output;
 mod play;
 mod runs;
 mod serving;
-mod task;
+mod words;
 
 pub use conversation::{Conversation, Taken};
-pub use draws::{Draw, MAX_STEPS};
-pub use fault::{RunFault, run_end};
-pub use input::{MAX_BYTES, read_input};
-pub use lines::{Lines, first_line};
-pub use output::write_whole;
+pub use fr_bytes::{Lines, MAX_BYTES, RunFault, first_line, read_input, run_end, write_whole};
+pub use fr_words::{Draw, MAX_STEPS, Task, TaskFault, task_end};
 pub use play::play_drawn;
 pub use runs::run;
 pub use serving::serve;
-pub use task::{Task, TaskFault, task_end, task_of};
+pub use words::task_of;

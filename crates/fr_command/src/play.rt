@@ -6,20 +6,17 @@ ghost use Rattle.std.specs.Option.{option_copied};
 ghost use Rattle.fr_net.specs.Requests.{new_network};
 ghost use Rattle.fr_core.specs.Played.{IsPlay};
 ghost use Rattle.fr_route.specs.Blank.{is_blank as is_blank_line};
-ghost use Rattle.fr_command.specs.Lines.{lines_of};
-ghost use Rattle.fr_command.specs.Outputs.{ReadsInput, ReadsOneTooMany, ReadsAtMostOneTooMany};
-ghost use Rattle.fr_command.specs.Draws.{drawn};
+ghost use Rattle.fr_bytes.specs.Lines.{lines_of};
+ghost use Rattle.fr_bytes.specs.Bytes.{ReadsInput, ReadsOneTooMany, ReadsAtMostOneTooMany};
+ghost use Rattle.fr_words.specs.Draws.{drawn};
 ghost use Rattle.fr_command.specs.Plays.{targets_for, IsRefusal, IsPlayText, IsPlayOf, IsPlayOutput, WritesPlay, WritesPlayBeginning};
 
-use crate::draws::Draw;
 use crate::entries::{end_text, push_count, targets_of};
-use crate::fault::RunFault;
-use crate::input::read_input;
-use crate::lines::Lines;
-use crate::output::write_whole;
+use fr_bytes::{Lines, RunFault, read_input, write_whole};
 use fr_core::{Entry, play};
 use fr_net::{LineFault, Net, NetFault, Request, read_line};
 use fr_route::{fault_number, is_blank};
+use fr_words::Draw;
 use std::alloc::{AllocError, Global};
 use std::io::{Read, Write};
 

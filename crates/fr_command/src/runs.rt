@@ -2,11 +2,11 @@
 
 ghost use Rattle.std.specs.Prelude.{◌≡◌, ◌≢◌, ◌⊎◌, List, ℕ, IfOk};
 ghost use Rattle.std.specs.Io.KnownBytes.{Keeps};
-ghost use Rattle.fr_command.specs.Outputs.{ReadsInput, ReadsSome, ReadsOneTooMany, ReadsAtMostOneTooMany, WritesOutput, WritesBeginning, StopsAtLine};
+ghost use Rattle.fr_bytes.specs.Bytes.{ReadsInput, ReadsSome, ReadsOneTooMany, ReadsAtMostOneTooMany};
+ghost use Rattle.fr_command.specs.Outputs.{WritesOutput, WritesBeginning, StopsAtLine};
 
 use crate::answers::answer_all;
-use crate::fault::RunFault;
-use crate::input::read_input;
+use fr_bytes::{RunFault, read_input};
 use fr_crew::{Gate, Plan};
 use std::alloc::Global;
 use std::io::{Read, Write};

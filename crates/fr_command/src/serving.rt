@@ -3,15 +3,14 @@
 ghost use Rattle.std.specs.Prelude.{◌≡◌, ◌≢◌, ◌<◌, ◌≤◌, ◌+◌, ◌++◌, ◌∷◌, [], ℕ, List, length, take, false, IfOk, OnOk, OnErr, IfErr};
 ghost use Rattle.std.specs.Io.KnownBytes.{Appends, Consumes, IsAtEnd, Keeps};
 ghost use Rattle.fr_route.specs.Blank.{is_blank};
-ghost use Rattle.fr_command.specs.Lines.{asking_count, lines_of};
-ghost use Rattle.fr_command.specs.Outputs.{most_bytes, IsBeginning, WritesOutput, WritesBeginning};
+ghost use Rattle.fr_command.specs.Outputs.{asking_count, WritesOutput, WritesBeginning};
+ghost use Rattle.fr_bytes.specs.Lines.{lines_of};
+ghost use Rattle.fr_bytes.specs.Bytes.{most_bytes, IsBeginning};
 ghost use Rattle.fr_command.specs.Conversations.{Talk, Takes, Ends, Says, AnswersBefore, silence, carried, line_size, text_of};
 ghost use Rattle.fr_command.specs.InPieces.{StopsInPiece, BeginsInPiece};
 
 use crate::conversation::Conversation;
-use crate::fault::RunFault;
-use crate::input::{MAX_BYTES, PIECE, read_piece};
-use crate::output::write_whole;
+use fr_bytes::{MAX_BYTES, PIECE, RunFault, read_piece, write_whole};
 use fr_crew::{Gate, Plan};
 use std::alloc::Global;
 use std::io::{Read, Write};

@@ -1,12 +1,12 @@
--- The answer to a request and to a line is determined by the state and the request, and so are hops and reports.
-use Rattle.std.proofs.Common.{◌≡◌, ◌∙◌, ℕ, zero, suc, ◌+◌, ◌<◌, ◌++◌, List, [], ◌∷◌, get_or, length, refl, sym, ap, subst, inl, inr, arith, Option, Some, None, Result, Ok, Err}
+-- The answer to a request and to lines is determined by the state and the request, and so are hops and reports.
+use Rattle.std.proofs.Common.{◌≡◌, ◌∙◌, ℕ, zero, suc, ◌+◌, ◌<◌, ◌++◌, Bool, true, false, MatchBool, List, [], ◌∷◌, get_or, length, refl, sym, ap, subst, inl, inr, arith, Option, Some, None, Result, Ok, Err}
 use Rattle.std.proofs.lemmas.List.{ext_get_or}
 use Rattle.std.proofs.lemmas.Option.{slice_get-get_or}
 use Rattle.fr_net.specs.Batches.{IsBatchFault, IsEditFault}
 use Rattle.fr_net.specs.Edits.{without}
 use Rattle.fr_net.specs.Faults.{IsFirstFault}
 use Rattle.fr_net.specs.Network.{Network}
-use Rattle.fr_net.specs.Requests.{PlainRequest, new_network, cut_link, add_link, join_nodes, make_edits, move_dest, walk_from, ask}
+use Rattle.fr_net.specs.Requests.{PlainRequest, new_network, cut_link, add_link, join_nodes, make_edits, move_dest, walk_from, ask, reading}
 use Rattle.fr_net.specs.declared.edit.Edit.{Edit}
 use Rattle.fr_net.specs.declared.edit.Edit.TheVariants as edit
 use Rattle.fr_net.specs.declared.fault.EditFault.{EditFault}
@@ -18,10 +18,11 @@ use Rattle.fr_net.specs.declared.fault.NetFault.TheVariants.{TooMany, Range, Sel
 use Rattle.fr_net.proofs.Batches.{all_made_one, batch_fault_place, batch_not_made, cut_fault_is}
 use Rattle.fr_net.proofs.Joining.{as_first, join_not_refused, joined_one}
 use Rattle.fr_net.proofs.Refusing.{fault_place, first_fault_place, no_first_fault}
+use Rattle.fr_route.specs.Blank.{is_blank}
 use Rattle.fr_route.specs.States.{State, IsReport, IsRound, net_at}
 use Rattle.fr_route.specs.Routes.{IsHop, AreHops}
 use Rattle.fr_route.specs.Texts.{report_text, hops_text, walk_text, refusal_text}
-use Rattle.fr_route.specs.Answers.{fault_number, IsRefused, IsAccepted, IsReportLine, IsWalkLine, IsText, IsAnswer, IsLineAnswer}
+use Rattle.fr_route.specs.Answers.{fault_number, IsRefused, IsAccepted, IsReportLine, IsWalkLine, IsText, IsAnswer, IsLineAnswer, AreAnswers}
 use Rattle.fr_route.specs.declared.hops.Hop.{Hop}
 use Rattle.fr_route.specs.declared.hops.Hop.TheVariants as hop
 use Rattle.fr_route.proofs.CutNodes.{cut_unique}
@@ -176,3 +177,24 @@ line_unique s (Ok r) t u p q a b = answer_unique s r t u p q a b
 line_unique s (Err NotJson) t u p q a b = (a.0 ∙ sym b.0, a.1 ∙ sym b.1)
 line_unique s (Err NotRequest) t u p q a b = (a.0 ∙ sym b.0, a.1 ∙ sym b.1)
 line_unique s (Err LineMemory) t u p q a b = absurd a
+
+-- the answers to a line that is not blank and to those behind it
+abbrev pub Answered : Option State → List ℕ → List (List ℕ) → List ℕ → Option State → Type 0
+Answered s line rest out last =
+    (text : List ℕ) × (between : Option State) × (more : List ℕ) × IsLineAnswer s (reading line) text between × AreAnswers between rest more last × (out ≡ (text ++ 10 ∷ []) ++ more)
+
+pub by_blank : (b : Bool) (P Q R S T : Type 0) → (P → R → T) → (Q → S → T) → MatchBool b P Q → MatchBool b R S → T
+by_blank true P Q R S T f g h k = f h k
+by_blank false P Q R S T f g h k = g h k
+
+pub answers_unique : (s : Option State) (lines : List (List ℕ)) (a b : List ℕ) (p q : Option State) → AreAnswers s lines a p → AreAnswers s lines b q → (a ≡ b) × (p ≡ q)
+answers_unique s [] a b p q h k = (h.0 ∙ sym k.0, h.1 ∙ sym k.1)
+answers_unique s (line ∷ rest) a b p q h k =
+    by_blank (is_blank line) (AreAnswers s rest a p) (Answered s line rest a p) (AreAnswers s rest b q) (Answered s line rest b q) ((a ≡ b) × (p ≡ q))
+    (answers_unique s rest a b p q)
+    (λ h k.
+    let one = line_unique s (reading line) h.0 k.0 h.1 k.1 h.3 k.3 in
+    let rest_too = answers_unique k.1 rest h.2 k.2 p q (subst (λ (t : Option State). AreAnswers t rest h.2 p) one.1 h.4) k.4 in
+    let texts : (h.0 ++ 10 ∷ []) ++ h.2 ≡ (k.0 ++ 10 ∷ []) ++ k.2 = (λ i. (one.0 i ++ 10 ∷ []) ++ rest_too.0 i) in
+    (h.5 ∙ (texts ∙ sym k.5), rest_too.1))
+    h k

@@ -1,15 +1,16 @@
 -- The answer to each request and to each line, from the state before it.
-use Rattle.std.specs.Prelude.{◌≡◌, ℕ, ◌<◌, ◌≤◌, ◌⊎◌, List, ◌∷◌, Option, Some, None, Result, Ok, Err}
+use Rattle.std.specs.Prelude.{◌≡◌, ℕ, ◌<◌, ◌≤◌, ◌⊎◌, List, [], ◌∷◌, ◌++◌, MatchBool, Option, Some, None, Result, Ok, Err}
 use Rattle.fr_net.specs.Batches.{IsBatchFault}
 use Rattle.fr_net.specs.Faults.{IsFirstFault, IsFaultless, IsNetworkOf}
 use Rattle.fr_net.specs.Network.{Network}
-use Rattle.fr_net.specs.Requests.{PlainRequest, new_network, cut_link, add_link, join_nodes, make_edits, move_dest, walk_from, ask}
+use Rattle.fr_net.specs.Requests.{PlainRequest, new_network, cut_link, add_link, join_nodes, make_edits, move_dest, walk_from, ask, reading}
 use Rattle.fr_net.specs.declared.lines.requests.Question.TheVariants.{Links, Counts, Hops}
 use Rattle.fr_net.specs.declared.lines.requests.LineFault.{LineFault}
 use Rattle.fr_net.specs.declared.lines.requests.LineFault.TheVariants.{NotJson, NotRequest, Memory as LineMemory}
 use Rattle.fr_net.specs.declared.fault.EditFault.{EditFault}
 use Rattle.fr_net.specs.declared.fault.NetFault.{NetFault}
 use Rattle.fr_net.specs.declared.fault.NetFault.TheVariants.{TooMany, Range, SelfLink, Twice, Cycle, NoLink, Memory}
+use Rattle.fr_route.specs.Blank.{is_blank}
 use Rattle.fr_route.specs.States.{State, IsRound, IsReport, IsCutOff, net_at}
 use Rattle.fr_route.specs.Routes.{IsRoute, AreHops}
 use Rattle.fr_route.specs.Changes.{CanTurnAfter, IsBatch, IsChanged, IsChangeFault, IsMoved, IsStill, MayStart}
@@ -94,6 +95,14 @@ IsLineAnswer s (Ok request) text next = IsAnswer s request text next
 IsLineAnswer s (Err NotJson) text next = (text ≡ refusal_text 1) × (next ≡ s)
 IsLineAnswer s (Err NotRequest) text next = (text ≡ refusal_text 2) × (next ≡ s)
 IsLineAnswer s (Err LineMemory) text next = ⊥
+
+-- the answers to lines, each ended by byte 10, and the state after them: a blank line has no answer
+abbrev pub AreAnswers : Option State → List (List ℕ) → List ℕ → Option State → Type 0
+AreAnswers s [] out next = (out ≡ []) × (next ≡ s)
+AreAnswers s (line ∷ rest) out next =
+    MatchBool (is_blank line) (AreAnswers s rest out next)
+    ((text : List ℕ) × (between : Option State) × (more : List ℕ)
+    × IsLineAnswer s (reading line) text between × AreAnswers between rest more next × (out ≡ (text ++ 10 ∷ []) ++ more))
 
 -- a thread may be wanted for a new network: it is accepted, and a node can turn on it
 abbrev pub MayStartNew : ℕ → ℕ → List (ℕ × ℕ) → Type 0

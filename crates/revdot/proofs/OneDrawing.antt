@@ -6,9 +6,8 @@ use Rattle.fr_core.specs.History.{Moment}
 use Rattle.fr_core.specs.Legal.{NoneCanTurn}
 use Rattle.fr_route.specs.States.{State}
 use Rattle.fr_route.specs.declared.hops.Hop.{Hop}
-use Rattle.fr_route.proofs.Determined.{hops_unique}
-use Rattle.fr_command.specs.Lines.{lines_of}
-use Rattle.fr_command.proofs.Determined.{answers_unique}
+use Rattle.fr_route.proofs.Determined.{hops_unique, answers_unique}
+use Rattle.fr_bytes.specs.Lines.{lines_of}
 use Rattle.revdot.specs.Drawings.{IsDrawing, IsPictureOf}
 use Rattle.revdot.specs.Graphs.{graph_text}
 use Rattle.revdot.specs.Settled.{IsGraphOf, settled_node, settled_link}

@@ -7,7 +7,7 @@ use Rattle.fr_net.specs.declared.lines.requests.Question.TheVariants.{Links, Cou
 use Rattle.fr_route.specs.Blank.{is_blank}
 use Rattle.fr_route.specs.States.{State}
 use Rattle.fr_route.proofs.Determined.{answer_unique, line_unique}
-use Rattle.fr_command.specs.Lines.{lines_of}
+use Rattle.fr_bytes.specs.Lines.{lines_of}
 use Rattle.revdot.specs.Pages.{IsPage}
 use Rattle.revdot.specs.Stories.{AreBlocks, AreSettledLines, IsAnswerLine, IsAnswered, IsBlock, IsRoundStory, IsToldRound, IsTurnByTurn, about_text, answer_text, beginning_text, is_short, most_told_turns, net_text, reports_round}
 use Rattle.revdot.specs.Strips.{beginning}

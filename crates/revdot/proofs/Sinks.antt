@@ -3,11 +3,10 @@ use Rattle.std.proofs.Common.{◌≡◌, ◌≢◌, ◌∙◌, ℕ, ◌+◌, ◌
 use Rattle.std.proofs.Math.Bool.{or-false, or-true}
 use Rattle.std.proofs.lemmas.Bool.{cases_eq}
 use Rattle.std.proofs.lemmas.List.{get_or-set_other, get_or-set_same, get_or_default}
-use Rattle.std.proofs.lemmas.List.Folds.{list_any_more}
+use Rattle.std.proofs.lemmas.List.Folds.{Any-from_list_any, list_any-from_Any, list_any_more}
 use Rattle.std.specs.List.{list_any}
 use Rattle.fr_net.specs.Links.{Points}
 use Rattle.fr_net.specs.Turn.{IsSink}
-use Rattle.fr_command.proofs.PlayTargets.{found, found_at}
 use Rattle.revdot.specs.Ends.{HaveEnds}
 
 -- the marks of the ends of one link more
@@ -47,20 +46,21 @@ module _ (n x : ℕ) (tails heads : List Bool) (links : List (ℕ × ℕ)) (ends
   -- a head that is no tail
   pub sink : slice_index_or heads x false ≡ true → slice_index_or tails x false ≡ false → IsSink links x
   sink head no_tail =
-      let h = found_at (λ (l : ℕ × ℕ). l.1 == x) links (sym (ends.heads_are x node) ∙ head) in (
-        (h.0.0, subst (λ (y : ℕ). Points links h.0.0 y) (eqb-true h.0.1 x h.2) h.1),
+      let h = Any-from_list_any (λ (l : ℕ × ℕ). l.1 == x) links (sym (ends.heads_are x node) ∙ head) in (
+        (h.1.0, subst (λ (y : ℕ). Points links h.1.0 y) (eqb-true h.1.1 x h.4) (h.0, h.2, h.3)),
         λ w out.
-            let is = found (λ (l : ℕ × ℕ). l.0 == x) links (x, w) out (eq-eqb x x refl) in
+            let is = list_any-from_Any (λ (l : ℕ × ℕ). l.0 == x) links (out.0, (x, w), out.1, out.2, eq-eqb x x refl) in
             let tail = ends.tails_are x node in
             cc,
       )
 
   pub tail_is_none : slice_index_or tails x false ≡ true → ¬ IsSink links x
-  tail_is_none tail s = let h = found_at (λ (l : ℕ × ℕ). l.0 == x) links (sym (ends.tails_are x node) ∙ tail) in
-      s.1 h.0.1 (subst (λ (y : ℕ). Points links y h.0.1) (eqb-true h.0.0 x h.2) h.1)
+  tail_is_none tail s = let h = Any-from_list_any (λ (l : ℕ × ℕ). l.0 == x) links (sym (ends.tails_are x node) ∙ tail) in
+      s.1 h.1.1 (subst (λ (y : ℕ). Points links y h.1.1) (eqb-true h.1.0 x h.4) (h.0, h.2, h.3))
 
   pub no_head_is_none : slice_index_or heads x false ≡ false → ¬ IsSink links x
   no_head_is_none head s =
-      let is = found (λ (l : ℕ × ℕ). l.1 == x) links (s.0.0, x) s.0.1 (eq-eqb x x refl) in
+      let into = s.0.1 in
+      let is = list_any-from_Any (λ (l : ℕ × ℕ). l.1 == x) links (into.0, (s.0.0, x), into.1, into.2, eq-eqb x x refl) in
       let heads_are = ends.heads_are x node in
       cc

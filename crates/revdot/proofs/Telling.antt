@@ -3,7 +3,7 @@ use Rattle.std.proofs.Common.{◌≡◌, ◌∙◌, ℕ, ◌+◌, ◌≤◌, ◌
 use Rattle.std.proofs.lemmas.List.Splits.{length-slice_split}
 use Rattle.std.proofs.lemmas.List.Sums.{count_by-le-length}
 use Rattle.fr_route.specs.States.{State}
-use Rattle.fr_command.specs.Lines.{lines_of}
+use Rattle.fr_bytes.specs.Lines.{lines_of}
 use Rattle.std.specs.Prelude.{Result, Ok, Err, OnOk, codes}
 use Rattle.fr_net.specs.declared.lines.requests.Question.TheVariants.{Links, Counts, Hops}
 use Rattle.fr_net.specs.Requests.{reading}

@@ -2,9 +2,9 @@
 use Rattle.std.specs.Prelude.{◌≡◌, ℕ, List, [], Option, Some, None}
 use Rattle.std.specs.Io.KnownBytes.{Appends}
 use Rattle.fr_route.specs.States.{State}
-use Rattle.fr_command.specs.Answers.{AreAnswers}
-use Rattle.fr_command.specs.Lines.{lines_of}
-use Rattle.fr_command.specs.Outputs.{IsBeginning}
+use Rattle.fr_route.specs.Answers.{AreAnswers}
+use Rattle.fr_bytes.specs.Lines.{lines_of}
+use Rattle.fr_bytes.specs.Bytes.{IsBeginning}
 use Rattle.revdot.specs.Settled.{IsGraphOf}
 use Rattle.revdot.specs.Strips.{IsStripOf}
 use Rattle.revdot.specs.declared.drawing.Picture.{Picture}

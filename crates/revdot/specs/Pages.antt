@@ -1,7 +1,7 @@
 -- The page of an input.
 use Rattle.std.specs.Prelude.{◌≡◌, ℕ, List, ◌++◌, Option}
 use Rattle.std.specs.Io.KnownBytes.{Appends}
-use Rattle.fr_command.specs.Outputs.{IsBeginning}
+use Rattle.fr_bytes.specs.Bytes.{IsBeginning}
 use Rattle.revdot.specs.Stories.{IsStory}
 
 -- the story of the input between the two parts of the viewer

@@ -8,7 +8,7 @@ use Rattle.fr_route.specs.Answers.{IsAnswer, IsLineAnswer}
 use Rattle.fr_route.specs.Blank.{is_blank}
 use Rattle.fr_route.specs.States.{State}
 use Rattle.fr_route.specs.Texts.{spaced, spaced_links}
-use Rattle.fr_command.specs.Lines.{lines_of}
+use Rattle.fr_bytes.specs.Lines.{lines_of}
 use Rattle.revdot.specs.Asked.{asked_text}
 use Rattle.revdot.specs.Strips.{AreAllTurns, BeginsTheRound, beginning}
 

@@ -2,14 +2,14 @@
 
 ghost use Rattle.std.specs.Prelude.{◌≡◌, ◌≢◌, List, ℕ, IfOk, IfErr, string_bytes};
 ghost use Rattle.std.specs.Io.KnownBytes.{Keeps};
-ghost use Rattle.fr_command.specs.Outputs.{ReadsInput, ReadsOneTooMany, ReadsAtMostOneTooMany};
+ghost use Rattle.fr_bytes.specs.Bytes.{ReadsInput, ReadsOneTooMany, ReadsAtMostOneTooMany};
 ghost use Rattle.revdot.specs.Drawings.{IsDrawing, IsPictureOf, WritesDrawing, WritesBeginningOfDrawing};
 
 use crate::settled::push_settled;
 use crate::standing::session_after;
 use crate::strips::push_strip;
 use crate::writing::write_out;
-use fr_command::{RunFault, read_input};
+use fr_bytes::{RunFault, read_input};
 use fr_route::Session;
 use std::alloc::{AllocError, Global};
 use std::io::{Read, Write};

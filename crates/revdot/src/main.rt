@@ -16,7 +16,7 @@ mod viewer;
 mod writing;
 
 use drawing::{Picture, draw};
-use fr_command::RunFault;
+use fr_bytes::RunFault;
 use fr_route::VERSION;
 use page::page;
 use std::alloc::Global;

@@ -2,12 +2,12 @@
 
 ghost use Rattle.std.specs.Prelude.{◌≡◌, ◌≢◌, List, ℕ, IfOk, IfErr, string_bytes};
 ghost use Rattle.std.specs.Io.KnownBytes.{Keeps};
-ghost use Rattle.fr_command.specs.Outputs.{ReadsInput, ReadsOneTooMany, ReadsAtMostOneTooMany};
+ghost use Rattle.fr_bytes.specs.Bytes.{ReadsInput, ReadsOneTooMany, ReadsAtMostOneTooMany};
 ghost use Rattle.revdot.specs.Pages.{IsPage, WritesPage, WritesBeginningOfPage};
 
 use crate::story::push_story;
 use crate::writing::write_out;
-use fr_command::{RunFault, read_input};
+use fr_bytes::{RunFault, read_input};
 use std::alloc::{AllocError, Global};
 use std::io::{Read, Write};
 

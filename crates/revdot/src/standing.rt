@@ -1,10 +1,10 @@
 //! The session that the lines of an input leave.
 
 ghost use Rattle.std.specs.Prelude.{◌≡◌, ◌∷◌, [], ℕ, IfOk, List, None, OnOk};
-ghost use Rattle.fr_command.specs.Answers.{AreAnswers};
+ghost use Rattle.fr_route.specs.Answers.{AreAnswers};
 ghost use Rattle.revdot.specs.Drawings.{IsLeftBy};
 
-use fr_command::Lines;
+use fr_bytes::Lines;
 use fr_route::Session;
 use std::alloc::{AllocError, Global};
 

@@ -8,7 +8,7 @@ ghost use Rattle.revdot.specs.Stories.{IsBlock, IsRoundStory, IsStory, about_tex
 
 use crate::asked::push_asked;
 use crate::rounds::push_round;
-use fr_command::Lines;
+use fr_bytes::Lines;
 use fr_route::Session;
 use std::alloc::{AllocError, Global};
 use std::fmt::Write;

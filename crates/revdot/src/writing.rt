@@ -2,9 +2,9 @@
 
 ghost use Rattle.std.specs.Prelude.{◌≡◌, List, ℕ, IfErr, OnErr, OnOk};
 ghost use Rattle.std.specs.Io.KnownBytes.{Appends};
-ghost use Rattle.fr_command.specs.Outputs.{IsBeginning};
+ghost use Rattle.fr_bytes.specs.Bytes.{IsBeginning};
 
-use fr_command::{RunFault, write_whole};
+use fr_bytes::{RunFault, write_whole};
 use std::io::Write;
 
 /// Writes a whole text, and flushes once.

@@ -10,6 +10,7 @@
 #![tactic(auto)]
 
 mod answers;
+mod callers;
 mod cases;
 mod changes;
 mod gates;

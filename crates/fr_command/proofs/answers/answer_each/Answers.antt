@@ -1,6 +1,6 @@
 use Rattle.std.proofs.Common.{Err, List, ℕ, ap, not, subst, sym, ◌∙◌, ◌≡◌, arith}
 use Rattle.fr_route.specs.Blank.{is_blank}
-use Rattle.fr_command.specs.Lines.{lines_left, lines_of}
+use Rattle.fr_bytes.specs.Lines.{lines_left, lines_of}
 use Rattle.fr_command.proofs.Progress.{HasAnswered, at_start, next_line, one_line_more, stops_writing, stops_at_line, all_answered, weight-le}
 use Rattle.fr_command.proofs.answers.answer_each.Goals as goal
 

@@ -1,4 +1,4 @@
-use Rattle.fr_command.specs.Lines.{lines_left}
+use Rattle.fr_bytes.specs.Lines.{lines_left}
 use Rattle.fr_command.proofs.Progress.{HasAnswered}
 use Rattle.fr_command.proofs.answers.answer_each.Given as goal
 

@@ -3,7 +3,7 @@ use Rattle.std.proofs.Math.Seq.{take-add}
 use Rattle.std.proofs.lemmas.List.{take_all}
 use Rattle.fr_route.specs.Blank.{is_blank}
 use Rattle.fr_command.specs.Conversations.{Says, line_size}
-use Rattle.fr_command.specs.Outputs.{most_bytes}
+use Rattle.fr_bytes.specs.Bytes.{most_bytes}
 use Rattle.fr_command.proofs.Served.{says_nothing, says_on, says_kept, says_begins, begins_later, stops_later, on_ok}
 use Rattle.fr_command.proofs.serving.answer_piece.Goals as goal
 

@@ -1,7 +1,7 @@
 use Rattle.std.proofs.Common.{List, string_bytes, ℕ}
 use Rattle.std.proofs.lemmas.Result.{IfErr-at_err, on_ok_weaker}
 use Rattle.std.specs.Io.KnownBytes.{Appends}
-use Rattle.fr_command.specs.Outputs.{IsBeginning}
+use Rattle.fr_bytes.specs.Bytes.{IsBeginning}
 use Rattle.revdot.specs.Drawings.{IsDrawing, IsOnly}
 use Rattle.revdot.proofs.OneDrawing.{drawing_unique}
 use Rattle.revdot.proofs.drawing.draw.Goals as goal

@@ -1,5 +1,5 @@
 use Rattle.std.proofs.Common.{ap, ◌∙◌, ◌≡◌}
-use Rattle.fr_command.specs.Lines.{lines_left, lines_of}
+use Rattle.fr_bytes.specs.Lines.{lines_left, lines_of}
 use Rattle.revdot.proofs.Asking.{at_start, one_line_more, all_asked}
 use Rattle.revdot.proofs.standing.ask_each.Goals as goal
 

@@ -1,4 +1,4 @@
-use Rattle.fr_command.specs.Lines.{lines_left}
+use Rattle.fr_bytes.specs.Lines.{lines_left}
 use Rattle.revdot.proofs.Asking.{IsAsked}
 use Rattle.revdot.proofs.standing.ask_each.Given as goal
 

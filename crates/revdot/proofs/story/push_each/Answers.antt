@@ -1,5 +1,5 @@
 use Rattle.std.proofs.Common.{ap, string_bytes, ◌∙◌, ◌≡◌}
-use Rattle.fr_command.specs.Lines.{lines_left, lines_of}
+use Rattle.fr_bytes.specs.Lines.{lines_left, lines_of}
 use Rattle.revdot.proofs.Telling.{at_start, next_line, one_line_more, all_told}
 use Rattle.revdot.proofs.story.push_each.Goals as goal
 

@@ -1,5 +1,5 @@
 use Rattle.std.proofs.Common.{string_bytes}
-use Rattle.fr_command.specs.Lines.{lines_left}
+use Rattle.fr_bytes.specs.Lines.{lines_left}
 use Rattle.revdot.proofs.Telling.{HasTold}
 use Rattle.revdot.proofs.story.push_each.Given as goal
 

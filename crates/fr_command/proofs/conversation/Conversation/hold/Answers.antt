@@ -1,7 +1,7 @@
 use Rattle.std.proofs.Common.{◌≡◌, ◌≤◌, ◌∙◌, ◌++◌, ◌∷◌, [], List, ℕ, length, length-append, sym, subst, arith}
-use Rattle.fr_command.specs.Lines.{lines_of}
-use Rattle.fr_command.specs.Outputs.{most_bytes}
-use Rattle.fr_command.proofs.Ending.{line_goes_on}
+use Rattle.fr_bytes.specs.Lines.{lines_of}
+use Rattle.fr_bytes.specs.Bytes.{most_bytes}
+use Rattle.fr_bytes.proofs.Ending.{line_goes_on}
 use Rattle.fr_command.proofs.conversation.Conversation.hold.Goals as goal
 
 pub invariant_of-self : goal.invariant_of-self

@@ -2,8 +2,8 @@ use Rattle.std.proofs.Common.{◌≡◌, ◌∙◌, ◌+◌, ◌++◌, ◌∷◌
 use Rattle.std.proofs.lemmas.List.Sums.{prefix_len-le-length}
 use Rattle.std.specs.List.{before_first}
 use Rattle.fr_command.specs.Conversations.{Talk, text_of}
-use Rattle.fr_command.specs.Lines.{lines_of}
-use Rattle.fr_command.proofs.Ending.{ends_line, first_line_ends, front_alone}
+use Rattle.fr_bytes.specs.Lines.{lines_of}
+use Rattle.fr_bytes.proofs.Ending.{ends_line, first_line_ends, front_alone}
 use Rattle.fr_command.proofs.Taking.{takes_none, takes_line}
 use Rattle.fr_command.proofs.conversation.Conversation.take.Goals as goal
 

@@ -1,0 +1,74 @@
+//! Reading the whole input.
+
+ghost use Rattle.fr_bytes.specs.declared.input.TheConstants.{MAX_BYTES};
+ghost use Rattle.std.specs.Prelude.{◌≡◌, ◌≢◌, ◌<◌, ◌≤◌, length, take, IfOk, IfErr, OnErr};
+ghost use Rattle.std.specs.Io.KnownBytes.{Consumes, Keeps, IsAtEnd};
+ghost use Rattle.fr_bytes.specs.Bytes.{ReadsInput, ReadsSome, ReadsOneTooMany, ReadsAtMostOneTooMany};
+
+use crate::fault::RunFault;
+use std::alloc::Global;
+use std::io::Read;
+
+/// The most bytes of an input.
+pub const MAX_BYTES: usize = 16_777_216;
+
+/// How many bytes of an input are asked for at once.
+pub const PIECE: usize = 65_536;
+
+/// All that the reader has, if that is at most [`MAX_BYTES`]; whatever the result, at most one byte more is read. `Read` where a
+/// read failed, `TooLong` where the reader has more, `Memory` where bytes that it gave found no room; never `Write` or `Start`. Linear in
+/// what is read.
+pub fn read_input<R: Read>(alloc: Global, reader: &mut R) -> Result<Vec<u8>, RunFault>
+    ensures ok { IfOk result (λ input. ReadsInput (R.remaining reader.old) (R.remaining reader.new) input.items) }
+    ensures limit { ReadsAtMostOneTooMany (R.remaining reader.old) (R.remaining reader.new) }
+    ensures too_long { result ≡ Err RunFault.TooLong → ReadsOneTooMany (R.remaining reader.old) (R.remaining reader.new) }
+    ensures memory { result ≡ Err RunFault.Memory → ReadsSome (R.remaining reader.old) (R.remaining reader.new) }
+    ensures no_write { result ≢ Err RunFault.Write }
+    ensures no_start { result ≢ Err RunFault.Start }
+{
+    let mut piece = [0u8; PIECE];
+    read_by_pieces(alloc, reader, &mut piece)
+}
+
+/// The same, by reads of at most so many bytes as this piece has.
+fn read_by_pieces<R: Read>(
+    alloc: Global,
+    reader: &mut R,
+    piece: &mut [u8],
+) -> Result<Vec<u8>, RunFault>
+    requires { 0 < length piece.old }
+    ensures ok { IfOk result (λ input. ReadsInput (R.remaining reader.old) (R.remaining reader.new) input.items) }
+    ensures limit { ReadsAtMostOneTooMany (R.remaining reader.old) (R.remaining reader.new) }
+    ensures too_long { result ≡ Err RunFault.TooLong → ReadsOneTooMany (R.remaining reader.old) (R.remaining reader.new) }
+    ensures memory { result ≡ Err RunFault.Memory → ReadsSome (R.remaining reader.old) (R.remaining reader.new) }
+    ensures no_write { result ≢ Err RunFault.Write }
+    ensures no_start { result ≢ Err RunFault.Start }
+{
+    let mut input = Vec::new(alloc);
+    'reads: while input.len() <= MAX_BYTES {
+        let room = piece.len().min(MAX_BYTES + 1 - input.len());
+        let count = read_piece(reader, &mut piece[..room])?;
+        if count == 0 {
+            return Ok(input);
+        }
+        if input.extend_from_slice(&piece[..count]).is_err() {
+            return Err(RunFault::Memory);
+        }
+    }
+    Err(RunFault::TooLong)
+}
+
+/// Reads once, into a piece, and tells how many bytes came. Where the piece has room, a read that succeeds brings a byte, or the
+/// reader is at its end; a read that fails is `Read`. It costs what the read does.
+pub fn read_piece<R: Read>(reader: &mut R, piece: &mut [u8]) -> Result<usize, RunFault>
+    ensures brings { IfOk result (λ count. count ≡ 0 → 0 < length piece.old → IsAtEnd (R.remaining reader.new)) }
+    ensures bytes { IfOk result (λ count. Consumes (R.remaining reader.old) (R.remaining reader.new) (take count piece.new)) }
+    ensures bound { IfOk result (λ count. count ≤ length piece.old) }
+    ensures fault { IfErr result (λ fault. fault ≡ RunFault.Read) }
+    ensures kept { OnErr result (Keeps (R.remaining reader.old) (R.remaining reader.new)) }
+{
+    match reader.read(piece) {
+        Ok(count) => Ok(count),
+        Err(_) => Err(RunFault::Read),
+    }
+}

@@ -1,0 +1,4 @@
+pub mod DrawnSteps
+pub mod OptionRules
+pub mod OptionNumbers
+pub mod Faulting

@@ -1,0 +1,18 @@
+-- What a getter reads of an option of the command line.
+use Rattle.std.proofs.Common.{◌≡◌, ℕ, List, Option, Some, None, Result, Ok, IfSome, ap, sym, refl}
+use Rattle.std.specs.Str.Parse.{ParsesUnsigned}
+use Rattle.clap.specs.Words.{Text, rows_of, one_text, ReadsOne}
+use Rattle.clap.proofs.WalkLemmas.{one_text-rows}
+use Rattle.clap.specs.declared.parser.matches.Found.{Found}
+use Rattle.fr_words.specs.Commands.{number_of}
+
+pub number_read : (E : Type 0) (k : ℕ) (G : List ℕ → Result ℕ E → Type 0) (f : Found) (name : Text) → ((u : List ℕ) (x : Result ℕ E) → G u x → ParsesUnsigned k 10 u x)
+    → (r : Option ℕ) → (one_text f name ≡ None → r ≡ None) → ((t : List ℕ) → one_text f name ≡ Some t → ReadsOne G t r) → IfSome r (λ n. number_of name (rows_of f) ≡ Some n)
+number_read E k G f name parses None none value = tt
+number_read E k G f name parses (Some n) none value = go (one_text f name) refl
+  where
+    go : (o : Option (List ℕ)) → one_text f name ≡ o → number_of name (rows_of f) ≡ Some n
+    go None e = let bad = none e in cc
+    go (Some t) e =
+        let is = (parses t (Ok n) (value t e)).1 in
+        rw (← one_text-rows f name, e) (ap Some (sym is))

@@ -1,0 +1,61 @@
+-- The command line, as `clap` reads it:
+--     revroute run [--workers N] [--seed S] [--budget B]
+--     revroute serve [--workers N] [--seed S] [--budget B]
+--     revroute play [--workers N] [--seed S] [--steps M]
+use Rattle.std.specs.Prelude.{ℕ, List, [], ◌∷◌, Option, Some, true, pos, codes, option_map}
+use Rattle.std.specs.Str.Parse.{digits_value, without_leading_plus}
+use Rattle.clap.specs.Walk.{Row, Rule, Text, one_of}
+use Rattle.clap.specs.Simple.{App, Shape, new_app, new_rule, on_top, with_rule, with_subcommand}
+use Rattle.clap.specs.declared.builder.value_parser.ValueParser.{ValueParser}
+use Rattle.clap.specs.declared.builder.value_parser.ValueParser.TheVariants.{Signed, Unsigned}
+use Rattle.fr_core.specs.Limits.{most_workers}
+use Rattle.fr_words.specs.Draws.{most_steps}
+
+-- an option of this name with one number of these, and the text that stands for it where it is not given
+abbrev pub option : Text → Text → ValueParser → Rule
+option name default numbers =
+    record (new_rule name) { long = Some name; value_names = 1; defaults = default ∷ []; parser = Some numbers }
+
+-- 1 to as many workers as there may be
+abbrev pub workers_option : Text → Rule
+workers_option default = option (codes "workers") default (Signed (pos 1) (pos most_workers))
+
+-- 0 to 18,446,744,073,709,551,615
+abbrev pub seed_option : Rule
+seed_option = option (codes "seed") (codes "0") (Unsigned 0 18446744073709551615)
+
+-- the largest budget that the command line takes
+abbrev pub most_budget : ℕ
+most_budget = 1000000000
+
+abbrev pub budget_option : Rule
+budget_option = option (codes "budget") (codes "1000000") (Signed (pos 0) (pos most_budget))
+
+abbrev pub steps_option : Rule
+steps_option = option (codes "steps") (codes "100") (Signed (pos 0) (pos most_steps))
+
+-- a subcommand of this name that settles networks by a plan
+abbrev pub answering : Text → App
+answering name = with_rule (with_rule (with_rule (new_app name) (workers_option (codes "4"))) seed_option) budget_option
+
+abbrev pub run_command : App
+run_command = answering (codes "run")
+
+abbrev pub serve_command : App
+serve_command = answering (codes "serve")
+
+abbrev pub play_command : App
+play_command = with_rule (with_rule (with_rule (new_app (codes "play")) (workers_option (codes "2"))) seed_option) steps_option
+
+-- a command that tells its version, and one of whose subcommands has to be given
+abbrev pub program : Shape → Shape
+program s = record s { has_version = true; subcommand_required = true }
+
+-- the program's command
+abbrev pub command : App
+command =
+    with_subcommand (with_subcommand (with_subcommand (on_top program (new_app (codes "revroute"))) run_command.top) serve_command.top) play_command.top
+
+-- the number that an option of the words has
+abbrev pub number_of : Text → List Row → Option ℕ
+number_of name rows = option_map (λ text. digits_value 10 (without_leading_plus text)) (one_of name rows)

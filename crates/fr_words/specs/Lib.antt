@@ -1,0 +1,3 @@
+pub mod Draws
+pub mod Commands
+pub mod Tasks

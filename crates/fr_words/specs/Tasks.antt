@@ -1,0 +1,58 @@
+-- What a command line asks for.
+use Rattle.std.specs.Prelude.{◌≡◌, ◌≢◌, ◌≤◌, ◌↔◌, ◌⊎◌, ⊤, IsTrue, List, [], Some, codes}
+use Rattle.clap.specs.Walk.{Row, Text}
+use Rattle.clap.specs.Simple.{subcommand_of}
+use Rattle.clap.specs.Faults.{fault_of}
+use Rattle.clap.specs.Kinds.{IsAmong}
+use Rattle.clap.specs.declared.error.kind.ErrorKind.{ErrorKind}
+use Rattle.clap.specs.declared.error.kind.ErrorKind.TheVariants.{DisplayHelp, DisplayVersion, OutOfMemory}
+use Rattle.fr_core.specs.Limits.{most_workers}
+use Rattle.fr_crew.specs.declared.plan.Plan.{Plan}
+use Rattle.fr_words.specs.Draws.{most_steps}
+use Rattle.fr_words.specs.Commands.{command, most_budget, number_of}
+use Rattle.fr_words.specs.declared.draws.Draw.{Draw}
+use Rattle.fr_words.specs.declared.task.Task.{Task}
+use Rattle.fr_words.specs.declared.task.Task.TheVariants.{Run, Serve, Play}
+use Rattle.fr_words.specs.declared.task.TaskFault.{TaskFault}
+use Rattle.fr_words.specs.declared.task.TaskFault.TheVariants.{Usage, Memory}
+
+-- the plan has the numbers of these options, each in its range
+abbrev pub IsPlanIn : List Row → Plan → Type 0
+IsPlanIn rows plan =
+    (number_of (codes "workers") rows ≡ Some plan.workers) × (1 ≤ plan.workers) × (plan.workers ≤ most_workers)
+    × (number_of (codes "seed") rows ≡ Some plan.seed)
+    × (number_of (codes "budget") rows ≡ Some plan.budget) × (plan.budget ≤ most_budget)
+
+-- and so the draw
+abbrev pub IsDrawIn : List Row → Draw → Type 0
+IsDrawIn rows draw =
+    (number_of (codes "workers") rows ≡ Some draw.workers) × (1 ≤ draw.workers) × (draw.workers ≤ most_workers)
+    × (number_of (codes "seed") rows ≡ Some draw.seed)
+    × (number_of (codes "steps") rows ≡ Some draw.steps) × (draw.steps ≤ most_steps)
+
+-- the task is that of the subcommand of this name, with the numbers of its options
+abbrev pub IsTaskOf : Text → List Row → Task → Type 0
+IsTaskOf name rows (Run plan) = (name ≡ codes "run") × IsPlanIn rows plan
+IsTaskOf name rows (Serve plan) = (name ≡ codes "serve") × IsPlanIn rows plan
+IsTaskOf name rows (Play draw) = (name ≡ codes "play") × IsDrawIn rows draw
+
+-- the task is that of the words, in which `clap` finds no fault, as it reads them: where an option is not given, its number is
+-- the default
+abbrev pub IsTaskIn : List Text → Task → Type 0
+IsTaskIn words task =
+    (fault_of command words ≡ [])
+    × ((name : Text) × (rows : List Row) × (subcommand_of command words ≡ Some (name, rows)) × IsTaskOf name rows task)
+
+-- the words ask for a text: help or the version
+abbrev pub IsAsking : ErrorKind → Type 0
+IsAsking kind = (kind ≡ DisplayHelp) ⊎ (kind ≡ DisplayVersion)
+
+-- what is said of an error of this kind: that a text was asked for, where it was
+abbrev pub IsUsageOf : ErrorKind → TaskFault → Type 0
+IsUsageOf kind (Usage text asked) = (kind ≢ OutOfMemory) × (IsTrue asked ↔ IsAsking kind)
+IsUsageOf kind Memory = ⊤
+
+-- the words are not those of the command, by one of the kinds of error that `clap` has for them; want of memory may come at all words
+abbrev pub IsFaultOf : List Text → TaskFault → Type 0
+IsFaultOf words (Usage text asked) = (kind : ErrorKind) × IsAmong kind (fault_of command words) × (IsTrue asked ↔ IsAsking kind)
+IsFaultOf words Memory = ⊤

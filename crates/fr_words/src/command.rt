@@ -1,0 +1,242 @@
+//! The command line, as `clap` is to read it.
+
+ghost use Rattle.std.specs.Prelude.{◌≡◌, [], IfOk, IfErr, map, codes, pos, false};
+ghost use Rattle.clap.specs.Simple.{on_top};
+ghost use Rattle.clap.specs.Words.{HasKind, app_of, fault_of, new_app, rule_of, subcommand_of, subcommand_rows_of, with_rule, with_subcommand};
+ghost use Rattle.clap.specs.declared.builder.command.Command.TheViews.{out-Command};
+ghost use Rattle.fr_core.specs.Limits.{most_workers};
+ghost use Rattle.fr_words.specs.Draws.{most_steps};
+ghost use Rattle.fr_words.specs.Commands.{command, most_budget, program, run_command as run_command_of, serve_command as serve_command_of, play_command as play_command_of, answering as answering_of, option as option_of};
+
+use crate::draws::MAX_STEPS;
+use clap::builder::ValueParser;
+use clap::{Arg, ArgMatches, Command, Error, value_parser};
+use fr_core::MAX_WORKERS;
+use std::alloc::{AllocError, Global};
+
+const ABOUT: &str =
+    "Keeps a network of directed links free of loops, and turns its links by full reversal until they lead to one destination";
+
+const EXAMPLE: &str = "Example:\n  revroute run < requests > answers";
+
+const RUN_ABOUT: &str =
+    "Answers requests: a line of JSON each on standard input, a line of text each on standard output";
+
+const RUN_EXAMPLE: &str = "\
+Requests:
+  [\"net\",N,D,[[U,V],..]]  take the network of N nodes with destination D and links from U to V
+  [\"cut\",U,V]            take out the link between two nodes
+  [\"add\",U,V]            add a link from U to V
+  [\"join\",U,V]           add a link, whichever way it can point
+  [\"batch\",[EDIT,..]]    make edits of these three kinds, in one round
+  [\"dest\",D]             take another destination
+  [\"walk\",X]             tell the route of node X
+  [\"links\"]  [\"counts\"]  [\"hops\"]  tell all links, counts or next hops
+
+Example:
+  echo '[\"net\",3,0,[[0,1],[1,2]]]' | revroute run --workers 2";
+
+const SERVE_ABOUT: &str =
+    "Answers requests as run does, but each line as soon as it has come, and input of any length";
+
+const SERVE_EXAMPLE: &str = "Example:\n  tail -f requests | revroute serve --budget 0";
+
+const PLAY_ABOUT: &str =
+    "Plays a drawn schedule: a line with a network on standard input, what each call came to on standard output, and then the links and the counts";
+
+const PLAY_EXAMPLE: &str =
+    "Example:\n  echo '[\"net\",2,0,[[0,1]]]' | revroute play --workers 1 --seed 7 --steps 6";
+
+const RUN_WORKERS: &str = "How many workers turn the network, 1 to 16";
+
+const PLAY_WORKERS: &str = "How many workers make the steps, 1 to 16";
+
+const RUN_SEED: &str =
+    "A seed for where workers look first for work, 0 to 18446744073709551615; no answer depends on it";
+
+const PLAY_SEED: &str = "The seed of the schedule, 0 to 18446744073709551615";
+
+const BUDGET: &str =
+    "How many calls each worker makes at most in a round, 0 to 1000000000; 0 is fastest for answers alone";
+
+const STEPS: &str = "How many steps are made, 0 to 10000";
+
+// The texts name these limits.
+const _: () = prove!(MAX_WORKERS == 16);
+
+const _: () = prove!(MAX_BUDGET == 1_000_000_000);
+
+const _: () = prove!(MAX_STEPS == 10_000);
+
+/// The largest budget that the command line takes.
+pub(crate) const MAX_BUDGET: u32 = 1_000_000_000;
+
+/// What the words of a command line say, the program's name first, where the program has this version.
+pub(crate) fn matches_of<'a>(
+    alloc: Global,
+    words: &'a [&'a str],
+    version: &'a str,
+) -> Result<ArgMatches<'a>, Error>
+    ensures taken { IfOk result (λ _. fault_of command (map (λ s. s.now) words.entry.now) ≡ []) }
+    ensures ok { IfOk result (λ m. subcommand_rows_of m ≡ subcommand_of command (map (λ s. s.now) words.entry.now)) }
+    ensures err { IfErr result (HasKind (fault_of command (map (λ s. s.now) words.entry.now))) }
+{
+    whole_command(alloc, version)?.try_get_matches_from(words)
+}
+
+/// The program with its subcommands.
+fn whole_command<'a>(alloc: Global, version: &'a str) -> Result<Command<'a>, AllocError>
+    ensures { IfOk result (λ c. app_of c ≡ command) }
+{
+    let play = play_command(alloc)?;
+    command_for_requests(alloc, version)?.subcommand(play)
+}
+
+/// The program with the two subcommands that answer requests.
+fn command_for_requests<'a>(alloc: Global, version: &'a str) -> Result<Command<'a>, AllocError>
+    ensures { IfOk result (λ c. (app_of c ≡ with_subcommand (with_subcommand (on_top program (new_app (codes "revroute"))) run_command_of.top) serve_command_of.top)
+        × ((out-Command c).has_globals ≡ false)) }
+{
+    let serve = serve_command(alloc)?;
+    command_for_runs(alloc, version)?.subcommand(serve)
+}
+
+/// The program with the subcommand that answers all requests at once.
+fn command_for_runs<'a>(alloc: Global, version: &'a str) -> Result<Command<'a>, AllocError>
+    ensures { IfOk result (λ c. (app_of c ≡ with_subcommand (on_top program (new_app (codes "revroute"))) run_command_of.top)
+        × ((out-Command c).has_globals ≡ false)) }
+{
+    let run = run_command(alloc)?;
+    bare_command(alloc, version).subcommand(run)
+}
+
+/// The program, before its subcommands: one of them has to be given, and it tells its version.
+fn bare_command<'a>(alloc: Global, version: &'a str) -> Command<'a>
+    ensures app { app_of result ≡ on_top program (new_app (codes "revroute")) }
+    ensures local { (out-Command result).has_globals ≡ false }
+{
+    described(alloc, "revroute", ABOUT, EXAMPLE)
+        .version(version)
+        .subcommand_required(true)
+}
+
+/// The subcommand that answers requests.
+fn run_command<'a>(alloc: Global) -> Result<Command<'a>, AllocError>
+    ensures { IfOk result (λ c. (app_of c ≡ run_command_of) × ((out-Command c).has_globals ≡ false)) }
+{
+    answering(alloc, "run", RUN_ABOUT, RUN_EXAMPLE)
+}
+
+/// The subcommand that answers each request as it comes.
+fn serve_command<'a>(alloc: Global) -> Result<Command<'a>, AllocError>
+    ensures { IfOk result (λ c. (app_of c ≡ serve_command_of) × ((out-Command c).has_globals ≡ false)) }
+{
+    answering(alloc, "serve", SERVE_ABOUT, SERVE_EXAMPLE)
+}
+
+/// A subcommand that settles networks by a plan.
+fn answering<'a>(
+    alloc: Global,
+    name: &'a str,
+    about: &'a str,
+    example: &'a str,
+) -> Result<Command<'a>, AllocError>
+    ensures { IfOk result (λ c. (app_of c ≡ answering_of name.entry.now) × ((out-Command c).has_globals ≡ false)) }
+{
+    let command = described(alloc, name, about, example);
+    let command = with_option(
+        alloc,
+        command,
+        "workers",
+        "4",
+        worker_numbers(),
+        RUN_WORKERS,
+    )?;
+    let command = with_option(alloc, command, "seed", "0", value_parser!(u64), RUN_SEED)?;
+    with_option(
+        alloc,
+        command,
+        "budget",
+        "1000000",
+        budget_numbers(),
+        BUDGET,
+    )
+}
+
+/// The subcommand that plays a drawn schedule.
+fn play_command<'a>(alloc: Global) -> Result<Command<'a>, AllocError>
+    ensures { IfOk result (λ c. (app_of c ≡ play_command_of) × ((out-Command c).has_globals ≡ false)) }
+{
+    let command = described(alloc, "play", PLAY_ABOUT, PLAY_EXAMPLE);
+    let command = with_option(
+        alloc,
+        command,
+        "workers",
+        "2",
+        worker_numbers(),
+        PLAY_WORKERS,
+    )?;
+    let command = with_option(alloc, command, "seed", "0", value_parser!(u64), PLAY_SEED)?;
+    with_option(alloc, command, "steps", "100", step_numbers(), STEPS)
+}
+
+/// A command of this name, with what it is for and an example.
+fn described<'a>(alloc: Global, name: &'a str, about: &'a str, example: &'a str) -> Command<'a>
+    ensures app { app_of result ≡ new_app name.entry.now }
+    ensures local { (out-Command result).has_globals ≡ false }
+{
+    Command::new(alloc, name).about(about).after_help(example)
+}
+
+/// The command with one [`option`] more.
+fn with_option<'a>(
+    alloc: Global,
+    command: Command<'a>,
+    name: &'a str,
+    default: &'a str,
+    numbers: ValueParser<'a>,
+    help: &'a str,
+) -> Result<Command<'a>, AllocError>
+    requires { (out-Command command).has_globals ≡ false }
+    ensures { IfOk result (λ c. (app_of c ≡ with_rule (app_of command.entry) (option_of name.entry.now default.entry.now numbers.entry))
+        × ((out-Command c).has_globals ≡ false)) }
+{
+    command.arg(option(alloc, name, default, numbers, help))
+}
+
+/// An option with a number, by its name, with the text that stands for it where it is not given.
+fn option<'a>(
+    alloc: Global,
+    name: &'a str,
+    default: &'a str,
+    numbers: ValueParser<'a>,
+    help: &'a str,
+) -> Arg<'a>
+    ensures rule { rule_of result ≡ option_of name.entry.now default.entry.now numbers.entry }
+    ensures local { result.global ≡ false }
+{
+    Arg::new(alloc, name)
+        .long(name)
+        .value_name("N")
+        .default_value(default)
+        .value_parser(numbers)
+        .help(help)
+}
+
+fn worker_numbers<'a>() -> ValueParser<'a>
+    ensures { result ≡ ValueParser.Signed (pos 1) (pos most_workers) }
+{
+    value_parser!(u32).range(1..=i64::from(MAX_WORKERS))
+}
+
+fn budget_numbers<'a>() -> ValueParser<'a>
+    ensures { result ≡ ValueParser.Signed (pos 0) (pos most_budget) }
+{
+    value_parser!(u32).range(0..=i64::from(MAX_BUDGET))
+}
+
+fn step_numbers<'a>() -> ValueParser<'a>
+    ensures { result ≡ ValueParser.Signed (pos 0) (pos most_steps) }
+{
+    value_parser!(u32).range(0..=i64::from(MAX_STEPS))
+}

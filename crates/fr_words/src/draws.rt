@@ -1,0 +1,69 @@
+//! Which schedule a play follows: so many steps of so many workers, drawn from a seed.
+
+ghost use Rattle.std.specs.Prelude.{◌≡◌, ◌≤◌, ◌<◌, ◌⊎◌, ◌↔◌, IsNone, IfSome, IfOk};
+ghost use Rattle.fr_core.specs.Limits.{most_workers};
+ghost use Rattle.fr_words.specs.Draws.{drawn, most_steps};
+
+use fr_core::MAX_WORKERS;
+use rand_core::SeedableRng;
+use rand_core::utils::NextWord;
+use rand_pcg::Lcg64Xsh32;
+use std::alloc::{AllocError, Global};
+
+/// The most steps of a play.
+pub const MAX_STEPS: u32 = 10_000;
+
+/// Which schedule a play draws: so many steps of so many workers, from a seed.
+#[derive(Clone, Copy, Debug, PartialEq, Eq)]
+pub struct Draw {
+    workers: u32,
+    seed: u64,
+    steps: u32,
+    ghost some_workers: { 1 ≤ workers },
+    ghost few_workers: { workers ≤ most_workers },
+    ghost few_steps: { steps ≤ most_steps },
+}
+
+impl Draw {
+    /// The draw with 1 to [`MAX_WORKERS`] workers and at most [`MAX_STEPS`] steps; with other numbers there is none. `O(1)`.
+    pub fn new(workers: u32, seed: u64, steps: u32) -> Option<Draw>
+        ensures none { IsNone result ↔ ((workers ≡ 0) ⊎ (most_workers < workers) ⊎ (most_steps < steps)) }
+        ensures some { IfSome result (λ draw. (draw.workers ≡ workers) × (draw.seed ≡ seed) × (draw.steps ≡ steps)) }
+    {
+        if workers == 0 || workers > MAX_WORKERS || steps > MAX_STEPS {
+            return None;
+        }
+        Some(Draw {
+            workers,
+            seed,
+            steps,
+        })
+    }
+
+    /// How many workers there are, 1 to [`MAX_WORKERS`]. `O(1)`.
+    pub fn workers(&self) -> u32
+        ensures { result ≡ self.now.workers }
+    {
+        self.workers
+    }
+
+    /// How many steps they make, at most [`MAX_STEPS`]. `O(1)`.
+    pub fn steps(&self) -> u32
+        ensures { result ≡ self.now.steps }
+    {
+        self.steps
+    }
+
+    /// The schedule: for each step the next word of the generator that the seed makes, modulo the number of workers. `AllocError` where no
+    /// room could be had. `O(s)` for s steps.
+    pub fn schedule(&self, alloc: Global) -> Result<Vec<u32>, AllocError>
+        ensures { IfOk result (λ schedule. schedule.items ≡ drawn self.now.seed self.now.steps self.now.workers) }
+    {
+        let mut generator = Lcg64Xsh32::seed_from_u64(self.seed);
+        let mut schedule = Vec::with_capacity(alloc, self.steps as usize)?;
+        for _step in 0..self.steps {
+            schedule.push(generator.next_word() % self.workers)?;
+        }
+        Ok(schedule)
+    }
+}
