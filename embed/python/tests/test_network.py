@@ -239,6 +239,21 @@ class NetworkTests(unittest.TestCase):
         self.assertRaises((TypeError, ValueError), network.batch, [("cut", 1)])
         self.assertEqual(network.hops(), [NoHop.HERE, 0, 1])
 
+    def test_what_has_an_index_is_a_number(self):
+        class One:
+            def __index__(self):
+                return 1
+
+        network = Network(3, One(), [(0, One()), (2, One())])
+        self.assertEqual((network.next_hop(One()), network.walk(One()), network.next_hop(True)), (NoHop.HERE, [1], NoHop.HERE))
+        network.cut(0, One())
+        self.assertEqual(network.links(), [(2, 1)])
+        network.batch([("add", 0, One()), ("cut", One(), 2)])
+        self.assertEqual(network.links(), [(0, 1)])
+        network.move(0)
+        network.move(One())
+        self.assertEqual((network.links(), network.dest), ([(0, 1)], 1))
+
     def test_it_tells_what_it_is(self):
         network = Network(3, 1, [(0, 1)])
         self.assertEqual(repr(network), "<revroute.Network of 3 nodes and 1 links, destination 1>")
