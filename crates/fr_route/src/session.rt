@@ -412,7 +412,7 @@ impl Session {
         if telling {
             router.joined(rerouted)?;
         }
-        self.router = Some(router);
+        self.put_router(router);
         Ok(text)
     }
 

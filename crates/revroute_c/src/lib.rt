@@ -201,6 +201,7 @@ pub extern "C" fn revroute_change(
     ensures known { result ≡ ANSWERED → AreKnown edits.now }
     ensures answered { result ≡ ANSWERED → IsNewRound handle.old.session (make_edits (map edit_of edits.now)) handle.new.session handle.old.rerouted handle.new.rerouted round.new }
     ensures refused { result ≡ REFUSED → IsChangeRefused handle.old.session edits.now refusal.new }
+    ensures unknown { ¬ AreKnown edits.now → result ≡ REFUSED }
     ensures no_network { (result ≡ NO_NETWORK) ↔ (AreKnown edits.now × (handle.old.session ≡ None)) }
     ensures unchanged { ¬ (result ≡ ANSWERED) → (handle.new.session ≡ handle.old.session) × (handle.new.rerouted ≡ handle.old.rerouted) × (round.new ≡ round.old) }
     ensures unrefused { ¬ (result ≡ REFUSED) → refusal.new ≡ refusal.old }

@@ -16,7 +16,8 @@ pub returns-in-Err : goal.returns-in-Err
 returns-in-Err c =
     let some : c.in-Err.field-0.fault ≢ Memory = search rules in
     record {
-      refused = λ _. edit_refused c.args.net.now c.args.edits.now c.in-Err.field-0 _ c.edited_nodes.result c.refusal_for.result c.requires.few (c.in-Err.ensures.refused some) c.edited_nodes.ensures c.refusal_for.ensures;
+      refused = λ _. edit_refused c.args.net.now c.args.edits.now c.in-Err.field-0 _ c.edited_nodes.result c.refusal_for.result
+          c.requires.few (c.in-Err.ensures.refused some) c.edited_nodes.ensures c.refusal_for.ensures;
       unrefused = λ other. absurd (other refl);
       status = inr refl;
     }
