@@ -17,8 +17,7 @@ from unittest import mock
 
 import revroute
 import revroute.network
-from revroute import Network, NoHop, NoSuchNode, Refused
-from revroute._calls import library
+from revroute import Network, NoHop, NoSuchNode, Refused, _calls
 
 HAS_NETWORKX = importlib.util.find_spec("networkx") is not None
 HAS_NUMPY = importlib.util.find_spec("numpy") is not None
@@ -69,15 +68,15 @@ def shows(refused, edit, links, nodes):
     }[refused.number]
 
 
-def in_call(name, before):
-    """A call of the library with something done before it, while the network is in the call."""
-    true_call = getattr(library, f"revroute_{name}")
+def in_change(before):
+    """The library's change of edits with something done before it, while the network is in the call."""
+    true_call = _calls.change
 
     def call(*words):
         before()
         return true_call(*words)
 
-    return mock.patch.object(library, f"revroute_{name}", call)
+    return mock.patch.object(_calls, "change", call)
 
 
 class ByLines:
@@ -240,6 +239,21 @@ class NetworkTests(unittest.TestCase):
         self.assertRaises((TypeError, ValueError), network.batch, [("cut", 1)])
         self.assertEqual(network.hops(), [NoHop.HERE, 0, 1])
 
+    def test_what_has_an_index_is_a_number(self):
+        class One:
+            def __index__(self):
+                return 1
+
+        network = Network(3, One(), [(0, One()), (2, One())])
+        self.assertEqual((network.next_hop(One()), network.walk(One()), network.next_hop(True)), (NoHop.HERE, [1], NoHop.HERE))
+        network.cut(0, One())
+        self.assertEqual(network.links(), [(2, 1)])
+        network.batch([("add", 0, One()), ("cut", One(), 2)])
+        self.assertEqual(network.links(), [(0, 1)])
+        network.move(0)
+        network.move(One())
+        self.assertEqual((network.links(), network.dest), ([(0, 1)], 1))
+
     def test_it_tells_what_it_is(self):
         network = Network(3, 1, [(0, 1)])
         self.assertEqual(repr(network), "<revroute.Network of 3 nodes and 1 links, destination 1>")
@@ -260,7 +274,7 @@ class NetworkTests(unittest.TestCase):
             goes_on.wait(20)
 
         network = Network(5, 0, [(1, 0), (2, 0), (3, 1), (3, 2), (4, 3)])
-        with in_call("change", before), ThreadPoolExecutor(3) as pool:
+        with in_change(before), ThreadPoolExecutor(3) as pool:
             changing = pool.submit(network.cut, 1, 0)
             is_in.wait(20)
             asking = [pool.submit(network.next_hop, 1), pool.submit(network.hops)]
@@ -295,7 +309,7 @@ class NetworkTests(unittest.TestCase):
         signal.alarm(20)
         try:
             network = Network(3, 0, [(1, 0), (2, 1)])
-            with in_call("change", lambda: signal.raise_signal(signal.SIGUSR1)):
+            with in_change(lambda: signal.raise_signal(signal.SIGUSR1)):
                 self.assertEqual(network.cut(1, 0), (6, 2))
         finally:
             signal.alarm(0)
@@ -306,7 +320,7 @@ class NetworkTests(unittest.TestCase):
     def test_a_child_is_refused_a_network_that_was_in_a_call(self):
         is_in, goes_on = threading.Event(), threading.Event()
         network, other = Network(2, 0, [(1, 0)]), Network(2, 1, [(1, 0)])
-        with in_call("change", lambda: (is_in.set(), goes_on.wait(20))), ThreadPoolExecutor(1) as pool:
+        with in_change(lambda: (is_in.set(), goes_on.wait(20))), ThreadPoolExecutor(1) as pool:
             changing = pool.submit(network.cut, 1, 0)
             is_in.wait(20)
             with warnings.catch_warnings():

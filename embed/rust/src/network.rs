@@ -18,6 +18,13 @@ use std::iter::FusedIterator;
 /// assert_eq!(hop.join().unwrap(), revroute::Hop::To(0));
 /// # Ok::<(), revroute::Refused>(())
 /// ```
+///
+/// It cannot be shared by several:
+///
+/// ```compile_fail,E0277
+/// fn is_shared<T: Sync>() {}
+/// is_shared::<revroute::Network>();
+/// ```
 pub struct Network {
     engine: Engine,
     destination: u32,

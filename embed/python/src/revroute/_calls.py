@@ -21,12 +21,6 @@ class Handle(ctypes.Structure):
     _fields_ = [("at", ctypes.c_void_p)]
 
 
-class Round(ctypes.Structure):
-    """What a round came to."""
-
-    _fields_ = [("turned", ctypes.c_uint64), ("cut_off", ctypes.c_uint64)]
-
-
 class Refusal(ctypes.Structure):
     """Why a call is refused, with the nodes that are evidence, and which of the edits."""
 
@@ -34,13 +28,13 @@ class Refusal(ctypes.Structure):
 
 
 _number, _wide, _size = ctypes.c_uint32, ctypes.c_uint64, ctypes.c_size_t
-# what is read of a caller goes by its address, as it stands in an array
-_given, _handle = ctypes.c_void_p, ctypes.POINTER(Handle)
+# the bytes of links or edits, and the two numbers of a round by their address
+_given, _round, _handle = ctypes.c_char_p, ctypes.c_void_p, ctypes.POINTER(Handle)
 _text, _length, _numbers = ctypes.POINTER(ctypes.c_char), ctypes.POINTER(_size), ctypes.POINTER(_number)
-_ended = [ctypes.POINTER(Round), ctypes.POINTER(Refusal)]
+_ended = [_round, ctypes.POINTER(Refusal)]
 _WORDS: dict[str, list[Any]] = {
     "answer": [_handle, ctypes.c_char_p, _size, _text, _size, _length],
-    "take": [_handle, _given, _size, _text, _size, _length, _length],
+    "take": [_handle, ctypes.c_void_p, _size, _text, _size, _length, _length],
     "finish": [_handle, _text, _size, _length],
     "open": [_handle, _number, _number, _given, _size, *_ended],
     "change": [_handle, _given, _size, *_ended],
@@ -75,6 +69,7 @@ def load(kind: Any = ctypes.CDLL) -> Any:
 
 
 library, questions = load(), load(ctypes.PyDLL)
-# without types, which take longer to look at than the call: it is given a c_void_p and a number that is less than that of the nodes
-next_hop = load(ctypes.PyDLL).revroute_next_hop
-next_hop.argtypes = None
+# Without types, which take longer to look at than the calls: given a c_void_p and a number that is less than that of the nodes, and a handle,
+# bytes, a c_size_t, a c_void_p and a refusal.
+next_hop, change = load(ctypes.PyDLL).revroute_next_hop, load().revroute_change
+next_hop.argtypes = change.argtypes = None

@@ -20,6 +20,7 @@ Name = TypeVar("Name", bound=Hashable)
 _NUMBERS = range(0xFFFFFFFF)
 # what stands for a number that the library has none for: no node of any network
 _NO_NODE = 0xFFFFFFFF
+_ONE = ctypes.c_size_t(1)
 _KINDS = {"cut": _calls.CUT, "add": _calls.ADD, "join": _calls.JOIN}
 _REASONS = {
     4: "there is no node {0!r}",
@@ -98,8 +99,8 @@ class Network(Generic[Name]):
         self._session = Session()
         self._live = self._session._live
         count = min(max(count, 0), _NO_NODE)
-        given, home = _packed(ends), self._number(dest)
-        words = count, *_packed([home]), given.buffer_info()[0], len(ends) // 2
+        home = self._number(dest)
+        words = count, _clamped(home), _packed(ends), len(ends) // 2
         made = self._session._begin_round(library.revroute_open, _closed_walk_of, *words)
         self._reported(made, lambda at: [*ends, home])
 
@@ -132,15 +133,15 @@ class Network(Generic[Name]):
 
     def cut(self, u: Name, v: Name) -> Report:
         """Takes out the link between two nodes, whichever way it points."""
-        return self._change([_calls.CUT, self._number(u), self._number(v)])
+        return self._edit(_calls.CUT, u, v)
 
     def add(self, u: Name, v: Name) -> Report:
         """Adds a link from u to v; Refused where it would close a walk."""
-        return self._change([_calls.ADD, self._number(u), self._number(v)])
+        return self._edit(_calls.ADD, u, v)
 
     def join(self, u: Name, v: Name) -> Report:
         """Adds a link from u to v, or from v to u where that would close a walk."""
-        return self._change([_calls.JOIN, self._number(u), self._number(v)])
+        return self._edit(_calls.JOIN, u, v)
 
     def batch(self, edits: Iterable[tuple[str, Name, Name]]) -> Report:
         """Makes edits, each of the kinds "cut", "add" and "join" with its two nodes, one after the other, and then one round."""
@@ -154,7 +155,7 @@ class Network(Generic[Name]):
     def move(self, dest: Name) -> Report:
         """Takes another destination."""
         home = self._number(dest)
-        made = self._session._begin_round(library.revroute_move, None, *_packed([home]))
+        made = self._session._begin_round(library.revroute_move, None, _clamped(home))
         return self._reported(made, lambda at: [home])
 
     def next_hop(self, node: Name) -> Union[Name, NoHop]:
@@ -234,11 +235,18 @@ class Network(Generic[Name]):
         nodes, links = self.size
         return f"<revroute.Network of {nodes} nodes and {links} links, destination {self.dest!r}>"
 
+    def _edit(self, kind: int, u: Name, v: Name) -> Report:
+        if self._numbers is None:
+            edit: Any = [kind, u, v]
+        else:
+            edit = [kind, self._number(u), self._number(v)]
+        made = self._session._begin_round(_calls.change, library.revroute_closed_walk, _packed(edit), _ONE)
+        return made if isinstance(made, Report) else self._reported(made, lambda at: edit[1:])
+
     def _change(self, edits: list[int]) -> Report:
-        given = _packed(edits)
-        words = given.buffer_info()[0], len(edits) // 3
-        made = self._session._begin_round(library.revroute_change, library.revroute_closed_walk, *words)
-        return made if isinstance(made, Report) else self._reported(made, lambda at: edits[3 * at + 1 : 3 * at + 3])
+        words = _packed(edits), ctypes.c_size_t(len(edits) // 3)
+        made = self._session._begin_round(_calls.change, library.revroute_closed_walk, *words)
+        return self._reported(made, lambda at: edits[3 * at + 1 : 3 * at + 3])
 
     def _reported(self, made: Union[Report, _Why], given: Callable[[int], list[int]]) -> Report:
         """What a round reported, or why there is none: with the caller's numbers where the library has had none for them."""
@@ -268,12 +276,16 @@ def _closed_walk_of(session: Any, nodes: int, dest: int, *words: Any) -> int:
     return library.revroute_closed_walk_of(nodes, *words)  # type: ignore[no-any-return]
 
 
-def _packed(numbers: list[int]) -> array[int]:
-    """An array of the numbers that is nowhere null, with one that is no node in place of what has not 32 bits."""
+def _packed(numbers: list[int]) -> bytes:
+    """The numbers as an array has them, with one that is no node in place of what has not 32 bits."""
     try:
-        return array("I", numbers or [0])
+        return array("I", numbers).tobytes()
     except OverflowError:
-        return array("I", [it if it in _NUMBERS else _NO_NODE for it in numbers])
+        return array("I", map(_clamped, numbers)).tobytes()
+
+
+def _clamped(number: int) -> int:
+    return number if number in _NUMBERS else _NO_NODE
 
 
 def _steps(graph: Any, dest: Any) -> dict[Any, int]:

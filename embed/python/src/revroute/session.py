@@ -19,6 +19,7 @@ import enum
 import os
 import sys
 import weakref
+from array import array
 from operator import index
 from threading import RLock, get_ident
 from typing import Any, Callable, NamedTuple, NoReturn, Optional, Union
@@ -125,8 +126,8 @@ class Session:
         self._make_room(_FIRST_ROOM)
         self._at, self._length_at = ctypes.byref(self._handle), ctypes.byref(self._length)
         self._count_at, self._taken_at = ctypes.byref(self._count), ctypes.byref(self._taken)
-        self._round, self._refusal = _calls.Round(), _calls.Refusal()
-        self._round_at, self._refusal_at = ctypes.byref(self._round), ctypes.byref(self._refusal)
+        self._round, self._refusal = array("Q", (0, 0)), _calls.Refusal()
+        self._round_at, self._refusal_at = ctypes.c_void_p(self._round.buffer_info()[0]), ctypes.byref(self._refusal)
         self._address = ctypes.addressof(self._handle) if _HAS_LOCK else _ELSEWHERE
         self._live = ctypes.c_void_p(self._address)
         self._end = weakref.finalize(self, library.revroute_close, self._at)
@@ -208,16 +209,17 @@ class Session:
         lost, self._lost = self._lost, None
         raise lost or MemoryError from None
 
-    def _begin_round(self, call: Any, closed_walk: Any, *words: int) -> Union[Report, _Why]:
+    def _begin_round(self, call: Any, closed_walk: Any, *words: Any) -> Union[Report, _Why]:
         """Makes one of the calls that begin a round, with its words, and tells what it came to; by the same words the closed walk is asked
         for that refuses it."""
         with self._lock:
             self._begin_call()
+            self._live.value = _ELSEWHERE
             try:
-                status = self._outside(call, *words, self._round_at, self._refusal_at)
+                status = call(self._at, *words, self._round_at, self._refusal_at)
                 if status == _calls.ANSWERED:
                     try:
-                        return Report(self._round.turned, self._round.cut_off)
+                        return Report._make(self._round)
                     except MemoryError:
                         self._lose()
                 if status == _calls.NO_MEMORY:
@@ -226,11 +228,14 @@ class Session:
                     raise ValueError("there is no network")
                 it = self._refusal
                 if it.number == _calls.CLOSED_WALK:
-                    nodes = self._places(ctypes.c_uint32, lambda *places: self._outside(closed_walk, *words, *places))
+                    nodes = self._places(ctypes.c_uint32, lambda *places: closed_walk(self._at, *words, *places))
                 else:
                     nodes = {_calls.RANGE: [it.u], _calls.SELF_LINK: [it.u], _calls.TOO_MANY: []}.get(it.number, [it.u, it.v])
                 return _Why(it.number, tuple(nodes), it.at)
+            except ctypes.ArgumentError:
+                raise MemoryError from None
             finally:
+                self._live.value = self._address
                 self._caller = None
 
     def take(self, piece: Union[str, bytes, bytearray, memoryview]) -> list[str]:
