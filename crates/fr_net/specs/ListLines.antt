@@ -8,6 +8,8 @@ use Rattle.json.specs.Tree.{items_tokens}
 use Rattle.json.specs.Word.{is_space}
 use Rattle.fr_net.specs.declared.edit.Edit.{Edit}
 use Rattle.fr_net.specs.declared.edit.Edit.TheVariants.{Cut, Add, Join}
+use Rattle.fr_net.specs.declared.lines.list_lines.EditWord.{EditWord}
+use Rattle.fr_net.specs.declared.lines.list_lines.EditWord.TheVariants as word
 
 -- a text without the white space at its front
 abbrev pub unspaced : List ℕ → List ℕ
@@ -32,6 +34,12 @@ ends_lexemes u v = number_lexeme u ∷ comma ∷ number_lexeme v ∷ token Token
 -- a link: [u, v]
 abbrev pub link_lexemes : ℕ × ℕ → List Lexeme
 link_lexemes link = token Token.begin_array ∷ ends_lexemes link.0 link.1
+
+-- the words of edits
+abbrev pub text_of : EditWord → List ℕ
+text_of word.Cut = codes "cut"
+text_of word.Add = codes "add"
+text_of word.Join = codes "join"
 
 -- what an edit begins with, and which nodes it names
 abbrev pub word_of : Edit → List ℕ

@@ -5,13 +5,21 @@ ghost use Rattle.json.specs.Lex.{token, comma, operator_lexeme};
 ghost use Rattle.json.specs.Token.{begin_array, end_array};
 ghost use Rattle.json.specs.Word.{is_operator};
 ghost use Rattle.fr_net.specs.declared.lines.requests.LineFault.TheVariants.{Memory};
-ghost use Rattle.fr_net.specs.ListLines.{Begins, ClosesAs, number_lexeme, word_lexeme, link_lexemes, edit_lexemes, link_json, edit_json, link_ends, edit_ends};
+ghost use Rattle.fr_net.specs.ListLines.{Begins, ClosesAs, number_lexeme, word_lexeme, link_lexemes, edit_lexemes, link_json, edit_json, link_ends, edit_ends, word_of, text_of};
 ghost use Rattle.fr_net.specs.Requests.{plain, reading};
 
 use crate::edit::Edit;
 use crate::lines::fronts::{behind_mark, behind_space, number_before};
 use crate::lines::requests::{LineFault, Request};
 use std::alloc::Global;
+
+/// The word of an edit.
+#[derive(Clone, Copy)]
+enum EditWord {
+    Cut,
+    Add,
+    Join,
+}
 
 /// The request that a line is, where it is a network or a batch with an item at least, written without signs, fractions, exponents and
 /// escapes. Each other line is `None`, also where it is a request.
@@ -39,14 +47,21 @@ fn network_head(line: &[u8]) -> Option<(u32, u32, &[u8])>
     ensures { IfSome result (λ head. Begins line.now (token begin_array ∷ word_lexeme (codes "net") ∷ comma ∷ number_lexeme head.0 ∷ comma
         ∷ number_lexeme head.1 ∷ comma ∷ token begin_array ∷ []) head.2.now) }
 {
+    let (nodes, rest) = number_before(b',', behind_network_word(line)?)?;
+    let (dest, rest) = number_before(b',', rest)?;
+    let items = behind_mark(b'[', rest)?;
+    Some((nodes, dest, items))
+}
+
+/// What is behind the bracket, the word and the comma that open a network.
+fn behind_network_word(line: &[u8]) -> Option<&[u8]>
+    ensures { IfSome result (λ behind. Begins line.now (token begin_array ∷ word_lexeme (codes "net") ∷ comma ∷ []) behind.now) }
+{
     let word = behind_space(behind_mark(b'[', line)?);
     let [b'"', b'n', b'e', b't', b'"', behind @ ..] = word else {
         return None;
     };
-    let (nodes, rest) = number_before(b',', behind_mark(b',', behind)?)?;
-    let (dest, rest) = number_before(b',', rest)?;
-    let items = behind_mark(b'[', rest)?;
-    Some((nodes, dest, items))
+    behind_mark(b',', behind)
 }
 
 /// What is behind the bracket that opens the edits of a batch.
@@ -129,20 +144,34 @@ fn edit_before(mark: u8, text: &[u8]) -> Option<(Edit, &[u8])>
     requires { is_operator mark ≡ true }
     ensures { IfSome result (λ next. Begins text.now (edit_lexemes next.0 ++ operator_lexeme mark ∷ []) next.1.now) }
 {
-    match behind_space(behind_mark(b'[', text)?) {
-        [b'"', b'c', b'u', b't', b'"', behind @ ..] => {
-            let ((u, v), rest) = ends_before(mark, behind_mark(b',', behind)?)?;
-            Some((Edit::Cut { u, v }, rest))
-        }
-        [b'"', b'a', b'd', b'd', b'"', behind @ ..] => {
-            let ((u, v), rest) = ends_before(mark, behind_mark(b',', behind)?)?;
-            Some((Edit::Add { u, v }, rest))
-        }
-        [b'"', b'j', b'o', b'i', b'n', b'"', behind @ ..] => {
-            let ((u, v), rest) = ends_before(mark, behind_mark(b',', behind)?)?;
-            Some((Edit::Join { u, v }, rest))
-        }
+    let (word, behind) = edit_word(behind_mark(b'[', text)?)?;
+    let ((u, v), rest) = ends_before(mark, behind_mark(b',', behind)?)?;
+    Some((edit_of(word, u, v), rest))
+}
+
+/// The word of an edit that stands next, and what is behind it.
+#[inline(always)]
+fn edit_word(text: &[u8]) -> Option<(EditWord, &[u8])>
+    ensures { IfSome result (λ next. Begins text.now (word_lexeme (text_of next.0) ∷ []) next.1.now) }
+{
+    match behind_space(text) {
+        [b'"', b'c', b'u', b't', b'"', behind @ ..] => Some((EditWord::Cut, behind)),
+        [b'"', b'a', b'd', b'd', b'"', behind @ ..] => Some((EditWord::Add, behind)),
+        [b'"', b'j', b'o', b'i', b'n', b'"', behind @ ..] => Some((EditWord::Join, behind)),
         _ => None,
+    }
+}
+
+/// The edit of a word and two nodes.
+#[inline(always)]
+fn edit_of(word: EditWord, u: u32, v: u32) -> Edit
+    ensures word { word_of result ≡ text_of word }
+    ensures ends { edit_ends result ≡ (u, v) }
+{
+    match word {
+        EditWord::Cut => Edit::Cut { u, v },
+        EditWord::Add => Edit::Add { u, v },
+        EditWord::Join => Edit::Join { u, v },
     }
 }
 
