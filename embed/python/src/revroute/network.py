@@ -241,7 +241,7 @@ class Network(Generic[Name]):
         else:
             edit = [kind, self._number(u), self._number(v)]
         made = self._session._begin_round(_calls.change, library.revroute_closed_walk, _packed(edit), _ONE)
-        return made if isinstance(made, Report) else self._reported(made, lambda at: edit[1:])
+        return made if isinstance(made, Report) else self._reported(made, lambda at: [*map(index, edit[1:])])
 
     def _change(self, edits: list[int]) -> Report:
         words = _packed(edits), ctypes.c_size_t(len(edits) // 3)
