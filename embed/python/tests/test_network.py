@@ -248,6 +248,9 @@ class NetworkTests(unittest.TestCase):
         self.assertEqual((network.next_hop(One()), network.walk(One()), network.next_hop(True)), (NoHop.HERE, [1], NoHop.HERE))
         network.cut(0, One())
         self.assertEqual(network.links(), [(2, 1)])
+        with self.assertRaises(Refused) as met:
+            network.cut(One(), 1 << 40)
+        self.assertEqual(met.exception.nodes, (1, 1 << 40))
         network.batch([("add", 0, One()), ("cut", One(), 2)])
         self.assertEqual(network.links(), [(0, 1)])
         network.move(0)

@@ -17,7 +17,6 @@ if TYPE_CHECKING:
 
 Name = TypeVar("Name", bound=Hashable)
 
-_NUMBERS = range(0xFFFFFFFF)
 # what stands for a number that the library has none for: no node of any network
 _NO_NODE = 0xFFFFFFFF
 _ONE = ctypes.c_size_t(1)
@@ -241,7 +240,7 @@ class Network(Generic[Name]):
         else:
             edit = [kind, self._number(u), self._number(v)]
         made = self._session._begin_round(_calls.change, library.revroute_closed_walk, _packed(edit), _ONE)
-        return made if isinstance(made, Report) else self._reported(made, lambda at: edit[1:])
+        return made if isinstance(made, Report) else self._reported(made, lambda at: [*map(index, edit[1:])])
 
     def _change(self, edits: list[int]) -> Report:
         words = _packed(edits), ctypes.c_size_t(len(edits) // 3)
@@ -252,7 +251,7 @@ class Network(Generic[Name]):
         """What a round reported, or why there is none: with the caller's numbers where the library has had none for them."""
         if isinstance(made, Report):
             return made
-        unknown = (it for it in given(made.at) if it not in _NUMBERS)
+        unknown = (it for it in given(made.at) if _clamped(it) == _NO_NODE)
         nodes = [next(unknown) if it == _NO_NODE else self._name(it) for it in made.nodes]
         raise Refused(made.number, nodes, made.at)
 
@@ -285,7 +284,8 @@ def _packed(numbers: list[int]) -> bytes:
 
 
 def _clamped(number: int) -> int:
-    return number if number in _NUMBERS else _NO_NODE
+    number = index(number)
+    return number if 0 <= number < _NO_NODE else _NO_NODE
 
 
 def _steps(graph: Any, dest: Any) -> dict[Any, int]:
