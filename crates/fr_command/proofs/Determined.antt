@@ -1,7 +1,7 @@
 -- An input has but one output text, of which the answers to its first lines are a beginning.
 use Rattle.std.proofs.Common.{◌≡◌, ◌∙◌, ℕ, ◌++◌, List, [], ◌∷◌, take, drop, append_assoc, sym, ap, subst, Option, None}
 use Rattle.std.proofs.lemmas.List.{take-append-drop}
-use Rattle.fr_net.specs.Requests.{reading}
+use Rattle.fr_lines.specs.Requests.{reading}
 use Rattle.fr_route.specs.Answers.{AreAnswers}
 use Rattle.fr_route.specs.Blank.{is_blank}
 use Rattle.fr_route.specs.States.{State}

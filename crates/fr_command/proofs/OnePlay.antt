@@ -1,12 +1,12 @@
 -- The output text of a play is determined by the input and the draw.
 use Rattle.std.proofs.Common.{◌≡◌, ◌∙◌, ℕ, ◌<◌, List, length, refl, sym, ap, subst, inl, inr, arith, Option, Some, None, Result, Ok, Err}
 use Rattle.std.specs.Prelude.{option_map}
-use Rattle.fr_net.specs.Faults.{IsFaultless}
-use Rattle.fr_net.specs.Order.{in_order}
-use Rattle.fr_net.specs.Requests.{PlainRequest, new_network, reading}
-use Rattle.fr_net.specs.declared.lines.requests.LineFault.{LineFault}
-use Rattle.fr_net.specs.declared.lines.requests.LineFault.TheVariants.{NotJson, NotRequest, Memory}
-use Rattle.fr_net.proofs.Refusing.{no_first_fault}
+use Rattle.fr_graph.specs.Faults.{IsFaultless}
+use Rattle.fr_graph.specs.Order.{in_order}
+use Rattle.fr_lines.specs.Requests.{PlainRequest, new_network, reading}
+use Rattle.fr_lines.specs.declared.requests.LineFault.{LineFault}
+use Rattle.fr_lines.specs.declared.requests.LineFault.TheVariants.{NotJson, NotRequest, Memory}
+use Rattle.fr_graph.proofs.Refusing.{no_first_fault}
 use Rattle.fr_core.specs.History.{Moment}
 use Rattle.fr_core.specs.Runs.{IsRunTo}
 use Rattle.fr_core.specs.declared.entry.Entry.{Entry}

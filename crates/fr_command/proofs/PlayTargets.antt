@@ -6,9 +6,9 @@ use Rattle.std.proofs.Math.ListN.{get_or-append}
 use Rattle.std.proofs.lemmas.Bool.{cases_lt, or_cases, or_left, or_right}
 use Rattle.std.proofs.lemmas.List.{get_or-append_right, take_more, map-append}
 use Rattle.std.proofs.lemmas.List.Folds.{Any-from_list_any, list_any-from_Any}
-use Rattle.fr_net.specs.Links.{IsNet, Points, Joins}
-use Rattle.fr_net.specs.Rows.{row}
-use Rattle.fr_net.proofs.Neighbours.{row_linked, row_alone}
+use Rattle.fr_graph.specs.Links.{IsNet, Points, Joins}
+use Rattle.fr_graph.specs.Rows.{row}
+use Rattle.fr_graph.proofs.Neighbours.{row_linked, row_alone}
 use Rattle.fr_core.specs.declared.targets.Target.{Target}
 use Rattle.fr_core.specs.declared.targets.Target.TheVariants.{Turn}
 use Rattle.fr_route.proofs.CutNodes.{filtered_more}

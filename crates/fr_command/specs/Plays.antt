@@ -2,12 +2,12 @@
 use Rattle.std.specs.Prelude.{◌≡◌, ℕ, ◌<◌, ◌⊎◌, ◌==◌, ◌&&◌, ◌||◌, not, Bool, List, [], ◌∷◌, ◌++◌, length, take, map, filter, find, replicate, codes, decimal, Option, Some, None, option_map, Result, Ok, Err}
 use Rattle.std.specs.List.{list_any, repeat, range_with_len, flat_map}
 use Rattle.std.specs.Io.KnownBytes.{Appends}
-use Rattle.fr_net.specs.Counts.{links_at}
-use Rattle.fr_net.specs.Faults.{IsFaultless}
-use Rattle.fr_net.specs.Order.{in_order}
-use Rattle.fr_net.specs.Requests.{PlainRequest, new_network, reading}
-use Rattle.fr_net.specs.declared.lines.requests.LineFault.{LineFault}
-use Rattle.fr_net.specs.declared.lines.requests.LineFault.TheVariants.{NotJson, NotRequest, Memory}
+use Rattle.fr_graph.specs.Counts.{links_at}
+use Rattle.fr_graph.specs.Faults.{IsFaultless}
+use Rattle.fr_graph.specs.Order.{in_order}
+use Rattle.fr_lines.specs.Requests.{PlainRequest, new_network, reading}
+use Rattle.fr_lines.specs.declared.requests.LineFault.{LineFault}
+use Rattle.fr_lines.specs.declared.requests.LineFault.TheVariants.{NotJson, NotRequest, Memory}
 use Rattle.fr_core.specs.Played.{IsPlay}
 use Rattle.fr_core.specs.Runs.{IsRunTo}
 use Rattle.fr_core.specs.declared.entry.Entry.{Entry}

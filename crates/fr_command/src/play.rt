@@ -3,7 +3,7 @@
 ghost use Rattle.std.specs.Prelude.{◌≡◌, ◌≢◌, ◌<◌, List, ℕ, not, replicate, string_bytes, find, IfOk};
 ghost use Rattle.std.specs.Io.KnownBytes.{Keeps};
 ghost use Rattle.std.specs.Option.{option_copied};
-ghost use Rattle.fr_net.specs.Requests.{new_network};
+ghost use Rattle.fr_lines.specs.Requests.{new_network};
 ghost use Rattle.fr_core.specs.Played.{IsPlay};
 ghost use Rattle.fr_route.specs.Blank.{is_blank as is_blank_line};
 ghost use Rattle.fr_bytes.specs.Lines.{lines_of};
@@ -14,7 +14,8 @@ ghost use Rattle.fr_command.specs.Plays.{targets_for, IsRefusal, IsPlayText, IsP
 use crate::entries::{end_text, push_count, targets_of};
 use fr_bytes::{Lines, RunFault, read_input, write_whole};
 use fr_core::{Entry, play};
-use fr_net::{LineFault, Net, NetFault, Request, read_line};
+use fr_graph::{Net, NetFault};
+use fr_lines::{LineFault, Request, read_line};
 use fr_route::{fault_number, is_blank};
 use fr_words::Draw;
 use std::alloc::{AllocError, Global};

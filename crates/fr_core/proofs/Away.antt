@@ -2,8 +2,8 @@
 use Rattle.std.proofs.Common.{All, List, [], ap, arith, inl, inr, slice_index, ℕ, ⊎_elim, ◌+◌, ◌∷◌, ◌≤◌}
 use Rattle.fr_core.proofs.Sinks.{kept_at}
 use Rattle.fr_core.specs.Walks.{HasWalk, IsWalk}
-use Rattle.fr_net.specs.Counts.{AreLawful, IsKept}
-use Rattle.fr_net.specs.Links.{Points}
+use Rattle.fr_graph.specs.Counts.{AreLawful, IsKept}
+use Rattle.fr_graph.specs.Links.{Points}
 
 -- a step along a link raises the count by at most one, and one against it never raises it
 pub record Climbs (first : List (ℕ × ℕ)) (c : List ℕ) : Type 0 where

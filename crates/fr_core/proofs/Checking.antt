@@ -13,8 +13,8 @@ use Rattle.fr_core.specs.declared.check.fault.Why.{Why}
 use Rattle.fr_core.specs.declared.entry.Entry.{Entry}
 use Rattle.fr_core.specs.declared.entry.Reply.{Reply}
 use Rattle.fr_core.specs.declared.entry.Reply.TheVariants.{Cut, Held, Moved, Sink, Turned}
-use Rattle.fr_net.specs.Counts.{AreLawful, links_at}
-use Rattle.fr_net.specs.Links.{IsNet}
+use Rattle.fr_graph.specs.Counts.{AreLawful, links_at}
+use Rattle.fr_graph.specs.Links.{IsNet}
 
 -- a reply that is no turn leaves the counts as they were
 pub same_after : (m : Moment) (x : ℕ) (r : Reply) → ((k : ℕ) → r ≡ Turned k → ⊥) → m.counts ≡ (after_reply m x r).counts

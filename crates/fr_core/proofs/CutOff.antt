@@ -10,13 +10,13 @@ use Rattle.fr_core.specs.Bounds.{MeetsBounds}
 use Rattle.fr_core.specs.CutOff.{AreApart, HasTurned}
 use Rattle.fr_core.specs.History.{moment_of}
 use Rattle.fr_core.specs.Legal.{CanTurn}
-use Rattle.fr_net.proofs.Neighbours.{in_of_row, out_of_row, row_of_in, row_of_out}
-use Rattle.fr_net.specs.Counts.{AreLawful, IsKept}
-use Rattle.fr_net.specs.Links.{IsNet, Joins}
-use Rattle.fr_net.specs.Rows.{row}
-use Rattle.fr_net.specs.Turns.{set_to}
-use Rattle.fr_net.specs.declared.rows.First.{First}
-use Rattle.fr_net.specs.declared.rows.First.TheVariants.{Inward, Outward}
+use Rattle.fr_graph.proofs.Neighbours.{in_of_row, out_of_row, row_of_in, row_of_out}
+use Rattle.fr_graph.specs.Counts.{AreLawful, IsKept}
+use Rattle.fr_graph.specs.Links.{IsNet, Joins}
+use Rattle.fr_graph.specs.Rows.{row}
+use Rattle.fr_graph.specs.Turns.{set_to}
+use Rattle.fr_graph.specs.declared.rows.First.{First}
+use Rattle.fr_graph.specs.declared.rows.First.TheVariants.{Inward, Outward}
 
 entry_joins : (n : ℕ) (first : List (ℕ × ℕ)) (x : ℕ) (e : ℕ × First) → Contains (row n first x) e → Joins first x e.0
 entry_joins n first x (w, Outward) h = inl (out_of_row n first x w h)

@@ -14,12 +14,12 @@ use Rattle.fr_core.specs.Legal.{CanTurn, IsRun, NoneCanTurn}
 use Rattle.fr_core.specs.Settled.{AreSettled}
 use Rattle.fr_core.specs.declared.entry.Entry.{Entry}
 use Rattle.fr_core.specs.declared.entry.Reply.TheVariants.{Turned}
-use Rattle.fr_net.proofs.Giving.{link_at-same}
-use Rattle.fr_net.proofs.Linking.{joined_below}
-use Rattle.fr_net.proofs.Members.{cases_some}
-use Rattle.fr_net.specs.Counts.{AreLawful, IsKept, links_at}
-use Rattle.fr_net.specs.Links.{IsNet, Points}
-use Rattle.fr_net.specs.Turn.{IsSink}
+use Rattle.fr_graph.proofs.Giving.{link_at-same}
+use Rattle.fr_graph.proofs.Linking.{joined_below}
+use Rattle.fr_graph.proofs.Members.{cases_some}
+use Rattle.fr_graph.specs.Counts.{AreLawful, IsKept, links_at}
+use Rattle.fr_graph.specs.Links.{IsNet, Points}
+use Rattle.fr_graph.specs.Turn.{IsSink}
 
 cases_in : (links : List (ℕ × ℕ)) (x : ℕ) → ((y : ℕ) × Points links y x) ⊎ ((y : ℕ) → ¬ Points links y x)
 cases_in links x = ⊎_elim

@@ -2,8 +2,8 @@
 use Rattle.std.proofs.Common.{Contains, List, [], arith, eqb, length, subst, sym, ℕ, ⊎_elim, ◌<◌, ◌∷◌, ◌≡◌}
 use Rattle.std.specs.List.{IsDistinct}
 use Rattle.fr_core.proofs.Pigeons.{IsDistinct-more, IsDistinct-none, distinct_length}
-use Rattle.fr_net.proofs.Members.{Contains-cases, Contains-none}
-use Rattle.fr_net.specs.Links.{IsAcyclic, IsPath, Points, end_of}
+use Rattle.fr_graph.proofs.Members.{Contains-cases, Contains-none}
+use Rattle.fr_graph.specs.Links.{IsAcyclic, IsPath, Points, end_of}
 
 -- the part of a path up to a node on it
 prefix_to : (links : List (ℕ × ℕ)) (s : ℕ) (vs : List ℕ) (u : ℕ) → IsPath links s vs → Contains vs u → (v : ℕ) × (ws : List ℕ) × IsPath links s (v ∷ ws) × (end_of v ws ≡ u)

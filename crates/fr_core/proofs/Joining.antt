@@ -4,9 +4,9 @@ use Rattle.fr_core.proofs.Sinks.{links_at_keeps}
 use Rattle.fr_core.proofs.Unique.{IsLinkedCount, joined_count_below, of_linked}
 use Rattle.fr_core.specs.Settled.{AreSettled}
 use Rattle.fr_core.specs.Walks.{IsJoined, IsWalk}
-use Rattle.fr_net.proofs.Giving.{Points-links_at_from}
-use Rattle.fr_net.specs.Counts.{IsKept, links_at}
-use Rattle.fr_net.specs.Links.{IsNet, Joins, Points}
+use Rattle.fr_graph.proofs.Giving.{Points-links_at_from}
+use Rattle.fr_graph.specs.Counts.{IsKept, links_at}
+use Rattle.fr_graph.specs.Links.{IsNet, Joins, Points}
 
 -- the end of a walk is its start, or it has a link
 pub walk_linked : (links : List (ℕ × ℕ)) (u : ℕ) (vs : List ℕ) (k x : ℕ) → IsWalk links u vs k x → (x ≡ u) ⊎ ((w : ℕ) × Joins links x w)

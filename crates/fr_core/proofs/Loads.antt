@@ -1,10 +1,10 @@
 -- What one worker's loads of counts show.
 use Rattle.std.proofs.Common.{All, List, arith, slice_index, ℕ, ⊎_elim, ◌+◌, ◌<◌, ◌≤◌}
 use Rattle.fr_core.proofs.Sinks.{kept_at, sink_from_bounds}
-use Rattle.fr_net.proofs.Giving.{Points-links_at_same, Points-links_at_turned}
-use Rattle.fr_net.specs.Counts.{IsKept, links_at}
-use Rattle.fr_net.specs.Links.{Joins, Points}
-use Rattle.fr_net.specs.Turn.{IsSink}
+use Rattle.fr_graph.proofs.Giving.{Points-links_at_same, Points-links_at_turned}
+use Rattle.fr_graph.specs.Counts.{IsKept, links_at}
+use Rattle.fr_graph.specs.Links.{Joins, Points}
+use Rattle.fr_graph.specs.Turn.{IsSink}
 
 -- a neighbour whose count misses its bound for an earlier count of x holds x
 pub held_along : (first : List (ℕ × ℕ)) (c : List ℕ) → All (IsKept c) first → (x w had : ℕ) → had ≤ slice_index c x → Points first x w → slice_index c w < had + 1 → Points (links_at first c) x w

@@ -3,7 +3,7 @@ use Rattle.std.proofs.Common.{List, Option, [], ap, drop, inl, inr, length, map,
 use Rattle.std.proofs.lemmas.Bool.{cases_lt}
 use Rattle.std.proofs.lemmas.List.{append-nil, append_assoc, drop_all, get_or_default, get_or_past, take_all}
 use Rattle.std.proofs.lemmas.List.Elements.{All-get_or, All-map, All-nil, All-set, All-weaker}
-use Rattle.fr_net.specs.Links.{IsNet}
+use Rattle.fr_graph.specs.Links.{IsNet}
 use Rattle.fr_core.proofs.Finishing.{zeros_lawful}
 use Rattle.fr_core.proofs.MachineSteps.{IsFine, fit_inside, in_range_capped, outcome_fine, phase_rises}
 use Rattle.fr_core.proofs.Rounds.{after_all-append, run_append}

@@ -3,13 +3,13 @@ use Rattle.std.proofs.Common.{All, Contains, List, [], arith, false, length, nat
 use Rattle.std.proofs.lemmas.Bool.{cases_eq, cond_both, eqb-false, eqb-true, ltb-false, ltb-true}
 use Rattle.std.proofs.lemmas.List.{get_or_default}
 use Rattle.std.proofs.lemmas.List.Elements.{All-head, All-nil, All-tail, Contains-get_or}
-use Rattle.fr_net.proofs.Neighbours.{in_of_row, out_of_row, row_of_in, row_of_out}
-use Rattle.fr_net.specs.Counts.{AreLawful, links_at}
-use Rattle.fr_net.specs.Links.{IsNet, Joins, Points}
-use Rattle.fr_net.specs.Rows.{row}
-use Rattle.fr_net.specs.Turn.{IsSink}
-use Rattle.fr_net.specs.declared.rows.First.{First}
-use Rattle.fr_net.specs.declared.rows.First.TheVariants.{Inward, Outward}
+use Rattle.fr_graph.proofs.Neighbours.{in_of_row, out_of_row, row_of_in, row_of_out}
+use Rattle.fr_graph.specs.Counts.{AreLawful, links_at}
+use Rattle.fr_graph.specs.Links.{IsNet, Joins, Points}
+use Rattle.fr_graph.specs.Rows.{row}
+use Rattle.fr_graph.specs.Turn.{IsSink}
+use Rattle.fr_graph.specs.declared.rows.First.{First}
+use Rattle.fr_graph.specs.declared.rows.First.TheVariants.{Inward, Outward}
 use Rattle.fr_core.proofs.Loads.{held_against, held_along, sink_from_seen}
 use Rattle.fr_core.proofs.Turning.{raised-here, raised-other, turn-links_at, turn_lawful}
 use Rattle.fr_core.specs.History.{after_all, moment_of}

@@ -5,11 +5,11 @@ use Rattle.fr_core.proofs.SensesByRow.{PointsBy, points_from_row, row_from_point
 use Rattle.fr_core.specs.Senses.{sense_of}
 use Rattle.fr_core.specs.declared.directions.Sense.{Sense}
 use Rattle.fr_core.specs.declared.directions.Sense.TheVariants.{Inward, Outward}
-use Rattle.fr_net.proofs.Neighbours.{row_holds}
-use Rattle.fr_net.specs.Counts.{links_at}
-use Rattle.fr_net.specs.Links.{IsNet, Points}
-use Rattle.fr_net.specs.Rows.{row, row_entry}
-use Rattle.fr_net.specs.declared.rows.First.{First}
+use Rattle.fr_graph.proofs.Neighbours.{row_holds}
+use Rattle.fr_graph.specs.Counts.{links_at}
+use Rattle.fr_graph.specs.Links.{IsNet, Points}
+use Rattle.fr_graph.specs.Rows.{row, row_entry}
+use Rattle.fr_graph.specs.declared.rows.First.{First}
 
 pub inward_is_other : (s : Option Sense) → s ≡ Some Inward → ¬ (s ≡ Some Outward)
 inward_is_other s e f = cc

@@ -13,12 +13,12 @@ use Rattle.fr_core.specs.History.{Moment, after_all, after_reply, count_at, mome
 use Rattle.fr_core.specs.Laws.{LawfulIsReached}
 use Rattle.fr_core.specs.Legal.{CanTurn}
 use Rattle.fr_core.specs.declared.entry.Reply.TheVariants.{Turned}
-use Rattle.fr_net.proofs.Acyclic.{links_at_acyclic}
-use Rattle.fr_net.proofs.Giving.{ComesFrom, Points-links_at_from}
-use Rattle.fr_net.proofs.Linking.{joined_below}
-use Rattle.fr_net.specs.Counts.{AreLawful, links_at}
-use Rattle.fr_net.specs.Links.{IsNet, IsPath, Joins, Points}
-use Rattle.fr_net.specs.Turn.{IsSink}
+use Rattle.fr_graph.proofs.Acyclic.{links_at_acyclic}
+use Rattle.fr_graph.proofs.Giving.{ComesFrom, Points-links_at_from}
+use Rattle.fr_graph.proofs.Linking.{joined_below}
+use Rattle.fr_graph.specs.Counts.{AreLawful, links_at}
+use Rattle.fr_graph.specs.Links.{IsNet, IsPath, Joins, Points}
+use Rattle.fr_graph.specs.Turn.{IsSink}
 
 module _ (n d : ℕ) (first : List (ℕ × ℕ)) (net : IsNet n first) (c : List ℕ) (goal : AreLawful n d first c) where
   -- x has turns left to make

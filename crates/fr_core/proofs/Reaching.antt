@@ -5,8 +5,8 @@ use Rattle.std.proofs.lemmas.List.{get_or-set_other, get_or-set_same, get_or_app
 use Rattle.std.proofs.lemmas.List.Elements.{All-more, Contains-get_or}
 use Rattle.std.proofs.lemmas.List.Sums.{sum_by-set}
 use Rattle.fr_core.specs.Reaching.{IsNeighbour, IsQueued, IsReached, ReachesOnly, unreached_count}
-use Rattle.fr_net.specs.declared.rows.First.{First}
-use Rattle.fr_net.specs.declared.rows.First.TheVariants.{Outward}
+use Rattle.fr_graph.specs.declared.rows.First.{First}
+use Rattle.fr_graph.specs.declared.rows.First.TheVariants.{Outward}
 
 pub queued_more : (q r : List ℕ) (x : ℕ) → length q ≤ length r → ((i : ℕ) → i < length q → slice_index r i ≡ slice_index q i) → IsQueued q x → IsQueued r x
 queued_more q r x longer kept h = (h.0, omega (arith, h.1), kept h.0 h.1 ∙ h.2)

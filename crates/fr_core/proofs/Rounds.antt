@@ -5,7 +5,7 @@ use Rattle.fr_core.specs.Legal.{IsRun}
 use Rattle.fr_core.specs.declared.entry.Entry.{Entry}
 use Rattle.fr_core.specs.declared.entry.Reply.{Reply}
 use Rattle.fr_core.specs.declared.entry.Reply.TheVariants.{Cut, Held, Moved, Sink, Turned}
-use Rattle.fr_net.specs.Turn.{turn}
+use Rattle.fr_graph.specs.Turn.{turn}
 
 pub after_all-append : (m : Moment) (a b : List Entry) → after_all m (a ++ b) ≡ after_all (after_all m a) b
 after_all-append m [] b = refl

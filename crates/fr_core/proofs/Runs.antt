@@ -10,9 +10,9 @@ use Rattle.fr_core.specs.Runs.{IsRunTo}
 use Rattle.fr_core.specs.declared.entry.Entry.{Entry}
 use Rattle.fr_core.specs.declared.entry.Reply.{Reply}
 use Rattle.fr_core.specs.declared.entry.Reply.TheVariants.{Cut, Held, Moved, Sink, Turned}
-use Rattle.fr_net.proofs.Acyclic.{links_at_acyclic}
-use Rattle.fr_net.specs.Counts.{AreLawful}
-use Rattle.fr_net.specs.Links.{IsNet}
+use Rattle.fr_graph.proofs.Acyclic.{links_at_acyclic}
+use Rattle.fr_graph.specs.Counts.{AreLawful}
+use Rattle.fr_graph.specs.Links.{IsNet}
 
 length_after_reply : (m : Moment) (x : ℕ) (r : Reply) → length (after_reply m x r).counts ≡ length m.counts
 length_after_reply m x (Turned k) = length-set m.counts x (count_at m x + 1)

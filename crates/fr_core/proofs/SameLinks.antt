@@ -5,10 +5,10 @@ use Rattle.std.proofs.lemmas.List.Sorted.{Contains-permutation, IsPermutation-sy
 use Rattle.fr_core.proofs.Turning.{All-from_Contains}
 use Rattle.fr_core.specs.Settled.{AreSettled, IsSettledCount}
 use Rattle.fr_core.specs.Walks.{HasWalk, IsJoined, IsLeastAway, IsWalk}
-use Rattle.fr_net.proofs.Giving.{ComesFrom, Points-links_at_back, Points-links_at_from}
-use Rattle.fr_net.specs.Counts.{AreLawful, IsKept, links_at}
-use Rattle.fr_net.specs.Links.{HaveSameLinks, IsAcyclic, IsAlone, IsPath, Joins, Points}
-use Rattle.fr_net.specs.Turn.{IsSink}
+use Rattle.fr_graph.proofs.Giving.{ComesFrom, Points-links_at_back, Points-links_at_from}
+use Rattle.fr_graph.specs.Counts.{AreLawful, IsKept, links_at}
+use Rattle.fr_graph.specs.Links.{HaveSameLinks, IsAcyclic, IsAlone, IsPath, Joins, Points}
+use Rattle.fr_graph.specs.Turn.{IsSink}
 
 pub same_sym : (a b : List (ℕ × ℕ)) → HaveSameLinks a b → HaveSameLinks b a
 same_sym a b same = λ u v. ((same u v).1, (same u v).0)

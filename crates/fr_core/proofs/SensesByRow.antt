@@ -7,14 +7,14 @@ use Rattle.fr_core.proofs.RowLinks.{link_of_row}
 use Rattle.fr_core.specs.Senses.{first_link, link_by, sense_of}
 use Rattle.fr_core.specs.declared.directions.Sense.{Sense}
 use Rattle.fr_core.specs.declared.directions.Sense.TheVariants as sense
-use Rattle.fr_net.proofs.Giving.{Points-links_at_from, filter_map-Contains, link_at-kept}
-use Rattle.fr_net.proofs.Neighbours.{out_of_row, row_of_in, row_of_out}
-use Rattle.fr_net.specs.Counts.{IsKept, link_at, links_at}
-use Rattle.fr_net.specs.Links.{IsNet, Points}
-use Rattle.fr_net.specs.Rows.{row}
-use Rattle.fr_net.specs.Turn.{IsSink}
-use Rattle.fr_net.specs.declared.rows.First.{First}
-use Rattle.fr_net.specs.declared.rows.First.TheVariants as first
+use Rattle.fr_graph.proofs.Giving.{Points-links_at_from, filter_map-Contains, link_at-kept}
+use Rattle.fr_graph.proofs.Neighbours.{out_of_row, row_of_in, row_of_out}
+use Rattle.fr_graph.specs.Counts.{IsKept, link_at, links_at}
+use Rattle.fr_graph.specs.Links.{IsNet, Points}
+use Rattle.fr_graph.specs.Rows.{row}
+use Rattle.fr_graph.specs.Turn.{IsSink}
+use Rattle.fr_graph.specs.declared.rows.First.{First}
+use Rattle.fr_graph.specs.declared.rows.First.TheVariants as first
 
 -- the link that the counts give, and the sense of the link
 pub link_at-first_link : (c : List ℕ) (x w : ℕ) (f : First) → link_at c (first_link x w f) ≡ option_map (link_by x w) (sense_of f (slice_index c x) (slice_index c w))

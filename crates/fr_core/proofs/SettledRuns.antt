@@ -7,8 +7,8 @@ use Rattle.fr_core.proofs.Unique.{settled_unique}
 use Rattle.fr_core.specs.History.{Moment, after_all, moment_of}
 use Rattle.fr_core.specs.Laws.{RunLeadsToSettled}
 use Rattle.fr_core.specs.Legal.{NoneCanTurn}
-use Rattle.fr_net.specs.Counts.{AreLawful, links_at}
-use Rattle.fr_net.specs.Limits.{most_nodes}
+use Rattle.fr_graph.specs.Counts.{AreLawful, links_at}
+use Rattle.fr_graph.specs.Limits.{most_nodes}
 
 pub run_to_settled : RunLeadsToSettled
 run_to_settled = λ n d first before settled net below lawful ends.

@@ -9,14 +9,14 @@ use Rattle.fr_core.specs.History.{moment_of}
 use Rattle.fr_core.specs.Legal.{NoneCanTurn}
 use Rattle.fr_core.specs.Settled.{AreSettled, IsSettledCount}
 use Rattle.fr_core.specs.Walks.{HasWalk, IsJoined, IsWalk}
-use Rattle.fr_net.proofs.Acyclic.{links_at_acyclic}
-use Rattle.fr_net.proofs.Giving.{ComesFrom, Points-links_at_from}
-use Rattle.fr_net.proofs.Linking.{joined_below}
-use Rattle.fr_net.proofs.Members.{cases_some}
-use Rattle.fr_net.proofs.Neighbours.{Points-has_link, has_link_true}
-use Rattle.fr_net.specs.Counts.{AreLawful, links_at}
-use Rattle.fr_net.specs.Links.{IsAlone, IsNet, IsPath, Joins, Points}
-use Rattle.fr_net.specs.Rows.{has_link}
+use Rattle.fr_graph.proofs.Acyclic.{links_at_acyclic}
+use Rattle.fr_graph.proofs.Giving.{ComesFrom, Points-links_at_from}
+use Rattle.fr_graph.proofs.Linking.{joined_below}
+use Rattle.fr_graph.proofs.Members.{cases_some}
+use Rattle.fr_graph.proofs.Neighbours.{Points-has_link, has_link_true}
+use Rattle.fr_graph.specs.Counts.{AreLawful, links_at}
+use Rattle.fr_graph.specs.Links.{IsAlone, IsNet, IsPath, Joins, Points}
+use Rattle.fr_graph.specs.Rows.{has_link}
 
 pub cases_linked : (links : List (ℕ × ℕ)) (x : ℕ) → ((w : ℕ) × Joins links x w) ⊎ IsAlone links x
 cases_linked links x = ⊎_elim

@@ -2,10 +2,10 @@
 use Rattle.std.proofs.Common.{All, List, arith, inl, inr, slice_index, ℕ, ⊎_elim, ◌+◌, ◌≡◌, ◌⊎◌}
 use Rattle.std.proofs.lemmas.List.Elements.{All-contains}
 use Rattle.fr_core.specs.Bounds.{MeetsBounds}
-use Rattle.fr_net.proofs.Giving.{ComesFrom, Points-links_at_from, Points-links_at_same, Points-links_at_turned}
-use Rattle.fr_net.specs.Counts.{IsKept, links_at}
-use Rattle.fr_net.specs.Links.{Joins, Points}
-use Rattle.fr_net.specs.Turn.{IsSink}
+use Rattle.fr_graph.proofs.Giving.{ComesFrom, Points-links_at_from, Points-links_at_same, Points-links_at_turned}
+use Rattle.fr_graph.specs.Counts.{IsKept, links_at}
+use Rattle.fr_graph.specs.Links.{Joins, Points}
+use Rattle.fr_graph.specs.Turn.{IsSink}
 
 pub kept_at : (first : List (ℕ × ℕ)) (c : List ℕ) → All (IsKept c) first → (u v : ℕ) → Points first u v → (slice_index c v ≡ slice_index c u) ⊎ (slice_index c v ≡ slice_index c u + 1)
 kept_at first c meets u v h = All-contains (IsKept c) first (u, v) meets h

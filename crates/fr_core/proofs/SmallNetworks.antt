@@ -1,9 +1,9 @@
 -- Small networks, by computation: the definitions give the links, turns and runs that they are meant to give.
 use Rattle.std.proofs.Common.{◌≡◌, ℕ, List, [], ◌∷◌, ◌⊎◌, inl, inr, refl, subst, sym, arith, Contains}
-use Rattle.fr_net.specs.Counts.{links_at}
-use Rattle.fr_net.specs.Order.{in_order}
-use Rattle.fr_net.specs.Turn.{IsSink, turn}
-use Rattle.fr_net.proofs.Members.{Contains-none, Contains-head, Contains-tail, Contains-cases}
+use Rattle.fr_graph.specs.Counts.{links_at}
+use Rattle.fr_graph.specs.Order.{in_order}
+use Rattle.fr_graph.specs.Turn.{IsSink, turn}
+use Rattle.fr_graph.proofs.Members.{Contains-none, Contains-head, Contains-tail, Contains-cases}
 use Rattle.fr_core.specs.History.{Moment, moment_of, after_all, links_after, count_after}
 use Rattle.fr_core.specs.Legal.{CanTurn, IsRun}
 use Rattle.fr_core.specs.declared.entry.Entry.{Entry}

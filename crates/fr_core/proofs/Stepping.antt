@@ -2,7 +2,7 @@
 use Rattle.std.proofs.Common.{List, [], ap, arith, drop, get_or, length, refl, subst, sym, ℕ, ◌+◌, ◌++◌, ◌<◌, ◌∙◌, ◌∷◌, ◌≡◌}
 use Rattle.std.proofs.lemmas.List.{append-nil, append_assoc, drop_more, length-map, length-set}
 use Rattle.std.proofs.lemmas.List.Elements.{All-nil, All-push}
-use Rattle.fr_net.specs.Links.{IsNet}
+use Rattle.fr_graph.specs.Links.{IsNet}
 use Rattle.fr_core.proofs.MachineParts.{played}
 use Rattle.fr_core.specs.Machine.{MachineState, entries_of, entry_of, fresh, outcome_of, start, state_after, step}
 use Rattle.fr_core.specs.Played.{HasCome, MachineView, started}

@@ -9,12 +9,12 @@ use Rattle.fr_core.specs.Legal.{CanTurn, IsLegalReply, IsRun}
 use Rattle.fr_core.specs.declared.entry.Entry.{Entry}
 use Rattle.fr_core.specs.declared.entry.Reply.{Reply}
 use Rattle.fr_core.specs.declared.entry.Reply.TheVariants.{Cut, Held, Moved, Sink, Turned}
-use Rattle.fr_net.proofs.Giving.{Points-links_at_from, filter_map-Contains, link_at-kept, link_at-same, link_at-turned}
-use Rattle.fr_net.proofs.Linking.{joined_below}
-use Rattle.fr_net.proofs.Members.{Contains-head, Contains-tail}
-use Rattle.fr_net.specs.Counts.{AreLawful, IsKept, link_at, links_at}
-use Rattle.fr_net.specs.Links.{IsNet, Joins}
-use Rattle.fr_net.specs.Turn.{IsSink, turn, turned_link}
+use Rattle.fr_graph.proofs.Giving.{Points-links_at_from, filter_map-Contains, link_at-kept, link_at-same, link_at-turned}
+use Rattle.fr_graph.proofs.Linking.{joined_below}
+use Rattle.fr_graph.proofs.Members.{Contains-head, Contains-tail}
+use Rattle.fr_graph.specs.Counts.{AreLawful, IsKept, link_at, links_at}
+use Rattle.fr_graph.specs.Links.{IsNet, Joins}
+use Rattle.fr_graph.specs.Turn.{IsSink, turn, turned_link}
 
 turned-there : (x a : ℕ) (l : ℕ × ℕ) → l.1 ≡ x → turned_link x l ≡ (x, l.0)
 turned-there x a l e = cond-true _ _ _ (eq-eqb l.1 x e)

@@ -9,10 +9,10 @@ use Rattle.fr_core.specs.History.{moment_of}
 use Rattle.fr_core.specs.Legal.{NoneCanTurn}
 use Rattle.fr_core.specs.Settled.{AreSettled, IsSettledCount}
 use Rattle.fr_core.specs.Walks.{IsJoined, IsLeastAway, IsWalk}
-use Rattle.fr_net.proofs.Giving.{Points-links_at_same, Points-links_at_turned}
-use Rattle.fr_net.proofs.Linking.{joined_below}
-use Rattle.fr_net.specs.Counts.{AreLawful, IsKept, links_at}
-use Rattle.fr_net.specs.Links.{IsAlone, IsNet, Joins, Points}
+use Rattle.fr_graph.proofs.Giving.{Points-links_at_same, Points-links_at_turned}
+use Rattle.fr_graph.proofs.Linking.{joined_below}
+use Rattle.fr_graph.specs.Counts.{AreLawful, IsKept, links_at}
+use Rattle.fr_graph.specs.Links.{IsAlone, IsNet, Joins, Points}
 
 -- what a linked node's settled count is
 abbrev pub IsLinkedCount : ℕ → ℕ → List (ℕ × ℕ) → ℕ → ℕ → Type 0

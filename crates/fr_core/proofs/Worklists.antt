@@ -14,14 +14,14 @@ use Rattle.fr_core.specs.History.{moment_of}
 use Rattle.fr_core.specs.Legal.{CanTurn}
 use Rattle.fr_core.specs.Reaching.{IsQueued}
 use Rattle.fr_core.specs.Worklist.{AreNodes, Carries, HoldsAll}
-use Rattle.fr_net.proofs.Linking.{link_below}
-use Rattle.fr_net.proofs.Neighbours.{has_link_true, Points-has_link, row_of_in, row_of_out}
-use Rattle.fr_net.proofs.TurnedLinks.{net_turned}
-use Rattle.fr_net.specs.Counts.{AreLawful, links_at}
-use Rattle.fr_net.specs.Links.{IsNet, Joins, Points}
-use Rattle.fr_net.specs.Rows.{has_link, row}
-use Rattle.fr_net.specs.declared.rows.First.{First}
-use Rattle.fr_net.specs.declared.rows.First.TheVariants.{Outward}
+use Rattle.fr_graph.proofs.Linking.{link_below}
+use Rattle.fr_graph.proofs.Neighbours.{has_link_true, Points-has_link, row_of_in, row_of_out}
+use Rattle.fr_graph.proofs.TurnedLinks.{net_turned}
+use Rattle.fr_graph.specs.Counts.{AreLawful, links_at}
+use Rattle.fr_graph.specs.Links.{IsNet, Joins, Points}
+use Rattle.fr_graph.specs.Rows.{has_link, row}
+use Rattle.fr_graph.specs.declared.rows.First.{First}
+use Rattle.fr_graph.specs.declared.rows.First.TheVariants.{Outward}
 
 pub nodes_push : (n : ℕ) (work : List ℕ) (x : ℕ) → x < n → AreNodes n work → AreNodes n (work ++ x ∷ [])
 nodes_push n work x l all i m =

@@ -1,6 +1,6 @@
 -- A sink, by counts.
 use Rattle.std.specs.Prelude.{ℕ, ◌+◌, ◌≤◌, List, slice_index}
-use Rattle.fr_net.specs.Links.{Points, Joins}
+use Rattle.fr_graph.specs.Links.{Points, Joins}
 
 -- x has a link, and the count of each neighbour meets its bound: one more than the count of x where the link first pointed
 -- to the neighbour, and the count of x where it pointed to x

@@ -1,7 +1,7 @@
 -- What a checker of histories finds: the first entry that is not legal, with the first test that it fails.
 use Rattle.std.specs.Prelude.{◌≡◌, ℕ, ◌+◌, ◌<◌, ◌≤◌, ◌⊎◌, List, ◌∷◌, ◌++◌, length, replicate}
-use Rattle.fr_net.specs.Links.{Points}
-use Rattle.fr_net.specs.Turn.{IsSink}
+use Rattle.fr_graph.specs.Links.{Points}
+use Rattle.fr_graph.specs.Turn.{IsSink}
 use Rattle.fr_core.specs.History.{Moment, count_at, after_all, moment_of}
 use Rattle.fr_core.specs.Legal.{CanTurn, IsRun}
 use Rattle.fr_core.specs.declared.check.fault.CheckFault.{CheckFault}

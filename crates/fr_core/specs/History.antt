@@ -1,8 +1,8 @@
 -- Histories of replies, and what they make of the links and of the counts (J. Welch and J. Walter, "Link Reversal Algorithms").
 use Rattle.std.specs.Prelude.{ℕ, ◌+◌, ◌==◌, ◌&&◌, if◌then◌else◌, Bool, true, false, List, [], ◌∷◌, slice_index, slice_set}
 use Rattle.std.specs.List.{count_by, filter}
-use Rattle.fr_net.specs.Counts.{links_at}
-use Rattle.fr_net.specs.Turn.{turn}
+use Rattle.fr_graph.specs.Counts.{links_at}
+use Rattle.fr_graph.specs.Turn.{turn}
 use Rattle.fr_core.specs.declared.entry.Entry.{Entry}
 use Rattle.fr_core.specs.declared.entry.Reply.{Reply}
 use Rattle.fr_core.specs.declared.entry.Reply.TheVariants.{Turned, Held, Moved, Cut, Sink}

@@ -1,8 +1,8 @@
 -- Which replies full reversal by one thread gives (Gafni and Bertsekas, 1981), with the cap: a node turns only while its
 -- count is below the number of nodes.
 use Rattle.std.specs.Prelude.{◌≡◌, ℕ, ◌+◌, ◌<◌, List, [], ◌∷◌}
-use Rattle.fr_net.specs.Links.{Points}
-use Rattle.fr_net.specs.Turn.{IsSink}
+use Rattle.fr_graph.specs.Links.{Points}
+use Rattle.fr_graph.specs.Turn.{IsSink}
 use Rattle.fr_core.specs.History.{Moment, count_at, after}
 use Rattle.fr_core.specs.declared.entry.Entry.{Entry}
 use Rattle.fr_core.specs.declared.entry.Reply.{Reply}

@@ -1,6 +1,6 @@
 -- The state of the search by levels. The queue has each reached node once, in rising order of the counts. For `finish` alone.
 use Rattle.std.specs.Prelude.{◌≡◌, ℕ, ◌+◌, ◌<◌, ◌≤◌, ◌⊎◌, List, length, slice_index}
-use Rattle.fr_net.specs.Links.{Points, IsAlone}
+use Rattle.fr_graph.specs.Links.{Points, IsAlone}
 use Rattle.fr_core.specs.Reaching.{IsQueued, unreached_count}
 use Rattle.fr_core.specs.Walks.{HasWalk}
 

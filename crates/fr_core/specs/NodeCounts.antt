@@ -1,6 +1,6 @@
 -- What the count of one node can be. For `lawful` and `finish` alone.
 use Rattle.std.specs.Prelude.{◌≡◌, ℕ, ◌≤◌, ◌⊎◌, List, slice_index}
-use Rattle.fr_net.specs.Links.{IsAlone}
+use Rattle.fr_graph.specs.Links.{IsAlone}
 
 -- k is 0 where x has no link, and else n
 abbrev pub IsMostCount : ℕ → List (ℕ × ℕ) → ℕ → ℕ → Type 0

@@ -1,7 +1,7 @@
 -- How a search reaches nodes and queues them. A node is not reached while its count is n. For `finish` alone.
 use Rattle.std.specs.Prelude.{◌≡◌, ℕ, ◌+◌, ◌<◌, ◌≤◌, ◌==◌, ◌⊎◌, List, length, slice_index}
 use Rattle.std.specs.List.{count_by, Contains}
-use Rattle.fr_net.specs.declared.rows.First.{First}
+use Rattle.fr_graph.specs.declared.rows.First.{First}
 
 -- how many nodes are not reached
 abbrev pub unreached_count : ℕ → List ℕ → ℕ

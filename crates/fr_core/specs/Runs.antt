@@ -1,7 +1,7 @@
 -- Runs from the counts 0, and where they lead.
 use Rattle.std.specs.Prelude.{◌≡◌, ℕ, List, replicate, slice_index}
-use Rattle.fr_net.specs.Counts.{AreLawful, links_at}
-use Rattle.fr_net.specs.Links.{IsAcyclic}
+use Rattle.fr_graph.specs.Counts.{AreLawful, links_at}
+use Rattle.fr_graph.specs.Links.{IsAcyclic}
 use Rattle.fr_core.specs.History.{after_all, count_after, moment_of}
 use Rattle.fr_core.specs.Legal.{IsRun}
 use Rattle.fr_core.specs.declared.entry.Entry.{Entry}

@@ -1,7 +1,7 @@
 -- The counts at which every schedule ends. The settled count of a node is its work under full reversal (J. Welch and
 -- J. Walter, "Link Reversal Algorithms"), where the turns of a part without the destination stop at the cap.
 use Rattle.std.specs.Prelude.{◌≡◌, ℕ, ◌<◌, ◌⊎◌, List, length, slice_index}
-use Rattle.fr_net.specs.Links.{IsAlone}
+use Rattle.fr_graph.specs.Links.{IsAlone}
 use Rattle.fr_core.specs.Walks.{IsJoined, IsLeastAway}
 
 -- 0 for a node with no link, the least away number for a node that is joined with the destination d (so 0 for d itself, by

@@ -1,9 +1,9 @@
 -- What holds of a machine between any two steps, and what a worker needs for its step. For the machine's own functions alone.
 use Rattle.std.specs.Prelude.{◌≡◌, ℕ, ◌<◌, ◌≤◌, List, ◌++◌, length, slice_get, slice_index, Option, Some}
 use Rattle.std.specs.List.{All}
-use Rattle.fr_net.specs.Counts.{AreLawful}
-use Rattle.fr_net.specs.Links.{IsNet}
-use Rattle.fr_net.specs.Rows.{row}
+use Rattle.fr_graph.specs.Counts.{AreLawful}
+use Rattle.fr_graph.specs.Links.{IsNet}
+use Rattle.fr_graph.specs.Rows.{row}
 use Rattle.fr_core.specs.Machine.{WorkerState, MachineState, Outcome, neighbour_at, bound_of, entries_of}
 use Rattle.fr_core.specs.Played.{MachineView}
 use Rattle.fr_core.specs.Targets.{node_of, IsTargetRefused, IsTurnable, IsLookable}

@@ -1,7 +1,7 @@
 -- Which turns and looks are refused, and which targets and schedules a machine takes.
 use Rattle.std.specs.Prelude.{◌≡◌, ℕ, ◌<◌, ◌≤◌, ◌⊎◌, List, length, map, Some, slice_get, Vec}
 use Rattle.std.specs.List.{All, Any}
-use Rattle.fr_net.specs.Links.{IsAlone, Joins}
+use Rattle.fr_graph.specs.Links.{IsAlone, Joins}
 use Rattle.fr_core.specs.declared.play_fault.PlayFault.{PlayFault}
 use Rattle.fr_core.specs.declared.play_fault.PlayFault.TheVariants.{Range, BadTarget, Memory}
 use Rattle.fr_core.specs.declared.targets.Target.{Target}

@@ -1,6 +1,6 @@
 -- Walks over links in either direction, and their away numbers (J. Welch and J. Walter, "Link Reversal Algorithms").
 use Rattle.std.specs.Prelude.{◌≡◌, ℕ, ◌+◌, ◌≤◌, ◌⊎◌, List, [], ◌∷◌}
-use Rattle.fr_net.specs.Links.{Points}
+use Rattle.fr_graph.specs.Links.{Points}
 
 -- a walk from u by these nodes ends at x, and its away number is the number of its steps along a link, from tail to head.
 -- (Among the links of a network no step goes both along a link and against one, so a walk has one away number.)

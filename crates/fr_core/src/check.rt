@@ -1,9 +1,9 @@
 //! The checker of histories: whether each entry is one that full reversal by one thread gives after those before it.
 
 ghost use Rattle.std.specs.Prelude.{◌≡◌, ◌≢◌, ℕ, ◌<◌, ◌↔◌, IsTrue, All, length, slice_index, IfOk, IfErr, IfSome, IfNone};
-ghost use Rattle.fr_net.specs.Counts.{AreLawful, IsKept, links_at};
-ghost use Rattle.fr_net.specs.Links.{Points};
-ghost use Rattle.fr_net.specs.Turn.{IsSink};
+ghost use Rattle.fr_graph.specs.Counts.{AreLawful, IsKept, links_at};
+ghost use Rattle.fr_graph.specs.Links.{Points};
+ghost use Rattle.fr_graph.specs.Turn.{IsSink};
 ghost use Rattle.fr_core.specs.Checks.{Fails, FailsReply, IsCheckFault};
 ghost use Rattle.fr_core.specs.Runs.{IsRunTo};
 ghost use Rattle.fr_core.specs.History.{moment_of};
@@ -18,7 +18,7 @@ use crate::counts::{is_sink, sense};
 use crate::directions::Sense;
 use crate::entry::{Entry, Reply};
 pub use fault::{CheckFault, Why};
-use fr_net::Net;
+use fr_graph::Net;
 use std::alloc::Global;
 
 /// Whether a link points from node `x` to `w` now. No link does where `w` is no neighbour of `x`, or no node at all.

@@ -2,9 +2,9 @@
 //! turn.
 
 ghost use Rattle.std.specs.Prelude.{◌≡◌, ℕ, ◌<◌, ◌↔◌, IsTrue, length, All};
-ghost use Rattle.fr_net.specs.Counts.{AreLawful, IsKept, links_at};
-ghost use Rattle.fr_net.specs.Links.{Points};
-ghost use Rattle.fr_net.specs.Turn.{IsSink};
+ghost use Rattle.fr_graph.specs.Counts.{AreLawful, IsKept, links_at};
+ghost use Rattle.fr_graph.specs.Links.{Points};
+ghost use Rattle.fr_graph.specs.Turn.{IsSink};
 ghost use Rattle.fr_core.specs.History.{moment_of};
 ghost use Rattle.fr_core.specs.Legal.{CanTurn};
 ghost use Rattle.fr_core.specs.NodeCounts.{IsLawfulCount, IsMostCount};
@@ -12,7 +12,7 @@ ghost use Rattle.fr_core.specs.Senses.{sense_of};
 ghost use Rattle.fr_core.specs.Settled.{AreSettled};
 
 use crate::directions::Sense;
-use fr_net::{First, Net};
+use fr_graph::{First, Net};
 
 /// Where the link between nodes `x` and `w` points now, as seen from `x`: `first` is its first direction as seen from
 /// `x`, and `cx` and `cw` are how often `x` and `w` have turned. None where the counts give it no direction. `O(1)`.

@@ -2,14 +2,14 @@
 //! destination, which never turns.
 
 ghost use Rattle.std.specs.Prelude.{◌≡◌, ℕ, ◌<◌, ◌≤◌, ◌↔◌, IsTrue, All, length, map, slice_index};
-ghost use Rattle.fr_net.specs.Counts.{AreLawful};
-ghost use Rattle.fr_net.specs.Rows.{row};
-ghost use Rattle.fr_net.specs.Turns.{set_to};
+ghost use Rattle.fr_graph.specs.Counts.{AreLawful};
+ghost use Rattle.fr_graph.specs.Rows.{row};
+ghost use Rattle.fr_graph.specs.Turns.{set_to};
 ghost use Rattle.fr_core.specs.CutOff.{AreApart, HasTurned};
 ghost use Rattle.fr_core.specs.History.{moment_of};
 ghost use Rattle.fr_core.specs.Legal.{CanTurn};
 
-use fr_net::{Net, Turns};
+use fr_graph::{Net, Turns};
 
 /// Whether each neighbour of node `x` has turned.
 fn have_neighbours_turned(net: &Net, counts: &[u64], x: u32) -> bool

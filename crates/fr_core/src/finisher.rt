@@ -1,15 +1,15 @@
 //! Where every schedule ends, found on one thread.
 
 ghost use Rattle.std.specs.Prelude.{◌≡◌, ℕ, ◌<◌, ◌≤◌, ◌↔◌, ◌^◌, IsTrue, length, slice_index, sum};
-ghost use Rattle.fr_net.specs.Counts.{AreLawful};
-ghost use Rattle.fr_net.specs.Links.{IsNet};
+ghost use Rattle.fr_graph.specs.Counts.{AreLawful};
+ghost use Rattle.fr_graph.specs.Links.{IsNet};
 ghost use Rattle.fr_core.specs.Finish.{HoldsAllThatCanTurn, IsFinish};
 ghost use Rattle.fr_core.specs.Settled.{AreSettled};
 
 use crate::counts::are_settled;
 use crate::levels;
 use crate::worklist::{turn_few, turn_few_of_all};
-use fr_net::{MAX_NODES, Net, Turns};
+use fr_graph::{MAX_NODES, Net, Turns};
 
 /// Searches for the settled counts, in a table of its own, and makes the turns those that they tell. No part of its callers, so
 /// that the table takes no room on the stack where a few turns are enough.

@@ -1,8 +1,8 @@
 //! The settled counts, by a search by levels.
 
 ghost use Rattle.std.specs.Prelude.{◌≡◌, ℕ, ◌+◌, ◌<◌, ◌≤◌, length, All, slice_index};
-ghost use Rattle.fr_net.specs.Links.{IsNet};
-ghost use Rattle.fr_net.specs.Rows.{row};
+ghost use Rattle.fr_graph.specs.Links.{IsNet};
+ghost use Rattle.fr_graph.specs.Rows.{row};
 ghost use Rattle.fr_core.specs.LevelSearch.{IsLevelSearch};
 ghost use Rattle.fr_core.specs.NodeCounts.{IsMostCount};
 ghost use Rattle.fr_core.specs.Reaching.{IsNeighbour, IsReached, ReachesOnly, unreached_count};
@@ -10,7 +10,7 @@ ghost use Rattle.fr_core.specs.Settled.{AreSettled};
 
 use crate::counts::most_count;
 use crate::queue::{ALL_NODES, Queue};
-use fr_net::{First, Net};
+use fr_graph::{First, Net};
 
 /// Gives the neighbour of an entry of a row the count `level` and a place in the queue, if its link first points this way
 /// and it was not reached before.

@@ -1,8 +1,8 @@
 //! Workers that turn the nodes of a network by single loads and exchanges, one step at a time.
 
 ghost use Rattle.std.specs.Prelude.{◌≡◌, ◌≢◌, ◌<◌, ◌++◌, [], List, All, length, option_to_list, IfOk, IfErr};
-ghost use Rattle.fr_net.specs.Counts.{AreLawful, links_at};
-ghost use Rattle.fr_net.specs.Links.{IsAcyclic};
+ghost use Rattle.fr_graph.specs.Counts.{AreLawful, links_at};
+ghost use Rattle.fr_graph.specs.Links.{IsAcyclic};
 ghost use Rattle.fr_core.specs.Machine.{step, outcome_of, entry_of, entries_of};
 ghost use Rattle.fr_core.specs.Played.{HasCome, started};
 ghost use Rattle.fr_core.specs.Runs.{IsRunTo};
@@ -15,7 +15,7 @@ use crate::entry::Entry;
 use crate::play_fault::PlayFault;
 use crate::targets::{Target, first_bad};
 use crate::worker::Worker;
-use fr_net::Net;
+use fr_graph::Net;
 use std::alloc::{AllocError, Global};
 use std::marker::Model;
 

@@ -2,7 +2,7 @@
 
 ghost use Rattle.std.specs.Prelude.{◌≡◌, ℕ, ◌+◌, ◌<◌, ◌≤◌, ◌↔◌, IsTrue, List, [], ◌∷◌, ◌++◌, length, take, slice_index};
 
-use fr_net::MAX_NODES;
+use fr_graph::MAX_NODES;
 use std::marker::Model;
 
 /// How many places a queue has in which all nodes of a network find room.

@@ -9,7 +9,7 @@ use crate::entry::Entry;
 use crate::machine::Machine;
 use crate::play_fault::PlayFault;
 use crate::targets::Target;
-use fr_net::Net;
+use fr_graph::Net;
 use std::alloc::Global;
 
 /// Whether a number of the schedule is no worker.

@@ -4,7 +4,7 @@ ghost use Rattle.std.specs.Prelude.{◌≡◌, ◌↔◌, IsTrue, IfSome, IfNone
 ghost use Rattle.fr_core.specs.Targets.{node_of, IsUnturnable, IsUnlookable, IsTargetRefused, IsFirstBadTarget, AreAccepted, AreAllAccepted, lists_of};
 ghost use Rattle.fr_core.specs.Sound.{IsFirstRefused};
 
-use fr_net::Net;
+use fr_graph::Net;
 
 /// One thing that a worker of a machine is to do.
 #[derive(Debug, Drop, Clone, Copy, PartialEq, Eq)]

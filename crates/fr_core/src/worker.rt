@@ -1,7 +1,7 @@
 //! The workers of a machine.
 
 ghost use Rattle.std.specs.Prelude.{◌≡◌, ◌<◌, ◌≤◌, ◌^◌, All, length};
-ghost use Rattle.fr_net.specs.Rows.{row};
+ghost use Rattle.fr_graph.specs.Rows.{row};
 ghost use Rattle.fr_core.specs.Machine.{fresh, all_but_first, load_own, load_to_look, load_neighbour, exchange, confirm, phase_unheld, step_idle, outcome, bound_of};
 ghost use Rattle.fr_core.specs.Targets.{node_of};
 ghost use Rattle.fr_core.specs.Sound.{CanStep, IsOnNode, outcome_with};
@@ -9,7 +9,7 @@ ghost use Rattle.fr_core.specs.declared.worker.Phase.TheVariants.{Idle};
 
 use crate::entry::Reply;
 use crate::targets::Target;
-use fr_net::{First, Net};
+use fr_graph::{First, Net};
 use std::collections::VecDeque;
 use std::marker::Model;
 

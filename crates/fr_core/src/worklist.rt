@@ -1,10 +1,10 @@
 //! Turning node by node, as long as that is cheap.
 
 ghost use Rattle.std.specs.Prelude.{◌≡◌, ℕ, ◌<◌, ◌≤◌, ◌++◌, [], true, false, map, length, slice_index};
-ghost use Rattle.fr_net.specs.Counts.{AreLawful};
-ghost use Rattle.fr_net.specs.Links.{IsNet};
-ghost use Rattle.fr_net.specs.Rows.{row};
-ghost use Rattle.fr_net.specs.declared.rows.First.{First};
+ghost use Rattle.fr_graph.specs.Counts.{AreLawful};
+ghost use Rattle.fr_graph.specs.Links.{IsNet};
+ghost use Rattle.fr_graph.specs.Rows.{row};
+ghost use Rattle.fr_graph.specs.declared.rows.First.{First};
 ghost use Rattle.fr_core.specs.Finish.{HoldsAllThatCanTurn};
 ghost use Rattle.fr_core.specs.History.{moment_of};
 ghost use Rattle.fr_core.specs.Legal.{NoneCanTurn};
@@ -13,7 +13,7 @@ ghost use Rattle.fr_core.specs.Worklist.{AreNodes, HoldsAll, Carries};
 use crate::counts::can_turn;
 use crate::cut_off::cap_cut_off;
 use crate::queue::{ALL_NODES, Queue};
-use fr_net::{Net, Turns};
+use fr_graph::{Net, Turns};
 
 /// How many places the list has that turning begins with, where it is known which nodes can turn: so few that clearing them costs
 /// less than the turns of most changes.

@@ -7,10 +7,10 @@ use Rattle.fr_core.proofs.Unique.{lawful_le_settled, settled_lawful}
 use Rattle.fr_core.specs.Finish.{HoldsAllThatCanTurn}
 use Rattle.fr_core.specs.Settled.{AreSettled}
 use Rattle.fr_crew.specs.Settlements.{HoldsSinks, IsCounted}
-use Rattle.fr_net.specs.Counts.{AreLawful}
-use Rattle.fr_net.specs.Links.{IsNet}
-use Rattle.fr_net.specs.Network.{Network}
-use Rattle.fr_net.specs.Turn.{IsSink}
+use Rattle.fr_graph.specs.Counts.{AreLawful}
+use Rattle.fr_graph.specs.Links.{IsNet}
+use Rattle.fr_graph.specs.Network.{Network}
+use Rattle.fr_graph.specs.Turn.{IsSink}
 
 pub zeros_hold : (net : Network) (d : ℕ) (from : List ℕ) → HoldsSinks net d from → HoldsAllThatCanTurn net.nodes d net.links (replicate net.nodes 0) from
 zeros_hold net d from holds = record {

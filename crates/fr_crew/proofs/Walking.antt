@@ -5,11 +5,11 @@ use Rattle.std.specs.Prelude.{Err, IfErr, Ok, Result}
 use Rattle.std.specs.Result.{IsErrAnd}
 use Rattle.std.proofs.lemmas.List.{append-nil, append_assoc}
 use Rattle.std.proofs.lemmas.Grind.{flat_map-append}
-use Rattle.fr_net.specs.Links.{IsNet, Points}
-use Rattle.fr_net.specs.Rows.{row}
-use Rattle.fr_net.proofs.Giving.{Points-links_at_from}
-use Rattle.fr_net.proofs.Linking.{link_below}
-use Rattle.fr_net.proofs.Neighbours.{row_linked}
+use Rattle.fr_graph.specs.Links.{IsNet, Points}
+use Rattle.fr_graph.specs.Rows.{row}
+use Rattle.fr_graph.proofs.Giving.{Points-links_at_from}
+use Rattle.fr_graph.proofs.Linking.{link_below}
+use Rattle.fr_graph.proofs.Neighbours.{row_linked}
 use Rattle.fr_core.specs.History.{part}
 use Rattle.fr_core.specs.Replies.{IsReplyToLook}
 use Rattle.fr_core.specs.Targets.{IsLookable}

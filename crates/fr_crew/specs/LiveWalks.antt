@@ -1,7 +1,7 @@
 -- A walk by looks, hop by hop, while workers turn.
 use Rattle.std.specs.Prelude.{◌≡◌, ◌≢◌, ℕ, ◌<◌, ◌≤◌, List, [], ◌∷◌, ◌++◌, length}
 use Rattle.std.specs.List.{AllByRecursion as Each, flat_map}
-use Rattle.fr_net.specs.Links.{IsAlone}
+use Rattle.fr_graph.specs.Links.{IsAlone}
 use Rattle.fr_core.specs.History.{part}
 use Rattle.fr_core.specs.Replies.{IsReplyToLook}
 use Rattle.fr_core.specs.Targets.{IsLookable}

@@ -1,9 +1,9 @@
 -- What it is to have settled a network.
 use Rattle.std.specs.Prelude.{◌≡◌, ℕ, ◌<◌, ◌≤◌, ◌+◌, ◌*◌, List, sum}
 use Rattle.std.specs.List.{All, Contains}
-use Rattle.fr_net.specs.Network.{Network, net_of}
-use Rattle.fr_net.specs.Counts.{links_at}
-use Rattle.fr_net.specs.Turn.{IsSink}
+use Rattle.fr_graph.specs.Network.{Network, net_of}
+use Rattle.fr_graph.specs.Counts.{links_at}
+use Rattle.fr_graph.specs.Turn.{IsSink}
 use Rattle.fr_core.specs.Settled.{AreSettled}
 use Rattle.fr_crew.specs.declared.settlement.Settled.{Settled}
 

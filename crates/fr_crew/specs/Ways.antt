@@ -1,7 +1,7 @@
 -- A way to settle counts that is passed in, as a closure.
 use Rattle.std.specs.Prelude.{◌≡◌, ◌≢◌, ℕ, ◌<◌, ◌≤◌, ◌^◌, ◌↔◌, List, Option, Result, IfOk, IfErr, IfSome, replicate}
 use Rattle.std.specs.Borrow.{Bor}
-use Rattle.fr_net.specs.Network.{Network}
+use Rattle.fr_graph.specs.Network.{Network}
 use Rattle.fr_core.specs.Settled.{AreSettled}
 use Rattle.fr_crew.specs.Settlements.{HoldsSinks, IsCounted}
 use Rattle.fr_crew.specs.declared.fault.CrewFault.{CrewFault}

@@ -1,7 +1,7 @@
 //! Settling a network.
 
 ghost use Rattle.std.specs.Prelude.{◌≡◌, ◌≢◌, ℕ, ◌<◌, ◌≤◌, ◌^◌, ◌↔◌, ◌⊎◌, IfOk, IfErr, IfSome, IsTrue, OnOk, length, replicate, sum, sum_by};
-ghost use Rattle.fr_net.specs.Counts.{AreLawful};
+ghost use Rattle.fr_graph.specs.Counts.{AreLawful};
 ghost use Rattle.fr_core.specs.Finish.{HoldsAllThatCanTurn};
 ghost use Rattle.fr_core.specs.Settled.{AreSettled};
 ghost use Rattle.fr_crew.specs.Settlements.{HoldsSinks, IsCounted, IsSettlement};
@@ -12,7 +12,7 @@ use crate::fault::CrewFault;
 use crate::gate::Gate;
 use crate::plan::Plan;
 use fr_core::{are_settled, finish, finish_from, finish_soon};
-use fr_net::{Net, Turns};
+use fr_graph::{Net, Turns};
 use fr_round::{Closed, Round};
 use std::alloc::Global;
 use std::marker::Brand;

@@ -7,7 +7,7 @@ ghost use Rattle.fr_crew.specs.Ways.{Settles, NeverStarts};
 ghost use Rattle.fr_crew.specs.declared.fault.CrewFault.TheVariants.{Range, Start};
 
 use crate::fault::CrewFault;
-use fr_net::{Net, Turns};
+use fr_graph::{Net, Turns};
 
 /// The settled counts of a network in a way that is passed in, as a closure over [`settled_counts`](crate::settled_counts) or
 /// [`settled_counts_alone`](crate::settled_counts_alone). The answer is that of the way, and so `Range` where the destination is

@@ -1,38 +1,9 @@
-//! Networks for link reversal: nodes and directed links among which no closed walk stands, and the lines of JSON that
-//! ask for them.
+//! Networks for link reversal, and the lines of JSON that ask for them: what [`fr_graph`] and [`fr_lines`] offer, by one name.
 //!
-//! A [`Net`] is made by [`Net::new`], which names the first fault of links that make no network. Layers above
-//! read it by `nodes`, `links`, `degree`, `neighbour` and `row`, make one network of another by `copied`, `with_cut`, `with_link`,
-//! `with_join`, `with_edits` and `turned_by`, and change one where it stands by `edit_if` and `turn`, the latter by [`Turns`], a table of
-//! how often each node has turned. What its rows show is the law
-//! [`rows_law`](laws::rows_law), and which way a link can point the law [`join_law`](laws::join_law). [`read_line`] reads a request,
-//! and a [`LineReader`] line after line.
-//!
-//! Costs are told for n nodes, m links, and d links at a node, as read off the code.
+//! They are two crates so that what stands on networks alone is proved beside the lines.
 #![tactic(auto)]
 
-mod checks;
-mod cycle;
-mod edit;
-mod edits;
-mod fault;
-mod graph;
-mod heights;
-pub mod laws;
-mod limits;
-mod lines;
-mod network;
-mod path_search;
-mod row;
-mod row_table;
-mod rows;
-mod turned;
-mod turns;
-
-pub use edit::Edit;
-pub use fault::{EditFault, NetFault, NotEdited};
-pub use limits::{MAX_EDITS, MAX_LINKS, MAX_NODES};
-pub use lines::{LineFault, LineReader, Question, Request, read_line};
-pub use network::Net;
-pub use rows::First;
-pub use turns::Turns;
+pub use fr_graph::{
+    Edit, EditFault, First, MAX_EDITS, MAX_LINKS, MAX_NODES, Net, NetFault, NotEdited, Turns, laws,
+};
+pub use fr_lines::{LineFault, LineReader, Question, Request, read_line};

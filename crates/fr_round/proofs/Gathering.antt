@@ -8,7 +8,7 @@ use mathlib.Core.Logic.{dite}
 use native.Mathlib.Decide.{ℕ_discrete}
 use lib.ListN.{get_elem?}
 use Rattle.atomic_table.specs.Table.{Final, Seen, State}
-use Rattle.fr_net.specs.Counts.{AreLawful, links_at}
+use Rattle.fr_graph.specs.Counts.{AreLawful, links_at}
 use Rattle.fr_core.proofs.Runs.{run_to}
 use Rattle.fr_core.specs.History.{moment_of}
 use Rattle.fr_core.specs.Runs.{IsRunTo}

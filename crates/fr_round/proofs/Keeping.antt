@@ -9,8 +9,8 @@ use lib.ListN.{get_elem?}
 use prog.Atomic.{either}
 use Rattle.atomic_table.specs.Table.{State, Me, step, Act, keeps, Valid, Allows, carried_after, homes_after}
 use Rattle.atomic_table.proofs.Lists.{at_set, exchanged}
-use Rattle.fr_net.specs.Counts.{links_at}
-use Rattle.fr_net.specs.Links.{Points, Joins}
+use Rattle.fr_graph.specs.Counts.{links_at}
+use Rattle.fr_graph.specs.Links.{Points, Joins}
 use Rattle.fr_core.specs.History.{Moment, after, count_at, part}
 use Rattle.fr_core.specs.Legal.{CanTurn, IsLegal}
 use Rattle.fr_core.specs.Targets.{IsLookable, IsTurnable}
@@ -27,7 +27,7 @@ use Rattle.fr_round.proofs.Entries.{lawful_after, set_same_value, set_up, set_be
 use Rattle.fr_core.proofs.Loads.{held_along, held_against, sink_from_seen}
 use Rattle.fr_core.proofs.Rounds.{after_all-append, run_append}
 use Rattle.fr_core.proofs.Turning.{IsLawfulAt}
-use Rattle.fr_net.specs.Turn.{IsSink}
+use Rattle.fr_graph.specs.Turn.{IsSink}
 
 pub each_weaker : {X : Type 0} (P Q : X → Type 0) → ((x : X) → P x → Q x) → (xs : List X) → Each P xs → Each Q xs
 each_weaker P Q f [] a = a

@@ -6,14 +6,14 @@ use Rattle.std.proofs.lemmas.List.Elements.{Contains-get_or}
 use Rattle.std.proofs.lemmas.List.Sums.{count_by_more_no, count_by_more_yes, sum_by-append, sum_by_more_le}
 use mathlib.Core.Logic.{dite}
 use native.Mathlib.Decide.{ℕ_discrete}
-use Rattle.fr_net.proofs.Counting.{one_passes}
-use Rattle.fr_net.proofs.Linking.{IsOneWay, one_way}
-use Rattle.fr_net.proofs.Neighbours.{Points-has_link, row_entry_known, row_entry_node, row_holds}
-use Rattle.fr_net.specs.Links.{IsNet}
-use Rattle.fr_net.specs.RowLists.{opposite}
-use Rattle.fr_net.specs.Rows.{has_link, row, row_entry}
-use Rattle.fr_net.specs.declared.rows.First.{First}
-use Rattle.fr_net.specs.declared.rows.First.TheVariants.{Inward, Outward}
+use Rattle.fr_graph.proofs.Counting.{one_passes}
+use Rattle.fr_graph.proofs.Linking.{IsOneWay, one_way}
+use Rattle.fr_graph.proofs.Neighbours.{Points-has_link, row_entry_known, row_entry_node, row_holds}
+use Rattle.fr_graph.specs.Links.{IsNet}
+use Rattle.fr_graph.specs.RowLists.{opposite}
+use Rattle.fr_graph.specs.Rows.{has_link, row, row_entry}
+use Rattle.fr_graph.specs.declared.rows.First.{First}
+use Rattle.fr_graph.specs.declared.rows.First.TheVariants.{Inward, Outward}
 use Rattle.fr_core.specs.Machine.{bound_of}
 use Rattle.fr_round.specs.declared.seen.Seen.{Seen}
 use Rattle.fr_round.specs.Missing.{IsCounted, misses, missing_of}

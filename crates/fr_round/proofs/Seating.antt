@@ -9,7 +9,7 @@ use native.Mathlib.Decide.{ℕ_discrete}
 use lib.ListN.{get_elem?}
 use Rattle.atomic_table.specs.Table.{opening, Splits, Joins, Enters}
 use Rattle.atomic_table.proofs.Lists.{at_set}
-use Rattle.fr_net.specs.Links.{IsNet}
+use Rattle.fr_graph.specs.Links.{IsNet}
 use Rattle.fr_core.specs.declared.entry.Entry.{Entry}
 use Rattle.fr_round.specs.declared.view.Setup.{Setup}
 use Rattle.fr_round.specs.declared.view.View.{View}

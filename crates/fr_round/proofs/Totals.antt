@@ -5,7 +5,7 @@ use Rattle.std.proofs.lemmas.List.{length-replicate}
 use Rattle.std.proofs.lemmas.List.Folds.{sum_by-replicate}
 use Rattle.std.proofs.lemmas.List.Sums.{sum_by-cons}
 use Rattle.std.specs.List.{AllByRecursion as Each, IsDistinct}
-use Rattle.fr_net.proofs.Members.{Contains-cases, Contains-head, Contains-none, Contains-tail}
+use Rattle.fr_graph.proofs.Members.{Contains-cases, Contains-head, Contains-none, Contains-tail}
 use Rattle.fr_core.proofs.Pigeons.{IsDistinct-more, IsDistinct-none, distinct_length}
 use Rattle.fr_core.proofs.Runs.{run_sum}
 use Rattle.fr_core.specs.History.{Moment, part, turn_count}

@@ -2,7 +2,7 @@
 use Rattle.std.proofs.Common.{◌≡◌, ℕ, ◌+◌, ◌*◌, ◌^◌, ◌<◌, ◌≤◌, Bool, true, false, cond, eqb, List, [], ◌∷◌, ◌++◌, arith, le_refl, mul-le-mul, refl}
 use Rattle.std.proofs.lemmas.List.{length-replicate}
 use Rattle.std.proofs.lemmas.List.Sums.{sum_by-cons, sum_by_push}
-use Rattle.fr_net.specs.Links.{IsNet}
+use Rattle.fr_graph.specs.Links.{IsNet}
 use Rattle.fr_core.proofs.Runs.{lawful_sum, run_sum}
 use Rattle.fr_core.specs.History.{is_turned, part, turn_count}
 use Rattle.fr_core.specs.declared.entry.Entry.{Entry}

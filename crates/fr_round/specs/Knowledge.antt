@@ -1,7 +1,7 @@
 -- What contracts see of a round and of its workers.
 use Rattle.std.specs.Prelude.{◌≡◌, ◌≢◌, ◌⊎◌, ℕ, zero, suc, ◌<◌, ◌≤◌, List, [], ◌∷◌, ◌++◌, slice_index, replicate}
 use Rattle.atomic_table.specs.Seated.{TableId}
-use Rattle.fr_net.specs.Links.{IsAlone}
+use Rattle.fr_graph.specs.Links.{IsAlone}
 use Rattle.fr_core.specs.History.{turn_count_of}
 use Rattle.fr_core.specs.Limits.{most_workers}
 use Rattle.fr_core.specs.declared.entry.Entry.{Entry}

@@ -11,7 +11,7 @@ use crate::rule::TakeWorker;
 use crate::steps::{RoundSeat, RoundWords};
 use crate::worker::Worker;
 use atomic_table::Closed as ClosedWords;
-use fr_net::Net;
+use fr_graph::Net;
 use std::alloc::Global;
 
 /// A round that is over.

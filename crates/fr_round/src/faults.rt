@@ -1,6 +1,6 @@
 //! Why a round cannot be opened, and why a call takes no step.
 
-use fr_net::Net;
+use fr_graph::Net;
 use thiserror::Error;
 
 /// Why a call on a node takes no step. The variants stand in the order in which they are tested.

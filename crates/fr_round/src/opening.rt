@@ -1,7 +1,7 @@
 //! How a round gets its words, its workers, and the room that its closing needs.
 
 ghost use Rattle.std.specs.Prelude.{◌≡◌, ◌≤◌, ◌<◌, ◌^◌, IfOk, length, [], vec_capacity, replicate};
-ghost use Rattle.fr_net.specs.Links.{IsNet};
+ghost use Rattle.fr_graph.specs.Links.{IsNet};
 ghost use Rattle.fr_round.specs.Knowledge.{new_workers};
 ghost use Rattle.fr_round.specs.Setups.{setup_of};
 ghost use Rattle.fr_round.specs.Seated.{IsTableOf};

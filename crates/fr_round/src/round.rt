@@ -17,7 +17,7 @@ use crate::rule::BeginClosing;
 use crate::terms::Terms;
 use crate::worker::Worker;
 use fr_core::{MAX_WORKERS, Reply};
-use fr_net::Net;
+use fr_graph::Net;
 use std::alloc::Global;
 use std::marker::Model;
 

@@ -4,7 +4,7 @@ ghost use Rattle.std.specs.Prelude.{◌≡◌, ◌≢◌, ℕ, ◌<◌, ◌≤�
 ghost use Rattle.fr_core.specs.Machine.{bound_of};
 ghost use Rattle.fr_round.specs.Missing.{misses, missing_of, IsCounted};
 
-use fr_net::{First, Net};
+use fr_graph::{First, Net};
 use std::alloc::{AllocError, Global};
 
 /// The counts that a worker has seen, one for each node of a network, and beside each the number of its node: how many of its

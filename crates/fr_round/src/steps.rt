@@ -3,7 +3,7 @@
 
 ghost use Rattle.std.specs.Prelude.{◌≡◌, ◌<◌, ◌≤◌, MatchBool, slice_index};
 ghost use Rattle.std.specs.List.{Contains};
-ghost use Rattle.fr_net.specs.Rows.{row};
+ghost use Rattle.fr_graph.specs.Rows.{row};
 ghost use Rattle.fr_core.specs.Machine.{bound_of};
 ghost use Rattle.fr_core.specs.Replies.{IsReplyToTurn};
 ghost use Rattle.fr_core.specs.Targets.{IsTurnable};
@@ -18,7 +18,7 @@ use crate::terms::Terms;
 use crate::view::View;
 use atomic_table::{Seat, Shared};
 use fr_core::Reply;
-use fr_net::First;
+use fr_graph::First;
 
 /// The words of a round.
 pub type RoundWords = Shared<(), View, Terms, Rule>;

@@ -2,7 +2,7 @@
 
 ghost use Rattle.std.specs.Prelude.{◌≡◌};
 
-use fr_net::Net;
+use fr_graph::Net;
 
 /// A network, its destination, and how many workers there are.
 #[derive(Drop)]

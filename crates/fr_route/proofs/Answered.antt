@@ -2,8 +2,8 @@
 use Rattle.std.proofs.Common.{Bool, Err, IfErr, IfOk, List, None, Ok, OnErr, OnOk, Option, Result, Some, inl, inr, length, refl, string_bytes, subst, sym, true, ℕ, ◌∙◌, ◌≡◌, ◌≢◌, ◌≤◌, ◌↔◌}
 use Rattle.std.specs.Prelude.{String}
 use Rattle.std.specs.declared.alloc.Global.{Global}
-use Rattle.fr_net.specs.Requests.{PlainRequest, make_edits, new_network}
-use Rattle.fr_net.specs.declared.edit.Edit.{Edit}
+use Rattle.fr_lines.specs.Requests.{PlainRequest, make_edits, new_network}
+use Rattle.fr_graph.specs.declared.edit.Edit.{Edit}
 use Rattle.fr_route.specs.Answers.{IsAccepted, IsAnswer, IsRefused, IsReportLine, IsText, MayStartFor}
 use Rattle.fr_route.specs.Changes.{IsChanged, IsRouteFault}
 use Rattle.fr_route.specs.Outcomes.{IsEdited, IsEditingFault}

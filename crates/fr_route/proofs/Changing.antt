@@ -1,17 +1,17 @@
 -- What a change makes, by the edits that it makes and the destination toward which the network is then settled.
 use Rattle.std.proofs.Common.{List, [], Option, Some, ap, arith, inl, inr, refl, subst, sym, length, take, ℕ, ◌++◌, ◌<◌, ◌≤◌, ◌∙◌, ◌∷◌, ◌≡◌, ◌≢◌}
 use Rattle.std.specs.List.{HoldsAt}
-use Rattle.fr_net.specs.Batches.{AreMade, IsBatchFault, IsEditFault, IsMade}
-use Rattle.fr_net.specs.Edits.{IsCutFault, IsJoinFault, IsJoined, without}
-use Rattle.fr_net.specs.Faults.{IsFirstFault, IsNetworkOf}
-use Rattle.fr_net.specs.Limits.{most_edits}
-use Rattle.fr_net.specs.declared.fault.EditFault.{EditFault}
-use Rattle.fr_net.specs.declared.fault.NetFault.{NetFault}
-use Rattle.fr_net.specs.declared.fault.NetFault.TheVariants as net
-use Rattle.fr_net.specs.Network.{Network}
-use Rattle.fr_net.specs.Requests.{make_edits}
-use Rattle.fr_net.specs.declared.edit.Edit.{Edit}
-use Rattle.fr_net.specs.declared.edit.Edit.TheVariants as edit
+use Rattle.fr_graph.specs.Batches.{AreMade, IsBatchFault, IsEditFault, IsMade}
+use Rattle.fr_graph.specs.Edits.{IsCutFault, IsJoinFault, IsJoined, without}
+use Rattle.fr_graph.specs.Faults.{IsFirstFault, IsNetworkOf}
+use Rattle.fr_graph.specs.Limits.{most_edits}
+use Rattle.fr_graph.specs.declared.fault.EditFault.{EditFault}
+use Rattle.fr_graph.specs.declared.fault.NetFault.{NetFault}
+use Rattle.fr_graph.specs.declared.fault.NetFault.TheVariants as net
+use Rattle.fr_graph.specs.Network.{Network}
+use Rattle.fr_lines.specs.Requests.{make_edits}
+use Rattle.fr_graph.specs.declared.edit.Edit.{Edit}
+use Rattle.fr_graph.specs.declared.edit.Edit.TheVariants as edit
 use Rattle.fr_route.specs.Answers.{IsAccepted, IsAnswer, IsReportLine, IsText, MayStartFor, fault_number}
 use Rattle.fr_route.specs.Changes.{IsChanged, IsOpenFault, IsRouteFault, IsStill}
 use Rattle.fr_route.specs.Faults.{of_net_fault}

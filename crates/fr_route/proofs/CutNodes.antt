@@ -9,12 +9,12 @@ use Rattle.std.proofs.lemmas.List.Elements.{All-filter}
 use Rattle.std.proofs.lemmas.List.FromFn.{fill_by_all, filter_of_map_range_with_len_more, get_or-range_with_len, length-range_with_len}
 use Rattle.std.proofs.lemmas.List.Sums.{length-filter}
 use Rattle.std.proofs.lemmas.Option.{slice_get-get_or}
-use Rattle.fr_net.specs.Links.{IsAlone, IsNet}
-use Rattle.fr_net.specs.Network.{Network, net_of}
-use Rattle.fr_net.specs.Counts.{links_at}
-use Rattle.fr_net.specs.Rows.{alone_count, has_no_neighbour, row}
-use Rattle.fr_net.proofs.Counting.{count-range_agree, count-range_more, count_by-map}
-use Rattle.fr_net.proofs.Neighbours.{row_alone, row_linked}
+use Rattle.fr_graph.specs.Links.{IsAlone, IsNet}
+use Rattle.fr_graph.specs.Network.{Network, net_of}
+use Rattle.fr_graph.specs.Counts.{links_at}
+use Rattle.fr_graph.specs.Rows.{alone_count, has_no_neighbour, row}
+use Rattle.fr_graph.proofs.Counting.{count-range_agree, count-range_more, count_by-map}
+use Rattle.fr_graph.proofs.Neighbours.{row_alone, row_linked}
 use Rattle.fr_core.specs.Settled.{IsSettledCount}
 use Rattle.fr_crew.specs.Settlements.{IsCounted}
 use Rattle.fr_route.proofs.RoundEnds.{alone_cut_off, capped_cut_off, lawful, round_end, round_joined, round_joins, round_net}

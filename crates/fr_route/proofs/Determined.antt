@@ -2,22 +2,22 @@
 use Rattle.std.proofs.Common.{◌≡◌, ◌∙◌, ℕ, zero, suc, ◌+◌, ◌<◌, ◌++◌, Bool, true, false, MatchBool, List, [], ◌∷◌, get_or, length, refl, sym, ap, subst, inl, inr, arith, Option, Some, None, Result, Ok, Err}
 use Rattle.std.proofs.lemmas.List.{ext_get_or}
 use Rattle.std.proofs.lemmas.Option.{slice_get-get_or}
-use Rattle.fr_net.specs.Batches.{IsBatchFault, IsEditFault}
-use Rattle.fr_net.specs.Edits.{without}
-use Rattle.fr_net.specs.Faults.{IsFirstFault}
-use Rattle.fr_net.specs.Network.{Network}
-use Rattle.fr_net.specs.Requests.{PlainRequest, new_network, cut_link, add_link, join_nodes, make_edits, move_dest, walk_from, ask, reading}
-use Rattle.fr_net.specs.declared.edit.Edit.{Edit}
-use Rattle.fr_net.specs.declared.edit.Edit.TheVariants as edit
-use Rattle.fr_net.specs.declared.fault.EditFault.{EditFault}
-use Rattle.fr_net.specs.declared.lines.requests.Question.TheVariants.{Links, Counts, Hops}
-use Rattle.fr_net.specs.declared.lines.requests.LineFault.{LineFault}
-use Rattle.fr_net.specs.declared.lines.requests.LineFault.TheVariants.{NotJson, NotRequest, Memory as LineMemory}
-use Rattle.fr_net.specs.declared.fault.NetFault.{NetFault}
-use Rattle.fr_net.specs.declared.fault.NetFault.TheVariants.{TooMany, Range, SelfLink, Twice, Cycle, NoLink, Memory}
-use Rattle.fr_net.proofs.Batches.{all_made_one, batch_fault_place, batch_not_made, cut_fault_is}
-use Rattle.fr_net.proofs.Joining.{as_first, join_not_refused, joined_one}
-use Rattle.fr_net.proofs.Refusing.{fault_place, first_fault_place, no_first_fault}
+use Rattle.fr_graph.specs.Batches.{IsBatchFault, IsEditFault}
+use Rattle.fr_graph.specs.Edits.{without}
+use Rattle.fr_graph.specs.Faults.{IsFirstFault}
+use Rattle.fr_graph.specs.Network.{Network}
+use Rattle.fr_lines.specs.Requests.{PlainRequest, new_network, cut_link, add_link, join_nodes, make_edits, move_dest, walk_from, ask, reading}
+use Rattle.fr_graph.specs.declared.edit.Edit.{Edit}
+use Rattle.fr_graph.specs.declared.edit.Edit.TheVariants as edit
+use Rattle.fr_graph.specs.declared.fault.EditFault.{EditFault}
+use Rattle.fr_lines.specs.declared.requests.Question.TheVariants.{Links, Counts, Hops}
+use Rattle.fr_lines.specs.declared.requests.LineFault.{LineFault}
+use Rattle.fr_lines.specs.declared.requests.LineFault.TheVariants.{NotJson, NotRequest, Memory as LineMemory}
+use Rattle.fr_graph.specs.declared.fault.NetFault.{NetFault}
+use Rattle.fr_graph.specs.declared.fault.NetFault.TheVariants.{TooMany, Range, SelfLink, Twice, Cycle, NoLink, Memory}
+use Rattle.fr_graph.proofs.Batches.{all_made_one, batch_fault_place, batch_not_made, cut_fault_is}
+use Rattle.fr_graph.proofs.Joining.{as_first, join_not_refused, joined_one}
+use Rattle.fr_graph.proofs.Refusing.{fault_place, first_fault_place, no_first_fault}
 use Rattle.fr_route.specs.Blank.{is_blank}
 use Rattle.fr_route.specs.States.{State, IsReport, IsRound, net_at}
 use Rattle.fr_route.specs.Routes.{IsHop, AreHops}

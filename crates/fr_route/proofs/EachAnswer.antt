@@ -2,31 +2,31 @@
 use Rattle.std.proofs.Common.{◌≡◌, ℕ, zero, suc, ◌+◌, ◌<◌, ◌++◌, ◌⊎◌, List, [], ◌∷◌, length, ap, arith, inl, inr, refl, subst, ⊎_elim, Option, Some, None, Result}
 use Rattle.std.specs.Prelude.{slice_get, slice_index, ok_or, sum}
 use Rattle.std.proofs.lemmas.Bool.{cases_eq, cases_lt}
-use Rattle.fr_net.proofs.Building.{faultless_sorted, permuted_net}
-use Rattle.fr_net.proofs.Editing.{faultless_cut}
-use Rattle.fr_net.proofs.Joining.{faultless_turned}
-use Rattle.fr_net.proofs.Refusing.{no_cycle_stands}
-use Rattle.fr_net.proofs.Linking.{link_below}
-use Rattle.fr_net.proofs.Ordering.{in_order_permutes}
-use Rattle.fr_net.proofs.TurnedLinks.{turned_faultless}
-use Rattle.fr_net.specs.Counts.{links_at}
-use Rattle.fr_net.specs.Edits.{IsJoined, IsJoinFault, without}
-use Rattle.fr_net.specs.Batches.{AreMade, IsEditFault, IsMade, IsRefusedAt}
-use Rattle.fr_net.specs.Faults.{IsFaultless, IsFirstFault, IsNetworkOf}
-use Rattle.fr_net.specs.Limits.{most_edits}
-use Rattle.fr_net.specs.Links.{IsAcyclic, IsNet, Joins, Points}
-use Rattle.fr_net.specs.Network.{Network, net_of}
-use Rattle.fr_net.specs.Order.{in_order}
-use Rattle.fr_net.specs.Requests.{PlainRequest, new_network, cut_link, add_link, join_nodes, make_edits, move_dest, walk_from, ask, reading, reading_of_value, request_of, value_of_line}
-use Rattle.fr_net.specs.declared.fault.EditFault.{EditFault}
-use Rattle.fr_net.specs.declared.fault.NetFault.{NetFault}
-use Rattle.fr_net.specs.declared.fault.NetFault.TheVariants.{Cycle, Memory, NoLink, Range, SelfLink, TooMany, Twice}
-use Rattle.fr_net.specs.declared.edit.Edit.{Edit}
-use Rattle.fr_net.specs.declared.edit.Edit.TheVariants.{Cut, Add, Join}
-use Rattle.fr_net.specs.declared.lines.requests.LineFault.{LineFault}
-use Rattle.fr_net.specs.declared.lines.requests.LineFault.TheVariants.{NotRequest}
-use Rattle.fr_net.specs.declared.lines.requests.Question.{Question}
-use Rattle.fr_net.specs.declared.lines.requests.Question.TheVariants.{Links, Counts, Hops}
+use Rattle.fr_graph.proofs.Building.{faultless_sorted, permuted_net}
+use Rattle.fr_graph.proofs.Editing.{faultless_cut}
+use Rattle.fr_graph.proofs.Joining.{faultless_turned}
+use Rattle.fr_graph.proofs.Refusing.{no_cycle_stands}
+use Rattle.fr_graph.proofs.Linking.{link_below}
+use Rattle.fr_graph.proofs.Ordering.{in_order_permutes}
+use Rattle.fr_graph.proofs.TurnedLinks.{turned_faultless}
+use Rattle.fr_graph.specs.Counts.{links_at}
+use Rattle.fr_graph.specs.Edits.{IsJoined, IsJoinFault, without}
+use Rattle.fr_graph.specs.Batches.{AreMade, IsEditFault, IsMade, IsRefusedAt}
+use Rattle.fr_graph.specs.Faults.{IsFaultless, IsFirstFault, IsNetworkOf}
+use Rattle.fr_graph.specs.Limits.{most_edits}
+use Rattle.fr_graph.specs.Links.{IsAcyclic, IsNet, Joins, Points}
+use Rattle.fr_graph.specs.Network.{Network, net_of}
+use Rattle.fr_graph.specs.Order.{in_order}
+use Rattle.fr_lines.specs.Requests.{PlainRequest, new_network, cut_link, add_link, join_nodes, make_edits, move_dest, walk_from, ask, reading, reading_of_value, request_of, value_of_line}
+use Rattle.fr_graph.specs.declared.fault.EditFault.{EditFault}
+use Rattle.fr_graph.specs.declared.fault.NetFault.{NetFault}
+use Rattle.fr_graph.specs.declared.fault.NetFault.TheVariants.{Cycle, Memory, NoLink, Range, SelfLink, TooMany, Twice}
+use Rattle.fr_graph.specs.declared.edit.Edit.{Edit}
+use Rattle.fr_graph.specs.declared.edit.Edit.TheVariants.{Cut, Add, Join}
+use Rattle.fr_lines.specs.declared.requests.LineFault.{LineFault}
+use Rattle.fr_lines.specs.declared.requests.LineFault.TheVariants.{NotRequest}
+use Rattle.fr_lines.specs.declared.requests.Question.{Question}
+use Rattle.fr_lines.specs.declared.requests.Question.TheVariants.{Links, Counts, Hops}
 use Rattle.fr_core.proofs.Finishing.{settled_exists}
 use Rattle.fr_core.proofs.Searching.{cases_below}
 use Rattle.fr_core.proofs.Unique.{settled_lawful}

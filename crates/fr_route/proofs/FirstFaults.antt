@@ -5,14 +5,14 @@ use Rattle.std.specs.List.{IsDistinct}
 use Rattle.std.specs.declared.vec.Vec.{Vec}
 use Rattle.std.specs.declared.alloc.Global.{Global}
 use denote.RawPtr.{null_ptr}
-use Rattle.fr_net.proofs.Counting.{one_passes}
-use Rattle.fr_net.proofs.Linking.{is_between_itself}
-use Rattle.fr_net.proofs.Members.{Contains-cases, Contains-none, cases_some}
-use Rattle.fr_net.specs.Faults.{IsFaultless, IsFirstFault}
-use Rattle.fr_net.specs.Limits.{IsWithinLimits, most_links, most_nodes}
-use Rattle.fr_net.specs.Links.{AreBelow, AreSingle, HasNoSelfLink, IsAcyclic, IsClosedWalk, IsCycle, IsPath, Points, end_of, is_between}
-use Rattle.fr_net.specs.declared.fault.NetFault.{NetFault}
-use Rattle.fr_net.specs.declared.fault.NetFault.TheVariants.{Cycle, Range, SelfLink, TooMany, Twice}
+use Rattle.fr_graph.proofs.Counting.{one_passes}
+use Rattle.fr_graph.proofs.Linking.{is_between_itself}
+use Rattle.fr_graph.proofs.Members.{Contains-cases, Contains-none, cases_some}
+use Rattle.fr_graph.specs.Faults.{IsFaultless, IsFirstFault}
+use Rattle.fr_graph.specs.Limits.{IsWithinLimits, most_links, most_nodes}
+use Rattle.fr_graph.specs.Links.{AreBelow, AreSingle, HasNoSelfLink, IsAcyclic, IsClosedWalk, IsCycle, IsPath, Points, end_of, is_between}
+use Rattle.fr_graph.specs.declared.fault.NetFault.{NetFault}
+use Rattle.fr_graph.specs.declared.fault.NetFault.TheVariants.{Cycle, Range, SelfLink, TooMany, Twice}
 use Rattle.fr_core.proofs.Pigeons.{IsDistinct-more, IsDistinct-none, distinct_length}
 use Rattle.fr_core.proofs.Searching.{cases_below}
 use Rattle.fr_core.proofs.Turning.{All-from_Contains}

@@ -3,9 +3,9 @@ use Rattle.std.proofs.Common.{IfSome, List, Option, replicate, subst, sym, ℕ, 
 use Rattle.std.specs.declared.alloc.Global.{Global}
 use Rattle.std.specs.declared.vec.Vec.{Vec}
 use Rattle.fr_crew.specs.Settlements.{IsCounted}
-use Rattle.fr_net.specs.Counts.{links_at}
-use Rattle.fr_net.specs.Links.{IsNet}
-use Rattle.fr_net.specs.Network.{Network, net_of}
+use Rattle.fr_graph.specs.Counts.{links_at}
+use Rattle.fr_graph.specs.Links.{IsNet}
+use Rattle.fr_graph.specs.Network.{Network, net_of}
 use Rattle.fr_route.specs.Outcomes.{state_after}
 use Rattle.fr_route.specs.RouterInside.{IsSoundRouter}
 use Rattle.fr_route.specs.Routes.{AreHops}

@@ -4,15 +4,15 @@ use Rattle.std.proofs.Common.{List, arith, inl, inr, refl, slice_index, subst, s
 use Rattle.std.specs.List.{All}
 use Rattle.std.proofs.lemmas.Bool.{cases_eq}
 use Rattle.std.proofs.lemmas.List.Elements.{All-append, All-cons, Contains-append_left, Contains-append_right}
-use Rattle.fr_net.specs.Batches.{AreMade}
-use Rattle.fr_net.specs.Links.{IsNet, Joins, Points}
-use Rattle.fr_net.specs.Network.{Network}
-use Rattle.fr_net.specs.Turn.{IsSink}
-use Rattle.fr_net.specs.declared.edit.Edit.{Edit}
-use Rattle.fr_net.proofs.Giving.{Points-links_at_from, Points-links_at_same}
-use Rattle.fr_net.proofs.Members.{Contains-head, Contains-tail, cases_some}
-use Rattle.fr_net.specs.Counts.{links_at}
-use Rattle.fr_net.proofs.Ordering.{into_order, out_of_order}
+use Rattle.fr_graph.specs.Batches.{AreMade}
+use Rattle.fr_graph.specs.Links.{IsNet, Joins, Points}
+use Rattle.fr_graph.specs.Network.{Network}
+use Rattle.fr_graph.specs.Turn.{IsSink}
+use Rattle.fr_graph.specs.declared.edit.Edit.{Edit}
+use Rattle.fr_graph.proofs.Giving.{Points-links_at_from, Points-links_at_same}
+use Rattle.fr_graph.proofs.Members.{Contains-head, Contains-tail, cases_some}
+use Rattle.fr_graph.specs.Counts.{links_at}
+use Rattle.fr_graph.proofs.Ordering.{into_order, out_of_order}
 use Rattle.fr_crew.specs.Settlements.{HoldsSinks, IsCounted}
 use Rattle.fr_route.specs.Outcomes.{HoldsMoved, IsStale, cut_off_nodes, ends_of, movable, state_after, touched}
 use Rattle.fr_route.specs.Routes.{AreHops, IsHop}

@@ -14,7 +14,7 @@ use Rattle.std.proofs.lemmas.Map.Keys.{IsDistinct-IsPermutation, IsDistinct-push
 use Rattle.std.proofs.lemmas.Map.Steps.{length-le_from_distinct_below}
 use Rattle.std.proofs.lemmas.Map.Views.{Contains-from_any}
 use Rattle.std.proofs.lemmas.Option.{get_or_from_slice_get, slice_get-get_or, slice_get_past, slice_get_within}
-use Rattle.fr_net.proofs.Members.{Contains-none, cases_some}
+use Rattle.fr_graph.proofs.Members.{Contains-none, cases_some}
 use Rattle.fr_route.specs.Outcomes.{AreNoted, AreOthers, NotesMore}
 use Rattle.fr_route.specs.Reroutes.{AreRerouted}
 use Rattle.fr_route.specs.Routes.{AreHops, IsHop}

@@ -1,10 +1,10 @@
 -- Why a network is not taken, and how that is answered.
 use Rattle.std.proofs.Common.{Err, IfErr, List, Ok, Option, Result, ap, arith, inl, inr, refl, ℕ, ◌≢◌}
-use Rattle.fr_net.specs.Faults.{IsFirstFault, IsNetworkOf}
-use Rattle.fr_net.specs.Network.{Network}
-use Rattle.fr_net.specs.Requests.{new_network}
-use Rattle.fr_net.specs.declared.fault.NetFault.{NetFault}
-use Rattle.fr_net.specs.declared.fault.NetFault.TheVariants as net
+use Rattle.fr_graph.specs.Faults.{IsFirstFault, IsNetworkOf}
+use Rattle.fr_graph.specs.Network.{Network}
+use Rattle.fr_lines.specs.Requests.{new_network}
+use Rattle.fr_graph.specs.declared.fault.NetFault.{NetFault}
+use Rattle.fr_graph.specs.declared.fault.NetFault.TheVariants as net
 use Rattle.fr_route.specs.Answers.{IsAnswer, fault_number}
 use Rattle.fr_route.specs.Changes.{IsOpenFault, IsStill}
 use Rattle.fr_route.specs.Faults.{of_net_fault}

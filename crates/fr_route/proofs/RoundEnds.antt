@@ -1,16 +1,16 @@
 -- What the end of a round is: which networks lead to it, and what its links and routes are.
 use Rattle.std.proofs.Common.{◌≡◌, ◌∙◌, ℕ, ⊎_elim, ◌<◌, ◌↔◌, List, ◌∷◌, ap, inl, inr, subst, sym, slice_index, IsPermutation}
 use Rattle.std.proofs.lemmas.List.Sorted.{IsPermutation-sym}
-use Rattle.fr_net.specs.Links.{IsAcyclic, IsAlone, IsNet, HaveSameLinks, Joins, Points}
-use Rattle.fr_net.specs.Order.{in_order}
-use Rattle.fr_net.specs.Counts.{AreLawful, links_at}
-use Rattle.fr_net.specs.Network.{Network, net_of}
-use Rattle.fr_net.specs.Faults.{IsNetworkOf}
-use Rattle.fr_net.proofs.Acyclic.{links_at_acyclic}
-use Rattle.fr_net.proofs.Building.{permuted_net}
-use Rattle.fr_net.proofs.Ordering.{in_order_permutes, into_order, out_of_order}
-use Rattle.fr_net.proofs.Reordering.{in_order-links_at}
-use Rattle.fr_net.proofs.TurnedLinks.{net_turned}
+use Rattle.fr_graph.specs.Links.{IsAcyclic, IsAlone, IsNet, HaveSameLinks, Joins, Points}
+use Rattle.fr_graph.specs.Order.{in_order}
+use Rattle.fr_graph.specs.Counts.{AreLawful, links_at}
+use Rattle.fr_graph.specs.Network.{Network, net_of}
+use Rattle.fr_graph.specs.Faults.{IsNetworkOf}
+use Rattle.fr_graph.proofs.Acyclic.{links_at_acyclic}
+use Rattle.fr_graph.proofs.Building.{permuted_net}
+use Rattle.fr_graph.proofs.Ordering.{in_order_permutes, into_order, out_of_order}
+use Rattle.fr_graph.proofs.Reordering.{in_order-links_at}
+use Rattle.fr_graph.proofs.TurnedLinks.{net_turned}
 use Rattle.fr_core.specs.Walks.{IsJoined}
 use Rattle.fr_core.specs.Settled.{AreSettled}
 use Rattle.fr_core.proofs.Joining.{joined_at, joins_at, joins_kept, walk_linked}

@@ -3,13 +3,13 @@
 use Rattle.std.proofs.Common.{List, [], ap, ap₂, arith, eqb, inl, inr, length, refl, slice_index, subst, suc, sym, zero, ℕ, ⊎_elim, ◌<◌, ◌∙◌, ◌∷◌, ◌≡◌, ◌⊎◌}
 use Rattle.std.proofs.lemmas.Bool.{cases_Bool, cases_eq, false≢true}
 use Rattle.std.specs.List.{IsDistinct}
-use Rattle.fr_net.proofs.Acyclic.{links_at_acyclic}
-use Rattle.fr_net.proofs.Giving.{ComesFrom, Points-links_at_from}
-use Rattle.fr_net.proofs.Linking.{joined_below}
-use Rattle.fr_net.proofs.Neighbours.{Points-has_link, has_link_true}
-use Rattle.fr_net.specs.Counts.{links_at}
-use Rattle.fr_net.specs.Links.{HaveSameLinks, IsAcyclic, IsNet, IsPath, Joins, Points, end_of}
-use Rattle.fr_net.specs.Rows.{has_link}
+use Rattle.fr_graph.proofs.Acyclic.{links_at_acyclic}
+use Rattle.fr_graph.proofs.Giving.{ComesFrom, Points-links_at_from}
+use Rattle.fr_graph.proofs.Linking.{joined_below}
+use Rattle.fr_graph.proofs.Neighbours.{Points-has_link, has_link_true}
+use Rattle.fr_graph.specs.Counts.{links_at}
+use Rattle.fr_graph.specs.Links.{HaveSameLinks, IsAcyclic, IsNet, IsPath, Joins, Points, end_of}
+use Rattle.fr_graph.specs.Rows.{has_link}
 use Rattle.fr_core.proofs.Following.{path_distinct, path_short}
 use Rattle.fr_core.proofs.Joining.{walk_linked}
 use Rattle.fr_core.proofs.Paths.{walk_from_path}

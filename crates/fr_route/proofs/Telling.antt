@@ -1,8 +1,8 @@
 -- What an answered request tells of the nodes that it reroutes.
 use Rattle.std.proofs.Common.{List, Option, Some, None, ap, inl, inr, refl, ℕ, ◌≡◌}
-use Rattle.fr_net.specs.Requests.{ask, make_edits, new_network, walk_from}
-use Rattle.fr_net.specs.declared.lines.requests.Question.{Question}
-use Rattle.fr_net.specs.declared.edit.Edit.{Edit}
+use Rattle.fr_lines.specs.Requests.{ask, make_edits, new_network, walk_from}
+use Rattle.fr_lines.specs.declared.requests.Question.{Question}
+use Rattle.fr_graph.specs.declared.edit.Edit.{Edit}
 use Rattle.fr_route.specs.Answers.{IsAnswer, fault_number}
 use Rattle.fr_route.specs.Changes.{IsRouteFault}
 use Rattle.fr_route.specs.Outcomes.{IsEditingFault}

@@ -5,19 +5,19 @@ use Rattle.std.specs.List.{All, filter}
 use Rattle.std.proofs.lemmas.Bool.{cases_Bool, false≢true}
 use Rattle.std.proofs.lemmas.List.{take_more}
 use Rattle.std.proofs.lemmas.List.Elements.{All-cons, All-nil, Contains-append_left, Contains-push, Contains-push_cases}
-use Rattle.fr_net.specs.Batches.{AreMade, IsMade}
-use Rattle.fr_net.specs.Edits.{without}
-use Rattle.fr_net.specs.Faults.{IsNetworkOf}
-use Rattle.fr_net.specs.Links.{HaveSameLinks, IsNet, Points, is_between}
-use Rattle.fr_net.specs.Network.{Network}
-use Rattle.fr_net.specs.Order.{AreInOrder}
-use Rattle.fr_net.specs.declared.edit.Edit.{Edit}
-use Rattle.fr_net.specs.declared.edit.Edit.TheVariants.{Add, Cut, Join}
-use Rattle.fr_net.proofs.Building.{permuted_net}
-use Rattle.fr_net.proofs.Editing.{from_filter}
-use Rattle.fr_net.proofs.Linking.{joined_below, joined_from, link_below}
-use Rattle.fr_net.proofs.Members.{Contains-cases, Contains-head, Contains-tail}
-use Rattle.fr_net.proofs.Ordering.{in_order_order}
+use Rattle.fr_graph.specs.Batches.{AreMade, IsMade}
+use Rattle.fr_graph.specs.Edits.{without}
+use Rattle.fr_graph.specs.Faults.{IsNetworkOf}
+use Rattle.fr_graph.specs.Links.{HaveSameLinks, IsNet, Points, is_between}
+use Rattle.fr_graph.specs.Network.{Network}
+use Rattle.fr_graph.specs.Order.{AreInOrder}
+use Rattle.fr_graph.specs.declared.edit.Edit.{Edit}
+use Rattle.fr_graph.specs.declared.edit.Edit.TheVariants.{Add, Cut, Join}
+use Rattle.fr_graph.proofs.Building.{permuted_net}
+use Rattle.fr_graph.proofs.Editing.{from_filter}
+use Rattle.fr_graph.proofs.Linking.{joined_below, joined_from, link_below}
+use Rattle.fr_graph.proofs.Members.{Contains-cases, Contains-head, Contains-tail}
+use Rattle.fr_graph.proofs.Ordering.{in_order_order}
 use Rattle.fr_core.proofs.SameLinks.{same_from_permutation}
 use Rattle.fr_route.specs.Outcomes.{ends_of}
 

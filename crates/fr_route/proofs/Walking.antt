@@ -2,7 +2,7 @@
 use Rattle.std.proofs.Common.{List, [], append-nil, append_assoc, ap, arith, length, refl, subst, sym, ℕ, ◌++◌, ◌<◌, ◌∙◌, ◌∷◌, ◌≡◌, ◌≤◌}
 use Rattle.std.proofs.lemmas.List.Elements.{All-contains}
 use Rattle.std.proofs.lemmas.List.{length-append}
-use Rattle.fr_net.specs.Links.{IsNet}
+use Rattle.fr_graph.specs.Links.{IsNet}
 use Rattle.fr_core.proofs.Following.{path_short}
 use Rattle.fr_route.specs.States.{State}
 use Rattle.fr_route.specs.Routes.{IsHop, IsRoute}

@@ -1,15 +1,15 @@
 -- What a change makes of a state, and why none is made.
 use Rattle.std.specs.Prelude.{◌≡◌, ℕ, ◌<◌, ◌≤◌, List, [], ◌∷◌, ◌++◌, length, replicate}
-use Rattle.fr_net.specs.Batches.{AreMade, IsBatchFault}
-use Rattle.fr_net.specs.Edits.{IsCutFault, IsJoined, IsJoinFault, without}
-use Rattle.fr_net.specs.Faults.{IsFirstFault, IsFaultless}
-use Rattle.fr_net.specs.Limits.{most_edits}
-use Rattle.fr_net.specs.Links.{Joins}
-use Rattle.fr_net.specs.Network.{Network}
-use Rattle.fr_net.specs.declared.fault.EditFault.{EditFault}
-use Rattle.fr_net.specs.declared.fault.NetFault.{NetFault}
-use Rattle.fr_net.specs.declared.edit.Edit.{Edit}
-use Rattle.fr_net.specs.declared.edit.Edit.TheVariants as edit
+use Rattle.fr_graph.specs.Batches.{AreMade, IsBatchFault}
+use Rattle.fr_graph.specs.Edits.{IsCutFault, IsJoined, IsJoinFault, without}
+use Rattle.fr_graph.specs.Faults.{IsFirstFault, IsFaultless}
+use Rattle.fr_graph.specs.Limits.{most_edits}
+use Rattle.fr_graph.specs.Links.{Joins}
+use Rattle.fr_graph.specs.Network.{Network}
+use Rattle.fr_graph.specs.declared.fault.EditFault.{EditFault}
+use Rattle.fr_graph.specs.declared.fault.NetFault.{NetFault}
+use Rattle.fr_graph.specs.declared.edit.Edit.{Edit}
+use Rattle.fr_graph.specs.declared.edit.Edit.TheVariants as edit
 use Rattle.fr_core.specs.Settled.{AreSettled}
 use Rattle.fr_route.specs.States.{State, IsRound, net_at}
 use Rattle.fr_route.specs.declared.change.Change.{Change}

@@ -1,8 +1,8 @@
 -- Which fault of a router stands for a fault of the layers below.
-use Rattle.fr_net.specs.declared.fault.NetFault.{NetFault}
-use Rattle.fr_net.specs.declared.fault.NetFault.TheVariants as net
-use Rattle.fr_net.specs.declared.fault.NotEdited.{NotEdited}
-use Rattle.fr_net.specs.declared.fault.NotEdited.TheVariants.{Refused, Fault}
+use Rattle.fr_graph.specs.declared.fault.NetFault.{NetFault}
+use Rattle.fr_graph.specs.declared.fault.NetFault.TheVariants as net
+use Rattle.fr_graph.specs.declared.fault.NotEdited.{NotEdited}
+use Rattle.fr_graph.specs.declared.fault.NotEdited.TheVariants.{Refused, Fault}
 use Rattle.fr_crew.specs.declared.fault.CrewFault.{CrewFault}
 use Rattle.fr_crew.specs.declared.fault.CrewFault.TheVariants as crew
 use Rattle.fr_route.specs.declared.fault.RouteFault.{RouteFault}

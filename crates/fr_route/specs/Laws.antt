@@ -1,9 +1,9 @@
 -- The laws of routes and of answers. Each is the contract of a function of src/laws.rt.
 use Rattle.std.specs.Prelude.{◌≡◌, ℕ, ◌<◌, ◌↔◌, List, ◌∷◌, Option, Result, nat_eq}
 use Rattle.std.specs.List.{IsDistinct}
-use Rattle.fr_net.specs.Links.{IsAcyclic, IsNet, IsPath, end_of}
-use Rattle.fr_net.specs.Requests.{PlainRequest}
-use Rattle.fr_net.specs.declared.lines.requests.LineFault.{LineFault}
+use Rattle.fr_graph.specs.Links.{IsAcyclic, IsNet, IsPath, end_of}
+use Rattle.fr_lines.specs.Requests.{PlainRequest}
+use Rattle.fr_lines.specs.declared.requests.LineFault.{LineFault}
 use Rattle.fr_core.specs.Walks.{IsJoined}
 use Rattle.fr_route.specs.States.{State, IsRound, IsReport}
 use Rattle.fr_route.specs.Routes.{IsRoute, IsHop}

@@ -4,15 +4,15 @@ use Rattle.std.specs.List.{All, Contains, IsDistinct, filter, range_with_len}
 use Rattle.std.specs.List.Sorted.{IsStrictlyIncreasing}
 use Rattle.std.specs.declared.alloc.Global.{Global}
 use Rattle.std.specs.declared.vec.Vec.{Vec}
-use Rattle.fr_net.specs.Batches.{AreMade, IsBatchFault}
-use Rattle.fr_net.specs.Counts.{links_at}
-use Rattle.fr_net.specs.Limits.{most_edits}
-use Rattle.fr_net.specs.Network.{Network, net_of}
-use Rattle.fr_net.specs.Links.{Joins}
-use Rattle.fr_net.specs.Rows.{has_no_neighbour}
-use Rattle.fr_net.specs.declared.fault.EditFault.{EditFault}
-use Rattle.fr_net.specs.declared.edit.Edit.{Edit}
-use Rattle.fr_net.specs.declared.edit.Edit.TheVariants.{Cut, Add, Join}
+use Rattle.fr_graph.specs.Batches.{AreMade, IsBatchFault}
+use Rattle.fr_graph.specs.Counts.{links_at}
+use Rattle.fr_graph.specs.Limits.{most_edits}
+use Rattle.fr_graph.specs.Network.{Network, net_of}
+use Rattle.fr_graph.specs.Links.{Joins}
+use Rattle.fr_graph.specs.Rows.{has_no_neighbour}
+use Rattle.fr_graph.specs.declared.fault.EditFault.{EditFault}
+use Rattle.fr_graph.specs.declared.edit.Edit.{Edit}
+use Rattle.fr_graph.specs.declared.edit.Edit.TheVariants.{Cut, Add, Join}
 use Rattle.fr_crew.specs.Settlements.{IsCounted}
 use Rattle.fr_route.specs.Routes.{IsHop}
 use Rattle.fr_route.specs.Changes.{CanTurnAfter}

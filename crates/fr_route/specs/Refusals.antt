@@ -1,7 +1,7 @@
 -- The numbers of refusals, changes as requests, and refusals by the faults of a router.
 use Rattle.std.specs.Prelude.{◌≡◌, ◌≤◌, ℕ, List}
-use Rattle.fr_net.specs.Faults.{IsFaultless, IsFirstFault}
-use Rattle.fr_net.specs.Requests.{PlainRequest, cut_link, add_link, join_nodes, make_edits, move_dest}
+use Rattle.fr_graph.specs.Faults.{IsFaultless, IsFirstFault}
+use Rattle.fr_lines.specs.Requests.{PlainRequest, cut_link, add_link, join_nodes, make_edits, move_dest}
 use Rattle.fr_route.specs.Answers.{MayStartNew, fault_number}
 use Rattle.fr_route.specs.Texts.{refusal_text}
 use Rattle.fr_route.specs.declared.change.Change.{Change}

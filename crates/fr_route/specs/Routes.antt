@@ -1,6 +1,6 @@
 -- Routes along the links, a notion of this project: each node sends on to the least node that its links point to.
 use Rattle.std.specs.Prelude.{◌≡◌, ℕ, ◌≤◌, Bool, true, false, List, [], ◌∷◌, length, slice_get, Some}
-use Rattle.fr_net.specs.Links.{Points}
+use Rattle.fr_graph.specs.Links.{Points}
 use Rattle.fr_route.specs.States.{State, IsCutOff}
 use Rattle.fr_route.specs.declared.hops.Hop.{Hop}
 use Rattle.fr_route.specs.declared.hops.Hop.TheVariants.{Here, To, CutOff}

@@ -1,7 +1,7 @@
 -- What a session makes of a request, whatever the way by which networks are settled.
 use Rattle.std.specs.Prelude.{◌≡◌, ◌≢◌, ℕ, ◌≤◌, ◌⊎◌, length, true, Bool, List, Option, Result, String, IfOk, IfErr, OnErr, string_bytes}
 use Rattle.std.specs.declared.alloc.Global.{Global}
-use Rattle.fr_net.specs.Requests.{PlainRequest}
+use Rattle.fr_lines.specs.Requests.{PlainRequest}
 use Rattle.fr_route.specs.Answers.{IsAnswer, MayStartFor}
 use Rattle.fr_route.specs.States.{State}
 use Rattle.fr_route.specs.Texts.{longest_report}

@@ -1,10 +1,10 @@
 -- What the requests so far have made: the network of the last round, settled.
 use Rattle.std.specs.Prelude.{◌≡◌, ℕ, ◌<◌, ◌↔◌, List, Bool, IsTrue, count_by, sum}
 use Rattle.std.specs.List.{range_with_len}
-use Rattle.fr_net.specs.Links.{IsNet}
-use Rattle.fr_net.specs.Network.{Network}
-use Rattle.fr_net.specs.Order.{in_order}
-use Rattle.fr_net.specs.Counts.{links_at}
+use Rattle.fr_graph.specs.Links.{IsNet}
+use Rattle.fr_graph.specs.Network.{Network}
+use Rattle.fr_graph.specs.Order.{in_order}
+use Rattle.fr_graph.specs.Counts.{links_at}
 use Rattle.fr_core.specs.Walks.{IsJoined}
 use Rattle.fr_core.specs.Settled.{AreSettled}
 

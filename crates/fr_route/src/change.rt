@@ -1,6 +1,6 @@
 //! Changes of a network, and what the round after one reports.
 
-use fr_net::Edit;
+use fr_graph::Edit;
 
 /// A change of the network, made between two rounds.
 #[derive(Debug, Drop, PartialEq, Eq)]

@@ -6,7 +6,7 @@ ghost use Rattle.fr_route.specs.declared.fault.AnswerFault.TheVariants.{Memory a
 ghost use Rattle.fr_route.specs.Faults.{of_net_fault, of_crew_fault, of_not_edited};
 
 use fr_crew::CrewFault;
-use fr_net::{EditFault, NetFault, NotEdited};
+use fr_graph::{EditFault, NetFault, NotEdited};
 use std::alloc::{AllocError, AllocFailed};
 use thiserror::Error;
 

@@ -1,12 +1,12 @@
 //! Where each node sends on to.
 
 ghost use Rattle.std.specs.Prelude.{◌≡◌, ℕ, ◌<◌, ◌≤◌, ◌↔◌, [], ◌∷◌, ◌++◌, All, Contains, IsTrue, length, sum, vec_capacity, IfOk, MatchOption};
-ghost use Rattle.fr_net.specs.Links.{Points};
+ghost use Rattle.fr_graph.specs.Links.{Points};
 ghost use Rattle.fr_route.specs.Routes.{IsNextHop, IsHop, AreHops};
 ghost use Rattle.fr_route.specs.Outcomes.{AreJoinedBelow, AreRenewed, HoldsMoved, IsStale, NotesMore, SendsTo};
 ghost use Rattle.fr_route.specs.States.{IsAfterRound, state_with};
 
-use fr_net::{First, Net, Turns};
+use fr_graph::{First, Net, Turns};
 use std::alloc::{AllocError, Global};
 
 /// Where a node sends on to, so that what it sends gets to the destination.

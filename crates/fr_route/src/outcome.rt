@@ -7,8 +7,8 @@ ghost use Rattle.fr_core.specs.Legal.{CanTurn};
 ghost use Rattle.fr_crew.specs.Settlements.{HoldsSinks, IsCounted};
 ghost use Rattle.fr_crew.specs.Ways.{Settles, NeverStarts};
 ghost use Rattle.fr_crew.specs.declared.fault.CrewFault.TheVariants.{Range, Start as CrewStart};
-ghost use Rattle.fr_net.specs.Counts.{AreLawful, links_at};
-ghost use Rattle.fr_net.specs.Network.{net_of};
+ghost use Rattle.fr_graph.specs.Counts.{AreLawful, links_at};
+ghost use Rattle.fr_graph.specs.Network.{net_of};
 ghost use Rattle.fr_route.specs.Routes.{AreHops};
 ghost use Rattle.fr_route.specs.States.{IsReport};
 ghost use Rattle.fr_route.specs.Changes.{IsOpenFault, IsStill};
@@ -20,7 +20,7 @@ use crate::fault::RouteFault;
 use crate::hops::{Hop, renew_hops};
 use fr_core::can_turn;
 use fr_crew::{CrewFault, settled_counts_by};
-use fr_net::{Edit, Net, Turns};
+use fr_graph::{Edit, Net, Turns};
 use std::alloc::{AllocError, Global};
 
 /// What a round on a network comes to.

@@ -4,7 +4,7 @@ ghost use Rattle.std.specs.Prelude.{◌≡◌, IfNone, IfSome};
 ghost use Rattle.fr_route.specs.Answers.{fault_number as fault_number_of};
 ghost use Rattle.fr_route.specs.Refusals.{number_of};
 
-use fr_net::NetFault;
+use fr_graph::NetFault;
 
 /// The number by which an answer says that a line is no request.
 pub const NOT_A_REQUEST: u32 = 2;

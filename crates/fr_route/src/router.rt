@@ -18,7 +18,7 @@ use crate::outcome::{
     Outcome, alone_nodes, outcome_of, push_capped, put_in_place, report_of, touched_nodes,
 };
 use fr_crew::{CrewFault, Gate, Plan, settled_counts, settled_counts_alone, settled_counts_by};
-use fr_net::{Edit, MAX_EDITS, Net, NetFault, Turns};
+use fr_graph::{Edit, MAX_EDITS, Net, NetFault, Turns};
 use std::alloc::{AllocError, Global};
 use std::marker::Model;
 use std::mem;

@@ -2,7 +2,7 @@
 
 ghost use Rattle.std.specs.Prelude.{◌≡◌, ◌≢◌, ◌<◌, ◌≤◌, ◌⊎◌, ◌↔◌, length, replicate, true, false, Some, None, IfOk, IfErr, OnErr, OnOk, IfSome, IfNone, MatchOption, string_bytes, vec_capacity};
 ghost use Rattle.std.specs.Option.{option_copied};
-ghost use Rattle.fr_net.specs.Requests.{ask, make_edits, new_network, walk_from, plain, reading};
+ghost use Rattle.fr_lines.specs.Requests.{ask, make_edits, new_network, walk_from, plain, reading};
 ghost use Rattle.fr_crew.specs.Settlements.{HoldsSinks};
 ghost use Rattle.fr_crew.specs.Ways.{Settles, NeverStarts};
 ghost use Rattle.fr_route.specs.Blank.{is_blank as is_blank_line};
@@ -25,7 +25,8 @@ use crate::texts::{
     counts_line, hops_line, links_line, no_walk_line, refusal_line, report_line, walk_line,
 };
 use fr_crew::{CrewFault, Gate, Plan, settled_counts, settled_counts_alone};
-use fr_net::{Edit, LineFault, LineReader, Net, Question, Request, Turns};
+use fr_graph::{Edit, Net, Turns};
+use fr_lines::{LineFault, LineReader, Question, Request};
 use std::alloc::{AllocError, Global};
 use std::marker::Model;
 use std::sync::Wait;

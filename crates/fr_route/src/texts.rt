@@ -7,7 +7,7 @@ ghost use Rattle.fr_route.specs.Texts.{counts_text, links_text, hops_text, hop_w
 use crate::change::Report;
 use crate::hops::Hop;
 use crate::refusals::Refusal;
-use fr_net::MAX_NODES;
+use fr_graph::MAX_NODES;
 use itoa::Buffer;
 use std::alloc::{AllocError, Global};
 

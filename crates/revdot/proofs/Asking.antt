@@ -1,6 +1,6 @@
 -- How far a session has been asked the lines of an input.
 use Rattle.std.proofs.Common.{◌≡◌, ℕ, true, false, List, [], ◌∷◌, ◌++◌, Option, Some, None, Global, String, string_bytes, IfSome, IfNone, append-nil, subst, sym, ◌∙◌}
-use Rattle.fr_net.specs.Requests.{reading}
+use Rattle.fr_lines.specs.Requests.{reading}
 use Rattle.fr_route.specs.Answers.{IsLineAnswer, AreAnswers}
 use Rattle.fr_route.specs.Blank.{is_blank}
 use Rattle.fr_route.specs.States.{State}

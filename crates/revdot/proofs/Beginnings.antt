@@ -3,11 +3,11 @@ use Rattle.std.proofs.Common.{◌≡◌, ◌∙◌, ℕ, ◌<◌, List, [], ◌�
 use Rattle.std.proofs.lemmas.Bool.{cond-false, cond-true}
 use Rattle.std.proofs.lemmas.List.Elements.{All-contains}
 use Rattle.std.specs.List.{Contains}
-use Rattle.fr_net.specs.Counts.{AreLawful, IsKept, links_at}
-use Rattle.fr_net.specs.Links.{IsNet, Points, HaveSameLinks}
-use Rattle.fr_net.proofs.Giving.{Points-links_at_from, Points-links_at_back}
-use Rattle.fr_net.proofs.Members.{Contains-cases, Contains-head, Contains-none, Contains-tail}
-use Rattle.fr_net.proofs.Ordering.{into_order, out_of_order}
+use Rattle.fr_graph.specs.Counts.{AreLawful, IsKept, links_at}
+use Rattle.fr_graph.specs.Links.{IsNet, Points, HaveSameLinks}
+use Rattle.fr_graph.proofs.Giving.{Points-links_at_from, Points-links_at_back}
+use Rattle.fr_graph.proofs.Members.{Contains-cases, Contains-head, Contains-none, Contains-tail}
+use Rattle.fr_graph.proofs.Ordering.{into_order, out_of_order}
 use Rattle.fr_core.proofs.Unique.{settled_lawful}
 use Rattle.fr_route.specs.States.{State, IsRound}
 use Rattle.revdot.specs.Strips.{first_link}

@@ -1,9 +1,9 @@
 -- The page of an input is determined by the input.
 use Rattle.std.proofs.Common.{◌≡◌, ◌∙◌, ℕ, ◌+◌, Bool, true, false, List, [], ◌∷◌, ◌++◌, Option, None, Some, MatchBool, ap, subst, sym}
 use Rattle.std.specs.Prelude.{codes}
-use Rattle.fr_net.specs.Requests.{ask, reading}
-use Rattle.fr_net.specs.declared.lines.requests.Question.{Question}
-use Rattle.fr_net.specs.declared.lines.requests.Question.TheVariants.{Links, Counts, Hops}
+use Rattle.fr_lines.specs.Requests.{ask, reading}
+use Rattle.fr_lines.specs.declared.requests.Question.{Question}
+use Rattle.fr_lines.specs.declared.requests.Question.TheVariants.{Links, Counts, Hops}
 use Rattle.fr_route.specs.Blank.{is_blank}
 use Rattle.fr_route.specs.States.{State}
 use Rattle.fr_route.proofs.Determined.{answer_unique, line_unique}

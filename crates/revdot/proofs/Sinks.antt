@@ -5,8 +5,8 @@ use Rattle.std.proofs.lemmas.Bool.{cases_eq}
 use Rattle.std.proofs.lemmas.List.{get_or-set_other, get_or-set_same, get_or_default}
 use Rattle.std.proofs.lemmas.List.Folds.{Any-from_list_any, list_any-from_Any, list_any_more}
 use Rattle.std.specs.List.{list_any}
-use Rattle.fr_net.specs.Links.{Points}
-use Rattle.fr_net.specs.Turn.{IsSink}
+use Rattle.fr_graph.specs.Links.{Points}
+use Rattle.fr_graph.specs.Turn.{IsSink}
 use Rattle.revdot.specs.Ends.{HaveEnds}
 
 -- the marks of the ends of one link more

@@ -4,8 +4,8 @@ use Rattle.std.proofs.lemmas.List.{length-map, length-set, length-replicate}
 use Rattle.std.proofs.lemmas.List.Elements.{All-map, All-weaker}
 use Rattle.std.proofs.lemmas.Bool.{cases_eq, cond-false, cond-true}
 use Rattle.std.proofs.Math.Seq.{take-append_seam}
-use Rattle.fr_net.specs.Links.{AreBelow}
-use Rattle.fr_net.specs.Turn.{turn, turned_link}
+use Rattle.fr_graph.specs.Links.{AreBelow}
+use Rattle.fr_graph.specs.Turn.{turn, turned_link}
 use Rattle.fr_core.specs.History.{Moment}
 use Rattle.fr_route.specs.States.{State}
 use Rattle.revdot.specs.Strips.{moment, beginning, first_link, after_turn, after_turns, IsNext, AreTurns, turn_text, turns_text}

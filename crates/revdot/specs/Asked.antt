@@ -1,11 +1,11 @@
 -- What a line asks, by words and numbers.
 use Rattle.std.specs.Prelude.{ℕ, List, [], ◌∷◌, ◌++◌, Result, Ok, Err, codes, decimal}
-use Rattle.fr_net.specs.Requests.{PlainRequest, new_network, cut_link, add_link, join_nodes, make_edits, move_dest, walk_from, ask}
-use Rattle.fr_net.specs.declared.edit.Edit.{Edit}
-use Rattle.fr_net.specs.declared.edit.Edit.TheVariants.{Cut, Add, Join}
-use Rattle.fr_net.specs.declared.lines.requests.LineFault.{LineFault}
-use Rattle.fr_net.specs.declared.lines.requests.Question.{Question}
-use Rattle.fr_net.specs.declared.lines.requests.Question.TheVariants.{Links, Counts, Hops}
+use Rattle.fr_lines.specs.Requests.{PlainRequest, new_network, cut_link, add_link, join_nodes, make_edits, move_dest, walk_from, ask}
+use Rattle.fr_graph.specs.declared.edit.Edit.{Edit}
+use Rattle.fr_graph.specs.declared.edit.Edit.TheVariants.{Cut, Add, Join}
+use Rattle.fr_lines.specs.declared.requests.LineFault.{LineFault}
+use Rattle.fr_lines.specs.declared.requests.Question.{Question}
+use Rattle.fr_lines.specs.declared.requests.Question.TheVariants.{Links, Counts, Hops}
 use Rattle.fr_route.specs.Texts.{spaced_links}
 
 -- a word and two numbers

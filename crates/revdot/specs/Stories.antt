@@ -1,9 +1,9 @@
 -- The story of an input: the answer to each line, and each round turn by turn.
 use Rattle.std.specs.Prelude.{◌≡◌, ℕ, ◌+◌, nat_le, eqb, ◌&&◌, Bool, true, false, List, [], ◌∷◌, ◌++◌, Option, Some, None, MatchBool, if◌then◌else◌, codes, decimal, sum}
 use Rattle.std.specs.List.{starts_with}
-use Rattle.fr_net.specs.Requests.{ask, reading}
-use Rattle.fr_net.specs.declared.lines.requests.Question.{Question}
-use Rattle.fr_net.specs.declared.lines.requests.Question.TheVariants.{Links, Counts, Hops}
+use Rattle.fr_lines.specs.Requests.{ask, reading}
+use Rattle.fr_lines.specs.declared.requests.Question.{Question}
+use Rattle.fr_lines.specs.declared.requests.Question.TheVariants.{Links, Counts, Hops}
 use Rattle.fr_route.specs.Answers.{IsAnswer, IsLineAnswer}
 use Rattle.fr_route.specs.Blank.{is_blank}
 use Rattle.fr_route.specs.States.{State}

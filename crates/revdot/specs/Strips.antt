@@ -1,7 +1,7 @@
 -- The turns of the last round, with a graph for each.
 use Rattle.std.specs.Prelude.{◌≡◌, ℕ, ◌+◌, ◌<◌, ◌≤◌, ◌==◌, ◌⊎◌, if◌then◌else◌, not, List, [], ◌∷◌, ◌++◌, Some, length, map, replicate, slice_index}
 use Rattle.std.specs.List.{range_with_len, zip}
-use Rattle.fr_net.specs.Links.{HaveSameLinks, IsNet}
+use Rattle.fr_graph.specs.Links.{HaveSameLinks, IsNet}
 use Rattle.fr_core.specs.History.{Moment, after_reply, count_at}
 use Rattle.fr_core.specs.Legal.{CanTurn, NoneCanTurn}
 use Rattle.fr_core.specs.declared.entry.Reply.TheVariants.{Turned}

@@ -1,12 +1,13 @@
 //! What a story tells of a line that is refused: what it asked.
 
 ghost use Rattle.std.specs.Prelude.{◌≡◌, ◌++◌, OnOk, codes, decimal, string_bytes};
-ghost use Rattle.fr_net.specs.Requests.{plain, reading};
+ghost use Rattle.fr_lines.specs.Requests.{plain, reading};
 ghost use Rattle.fr_route.specs.Texts.{spaced_links};
 ghost use Rattle.revdot.specs.Asked.{asked_text, edit_text, pair_text, question_text, request_text, spaced_edits};
 
 use crate::rounds::push_links;
-use fr_net::{Edit, LineFault, Question, Request, read_line};
+use fr_graph::Edit;
+use fr_lines::{LineFault, Question, Request, read_line};
 use std::alloc::{AllocError, Global};
 use std::fmt::Write;
 

@@ -1,15 +1,15 @@
 //! What a story tells of a round: how it began, its turns one by one, and what it left.
 
 ghost use Rattle.std.specs.Prelude.{◌≡◌, ◌++◌, ℕ, List, true, Some, IfOk, OnOk, codes, decimal, length, string_bytes};
-ghost use Rattle.fr_net.specs.Links.{AreBelow};
-ghost use Rattle.fr_net.specs.Requests.{ask};
+ghost use Rattle.fr_graph.specs.Links.{AreBelow};
+ghost use Rattle.fr_lines.specs.Requests.{ask};
 ghost use Rattle.fr_route.specs.Answers.{IsAnswer};
 ghost use Rattle.revdot.specs.Strips.{AreAllTurns, beginning};
 ghost use Rattle.fr_route.specs.Texts.{spaced, spaced_links};
 ghost use Rattle.revdot.specs.Stories.{IsRoundStory, AreSettledLines, IsAnswerLine, beginning_text, first_text, is_short, most_told_turns, net_text, turns_line};
 
 use crate::turns::{first_links, next_to_turn, turn_node};
-use fr_net::{Question, Request};
+use fr_lines::{Question, Request};
 use fr_route::{Router, Session};
 use std::alloc::{AllocError, Global};
 use std::fmt::Write;

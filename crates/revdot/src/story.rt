@@ -1,7 +1,7 @@
 //! The story of an input: the answer to each line, and each round turn by turn.
 
 ghost use Rattle.std.specs.Prelude.{◌≡◌, ◌++◌, ℕ, List, None, IfNone, IfOk, IfSome, OnOk, false, true, codes, string_bytes};
-ghost use Rattle.fr_net.specs.Requests.{ask, reading};
+ghost use Rattle.fr_lines.specs.Requests.{ask, reading};
 ghost use Rattle.fr_route.specs.Answers.{IsAnswer, IsLineAnswer};
 ghost use Rattle.fr_route.specs.Blank.{is_blank};
 ghost use Rattle.revdot.specs.Stories.{IsBlock, IsRoundStory, IsStory, about_text, answer_text, refuses, reports_round as reports_a_round};

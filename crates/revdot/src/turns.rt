@@ -1,8 +1,8 @@
 //! The turns of the last round.
 
 ghost use Rattle.std.specs.Prelude.{◌≡◌, ◌<◌, length, map, IfOk, IfSome, MatchOption};
-ghost use Rattle.fr_net.specs.Links.{AreBelow};
-ghost use Rattle.fr_net.specs.Turn.{turn, turned_link};
+ghost use Rattle.fr_graph.specs.Links.{AreBelow};
+ghost use Rattle.fr_graph.specs.Turn.{turn, turned_link};
 ghost use Rattle.fr_core.specs.Legal.{NoneCanTurn};
 ghost use Rattle.revdot.specs.Strips.{first_link as first_link_of, moment, IsNext};
 ghost use Rattle.revdot.specs.Ends.{HaveEnds};

@@ -2,10 +2,10 @@
 use Rattle.std.proofs.Common.{arith, ap, get_or, length, map, ℕ, List, ◌∙◌, ◌≡◌, ◌≤◌, ⊎_elim}
 use Rattle.std.proofs.lemmas.List.{length-map}
 use Rattle.std.proofs.lemmas.Option.{slice_get-get_or}
-use Rattle.fr_net.specs.Batches.{IsBatchFault}
-use Rattle.fr_net.specs.Limits.{most_edits}
-use Rattle.fr_net.specs.Network.{Network}
-use Rattle.fr_net.specs.declared.fault.EditFault.{EditFault}
+use Rattle.fr_graph.specs.Batches.{IsBatchFault}
+use Rattle.fr_graph.specs.Limits.{most_edits}
+use Rattle.fr_graph.specs.Network.{Network}
+use Rattle.fr_graph.specs.declared.fault.EditFault.{EditFault}
 use Rattle.revroute_c.specs.Records.{edit_of}
 use Rattle.revroute_c.specs.Rounds.{IsEditRefused, nodes_of_edit, refusal_at}
 use Rattle.revroute_c.specs.declared.records.LinkEdit.{LinkEdit}

@@ -1,11 +1,11 @@
 -- The closed walk that refuses edits or a network, and where there is none.
 use Rattle.std.specs.Prelude.{◌≡◌, ℕ, ◌<◌, ◌≤◌, ◌⊎◌, List, length, map, Option, Some, None}
-use Rattle.fr_net.specs.Batches.{AreMade, IsRefusedAt}
-use Rattle.fr_net.specs.Faults.{IsFaultless, IsFirstFault}
-use Rattle.fr_net.specs.Limits.{most_edits}
-use Rattle.fr_net.specs.Network.{Network}
-use Rattle.fr_net.specs.declared.fault.NetFault.{NetFault}
-use Rattle.fr_net.specs.declared.fault.NetFault.TheVariants.{TooMany, Range, SelfLink, Twice, Cycle, NoLink, Memory}
+use Rattle.fr_graph.specs.Batches.{AreMade, IsRefusedAt}
+use Rattle.fr_graph.specs.Faults.{IsFaultless, IsFirstFault}
+use Rattle.fr_graph.specs.Limits.{most_edits}
+use Rattle.fr_graph.specs.Network.{Network}
+use Rattle.fr_graph.specs.declared.fault.NetFault.{NetFault}
+use Rattle.fr_graph.specs.declared.fault.NetFault.TheVariants.{TooMany, Range, SelfLink, Twice, Cycle, NoLink, Memory}
 use Rattle.fr_route.specs.States.{State, net_at}
 use Rattle.revroute_c.specs.Records.{AreKnown, edit_of}
 use Rattle.revroute_c.specs.Replies.{IsWritten}

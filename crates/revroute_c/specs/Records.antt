@@ -1,7 +1,7 @@
 -- Links and edits of C as those of a network.
 use Rattle.std.specs.Prelude.{◌≡◌, ◌==◌, ℕ, List, Bool, None, nat_lt, position, if◌then◌else◌}
-use Rattle.fr_net.specs.declared.edit.Edit.{Edit}
-use Rattle.fr_net.specs.declared.edit.Edit.TheVariants.{Cut, Add, Join}
+use Rattle.fr_graph.specs.declared.edit.Edit.{Edit}
+use Rattle.fr_graph.specs.declared.edit.Edit.TheVariants.{Cut, Add, Join}
 use Rattle.revroute_c.specs.declared.records.Link.{Link}
 use Rattle.revroute_c.specs.declared.records.LinkEdit.{LinkEdit}
 

@@ -1,12 +1,12 @@
 -- What the calls answer that begin a round, and why they are refused. The requests are those of the lines.
 use Rattle.std.specs.Prelude.{◌≡◌, ℕ, ◌<◌, ◌≤◌, ◌⊎◌, List, [], ◌∷◌, length, map, position, slice_get, Option, Some, None}
-use Rattle.fr_net.specs.Batches.{IsRefusedAt}
-use Rattle.fr_net.specs.Faults.{IsFaultless, IsFirstFault}
-use Rattle.fr_net.specs.Limits.{most_edits}
-use Rattle.fr_net.specs.Network.{Network}
-use Rattle.fr_net.specs.Requests.{PlainRequest}
-use Rattle.fr_net.specs.declared.fault.NetFault.{NetFault}
-use Rattle.fr_net.specs.declared.fault.NetFault.TheVariants.{TooMany, Range, SelfLink, Twice, Cycle, NoLink, Memory}
+use Rattle.fr_graph.specs.Batches.{IsRefusedAt}
+use Rattle.fr_graph.specs.Faults.{IsFaultless, IsFirstFault}
+use Rattle.fr_graph.specs.Limits.{most_edits}
+use Rattle.fr_graph.specs.Network.{Network}
+use Rattle.fr_lines.specs.Requests.{PlainRequest}
+use Rattle.fr_graph.specs.declared.fault.NetFault.{NetFault}
+use Rattle.fr_graph.specs.declared.fault.NetFault.TheVariants.{TooMany, Range, SelfLink, Twice, Cycle, NoLink, Memory}
 use Rattle.fr_route.specs.Answers.{IsAccepted, fault_number}
 use Rattle.fr_route.specs.States.{State, IsReport, net_at}
 use Rattle.fr_route.specs.Told.{TellsOf}

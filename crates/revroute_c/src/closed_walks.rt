@@ -1,7 +1,7 @@
 //! The closed walk that refuses a change or a network, found again.
 
 ghost use Rattle.std.specs.Prelude.{◌≡◌, ◌≢◌, ◌≤◌, ◌<◌, ◌⊎◌, ◌↔◌, length, map, None};
-ghost use Rattle.fr_net.specs.declared.fault.NetFault.TheVariants.{Memory};
+ghost use Rattle.fr_graph.specs.declared.fault.NetFault.TheVariants.{Memory};
 ghost use Rattle.revroute_c.specs.ClosedWalks.{HasNoWalkOfChange, HasNoWalkOfNetwork, IsGiven, IsLength, IsNoWalk, IsWalkOf, IsWalkOfChange, IsWalkOfNetwork};
 ghost use Rattle.revroute_c.specs.Records.{link_of};
 
@@ -9,7 +9,7 @@ use crate::questions::NO_NETWORK;
 use crate::records::{Link, LinkEdit, first_unknown};
 use crate::replies::{ANSWERED, NO_MEMORY, TOO_SHORT, hand_out};
 use crate::rounds::{edited, network_of};
-use fr_net::{EditFault, MAX_EDITS, NetFault};
+use fr_graph::{EditFault, MAX_EDITS, NetFault};
 use fr_route::Session;
 use std::alloc::Global;
 

@@ -6,7 +6,7 @@
 
 ghost use Rattle.std.specs.Prelude.{◌≡◌, ◌≤◌, ◌<◌, ◌⊎◌, ◌↔◌, true, [], None, length, IfSome, ◌==◌, ◌≢◌, ◌++◌, ℕ, List, map, position};
 ghost use denote.RawPtr.{null_ptr};
-ghost use Rattle.fr_net.specs.Requests.{make_edits, move_dest, new_network, reading};
+ghost use Rattle.fr_lines.specs.Requests.{make_edits, move_dest, new_network, reading};
 ghost use Rattle.fr_route.specs.Blank.{is_blank as is_blank_line};
 ghost use Rattle.fr_route.specs.States.{IsReport};
 ghost use Rattle.fr_route.specs.Told.{IsLineTold};

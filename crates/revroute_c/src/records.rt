@@ -3,7 +3,7 @@
 ghost use Rattle.std.specs.Prelude.{◌≡◌, map, position, IfOk};
 ghost use Rattle.revroute_c.specs.Records.{edit_of, is_unknown, link_of};
 
-use fr_net::Edit;
+use fr_graph::Edit;
 use fr_route::{NOT_A_REQUEST, Report};
 use std::alloc::{AllocError, Global};
 

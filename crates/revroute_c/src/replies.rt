@@ -2,7 +2,7 @@
 
 ghost use Rattle.std.specs.Prelude.{◌≡◌, ◌≢◌, ◌≤◌, ◌<◌, ◌⊎◌, false, length};
 ghost use denote.RawPtr.{null_ptr};
-ghost use Rattle.fr_net.specs.Requests.{reading};
+ghost use Rattle.fr_lines.specs.Requests.{reading};
 ghost use Rattle.fr_route.specs.Blank.{is_blank};
 ghost use Rattle.fr_route.specs.Told.{IsLineTold};
 ghost use Rattle.revroute_c.specs.Engines.{no_engine};

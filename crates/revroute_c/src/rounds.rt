@@ -2,12 +2,12 @@
 
 ghost use Rattle.std.specs.Prelude.{◌≡◌, ◌≢◌, ◌≤◌, ◌<◌, ◌⊎◌, ◌↔◌, length, map, None, Some, IfOk, IfErr, IfSome};
 ghost use denote.RawPtr.{null_ptr};
-ghost use Rattle.fr_net.specs.Batches.{AreMade, IsBatchFault};
-ghost use Rattle.fr_net.specs.Faults.{IsFirstFault, IsNetworkOf};
-ghost use Rattle.fr_net.specs.Limits.{most_edits};
-ghost use Rattle.fr_net.specs.Requests.{make_edits, move_dest, new_network};
-ghost use Rattle.fr_net.specs.declared.fault.EditFault.{EditFault};
-ghost use Rattle.fr_net.specs.declared.fault.NetFault.TheVariants.{Memory};
+ghost use Rattle.fr_graph.specs.Batches.{AreMade, IsBatchFault};
+ghost use Rattle.fr_graph.specs.Faults.{IsFirstFault, IsNetworkOf};
+ghost use Rattle.fr_graph.specs.Limits.{most_edits};
+ghost use Rattle.fr_lines.specs.Requests.{make_edits, move_dest, new_network};
+ghost use Rattle.fr_graph.specs.declared.fault.EditFault.{EditFault};
+ghost use Rattle.fr_graph.specs.declared.fault.NetFault.TheVariants.{Memory};
 ghost use Rattle.fr_route.specs.Answers.{IsAccepted};
 ghost use Rattle.revroute_c.specs.Engines.{no_engine};
 ghost use Rattle.revroute_c.specs.Lending.{held_by};
@@ -19,7 +19,7 @@ use crate::handle::Handle;
 use crate::questions::NO_NETWORK;
 use crate::records::{Link, LinkEdit, Refusal, Round, edits_of, pairs_of, round_of};
 use crate::replies::{ANSWERED, NO_MEMORY};
-use fr_net::{EditFault, MAX_EDITS, MAX_LINKS, Net, NetFault};
+use fr_graph::{EditFault, MAX_EDITS, MAX_LINKS, Net, NetFault};
 use fr_route::{Change, RouteFault, Router, fault_number};
 use std::alloc::Global;
 

@@ -2,7 +2,7 @@
 
 ghost use Rattle.std.specs.Prelude.{◌≡◌, ℕ, ◌<◌, IsTrue, All, false};
 ghost use Rattle.std.specs.List.{Contains};
-ghost use Rattle.fr_net.specs.Counts.{AreLawful};
+ghost use Rattle.fr_graph.specs.Counts.{AreLawful};
 ghost use Rattle.fr_core.specs.Finish.{HoldsAllThatCanTurn};
 ghost use Rattle.fr_core.specs.History.{moment_of};
 ghost use Rattle.fr_core.specs.Legal.{CanTurn};

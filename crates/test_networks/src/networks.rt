@@ -1,7 +1,7 @@
 //! Networks, told as text: made of links, copied, and turned by counts.
 
 ghost use Rattle.std.specs.Prelude.{◌≡◌, ◌<◌, All, IsTrue, length};
-ghost use Rattle.fr_net.specs.Counts.{IsKept};
+ghost use Rattle.fr_graph.specs.Counts.{IsKept};
 
 use crate::answers::Answer;
 use crate::cases::{counts, links, number};

@@ -2,7 +2,7 @@
 
 ghost use Rattle.std.specs.Prelude.{◌≡◌, ◌<◌, ◌↔◌, IfOk, IfSome, IsTrue, replicate};
 ghost use Rattle.fr_crew.specs.Settlements.{HoldsSinks};
-ghost use Rattle.fr_net.specs.Turn.{IsSink};
+ghost use Rattle.fr_graph.specs.Turn.{IsSink};
 
 use crate::answers::Answer;
 use crate::crews::{named_plan, plan};

@@ -1,9 +1,9 @@
 //! Networks from links.
 
 ghost use Rattle.std.specs.Prelude.{◌≡◌, ℕ, ◌<◌, length, IfOk};
-ghost use Rattle.fr_net.specs.Faults.{IsFaultless, IsNetworkOf};
-ghost use Rattle.fr_net.specs.Edits.{without};
-ghost use Rattle.fr_net.specs.Order.{in_order};
+ghost use Rattle.fr_graph.specs.Faults.{IsFaultless, IsNetworkOf};
+ghost use Rattle.fr_graph.specs.Edits.{without};
+ghost use Rattle.fr_graph.specs.Order.{in_order};
 
 use fr_net::{First, Net, NetFault};
 use std::alloc::Global;

@@ -1,7 +1,7 @@
 //! A round with workers of one's own.
 
 ghost use Rattle.std.specs.Prelude.{IfOk};
-ghost use Rattle.fr_net.specs.Counts.{AreLawful};
+ghost use Rattle.fr_graph.specs.Counts.{AreLawful};
 ghost use Rattle.fr_round.specs.Knowledge.{IsOwn};
 
 use fr_core::Reply;

@@ -1,5 +1,5 @@
 use Rattle.std.proofs.Common.{◌≡◌, ◌∙◌, ℕ, ◌++◌, ◌∷◌, [], true, false, List, ap, sym, arith}
-use Rattle.fr_net.specs.Links.{IsNet}
+use Rattle.fr_graph.specs.Links.{IsNet}
 use Rattle.fr_command.specs.Plays.{is_linked}
 use Rattle.fr_command.proofs.PlayTargets.{linked_by_row, alone_by_row, wanted_node, alone_node, destination_node}
 use Rattle.fr_command.proofs.entries.turnable_nodes.Goals as goal

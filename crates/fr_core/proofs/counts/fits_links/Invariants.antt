@@ -1,6 +1,6 @@
 use Rattle.std.proofs.Common.{ℕ, ◌<◌}
-use Rattle.fr_net.specs.Counts.{IsKept}
-use Rattle.fr_net.specs.Links.{Points}
+use Rattle.fr_graph.specs.Counts.{IsKept}
+use Rattle.fr_graph.specs.Links.{Points}
 use Rattle.fr_core.proofs.counts.fits_links.Given as goal
 
 -- each link whose tail has been looked at has a direction

@@ -5,9 +5,9 @@ use Rattle.std.proofs.lemmas.List.Elements.{All-more}
 use Rattle.fr_core.proofs.RowLinks.{row_below}
 use Rattle.fr_core.proofs.SensesByRow.{PointsBy, row_of_sink, row_points_in, sink_from_row}
 use Rattle.fr_core.specs.declared.directions.Sense.TheVariants.{Inward}
-use Rattle.fr_net.specs.Rows.{row}
-use Rattle.fr_net.specs.declared.rows.First.{First}
-use Rattle.fr_net.specs.declared.rows.First.TheVariants as first
+use Rattle.fr_graph.specs.Rows.{row}
+use Rattle.fr_graph.specs.declared.rows.First.{First}
+use Rattle.fr_graph.specs.declared.rows.First.TheVariants as first
 use Rattle.fr_core.proofs.counts.is_sink.Goals as goal
 
 pub bounds-counts-w : goal.bounds-counts-w

@@ -1,5 +1,5 @@
 use Rattle.std.proofs.Common.{arith, inl, inr, refl}
-use Rattle.fr_net.proofs.Neighbours.{row_alone, row_linked}
+use Rattle.fr_graph.proofs.Neighbours.{row_alone, row_linked}
 use Rattle.fr_core.proofs.counts.most_count.Goals as goal
 
 pub returns-then-degree-eq0 : goal.returns-then-degree-eq0

@@ -3,8 +3,8 @@ use Rattle.std.proofs.lemmas.Bool.{false≢true}
 use Rattle.std.proofs.lemmas.List.Elements.{All-contains, All-more, Contains-get_or}
 use Rattle.fr_core.proofs.CutOff.{apart_by_rows, row_apart}
 use Rattle.fr_core.specs.CutOff.{HasTurned}
-use Rattle.fr_net.proofs.TurnedNodes.{turned_below}
-use Rattle.fr_net.specs.Rows.{row}
+use Rattle.fr_graph.proofs.TurnedNodes.{turned_below}
+use Rattle.fr_graph.specs.Rows.{row}
 use Rattle.fr_core.proofs.cut_off.are_apart.Goals as goal
 
 pub have_neighbours_turned-requires-clause-node : goal.have_neighbours_turned-requires-clause-node

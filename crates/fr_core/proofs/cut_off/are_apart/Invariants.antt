@@ -1,6 +1,6 @@
 use Rattle.std.proofs.Common.{All, take, ℕ}
 use Rattle.fr_core.specs.CutOff.{HasTurned}
-use Rattle.fr_net.specs.Rows.{row}
+use Rattle.fr_graph.specs.Rows.{row}
 use Rattle.fr_core.proofs.cut_off.are_apart.Given as goal
 
 -- each node so far has neighbours that have turned

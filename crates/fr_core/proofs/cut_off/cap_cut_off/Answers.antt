@@ -1,7 +1,7 @@
 use Rattle.std.proofs.Common.{map, ◌≡◌}
 use Rattle.fr_core.proofs.CutOff.{capped_lawful, could_before}
 use Rattle.fr_core.specs.CutOff.{AreApart}
-use Rattle.fr_net.specs.Turns.{set_to}
+use Rattle.fr_graph.specs.Turns.{set_to}
 use Rattle.fr_core.proofs.cut_off.cap_cut_off.Goals as goal
 use Rattle.fr_core.proofs.cut_off.cap_cut_off.Goals.{After-set_each}
 

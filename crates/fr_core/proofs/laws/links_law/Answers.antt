@@ -1,10 +1,10 @@
 use Rattle.fr_core.proofs.Finishing.{links_at-zeros, zeros_lawful}
 use Rattle.fr_core.proofs.SameLinks.{same_from_permutation, same_joined, same_lawful, same_links_at, same_settled, same_sink}
 use Rattle.fr_core.proofs.SensesByRow.{link_at-first_link}
-use Rattle.fr_net.proofs.Acyclic.{links_at_acyclic}
-use Rattle.fr_net.proofs.Building.{permuted_net}
-use Rattle.fr_net.proofs.Giving.{Points-links_at_back, Points-links_at_from}
-use Rattle.fr_net.proofs.TurnedLinks.{net_turned}
+use Rattle.fr_graph.proofs.Acyclic.{links_at_acyclic}
+use Rattle.fr_graph.proofs.Building.{permuted_net}
+use Rattle.fr_graph.proofs.Giving.{Points-links_at_back, Points-links_at_from}
+use Rattle.fr_graph.proofs.TurnedLinks.{net_turned}
 use Rattle.fr_core.proofs.laws.links_law.Goals as goal
 
 pub returns-clause-acyclic : goal.returns-clause-acyclic

@@ -6,9 +6,9 @@ use Rattle.fr_core.proofs.Rounds.{links-after_all}
 use Rattle.fr_core.proofs.Runs.{lawful_sum, run_count, run_sum}
 use Rattle.fr_core.proofs.Turning.{run_keeps}
 use Rattle.fr_core.specs.History.{Moment, after_all, links_after, moment_of}
-use Rattle.fr_net.proofs.Acyclic.{links_at_acyclic}
-use Rattle.fr_net.specs.Counts.{links_at}
-use Rattle.fr_net.specs.Links.{IsAcyclic}
+use Rattle.fr_graph.proofs.Acyclic.{links_at_acyclic}
+use Rattle.fr_graph.specs.Counts.{links_at}
+use Rattle.fr_graph.specs.Links.{IsAcyclic}
 use Rattle.fr_core.proofs.laws.run_law.Goals as goal
 
 pub returns-clause-one : goal.returns-clause-one

@@ -2,9 +2,9 @@ use Rattle.std.proofs.Common.{All, ap, arith, length, subst, take_all, ℕ, ◌<
 use Rattle.fr_core.proofs.Reaching.{reached_step}
 use Rattle.fr_core.proofs.RowLinks.{row_below}
 use Rattle.fr_core.specs.Reaching.{IsReached}
-use Rattle.fr_net.specs.Rows.{row}
-use Rattle.fr_net.specs.declared.rows.First.{First}
-use Rattle.fr_net.specs.declared.rows.First.TheVariants.{Outward}
+use Rattle.fr_graph.specs.Rows.{row}
+use Rattle.fr_graph.specs.declared.rows.First.{First}
+use Rattle.fr_graph.specs.declared.rows.First.TheVariants.{Outward}
 use Rattle.fr_core.proofs.levels.reach_neighbours.Goals as goal
 
 pub reach-requires-clause-node : goal.reach-requires-clause-node

@@ -1,6 +1,6 @@
 use Rattle.std.proofs.Common.{All, take}
 use Rattle.fr_core.specs.Reaching.{IsNeighbour, IsReached, ReachesOnly}
-use Rattle.fr_net.specs.Rows.{row}
+use Rattle.fr_graph.specs.Rows.{row}
 use Rattle.fr_core.proofs.levels.reach_neighbours.Given as goal
 
 abbrev pub invariant-loop-entry : goal.invariant-loop-entry

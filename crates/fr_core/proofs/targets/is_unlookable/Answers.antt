@@ -2,8 +2,8 @@ use Rattle.std.proofs.Common.{List, arith, inl, inr, length, ℕ, ⊎_elim, ◌<
 use Rattle.std.proofs.lemmas.Bool.{cases_lt}
 use Rattle.std.proofs.lemmas.Bool.Decides.{nat_tests}
 use Rattle.fr_core.specs.Targets.{IsUnlookable}
-use Rattle.fr_net.proofs.Neighbours.{row_alone, row_linked}
-use Rattle.fr_net.specs.Rows.{row}
+use Rattle.fr_graph.proofs.Neighbours.{row_alone, row_linked}
+use Rattle.fr_graph.specs.Rows.{row}
 use Rattle.fr_core.proofs.targets.is_unlookable.Goals as goal
 
 -- a node cannot be looked at only where its row is empty

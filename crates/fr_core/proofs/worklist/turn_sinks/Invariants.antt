@@ -1,5 +1,5 @@
 use Rattle.std.proofs.Common.{slice_index, ℕ, ◌-◌, ◌≤◌}
-use Rattle.fr_net.specs.Counts.{AreLawful}
+use Rattle.fr_graph.specs.Counts.{AreLawful}
 use Rattle.fr_core.specs.Worklist.{AreNodes, HoldsAll}
 use Rattle.fr_core.proofs.worklist.turn_sinks.Given as goal
 

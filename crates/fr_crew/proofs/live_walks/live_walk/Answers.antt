@@ -1,7 +1,7 @@
 use Rattle.std.proofs.lemmas.Bool.Decides.{nat_tests}
 use Rattle.std.proofs.Common.{List, arith, refl, subst, ℕ, ◌≡◌}
-use Rattle.fr_net.specs.Links.{IsAlone}
-use Rattle.fr_net.proofs.Neighbours.{row_alone}
+use Rattle.fr_graph.specs.Links.{IsAlone}
+use Rattle.fr_graph.proofs.Neighbours.{row_alone}
 use Rattle.fr_crew.specs.LiveWalks.{IsLiveFault}
 use Rattle.fr_crew.proofs.Walking.{if_memory, lookable_in}
 use Rattle.fr_crew.proofs.live_walks.live_walk.Goals as goal

@@ -1,6 +1,6 @@
 use Rattle.std.proofs.Common.{Global, List, Vec, ap, arith, subst, sym, ℕ, ◌++◌, ◌+◌, ◌∙◌, ◌∷◌, [], ◌≡◌, ◌≤◌}
 use Rattle.std.specs.Prelude.{vec_capacity, vec_len}
-use Rattle.fr_net.specs.Links.{IsNet}
+use Rattle.fr_graph.specs.Links.{IsNet}
 use Rattle.fr_core.specs.Targets.{IsLookable}
 use Rattle.fr_core.specs.declared.entry.Reply.{Reply}
 use Rattle.fr_crew.specs.LiveWalks.{HasWalked}

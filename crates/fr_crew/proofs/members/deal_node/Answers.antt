@@ -1,5 +1,5 @@
 use Rattle.std.proofs.Common.{◌∙◌, arith, subst, sym}
-use Rattle.fr_net.proofs.Neighbours.{row_linked}
+use Rattle.fr_graph.proofs.Neighbours.{row_linked}
 use Rattle.fr_round.specs.declared.view.Setup.{Setup}
 use Rattle.fr_crew.specs.Candidates.{IsCandidate}
 use Rattle.fr_crew.proofs.members.deal_node.Goals as goal

@@ -1,6 +1,6 @@
 use Rattle.std.proofs.Common.{arith, ap}
 use Rattle.fr_core.proofs.SettledRuns.{lawful_sum_fits}
-use Rattle.fr_net.specs.Network.{Network}
+use Rattle.fr_graph.specs.Network.{Network}
 use Rattle.fr_crew.proofs.settlement.settled_by_crew.Goals as goal
 
 pub turns_of-by_workers-requires : goal.turns_of-by_workers-requires

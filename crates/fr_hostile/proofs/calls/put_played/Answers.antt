@@ -1,6 +1,6 @@
 use Rattle.std.proofs.Common.{sym, subst, List, ℕ}
 use Rattle.std.specs.List.{All}
-use Rattle.fr_net.specs.Counts.{IsKept}
+use Rattle.fr_graph.specs.Counts.{IsKept}
 use Rattle.fr_hostile.proofs.calls.put_played.Goals as goal
 
 pub turned_by-requires-clause-kept : goal.turned_by-requires-clause-kept

@@ -1,6 +1,6 @@
 use Rattle.std.proofs.Common.{◌≡◌, ap, arith, get_or-set_same, length, ◌∙◌, List, ℕ}
 use Rattle.std.specs.Prelude.{nat_lt, slice_index}
-use Rattle.fr_net.proofs.Neighbours.{row_holds}
+use Rattle.fr_graph.proofs.Neighbours.{row_holds}
 use Rattle.fr_core.specs.Machine.{bound_of}
 use Rattle.fr_round.proofs.Calling.{met_or_held}
 use Rattle.fr_round.proofs.steps.is_met.Goals as goal

@@ -1,7 +1,7 @@
 use Rattle.std.proofs.Common.{List, arith, get_or, subst, sym, ℕ, ⊎_elim, ◌+◌, ◌<◌, ◌∙◌, ◌≡◌}
 use Rattle.std.proofs.lemmas.Bool.{cases_eq}
 use Rattle.std.proofs.lemmas.List.{get_or_default}
-use Rattle.fr_net.proofs.TurnedNodes.{turned_below}
+use Rattle.fr_graph.proofs.TurnedNodes.{turned_below}
 use Rattle.fr_route.specs.Outcomes.{SendsTo}
 use Rattle.fr_route.specs.States.{State, state_with}
 use Rattle.fr_route.proofs.Noting.{notes_none, notes_then}

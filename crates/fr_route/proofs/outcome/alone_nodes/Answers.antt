@@ -1,5 +1,5 @@
 use Rattle.std.proofs.Common.{arith, length, ◌≡◌}
-use Rattle.fr_net.specs.Rows.{row}
+use Rattle.fr_graph.specs.Rows.{row}
 use Rattle.fr_route.proofs.CutNodes.{alone_elsewhere, alone_there}
 use Rattle.fr_route.proofs.outcome.alone_nodes.Goals as goal
 

@@ -1,6 +1,6 @@
 use Rattle.std.proofs.Common.{arith, eqb-true, sym, ℕ, ◌==◌}
 use Rattle.std.proofs.lemmas.List.Sums.{get_or-le-sum_by}
-use Rattle.fr_net.proofs.Counting.{none_pass}
+use Rattle.fr_graph.proofs.Counting.{none_pass}
 use Rattle.fr_route.proofs.outcome.capped_nodes.Goals as goal
 
 pub returns-then-turned-cap : goal.returns-then-turned-cap

@@ -1,6 +1,6 @@
 use Rattle.std.proofs.Common.{◌≡◌, ◌∙◌, ◌≤◌, ap, arith, length, subst, sym, vec_capacity, ℕ}
-use Rattle.fr_net.specs.Counts.{links_at}
-use Rattle.fr_net.specs.Network.{Network, net_of}
+use Rattle.fr_graph.specs.Counts.{links_at}
+use Rattle.fr_graph.specs.Network.{Network, net_of}
 use Rattle.fr_core.proofs.Unique.{settled_lawful}
 use Rattle.fr_route.specs.Outcomes.{AreNoted, HoldsMoved, state_after}
 use Rattle.fr_route.specs.Routes.{AreHops}

@@ -2,9 +2,9 @@ use Rattle.std.proofs.Common.{ap, arith, length, sum, ◌<◌, ◌==◌, ◌^◌
 use Rattle.std.proofs.lemmas.List.Sums.{count_by-le-length}
 use Rattle.fr_core.proofs.SettledRuns.{lawful_sum_fits}
 use Rattle.fr_core.proofs.Unique.{settled_lawful}
-use Rattle.fr_net.proofs.Counting.{count-range-le}
+use Rattle.fr_graph.proofs.Counting.{count-range-le}
 use Rattle.fr_route.proofs.CutNodes.{but, cut_by_rows}
-use Rattle.fr_net.specs.Rows.{has_no_neighbour}
+use Rattle.fr_graph.specs.Rows.{has_no_neighbour}
 use Rattle.fr_route.proofs.outcome.report_of.Goals as goal
 
 pub overflow_add-result : goal.overflow_add-result

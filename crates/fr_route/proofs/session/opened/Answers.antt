@@ -1,5 +1,5 @@
 use Rattle.std.proofs.Common.{◌<◌, ℕ, ap, subst}
-use Rattle.fr_net.specs.Network.{Network}
+use Rattle.fr_graph.specs.Network.{Network}
 use Rattle.std.proofs.lemmas.Result.{IfOk-weaker, err_from_is_err_and}
 use Rattle.fr_route.proofs.Opening.{new_fault, opening_fault}
 use Rattle.fr_route.proofs.RoundEnds.{round_listed}

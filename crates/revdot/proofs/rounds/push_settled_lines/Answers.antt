@@ -1,6 +1,6 @@
 use Rattle.std.proofs.Common.{◌≡◌, ◌∙◌, ◌++◌, List, Option, string_bytes, subst, ℕ}
 use Rattle.std.proofs.lemmas.Result.{on_ok_weaker}
-use Rattle.fr_net.specs.declared.lines.requests.Question.TheVariants.{Counts, Hops}
+use Rattle.fr_lines.specs.declared.requests.Question.TheVariants.{Counts, Hops}
 use Rattle.fr_route.specs.States.{State}
 use Rattle.revdot.specs.Stories.{IsAnswerLine}
 use Rattle.revdot.proofs.Telling.{settled_told}

@@ -1,6 +1,6 @@
 use Rattle.std.proofs.Common.{◌≡◌, ◌∙◌, ◌<◌, ℕ, ap, arith, length, replicate, slice_index, sym}
 use Rattle.std.proofs.lemmas.List.{get_or_default}
-use Rattle.fr_net.specs.Turn.{turn}
+use Rattle.fr_graph.specs.Turn.{turn}
 use Rattle.revdot.specs.Strips.{IsNext, moment}
 use Rattle.revdot.proofs.Turning.{none_turned, one_more_turned, written_back}
 use Rattle.revdot.proofs.rounds.turns_of.Goals as goal

@@ -1,5 +1,5 @@
 use Rattle.std.proofs.Common.{◌≡◌, ◌++◌, ℕ, List, Option, string_bytes, subst, sym}
-use Rattle.fr_net.specs.Requests.{reading}
+use Rattle.fr_lines.specs.Requests.{reading}
 use Rattle.fr_route.specs.Answers.{IsLineAnswer}
 use Rattle.fr_route.specs.States.{State}
 use Rattle.revdot.specs.Stories.{IsRoundStory, about_text, answer_text, reports_round}

@@ -1,7 +1,7 @@
 use Rattle.std.proofs.Common.{◌≡◌, ◌∙◌, ◌<◌, ◌+◌, ◌++◌, ℕ, ap, arith, length, map, replicate, slice_index, string_bytes, sym}
 use Rattle.std.proofs.lemmas.List.{get_or_default}
-use Rattle.fr_net.specs.Links.{AreBelow}
-use Rattle.fr_net.specs.Turn.{turn}
+use Rattle.fr_graph.specs.Links.{AreBelow}
+use Rattle.fr_graph.specs.Turn.{turn}
 use Rattle.revdot.specs.Strips.{IsNext, first_link, moment, turn_text}
 use Rattle.revdot.proofs.Turning.{at_start, one_turn_more, written_back}
 use Rattle.revdot.proofs.strips.push_turns.Goals as goal

@@ -1,7 +1,7 @@
 use Rattle.std.proofs.Common.{ap, arith, get_or, length, slice_set, ◌<◌, ◌∙◌, ℕ}
 use Rattle.std.proofs.lemmas.List.{get_or_default}
 use Rattle.std.proofs.lemmas.List.Edits.{map_over_more}
-use Rattle.fr_net.specs.Turn.{turned_link}
+use Rattle.fr_graph.specs.Turn.{turned_link}
 use Rattle.revdot.proofs.turns.turn_node.Goals as goal
 
 pub loop-link-preserved : goal.loop-link-preserved

@@ -1,5 +1,5 @@
 use Rattle.std.proofs.Common.{drop, map, take, ◌++◌, ◌≡◌}
-use Rattle.fr_net.specs.Turn.{turned_link}
+use Rattle.fr_graph.specs.Turn.{turned_link}
 use Rattle.revdot.proofs.turns.turn_node.Given as goal
 
 abbrev pub invariant-loop-link : goal.invariant-loop-link

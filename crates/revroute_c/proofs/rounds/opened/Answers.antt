@@ -1,5 +1,5 @@
 use Rattle.std.proofs.Common.{◌<◌, ℕ, ap, map, subst}
-use Rattle.fr_net.specs.Network.{Network}
+use Rattle.fr_graph.specs.Network.{Network}
 use Rattle.fr_route.proofs.RoundEnds.{round_listed}
 use Rattle.revroute_c.specs.Records.{link_of}
 use Rattle.revroute_c.proofs.rounds.opened.Goals as goal

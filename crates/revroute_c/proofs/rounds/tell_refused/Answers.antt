@@ -1,8 +1,8 @@
 use Rattle.std.proofs.Common.{rules, arith, inr, length, map, refl, ◌≢◌, ◌≤◌}
 use Rattle.std.proofs.lemmas.List.{length-map}
-use Rattle.fr_net.proofs.Batches.{batch_not_made}
-use Rattle.fr_net.specs.Limits.{most_edits}
-use Rattle.fr_net.specs.declared.fault.NetFault.TheVariants.{Memory}
+use Rattle.fr_graph.proofs.Batches.{batch_not_made}
+use Rattle.fr_graph.specs.Limits.{most_edits}
+use Rattle.fr_graph.specs.declared.fault.NetFault.TheVariants.{Memory}
 use Rattle.revroute_c.specs.Records.{edit_of}
 use Rattle.revroute_c.proofs.Refused.{edit_refused}
 use Rattle.revroute_c.proofs.rounds.tell_refused.Goals as goal

@@ -1,7 +1,7 @@
 use Rattle.std.proofs.Common.{arith, get_or, inl, inr, take_all}
 use Rattle.std.proofs.lemmas.Bool.{cases_lt}
 use Rattle.std.proofs.lemmas.List.Elements.{All-more}
-use Rattle.fr_net.specs.Counts.{IsKept}
+use Rattle.fr_graph.specs.Counts.{IsKept}
 use Rattle.test_networks.proofs.networks.are_kept.Goals as goal
 
 pub loop-tail-preserved : goal.loop-tail-preserved

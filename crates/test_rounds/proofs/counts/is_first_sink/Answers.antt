@@ -1,7 +1,7 @@
 use Rattle.std.proofs.Common.{IsTrue, List, ap, subst, ◌∙◌, ◌↔◌, ℕ}
 use Rattle.fr_core.proofs.Finishing.{links_at-zeros}
-use Rattle.fr_net.specs.Counts.{links_at}
-use Rattle.fr_net.specs.Turn.{IsSink}
+use Rattle.fr_graph.specs.Counts.{links_at}
+use Rattle.fr_graph.specs.Turn.{IsSink}
 use Rattle.test_rounds.proofs.counts.is_first_sink.Goals as goal
 
 pub returns : goal.returns

@@ -2,8 +2,8 @@ use Rattle.std.proofs.Common.{[], ap, arith, subst, sym, ◌∷◌, ◌++◌, �
 use Rattle.std.specs.List.{All, Contains}
 use Rattle.std.proofs.lemmas.List.Elements.{All-push, Contains-append_left, Contains-append_right}
 use Rattle.std.proofs.lemmas.Bool.{cases_lt, false≢true}
-use Rattle.fr_net.proofs.Members.{Contains-head}
-use Rattle.fr_net.specs.Turn.{IsSink}
+use Rattle.fr_graph.proofs.Members.{Contains-head}
+use Rattle.fr_graph.specs.Turn.{IsSink}
 use Rattle.test_rounds.proofs.counts.sinks.Goals as goal
 use Rattle.test_rounds.proofs.counts.sinks.Goals.{then-is_first_sink+in_ok-push, else-is_first_sink}
 

@@ -1,6 +1,6 @@
 use Rattle.std.specs.Prelude.{ℕ, ◌<◌}
 use Rattle.std.specs.List.{All, Contains}
-use Rattle.fr_net.specs.Turn.{IsSink}
+use Rattle.fr_graph.specs.Turn.{IsSink}
 use Rattle.test_rounds.proofs.counts.sinks.Given as goal
 
 -- those that were found are nodes, and all sinks below x are found

@@ -1,7 +1,7 @@
 use Rattle.std.proofs.Common.{subst}
-use Rattle.fr_net.proofs.Acyclic.{links_at_acyclic}
-use Rattle.fr_net.specs.Counts.{links_at}
-use Rattle.fr_net.specs.Links.{IsAcyclic}
+use Rattle.fr_graph.proofs.Acyclic.{links_at_acyclic}
+use Rattle.fr_graph.specs.Counts.{links_at}
+use Rattle.fr_graph.specs.Links.{IsAcyclic}
 use Rattle.fr_core.proofs.Stepping.{come_run}
 use Rattle.fr_core.specs.Played.{MachineView}
 use Rattle.fr_core.proofs.machine.Machine.counts.Goals as goal

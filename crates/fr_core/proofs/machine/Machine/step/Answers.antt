@@ -1,6 +1,6 @@
 use Rattle.std.proofs.Common.{List, ap, arith, drop, length, slice_set, subst, sym, take, ℕ, ◌++◌, ◌<◌, ◌∙◌}
 use Rattle.std.proofs.lemmas.Grind.{common_steps}
-use Rattle.fr_net.specs.Links.{IsNet}
+use Rattle.fr_graph.specs.Links.{IsNet}
 use Rattle.fr_core.proofs.MachineRuns.{keeps_sound, written}
 use Rattle.fr_core.proofs.Stepping.{come_on}
 use Rattle.fr_core.specs.Machine.{outcome}

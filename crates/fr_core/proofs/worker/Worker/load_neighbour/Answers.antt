@@ -1,6 +1,6 @@
 use Rattle.std.proofs.Common.{arith, length, ◌<◌}
 use Rattle.fr_core.proofs.RowLinks.{row_below}
-use Rattle.fr_net.specs.Rows.{row}
+use Rattle.fr_graph.specs.Rows.{row}
 use Rattle.fr_core.proofs.worker.Worker.load_neighbour.Goals as goal
 
 pub bounds-counts-neighbour : goal.bounds-counts-neighbour

@@ -1,6 +1,6 @@
 use Rattle.std.proofs.lemmas.Bool.Decides.{nat_tests}
 use Rattle.std.proofs.Common.{arith, subst, refl, ◌≡◌}
-use Rattle.fr_net.proofs.Neighbours.{row_alone, row_linked}
+use Rattle.fr_graph.proofs.Neighbours.{row_alone, row_linked}
 use Rattle.fr_core.specs.Targets.{IsTurnable}
 use Rattle.fr_round.specs.declared.faults.Refusal.TheVariants.{Alone}
 use Rattle.fr_round.specs.Knowledge.{OpenRound, Refuses}

@@ -1,7 +1,7 @@
 use Rattle.std.proofs.Common.{inl, refl}
-use Rattle.fr_net.specs.Limits.{most_edits}
-use Rattle.fr_net.specs.declared.fault.EditFault.{EditFault}
-use Rattle.fr_net.specs.declared.fault.NetFault.TheVariants.{TooMany}
+use Rattle.fr_graph.specs.Limits.{most_edits}
+use Rattle.fr_graph.specs.declared.fault.EditFault.{EditFault}
+use Rattle.fr_graph.specs.declared.fault.NetFault.TheVariants.{TooMany}
 use Rattle.fr_route.proofs.router.Router.before_edits.Goals as goal
 
 pub returns-then-edits-gt-MAX_EDITS-clause-fault : goal.returns-then-edits-gt-MAX_EDITS-clause-fault

@@ -1,5 +1,5 @@
 use Rattle.std.proofs.Common.{[], ◌∷◌}
-use Rattle.fr_net.specs.declared.edit.Edit.TheVariants as edit
+use Rattle.fr_graph.specs.declared.edit.Edit.TheVariants as edit
 use Rattle.fr_route.specs.Changes.{IsChanged, IsRouteFault}
 use Rattle.fr_route.specs.Outcomes.{IsEdited, IsEditingFault}
 use Rattle.fr_route.specs.declared.change.Change.TheVariants.{Add, Cut, Join}

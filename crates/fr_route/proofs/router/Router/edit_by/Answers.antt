@@ -2,11 +2,11 @@ use Rattle.std.proofs.Common.{◌≡◌, ◌≢◌, ◌∙◌, ◌<◌, IfSome, 
 use Rattle.std.proofs.lemmas.List.{with_items_is}
 use Rattle.std.proofs.lemmas.Result.{err_from_is_err_and}
 use Rattle.std.specs.Vec.{with_items}
-use Rattle.fr_net.specs.Batches.{AreMade}
-use Rattle.fr_net.specs.Network.{Network}
+use Rattle.fr_graph.specs.Batches.{AreMade}
+use Rattle.fr_graph.specs.Network.{Network}
 use Rattle.fr_crew.specs.Settlements.{HoldsSinks}
-use Rattle.fr_net.specs.declared.fault.NotEdited.{NotEdited}
-use Rattle.fr_net.specs.declared.fault.NotEdited.TheVariants.{Fault, Refused}
+use Rattle.fr_graph.specs.declared.fault.NotEdited.{NotEdited}
+use Rattle.fr_graph.specs.declared.fault.NotEdited.TheVariants.{Fault, Refused}
 use Rattle.fr_route.specs.Changes.{IsOpenFault, IsStill}
 use Rattle.fr_route.specs.Faults.{of_not_edited}
 use Rattle.fr_route.specs.Outcomes.{HoldsMoved, IsEditingFault, IsOutcome, movable, state_after}

@@ -1,6 +1,6 @@
 use Rattle.std.proofs.Common.{subst, sym}
 use Rattle.fr_core.proofs.Unique.{settled_lawful}
-use Rattle.fr_net.specs.Network.{Network}
+use Rattle.fr_graph.specs.Network.{Network}
 use Rattle.fr_route.specs.States.{IsAfterRound, state_with}
 use Rattle.fr_route.proofs.CutNodes.{after_outcome}
 use Rattle.fr_route.proofs.router.Router.settled.Goals as goal

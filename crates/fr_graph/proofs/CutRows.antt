@@ -1,0 +1,113 @@
+-- The links and rows of a network with one link cut.
+use Rattle.std.proofs.Common.{Bool, Contains, List, None, Option, Some, [], ap, arith, cond, false, get_or, inl, inr, length, ne_eqb, option_to_list, refl, subst, suc, sym, true, zero, ℕ, ⊎_elim, ◌+◌, ◌<◌, ◌∙◌, ◌∷◌, ◌≡◌, ◌≢◌, ◌⊎◌}
+use Rattle.std.specs.Prelude.{not}
+use Rattle.std.specs.List.{filter}
+use Rattle.std.proofs.lemmas.List.Elements.{filter-append}
+use Rattle.std.proofs.lemmas.List.Sorted.{IsPermutation-refl}
+use Rattle.fr_graph.proofs.Editing.{from_filter}
+use Rattle.fr_graph.proofs.Linking.{is_between_turned}
+use Rattle.fr_graph.proofs.Members.{Contains-cases, Contains-head, Contains-tail}
+use Rattle.fr_graph.proofs.Neighbours.{row_entry_node}
+use Rattle.fr_graph.proofs.Ordering.{least_first, order_of_listed, order_tail}
+use Rattle.fr_graph.proofs.Remaking.{row_entry_same}
+use Rattle.fr_graph.proofs.Sorting.{IsSorted, sorted_at}
+use Rattle.fr_graph.proofs.TurnedRows.{row_entry_none}
+use Rattle.fr_graph.specs.Edits.{without}
+use Rattle.fr_graph.specs.Links.{Points, is_between}
+use Rattle.fr_graph.specs.Order.{AreInOrder, IsNotAfter, in_order}
+use Rattle.fr_graph.specs.Rows.{row, row_entry}
+use Rattle.fr_graph.specs.declared.rows.First.{First}
+
+-- whether an entry of x stays where the link between u and v is cut
+abbrev pub stays : ℕ → ℕ → ℕ → ℕ × First → Bool
+stays u v x entry = not (is_between u v (x, entry.0))
+
+-- links in order are sorted, and a part of them is
+pub sorted_from_order : (links : List (ℕ × ℕ)) → AreInOrder links → IsSorted IsNotAfter links
+sorted_from_order [] order = tt
+sorted_from_order (l ∷ ls) order = (λ x h. least_first l ls x order h, sorted_from_order ls (order_tail l ls order))
+
+pub order_from_sorted : (links : List (ℕ × ℕ)) → IsSorted IsNotAfter links → AreInOrder links
+order_from_sorted links s k d l = sorted_at IsNotAfter links s k (k + 1) d (omega arith) l
+
+sorted_filter_by : (b : Bool) (p : ℕ × ℕ → Bool) (l : ℕ × ℕ) (ls : List (ℕ × ℕ)) → ((x : ℕ × ℕ) → Contains ls x → IsNotAfter l x) → IsSorted IsNotAfter (filter p ls) → IsSorted IsNotAfter (cond b (l ∷ filter p ls) (filter p ls))
+sorted_filter_by true p l ls first rest = (λ x h. first x (from_filter p ls x h), rest)
+sorted_filter_by false p l ls first rest = rest
+
+sorted-filter : (p : ℕ × ℕ → Bool) (links : List (ℕ × ℕ)) → IsSorted IsNotAfter links → IsSorted IsNotAfter (filter p links)
+sorted-filter p [] s = tt
+sorted-filter p (l ∷ ls) s = sorted_filter_by (p l) p l ls s.0 (sorted-filter p ls s.1)
+
+pub cut_in_order : (links : List (ℕ × ℕ)) (u v : ℕ) → AreInOrder links → without u v links ≡ in_order (without u v links)
+cut_in_order links u v order =
+    order_of_listed (without u v links) (without u v links) (IsPermutation-refl (without u v links))
+    (order_from_sorted (without u v links) (sorted-filter (λ (l : ℕ × ℕ). not (is_between u v l)) links (sorted_from_order links order)))
+
+-- which elements a test keeps
+into_filter_by : {X : Type 0} (b : Bool) (p : X → Bool) (y : X) (ys : List X) (x : X) → p y ≡ b → p x ≡ true → (y ≡ x) ⊎ Contains (filter p ys) x → Contains (cond b (y ∷ filter p ys) (filter p ys)) x
+into_filter_by true p y ys x is passes (inl e) = subst (λ z. Contains (y ∷ filter p ys) z) e (Contains-head y (filter p ys))
+into_filter_by true p y ys x is passes (inr h) = Contains-tail x y (filter p ys) h
+into_filter_by false p y ys x is passes (inl e) = cc (is, passes, e)
+into_filter_by false p y ys x is passes (inr h) = h
+
+into_filter : {X : Type 0} (p : X → Bool) (xs : List X) (x : X) → Contains xs x → p x ≡ true → Contains (filter p xs) x
+into_filter p [] x h passes = h
+into_filter p (y ∷ ys) x h passes =
+    into_filter_by (p y) p y ys x refl passes (⊎_elim (λ e. inl e) (λ g. inr (into_filter p ys x g passes)) (Contains-cases x y ys h))
+
+filter_passes_by : (b : Bool) (p : ℕ × ℕ → Bool) (y : ℕ × ℕ) (ys : List (ℕ × ℕ)) (x : ℕ × ℕ) → p y ≡ b → (Contains (filter p ys) x → p x ≡ true) → Contains (cond b (y ∷ filter p ys) (filter p ys)) x → p x ≡ true
+filter_passes_by true p y ys x is rest h = ⊎_elim (λ e. ap p (sym e) ∙ is) rest (Contains-cases x y (filter p ys) h)
+filter_passes_by false p y ys x is rest h = rest h
+
+filter_passes : (p : ℕ × ℕ → Bool) (xs : List (ℕ × ℕ)) (x : ℕ × ℕ) → Contains (filter p xs) x → p x ≡ true
+filter_passes p [] x h = absurd (omega (arith, h.1))
+filter_passes p (y ∷ ys) x h = filter_passes_by (p y) p y ys x refl (filter_passes p ys x) h
+
+-- a test of an entry that is there
+filter_option_by : {X : Type 0} (b : Bool) (p : X → Bool) (x : X) → p x ≡ b → filter p (x ∷ []) ≡ cond b (x ∷ []) []
+filter_option_by b p x e = rw e refl
+
+filter-option : {X : Type 0} (b : Bool) (p : X → Bool) (o : Option X) → ((x : X) → o ≡ Some x → p x ≡ b) → filter p (option_to_list o) ≡ cond b (option_to_list o) []
+filter-option true p None is = refl
+filter-option false p None is = refl
+filter-option b p (Some x) is = filter_option_by b p x (is x refl)
+
+pub no_link_between : (links : List (ℕ × ℕ)) (u v a b : ℕ) → is_between u v (a, b) ≡ true → ¬ Points (without u v links) a b
+no_link_between links u v a b e h = let kept = filter_passes (λ (l : ℕ × ℕ). not (is_between u v l)) links (a, b) h in cc (e, kept)
+
+still_linked : (links : List (ℕ × ℕ)) (u v a b : ℕ) → is_between u v (a, b) ≡ false → Points links a b → Points (without u v links) a b
+still_linked links u v a b e h = into_filter (λ (l : ℕ × ℕ). not (is_between u v l)) links (a, b) h (rw e refl)
+
+entry_cut_by : (c : Bool) (links : List (ℕ × ℕ)) (u v x w : ℕ) → is_between u v (x, w) ≡ c → option_to_list (row_entry (without u v links) x w) ≡ filter (stays u v x) (option_to_list (row_entry links x w))
+entry_cut_by true links u v x w e =
+    rw (
+      row_entry_none (without u v links) x w (no_link_between links u v x w e) (no_link_between links u v w x (is_between_turned u v w x ∙ e)),
+      filter-option false (stays u v x) (row_entry links x w) (λ entry is. let node = row_entry_node links x w entry is in rw (node, e) refl),
+    ) refl
+entry_cut_by false links u v x w e =
+    rw (
+      row_entry_same (without u v links) links x w (from_filter (λ (l : ℕ × ℕ). not (is_between u v l)) links (x, w)) (still_linked links u v x w e)
+          (from_filter (λ (l : ℕ × ℕ). not (is_between u v l)) links (w, x)) (still_linked links u v w x (is_between_turned u v w x ∙ e)),
+      filter-option true (stays u v x) (row_entry links x w) (λ entry is. let node = row_entry_node links x w entry is in rw (node, e) refl),
+    ) refl
+
+-- the row of a node once the link between u and v is cut
+pub row_cut : (n : ℕ) (links : List (ℕ × ℕ)) (u v x : ℕ) → row n (without u v links) x ≡ filter (stays u v x) (row n links x)
+row_cut zero links u v x = refl
+row_cut (suc w) links u v x =
+    rw (
+      row_cut w links u v x,
+      entry_cut_by (is_between u v (x, w)) links u v x w refl,
+      filter-append (stays u v x) (row w links x) (option_to_list (row_entry links x w)),
+    ) refl
+
+-- the row of a node that is no end of the link stays
+not_between : (u v x w : ℕ) → x ≢ u → x ≢ v → is_between u v (x, w) ≡ false
+not_between u v x w a b = rw (ne_eqb x u a, ne_eqb x v b) refl
+
+pub filter_kept : {X : Type 0} (t : X → Bool) (xs : List X) → ((i : ℕ) (d : X) → i < length xs → t (get_or xs i d) ≡ true) → filter t xs ≡ xs
+filter_kept t [] kept = refl
+filter_kept t (x ∷ xs) kept = rw (kept 0 x (omega arith), filter_kept t xs (λ i d l. kept (suc i) d (omega (arith, l)))) refl
+
+pub row_stays : (u v x : ℕ) (entries : List (ℕ × First)) → x ≢ u → x ≢ v → filter (stays u v x) entries ≡ entries
+row_stays u v x entries a b = filter_kept (stays u v x) entries (λ i d l. rw (not_between u v x (get_or entries i d).0 a b) refl)

@@ -1,0 +1,5 @@
+use Rattle.fr_graph.proofs.LeavingOrder.{nothing_met}
+use Rattle.fr_graph.proofs.cycle.Search.begun.Goals as goal
+
+pub returns-clause-search : goal.returns-clause-search
+returns-clause-search c = λ rows. nothing_met c.args.nodes rows _ (c.in_ok-vec.ensures.items_if_clones_equal (λ y e. e)) c.new.ensures.items c.in_ok-with_capacity.ensures.items

@@ -1,0 +1,102 @@
+use Rattle.std.proofs.Common.{Contains, ap, arith, get_or, length, sym, ℕ, ◌+◌, ◌-◌, ◌<◌, ◌∙◌, ◌≡◌, ◌≤◌}
+use Rattle.std.proofs.lemmas.List.{get_or_read, length-map}
+use Rattle.std.specs.Vec.{with_item}
+use Rattle.fr_graph.proofs.Neighbours.{entry_is}
+use Rattle.fr_graph.proofs.RowsRead.{read_through, reads_on, same_nodes, top_is}
+use Rattle.fr_graph.proofs.ShownLinks.{shown_of_row}
+use Rattle.fr_graph.specs.CycleSearch.{HasRead, IsPassed, IsSearch, nodes_of}
+use Rattle.fr_graph.specs.Tables.{row_of}
+use Rattle.fr_graph.specs.declared.cycle.Search.{Search}
+use Rattle.fr_graph.specs.declared.cycle.Step.{Step}
+use Rattle.fr_graph.specs.declared.rows.First.{First}
+use Rattle.fr_graph.specs.declared.rows.First.TheVariants.{Outward}
+use Rattle.fr_graph.proofs.cycle.Search.next_head.Goals as goal
+use Rattle.fr_graph.proofs.cycle.Search.next_head.Goals.{After-index-top, After-index_mut}
+
+full : (c : After-index-top) → c.len-last.result - 1 + 1 ≡ length c.args.self.now.path.items
+full c = omega (arith, c.len-last.ensures, c.requires.full, c.args.self.now.path.ok.0)
+
+was : (c : After-index-top) → HasRead c.args.rows.now c.args.self.now.marks.items c.index-top.result.now
+was c = rw (← c.index-top.ensures) at (c.requires.search.read (c.len-last.result - 1) c.index-top.result.now (omega (arith, full c)))
+
+node_is : (c : After-index-top) → get_or (nodes_of c.args.self.now.path.items) (c.len-last.result - 1) 0 ≡ c.index-top.result.now.node
+node_is c = top_is c.args.self.now.path.items (c.len-last.result - 1) c.index-top.result.now (full c) c.index-top.ensures
+
+below : (c : After-index-top) → c.index-top.result.now.node < length c.args.rows.now.rows
+below c =
+    let s = c.requires.search in
+    let on : get_or (nodes_of c.args.self.now.path.items) (c.len-last.result - 1) 0 < length c.args.self.now.marks.items = s.steps.path_below (c.len-last.result - 1) (omega (arith, full c, length-map c.args.self.now.path.items (λ (s : Step). s.node))) in
+    omega (arith, on, node_is c, s.one_each)
+
+passed : (c : After-index_mut) (k : ℕ) (d : ℕ × First) → c.index-top.result.now.next ≤ k → k < c.first_not_done-place.result → IsPassed c.args.self.now.marks.items (get_or (row_of c.args.rows.now c.index-top.result.now.node) k d)
+passed c = rw (c.row-row.ensures, c.deref.ensures.value) at c.first_not_done-place.ensures.passed
+
+-- the search once the row of the last node was read on
+abbrev after : (c : After-index_mut) → Search
+after c = record {
+  marks = c.args.self.now.marks;
+  path = with_item c.args.self.now.path (c.len-last.result - 1) (record { node = c.index-top.result.now.node; next = c.first_not_done-place.result });
+  order = c.args.self.now.order;
+}
+
+same : (c : After-index_mut) → nodes_of (after c).path.items ≡ nodes_of c.args.self.now.path.items
+same c = same_nodes c.args.self.now.path.items (c.len-last.result - 1) c.first_not_done-place.result c.index-top.result.now c.index-top.ensures
+
+searched : (c : After-index_mut) → IsSearch c.args.rows.now (after c)
+searched c =
+    let s = c.requires.search in
+    let high : c.first_not_done-place.result ≤ length (row_of c.args.rows.now c.index-top.result.now.node) = omega (arith, c.first_not_done-place.ensures.high, ap length c.row-row.ensures) in
+    record {
+      one_each = s.one_each;
+      below = s.below;
+      steps = rw (same c) s.steps;
+      read = reads_on c.args.rows.now c.args.self.now.marks.items c.args.self.now.path.items (c.len-last.result - 1) c.first_not_done-place.result c.index-top.result.now (full (goal.at.After-index_mut c).After-index-top) c.index-top.ensures s.read high (passed c);
+      order = s.order;
+    }
+
+pub returns-in_err-head-clause-search : goal.returns-in_err-head-clause-search
+returns-in_err-head-clause-search c = searched (goal.at.returns-in_err-head-clause-search c).After-index_mut
+
+pub returns-in_err-head-clause-path : goal.returns-in_err-head-clause-path
+returns-in_err-head-clause-path c = same (goal.at.returns-in_err-head-clause-path c).After-index_mut
+
+pub returns-in_err-head-clause-done : goal.returns-in_err-head-clause-done
+returns-in_err-head-clause-done c =
+    let b = goal.at.returns-in_err-head-clause-done c in
+    let end = rw c.row-row.ensures at c.in_err-head.ensures.lookup in
+    rw (c.from_residual.ensures, ← c.len-last.ensures, node_is b.After-index-top)
+    (read_through c.args.rows.now c.args.self.now.marks.items c.index-top.result.now c.first_not_done-place.result (was b.After-index-top) (passed b.After-index_mut) end.3)
+
+pub returns-clause-search : goal.returns-clause-search
+returns-clause-search c = searched (goal.at.returns-clause-search c).After-index_mut
+
+pub returns-clause-path : goal.returns-clause-path
+returns-clause-path c = same (goal.at.returns-clause-path c).After-index_mut
+
+pub returns-clause-leads : goal.returns-clause-leads
+returns-clause-leads c =
+    let b = goal.at.returns-clause-leads c in
+    let table = c.args.rows.now in
+    let x = c.index-top.result.now.node in
+    let place = c.first_not_done-place.result in
+    let e = c.in_ok-head.field-0.now in
+    let seen = rw c.row-row.ensures at c.in_ok-head.ensures.lookup in
+    let inside : place < length (row_of table x) = seen.3.0 in
+    let read : get_or (row_of table x) place e ≡ e = sym seen.1 in
+    let out : e.1 ≡ Outward = rw (c.row-row.ensures, read) at (c.first_not_done-place.ensures.stops e (rw c.row-row.ensures inside)).0 in
+    let listed : Contains (row_of table x) (e.0, Outward) = (place, inside, sym (get_or_read (row_of table x) place e inside seen.1 (e.0, Outward)) ∙ entry_is e Outward out) in
+    λ k last.
+    let at : k ≡ c.len-last.result - 1 = omega (arith, last, full b.After-index-top, length-map c.args.self.now.path.items (λ (s : Step). s.node)) in
+    rw (at, node_is b.After-index-top) (shown_of_row (length table.rows) table x e.0 (below b.After-index-top) listed)
+
+pub returns-clause-below : goal.returns-clause-below
+returns-clause-below c =
+    let e = c.in_ok-head.field-0.now in
+    let seen = rw c.row-row.ensures at c.in_ok-head.ensures.lookup in
+    rw (sym seen.1) at (c.requires.search.below c.index-top.result.now.node c.first_not_done-place.result e seen.3.0)
+
+pub returns-clause-stops : goal.returns-clause-stops
+returns-clause-stops c =
+    let e = c.in_ok-head.field-0.now in
+    let seen = rw c.row-row.ensures at c.in_ok-head.ensures.lookup in
+    (rw (c.row-row.ensures, sym seen.1, c.deref.ensures.value) at (c.first_not_done-place.ensures.stops e (rw c.row-row.ensures seen.3.0))).1

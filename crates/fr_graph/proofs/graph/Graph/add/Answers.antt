@@ -1,0 +1,67 @@
+use Rattle.std.proofs.Common.{ap, arith, length, subst, sym}
+use Rattle.fr_graph.proofs.AddedLinks.{added}
+use Rattle.fr_graph.proofs.Joining.{cycle_fault, no_path_free}
+use Rattle.fr_graph.proofs.Remaking.{same_through}
+use Rattle.fr_graph.proofs.Undoing.{IsPut, put_with_room}
+use Rattle.fr_graph.specs.Graph.{IsSame, shown}
+use Rattle.fr_graph.specs.Halves.{AreUnjoined}
+use Rattle.fr_graph.specs.Links.{IsAcyclic}
+use Rattle.fr_graph.specs.Network.{Network}
+use Rattle.fr_graph.specs.PathSearch.{IsMeeting}
+use Rattle.fr_graph.proofs.graph.Graph.add.Goals as goal
+use Rattle.fr_graph.proofs.graph.Graph.add.Goals.{After-make_room, In-Some}
+
+-- the graph shows the network that was tested
+same : (c : After-make_room) → IsSame c.args.self.now c.make_room.new.self
+same c = same_through c.args.self.now c.way_back.new.self c.make_room.new.self c.in_ok-meeting.ensures.same c.make_room.ensures.same
+
+-- the sides of the search met
+met : (c : In-Some) → IsMeeting (shown c.args.self.now).links c.args.v c.args.u c.in-Some.meeting
+met c = rw c.in-Some.is at c.in_ok-meeting.ensures.found
+
+pub way_back-requires-clause-graph : goal.way_back-requires-clause-graph
+way_back-requires-clause-graph c = c.requires
+
+pub way_back-requires-clause-nodes : goal.way_back-requires-clause-nodes
+way_back-requires-clause-nodes c = c.in_ok-test_join.ensures.nodes
+
+pub returns-in-Some-clause-unchanged : goal.returns-in-Some-clause-unchanged
+returns-in-Some-clause-unchanged c = c.in_ok-meeting.ensures.same
+
+pub make_room-requires-clause-graph : goal.make_room-requires-clause-graph
+make_room-requires-clause-graph c = c.in_ok-meeting.ensures.same.graph
+
+pub make_room-requires-clause-u : goal.make_room-requires-clause-u
+make_room-requires-clause-u c = omega (arith, c.in_ok-test_join.ensures.nodes.tail, ap (λ (m : Network). m.nodes) c.in_ok-meeting.ensures.same.same)
+
+pub make_room-requires-clause-v : goal.make_room-requires-clause-v
+make_room-requires-clause-v c = omega (arith, c.in_ok-test_join.ensures.nodes.head, ap (λ (m : Network). m.nodes) c.in_ok-meeting.ensures.same.same)
+
+pub put-requires-clause-graph : goal.put-requires-clause-graph
+put-requires-clause-graph c = c.in_ok-make_room.ensures.same.graph
+
+pub closed_walk-requires : goal.closed_walk-requires
+closed_walk-requires c = ((shown c.args.self.now).links, c.args.v, c.args.u, met (goal.at.closed_walk-requires c).In-Some)
+
+pub returns-in-Some-clause-refused : goal.returns-in-Some-clause-refused
+returns-in-Some-clause-refused c _ =
+    let g = shown c.args.self.now in
+    let tested = c.in_ok-test_join.ensures in
+    cycle_fault g.nodes g.links c.args.u c.args.v c.in_ok-closed_walk.field-0 c.requires.faultless tested.few tested.nodes (c.in_ok-closed_walk.ensures g.links c.args.v c.args.u (met (goal.at.returns-in-Some-clause-refused c).In-Some))
+
+pub put-requires-clause-few : goal.put-requires-clause-few
+put-requires-clause-few c = omega (arith, ap (λ (m : Network). length m.links) (same (goal.at.put-requires-clause-few c).After-make_room).same, c.in_ok-test_join.ensures.few)
+
+pub put-requires-clause-nodes : goal.put-requires-clause-nodes
+put-requires-clause-nodes c = subst (λ (m : Network). AreUnjoined m.nodes m.links c.args.u c.args.v) (sym (same (goal.at.put-requires-clause-nodes c).After-make_room).same) c.in_ok-test_join.ensures.nodes
+
+pub put-requires-clause-acyclic : goal.put-requires-clause-acyclic
+put-requires-clause-acyclic c =
+    subst (λ (m : Network). IsAcyclic (added m.links c.args.u c.args.v)) (sym (same (goal.at.put-requires-clause-acyclic c).After-make_room).same)
+    (no_path_free (shown c.args.self.now).links c.args.u c.args.v c.requires.faultless.is_net.acyclic (rw c.in_default.is at c.in_ok-meeting.ensures.none))
+
+pub returns-clause-ok : goal.returns-clause-ok
+returns-clause-ok c =
+    let put : IsPut c.args.self.now c.put.new.self c.args.u c.args.v =
+    put_with_room c.args.self.now c.make_room.new.self c.put.new.self c.args.u c.args.v c.requires (same (goal.at.returns-clause-ok c).After-make_room) c.room_law.ensures c.in_ok-test_join.ensures.nodes c.put.ensures.rooms c.put.ensures.put in
+    record { graph = c.put.ensures.graph; made = put.made; by = put.by; rooms = put.rooms; back = put.back }

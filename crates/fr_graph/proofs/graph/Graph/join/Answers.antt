@@ -1,0 +1,77 @@
+use Rattle.std.proofs.Common.{ap, arith, inl, inr, length, subst, sym}
+use Rattle.fr_graph.proofs.AddedLinks.{added}
+use Rattle.fr_graph.proofs.Joining.{no_path_free, one_way_free, path_closes, unjoined_turned}
+use Rattle.fr_graph.proofs.Remaking.{same_through}
+use Rattle.fr_graph.proofs.Undoing.{IsPut, put_with_room}
+use Rattle.fr_graph.specs.Graph.{IsSame, shown}
+use Rattle.fr_graph.specs.Halves.{AreUnjoined}
+use Rattle.fr_graph.specs.Links.{IsAcyclic}
+use Rattle.fr_graph.specs.Network.{Network}
+use Rattle.fr_graph.proofs.graph.Graph.join.Goals as goal
+use Rattle.fr_graph.proofs.graph.Graph.join.Goals.{After-make_room, else-branch, then-branch}
+
+-- the graph shows the network that was tested
+same : (c : After-make_room) → IsSame c.args.self.now c.make_room.new.self
+same c = same_through c.args.self.now c.leads_back.new.self c.make_room.new.self c.in_ok-leads_back.ensures.same c.make_room.ensures.same
+
+-- the ends of the link, whichever way it points
+ends : (c : After-make_room) → AreUnjoined c.args.self.now.nodes (shown c.args.self.now).links c.if-branch.tail.0 c.if-branch.tail.1
+ends c =
+    let nodes = c.in_ok-test_join.ensures.nodes in
+    elim c.if-branch.branch [
+      | then-branch w ↦ rw w.tail-is (unjoined_turned _ (shown c.args.self.now).links c.args.u c.args.v nodes)
+      | else-branch w ↦ rw w.tail-is nodes
+    ]
+
+pub leads_back-requires-clause-graph : goal.leads_back-requires-clause-graph
+leads_back-requires-clause-graph c = c.requires
+
+pub leads_back-requires-clause-nodes : goal.leads_back-requires-clause-nodes
+leads_back-requires-clause-nodes c = c.in_ok-test_join.ensures.nodes
+
+pub make_room-requires-clause-graph : goal.make_room-requires-clause-graph
+make_room-requires-clause-graph c = c.in_ok-leads_back.ensures.same.graph
+
+pub put-requires-clause-graph : goal.put-requires-clause-graph
+put-requires-clause-graph c = c.in_ok-make_room.ensures.same.graph
+
+pub put-requires-clause-few : goal.put-requires-clause-few
+put-requires-clause-few c = omega (arith, ap (λ (m : Network). length m.links) (same (goal.at.put-requires-clause-few c).After-make_room).same, c.in_ok-test_join.ensures.few)
+
+pub put-requires-clause-nodes : goal.put-requires-clause-nodes
+put-requires-clause-nodes c =
+    subst (λ (m : Network). AreUnjoined m.nodes m.links c.if-branch.tail.0 c.if-branch.tail.1) (sym (same (goal.at.put-requires-clause-nodes c).After-make_room).same) (ends (goal.at.put-requires-clause-nodes c).After-make_room)
+
+pub put-requires-clause-acyclic : goal.put-requires-clause-acyclic
+put-requires-clause-acyclic c =
+    let links = (shown c.args.self.now).links in
+    let u = c.args.u in
+    let v = c.args.v in
+    let acyclic : IsAcyclic links = c.requires.faultless.is_net.acyclic in
+    subst (λ (m : Network). IsAcyclic (added m.links c.if-branch.tail.0 c.if-branch.tail.1)) (sym (same (goal.at.put-requires-clause-acyclic c).After-make_room).same)
+    (elim c.if-branch.branch [
+      | then-branch w ↦ rw w.tail-is (one_way_free links u v acyclic c.in_ok-test_join.ensures.nodes.apart (path_closes links u v (c.in_ok-leads_back.ensures.leads.0 w.if-branch.true)))
+      | else-branch w ↦ rw w.tail-is (no_path_free links u v acyclic (λ path. cc (c.in_ok-leads_back.ensures.leads.1 path, w.if-branch.false)))
+    ])
+
+pub put-requires-clause-tail_room : goal.put-requires-clause-tail_room
+put-requires-clause-tail_room c = elim c.if-branch.branch [ then-branch w ↦ rw w.tail-is c.in_ok-make_room.ensures.v_room | else-branch w ↦ rw w.tail-is c.in_ok-make_room.ensures.u_room ]
+
+pub put-requires-clause-head_room : goal.put-requires-clause-head_room
+put-requires-clause-head_room c = elim c.if-branch.branch [ then-branch w ↦ rw w.tail-is c.in_ok-make_room.ensures.u_room | else-branch w ↦ rw w.tail-is c.in_ok-make_room.ensures.v_room ]
+
+pub returns-clause-ok : goal.returns-clause-ok
+returns-clause-ok c =
+    let links = (shown c.args.self.now).links in
+    let put : IsPut c.args.self.now c.put.new.self c.if-branch.tail.0 c.if-branch.tail.1 =
+    put_with_room c.args.self.now c.make_room.new.self c.put.new.self c.if-branch.tail.0 c.if-branch.tail.1 c.requires (same (goal.at.returns-clause-ok c).After-make_room) c.room_law.ensures (ends (goal.at.returns-clause-ok c).After-make_room) c.put.ensures.rooms c.put.ensures.put in
+    record {
+      graph = c.put.ensures.graph;
+      made = elim c.if-branch.branch [
+        | then-branch w ↦ inr (path_closes links c.args.u c.args.v (c.in_ok-leads_back.ensures.leads.0 w.if-branch.true), rw w.tail-is at put.made)
+        | else-branch w ↦ inl (rw w.tail-is at put.made)
+      ];
+      by = put.by;
+      rooms = put.rooms;
+      back = put.back;
+    }

@@ -1,0 +1,118 @@
+use Rattle.std.proofs.Common.{Bool, IsTrue, List, ap, arith, false, inl, inr, length, refl, replicate, set, slice_index, ℕ, ◌<◌, ◌∙◌, ◌≡◌, ◌≤◌, ◌↔◌}
+use Rattle.std.proofs.lemmas.Bool.{cases_lt}
+use Rattle.fr_graph.proofs.TwoEnds.{ended_ahead, ended_behind, other_stays, own_side, sides_begin, sides_meet}
+use Rattle.fr_graph.specs.KeptRows.{net_in}
+use Rattle.fr_graph.specs.PathSearch.{IsSide, MeetAlong}
+use Rattle.fr_graph.specs.declared.path_search.Met.{Met}
+use Rattle.fr_graph.specs.declared.path_search.Met.TheVariants.{Backward, Forward, Never}
+use Rattle.fr_graph.specs.declared.rows.First.TheVariants.{Inward, Outward}
+use Rattle.fr_graph.proofs.path_search.way_between.Goals as goal
+use Rattle.fr_graph.proofs.path_search.way_between.Goals.{Joined-goes_next, In-Some, else-goes_next, else-has_unread-2, else-loop-behind-test, then-goes_next, then-has_unread-2, then-loop-behind-test+else-has_unread}
+
+-- a side that says that it has no unread node has read all its rows
+none_left : {has : Bool} {read nodes : ℕ} → has ≡ false → IsTrue has ↔ (read < nodes) → nodes ≤ read
+none_left {has} {read} {nodes} none says = elim (cases_lt read nodes) [ inl left ↦ cc (says.1 left, none) | inr read_all ↦ read_all ]
+
+pub loop-behind-init : goal.loop-behind-init
+loop-behind-init c =
+    let net = net_in c.args.rows.now in
+    let heights = c.args.heights.now.heights in
+    let fresh : c.as_mut_slice-met.result.now ≡ replicate net.nodes Never = c.as_mut_slice-met.ensures.value ∙ c.in_ok-table.ensures.items_if_clones_equal (λ y e. e) ∙ ap (λ n. replicate n Never) c.len-nodes.ensures in
+    let met : List Met = set (set c.as_mut_slice-met.result.now c.args.from Forward) c.args.to Backward in
+    let begun = sides_begin net heights c.args.from c.args.to met c.in_ok-ahead.ahead c.in_ok-behind.behind c.requires.from c.requires.to c.requires.apart c.requires.no_higher (rw fresh refl) (rw (c.height-low.ensures, c.len-nodes.ensures) at c.in_ok-ahead.ensures) (rw (c.height-high.ensures, c.len-nodes.ensures) at c.in_ok-behind.ensures) in
+    record { ahead = begun.0; behind = begun.1 }
+
+pub begun-requires : goal.begun-requires
+begun-requires c = rw c.len-nodes.ensures c.requires.from
+
+pub begun-requires-2 : goal.begun-requires-2
+begun-requires-2 c = rw c.len-nodes.ensures c.requires.to
+
+pub read_next-met_along-requires-clause-rows : goal.read_next-met_along-requires-clause-rows
+read_next-met_along-requires-clause-rows c = c.requires.rows
+
+pub read_next-met_along-requires-clause-one_each : goal.read_next-met_along-requires-clause-one_each
+read_next-met_along-requires-clause-one_each c = c.requires.one_each
+
+pub read_next-met_along-requires-clause-falling : goal.read_next-met_along-requires-clause-falling
+read_next-met_along-requires-clause-falling c = c.requires.falling
+
+pub read_next-met_along-requires-clause-unread : goal.read_next-met_along-requires-clause-unread
+read_next-met_along-requires-clause-unread c = c.has_unread.ensures.0 c.loop-behind-test.true
+
+pub read_next-met_along-requires-else-goes_next-clause-rows : goal.read_next-met_along-requires-else-goes_next-clause-rows
+read_next-met_along-requires-else-goes_next-clause-rows c = c.requires.rows
+
+pub read_next-met_along-requires-else-goes_next-clause-one_each : goal.read_next-met_along-requires-else-goes_next-clause-one_each
+read_next-met_along-requires-else-goes_next-clause-one_each c = c.requires.one_each
+
+pub read_next-met_along-requires-else-goes_next-clause-falling : goal.read_next-met_along-requires-else-goes_next-clause-falling
+read_next-met_along-requires-else-goes_next-clause-falling c = c.requires.falling
+
+pub read_next-met_along-requires-else-goes_next-clause-unread : goal.read_next-met_along-requires-else-goes_next-clause-unread
+read_next-met_along-requires-else-goes_next-clause-unread c = c.has_unread-in-loop-behind.ensures.0 c.if-has_unread.true
+
+pub read_next-met_along-requires-clause-side : goal.read_next-met_along-requires-clause-side
+read_next-met_along-requires-clause-side c = own_side c.loop-behind.invariant.ahead
+
+pub read_next-met_along-requires-else-goes_next-clause-side : goal.read_next-met_along-requires-else-goes_next-clause-side
+read_next-met_along-requires-else-goes_next-clause-side c = own_side c.loop-behind.invariant.behind
+
+-- both sides once the one or the other has read a row
+ahead_then : (c : Joined-goes_next) → IsSide (net_in c.args.rows.now) c.args.heights.now.heights Outward c.args.from (slice_index c.args.heights.now.heights c.args.to) c.if-goes_next.met c.if-goes_next.ahead
+ahead_then c =
+    let inv = c.loop-behind.invariant in
+    elim c.if-goes_next.branch [
+      | then-goes_next w ↦ rw (w.met-is, w.ahead-is) (rw (inv.ahead.first_is, inv.ahead.start_is, inv.ahead.limit_is) at w.read_next-met_along.ensures.side)
+      | else-goes_next w ↦ rw (w.met-is, w.ahead-is) (other_stays Inward inv.behind.first_is w.read_next-met_along-else-goes_next.ensures.more inv.ahead)
+    ]
+
+behind_then : (c : Joined-goes_next) → IsSide (net_in c.args.rows.now) c.args.heights.now.heights Inward c.args.to (slice_index c.args.heights.now.heights c.args.from) c.if-goes_next.met c.if-goes_next.behind
+behind_then c =
+    let inv = c.loop-behind.invariant in
+    elim c.if-goes_next.branch [
+      | then-goes_next w ↦ rw (w.met-is, w.behind-is) (other_stays Outward inv.ahead.first_is w.read_next-met_along.ensures.more inv.behind)
+      | else-goes_next w ↦ rw (w.met-is, w.behind-is) (rw (inv.behind.first_is, inv.behind.start_is, inv.behind.limit_is) at w.read_next-met_along-else-goes_next.ensures.side)
+    ]
+
+found : (c : In-Some) → MeetAlong (net_in c.args.rows.now).links c.if-goes_next.met c.in-Some.link
+found c = elim c.if-goes_next.branch [
+  | then-goes_next w ↦ rw w.met-is (rw (← w.met_along-is, c.in-Some.is) at w.read_next-met_along.ensures.found)
+  | else-goes_next w ↦ rw w.met-is (rw (← w.met_along-is, c.in-Some.is) at w.read_next-met_along-else-goes_next.ensures.found)
+]
+
+pub returns-in-Some : goal.returns-in-Some
+returns-in-Some c =
+    let at = goal.at.returns-in-Some c in
+    sides_meet (record { ahead = c.if-goes_next.ahead; behind = c.if-goes_next.behind; link = c.in-Some.link }) (ahead_then at.Joined-goes_next) (behind_then at.Joined-goes_next) (found at.In-Some)
+
+pub loop-behind-smaller : goal.loop-behind-smaller
+loop-behind-smaller c = elim c.if-goes_next.branch [
+  | then-goes_next w ↦
+      let read = w.read_next-met_along.ensures in
+      let one_more = rw (← w.met_along-is, c.in_default.is) at read.read in
+      rw (w.met-is, w.ahead-is, w.behind-is) (omega (arith, read.more.counted, read.more.longer, one_more, c.has_unread.ensures.0 c.loop-behind-test.true))
+  | else-goes_next w ↦
+      let read = w.read_next-met_along-else-goes_next.ensures in
+      let one_more = rw (← w.met_along-is, c.in_default.is) at read.read in
+      rw (w.met-is, w.ahead-is, w.behind-is) (omega (arith, read.more.counted, read.more.longer, one_more, c.has_unread-in-loop-behind.ensures.0 c.if-has_unread.true))
+]
+
+pub loop-behind-preserved : goal.loop-behind-preserved
+loop-behind-preserved c = let at = (goal.at.loop-behind-preserved c).Joined-goes_next in record { ahead = ahead_then at; behind = behind_then at }
+
+pub returns : goal.returns
+returns c =
+    let inv = c.loop-behind.invariant in
+    let falling = c.requires.falling in
+    elim c.if-has_unread-2.branch [
+      | then-has_unread-2 t ↦
+          let all : length c.loop-behind.behind.nodes.items ≤ c.loop-behind.behind.read = elim c.loop-behind-test.branch [
+            | then-loop-behind-test+else-has_unread w ↦ none_left w.if-has_unread.false w.has_unread-in-loop-behind.ensures
+            | else-loop-behind-test w ↦ absurd (omega (arith, c.has_unread-2.ensures.0 t.if-has_unread-2.true, none_left w.loop-behind-test.false c.has_unread.ensures))
+          ] in
+          rw (t.result-is, t.ended.ensures) (ended_behind falling inv.ahead inv.behind all)
+      | else-has_unread-2 t ↦
+          let all : length c.loop-behind.ahead.nodes.items ≤ c.loop-behind.ahead.read = none_left t.if-has_unread-2.false c.has_unread-2.ensures in
+          rw (t.result-is, t.ended-else-has_unread-2.ensures) (ended_ahead falling inv.ahead inv.behind all)
+    ]

@@ -1,0 +1,8 @@
+use Rattle.fr_graph.proofs.PartTurned.{stands_before}
+use Rattle.fr_graph.specs.Network.{Network}
+use Rattle.fr_graph.specs.TurnedRows.{ArePartTurned, is_done, none_done}
+use Rattle.fr_graph.proofs.turned.turn_rows.Given as goal
+
+-- the nodes that stand before the place in the list are seen to
+abbrev pub invariant-loop-x : goal.invariant-loop-x
+invariant-loop-x l = (net : Network) → ArePartTurned net l.turns none_done l.fn.rows → ArePartTurned net l.turns (is_done l.turns (stands_before l.x-items l.x-index)) l.rows

@@ -1,0 +1,105 @@
+-- The state of the depth-first search for a closed walk. For `find_cycle` alone.
+use Rattle.std.specs.Prelude.{◌≡◌, ◌≢◌, ℕ, ◌<◌, ◌≤◌, ◌+◌, ◌*◌, List, length, map, slice_index, slice_index_or, Bool, true, false, count_by}
+use Rattle.std.specs.List.{All, Contains}
+use Rattle.fr_graph.specs.Heights.{HasHeadsFirst}
+use Rattle.fr_graph.specs.KeptRows.{net_in}
+use Rattle.fr_graph.specs.Links.{IsAcyclic, IsClosedWalk, IsCycle, Points}
+use Rattle.fr_graph.specs.Tables.{Table, row_of}
+use Rattle.fr_graph.specs.declared.cycle.Found.{Found}
+use Rattle.fr_graph.specs.declared.cycle.Found.TheVariants.{Walk, Order}
+use Rattle.fr_graph.specs.declared.cycle.Mark.{Mark}
+use Rattle.fr_graph.specs.declared.cycle.Mark.TheVariants.{Fresh, Open, Done}
+use Rattle.fr_graph.specs.declared.cycle.Search.{Search}
+use Rattle.fr_graph.specs.declared.cycle.Step.{Step}
+use Rattle.fr_graph.specs.declared.rows.First.{First}
+use Rattle.fr_graph.specs.declared.rows.First.TheVariants.{Outward}
+
+abbrev pub mark_of : List Mark → ℕ → Mark
+mark_of marks x = slice_index_or marks x Fresh
+
+-- the nodes of the path
+abbrev pub nodes_of : List Step → List ℕ
+nodes_of path = map (λ (step : Step). step.node) path
+
+-- the path follows links and has the open nodes, each once; done nodes lead to done nodes only, and no closed walk leaves a done node
+pub record IsCycleSearch (n : ℕ) (links : List (ℕ × ℕ)) (marks : List Mark) (path : List ℕ) : Type 0 where
+  pub marks_length : length marks ≡ n
+  pub path_below : (k : ℕ) → k < length path → slice_index path k < n
+  pub path_follows : (k : ℕ) → k + 1 < length path → Points links (slice_index path k) (slice_index path (k + 1))
+  pub path_open : (k : ℕ) → k < length path → mark_of marks (slice_index path k) ≡ Open
+  pub path_once : (i j : ℕ) → i < j → j < length path → slice_index path i ≢ slice_index path j
+  pub open_on_path : (x : ℕ) → mark_of marks x ≡ Open → Contains path x
+  pub done_closed : (u v : ℕ) → mark_of marks u ≡ Done → Points links u v → mark_of marks v ≡ Done
+  pub done_safe : (u : ℕ) (vs : List ℕ) → mark_of marks u ≡ Done → ¬ IsClosedWalk links u vs
+
+-- if the link of the entry leads to its neighbour, that is done
+abbrev pub IsPassed : List Mark → ℕ × First → Type 0
+IsPassed marks entry = entry.1 ≡ Outward → mark_of marks entry.0 ≡ Done
+
+-- the link of the entry leads to its neighbour, which is not done
+abbrev pub LeadsToOther : List Mark → ℕ × First → Type 0
+LeadsToOther marks entry = (entry.1 ≡ Outward) × (mark_of marks entry.0 ≢ Done)
+
+-- the links of the row of the step before its next place lead to done nodes
+pub record HasRead (rows : Table) (marks : List Mark) (step : Step) : Type 0 where
+  pub inside : step.next ≤ length (row_of rows step.node)
+  pub passed : (k : ℕ) (d : ℕ × First) → k < step.next → IsPassed marks (slice_index_or (row_of rows step.node) k d)
+
+-- the neighbours in the rows are below n
+abbrev pub AreEntriesBelow : ℕ → Table → Type 0
+AreEntriesBelow n rows = (x : ℕ) → All (λ (e : ℕ × First). e.0 < n) (row_of rows x)
+
+abbrev pub is_done : Mark → Bool
+is_done Fresh = false
+is_done Open = false
+is_done Done = true
+
+-- the done nodes, each once, in an order in which the head of each link stands before its tail
+pub record IsOrder (links : List (ℕ × ℕ)) (marks : List Mark) (order : List ℕ) : Type 0 where
+  pub counted : length order ≡ count_by is_done marks
+  pub listed : All (λ (x : ℕ). mark_of marks x ≡ Done) order
+  pub all : (x : ℕ) → mark_of marks x ≡ Done → Contains order x
+  pub heads : (i j : ℕ) → i < length order → j < length order → Points links (slice_index order i) (slice_index order j) → j < i
+
+-- what the search of n nodes has found: a closed walk, or else an order
+abbrev pub IsFound : ℕ → List (ℕ × ℕ) → Found → Type 0
+IsFound n links (Walk walk) = IsCycle links walk.items
+IsFound n links (Order order) = IsAcyclic links × HasHeadsFirst n links order.items
+
+-- the search of the links in these rows at any moment: its path, how far the rows of its nodes were read, and the nodes that it has left
+pub record IsSearch (rows : Table) (search : Search) : Type 0 where
+  pub one_each : length rows.rows ≡ length search.marks.items
+  pub below : AreEntriesBelow (length search.marks.items) rows
+  pub steps : IsCycleSearch (length search.marks.items) (net_in rows).links search.marks.items (nodes_of search.path.items)
+  pub read : All (HasRead rows search.marks.items) search.path.items
+  pub order : IsOrder (net_in rows).links search.marks.items search.order.items
+
+-- seen nodes stay seen
+abbrev pub KeepsSeen : List Mark → List Mark → Type 0
+KeepsSeen old new = (x : ℕ) → mark_of old x ≢ Fresh → mark_of new x ≢ Fresh
+
+-- the last node of the path, if there is one, points to x
+abbrev pub LeadsTo : List (ℕ × ℕ) → List ℕ → ℕ → Type 0
+LeadsTo links path x = (k : ℕ) → k + 1 ≡ length path → Points links (slice_index path k) x
+
+abbrev pub is_fresh : Mark → Bool
+is_fresh Fresh = true
+is_fresh Open = false
+is_fresh Done = false
+
+-- how many nodes the search has not met
+abbrev pub fresh_count : List Mark → ℕ
+fresh_count marks = count_by is_fresh marks
+
+-- each link of x leads to a done node
+abbrev pub LeadsToDone : List (ℕ × ℕ) → List Mark → ℕ → Type 0
+LeadsToDone links marks x = (v : ℕ) → Points links x v → mark_of marks v ≡ Done
+
+-- how far the search is from its end: it falls with each step
+abbrev pub left_count : Search → ℕ
+left_count search = 2 * fresh_count search.marks.items + length search.path.items
+
+-- the last node of the path leads back to x, which is on the path
+pub record LeadsBack (links : List (ℕ × ℕ)) (path : List ℕ) (x : ℕ) : Type 0 where
+  pub on_path : Contains path x
+  pub leads : LeadsTo links path x

@@ -1,0 +1,45 @@
+-- Which fault a list of links has, in the order in which the faults are tested.
+use Rattle.std.specs.Prelude.{◌≡◌, ℕ, ◌<◌, ◌≤◌, ◌⊎◌, List, length}
+use Rattle.std.specs.List.{Contains, Any, count_by}
+use Rattle.std.specs.List.Sorted.{IsPermutation}
+use Rattle.fr_graph.specs.Limits.{most_nodes, most_links, IsWithinLimits}
+use Rattle.fr_graph.specs.Links.{IsNet, AreBelow, HasNoSelfLink, AreSingle, IsCycle, is_between}
+use Rattle.fr_graph.specs.Network.{Network, net_of}
+use Rattle.fr_graph.specs.declared.fault.NetFault.{NetFault}
+use Rattle.fr_graph.specs.declared.fault.NetFault.TheVariants.{TooMany, Range, SelfLink, Twice, Cycle, NoLink, Memory}
+
+-- there are more nodes or more links than the limits admit
+abbrev pub IsTooLarge : ℕ → List (ℕ × ℕ) → Type 0
+IsTooLarge n links = (most_nodes < n) ⊎ (most_links < length links)
+
+-- there is a node, and every link joins two nodes below n
+pub record IsInRange (n : ℕ) (links : List (ℕ × ℕ)) : Type 0 where
+  pub some : 0 < n
+  pub below : AreBelow n links
+
+-- x is no node of the network: 0 where there is no node, or else a link's end
+abbrev pub IsOutOfRange : ℕ → List (ℕ × ℕ) → ℕ → Type 0
+IsOutOfRange n links x = ((n ≡ 0) × (x ≡ 0)) ⊎ ((0 < n) × (n ≤ x) × Any (λ (l : ℕ × ℕ). (l.0 ≡ x) ⊎ (l.1 ≡ x)) links)
+
+-- the fault stands, with what it names, and none that is tested before it does; that there is no link to cut and want of
+-- memory are no faults of links
+abbrev pub IsFirstFault : ℕ → List (ℕ × ℕ) → NetFault → Type 0
+IsFirstFault n links TooMany = IsTooLarge n links
+IsFirstFault n links (Range x) = IsWithinLimits n links × IsOutOfRange n links x
+IsFirstFault n links (SelfLink u) = IsWithinLimits n links × IsInRange n links × Contains links (u, u)
+IsFirstFault n links (Twice u v) = IsWithinLimits n links × IsInRange n links × HasNoSelfLink links × (2 ≤ count_by (is_between u v) links)
+IsFirstFault n links (Cycle walk) = IsWithinLimits n links × IsInRange n links × HasNoSelfLink links × AreSingle links × IsCycle links walk.items
+IsFirstFault n links NoLink = ⊥
+IsFirstFault n links Memory = ⊥
+
+-- none of the faults stands
+pub record IsFaultless (n : ℕ) (links : List (ℕ × ℕ)) : Type 0 where
+  pub limits : IsWithinLimits n links
+  pub some : 0 < n
+  pub is_net : IsNet n links
+
+-- the network has these links, in rising order, and none of the faults stands
+pub record IsNetworkOf (n : ℕ) (listed : List (ℕ × ℕ)) (net : Network) : Type 0 where
+  pub is : net ≡ net_of n listed
+  pub same_links : IsPermutation listed net.links
+  pub faultless : IsFaultless n listed

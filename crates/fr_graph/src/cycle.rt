@@ -1,0 +1,263 @@
+//! The search for a closed walk along links: depth first over rows, with the path as a stack, so that each entry is passed once and
+//! the evidence is at hand. Where there is none, each link leads to a node that the search left before the tail.
+
+ghost use Rattle.std.specs.Prelude.{◌≡◌, ◌≢◌, ℕ, ◌<◌, ◌≤◌, ◌++◌, [], ◌∷◌, length, drop, vec_len, slice_index, slice_index_or, All, IfOk, IfSome, IfNone, OnOk, IsTrue, Contains, ◌-◌};
+ghost use Rattle.fr_graph.specs.Heights.{HasHeadsFirst};
+ghost use Rattle.fr_graph.specs.KeptRows.{net_in};
+ghost use Rattle.fr_graph.specs.Links.{IsAcyclic};
+ghost use Rattle.fr_graph.specs.CycleSearch.{AreEntriesBelow, IsFound, IsPassed, IsSearch, KeepsSeen, LeadsBack, LeadsTo, LeadsToDone, LeadsToOther, left_count, mark_of, nodes_of};
+ghost use Rattle.fr_graph.specs.Tables.{Table};
+
+use crate::row_table::RowTable;
+use crate::rows::First;
+use std::alloc::{AllocError, Global};
+
+/// How far the search has come with a node: not met, on the path, or left with no closed walk from it.
+#[derive(Drop, Clone, Copy)]
+enum Mark {
+    Fresh,
+    Open,
+    Done,
+}
+
+/// What the search has found.
+#[derive(Drop)]
+pub(crate) enum Found {
+    /// A closed walk: its nodes, the first again at the end.
+    Walk(Vec<u32>),
+    /// No closed walk, and all nodes in an order in which the head of each link stands before its tail.
+    Order(Vec<u32>),
+}
+
+/// A node of the path, and how far its row was read: past links that lead to done nodes.
+#[derive(Drop, Clone, Copy)]
+struct Step {
+    node: u32,
+    next: usize,
+}
+
+/// The first place of the row, from `from` on, whose link leads to a node that is not done.
+fn first_not_done(row: &[(u16, First)], marks: &[Mark], from: usize) -> usize
+    requires below { All (λ (e : ℕ × First). e.0 < length marks.now) row.now }
+    requires from { from ≤ length row.now }
+    ensures low { from ≤ result }
+    ensures high { result ≤ length row.now }
+    ensures passed { (k : ℕ) (d : ℕ × First) → from ≤ k → k < result → IsPassed marks.now (slice_index_or row.now k d) }
+    ensures stops { (d : ℕ × First) → result < length row.now → LeadsToOther marks.now (slice_index_or row.now result d) }
+{
+    for place in from..row.len() {
+        let (head, first) = row[place];
+        if first == First::Outward && !matches!(&marks[head as usize], Mark::Done) {
+            return place;
+        }
+    }
+    row.len()
+}
+
+/// The place of a node on the path.
+fn place_on(path: &[Step], node: u32) -> usize
+    requires { Contains (nodes_of path.now) node }
+    ensures inside { result < length path.now }
+    ensures is { slice_index (nodes_of path.now) result ≡ node }
+{
+    let mut at = 0;
+    while path[at].node != node {
+        at += 1;
+    }
+    at
+}
+
+/// The walk that closes where the last node of `path` leads back to `node`, which is on it.
+fn closed_at(alloc: Global, path: &[Step], node: u32) -> Result<Vec<u32>, AllocError>
+    requires { Contains (nodes_of path.now) node }
+    ensures { IfOk result (λ walk. (k : ℕ) × (k < length path.now) × (slice_index (nodes_of path.now) k ≡ node)
+        × (walk.items ≡ drop k (nodes_of path.now) ++ node ∷ [])) }
+{
+    let at = place_on(path, node);
+    let mut walk = Vec::with_capacity(alloc, path.len() - at + 1)?;
+    for step in &path[at..] {
+        walk.push(step.node)?;
+    }
+    walk.push(node)?;
+    Ok(walk)
+}
+
+/// The state of the search.
+#[derive(Drop)]
+struct Search {
+    marks: Vec<Mark>,
+    path: Vec<Step>,
+    // The nodes that it has left, in the order in which it left them.
+    order: Vec<u32>,
+}
+
+impl Search {
+    /// A search that has met no node.
+    fn begun(alloc: Global, nodes: u32) -> Result<Search, AllocError>
+        ensures search { IfOk result (λ search. (rows : Table) → length rows.rows ≡ nodes → AreEntriesBelow nodes rows → IsSearch rows search) }
+        ensures empty { IfOk result (λ search. search.path.items ≡ []) }
+        ensures one_each { IfOk result (λ search. length search.marks.items ≡ nodes) }
+    {
+        Ok(Search {
+            marks: vec![in alloc; Mark::Fresh; nodes as usize]?,
+            path: Vec::new(alloc),
+            order: Vec::with_capacity(alloc, nodes as usize)?,
+        })
+    }
+
+    /// Whether it has met this node.
+    fn has_met(&self, node: u32) -> bool
+        requires { node < length self.now.marks.items }
+        ensures met { IsTrue result → mark_of self.now.marks.items node ≢ Mark.Fresh }
+        ensures fresh { ¬ IsTrue result → mark_of self.now.marks.items node ≡ Mark.Fresh }
+    {
+        !matches!(&self.marks[node as usize], Mark::Fresh)
+    }
+
+    /// Puts `node` at the end of the path.
+    fn open(&mut self, node: u32) -> Result<(), AllocError>
+        requires below { node < length self.old.marks.items }
+        requires fresh { mark_of self.old.marks.items node ≡ Mark.Fresh }
+        ensures search { OnOk result ((rows : Table) → IsSearch rows self.old → LeadsTo (net_in rows).links (nodes_of self.old.path.items) node → IsSearch rows self.new) }
+        ensures seen { OnOk result (mark_of self.new.marks.items node ≢ Mark.Fresh) }
+        ensures kept { OnOk result (KeepsSeen self.old.marks.items self.new.marks.items) }
+        ensures one_each { OnOk result (length self.new.marks.items ≡ length self.old.marks.items) }
+        ensures fewer { OnOk result (left_count self.new < left_count self.old) }
+    {
+        self.path.push(Step { node, next: 0 })?;
+        self.marks[node as usize] = Mark::Open;
+        Ok(())
+    }
+
+    /// The head of the next link of the last node of the path that leads to a node that is not done, if there is one.
+    fn next_head(&mut self, rows: &RowTable) -> Option<u32>
+        requires search { IsSearch rows.now self.old }
+        requires full { 0 < vec_len self.old.path }
+        ensures search { IsSearch rows.now self.new }
+        ensures marks { self.new.marks ≡ self.old.marks }
+        ensures path { nodes_of self.new.path.items ≡ nodes_of self.old.path.items }
+        ensures leads { IfSome result (LeadsTo (net_in rows.now).links (nodes_of self.old.path.items)) }
+        ensures below { IfSome result (λ head. head < length self.old.marks.items) }
+        ensures stops { IfSome result (λ head. mark_of self.new.marks.items head ≢ Mark.Done) }
+        ensures done { IfNone result (LeadsToDone (net_in rows.now).links self.new.marks.items (slice_index (nodes_of self.old.path.items) (vec_len self.old.path - 1))) }
+    {
+        let last = self.path.len() - 1;
+        let top = self.path[last];
+        let row = rows.row(top.node);
+        let place = first_not_done(row, &self.marks, top.next);
+        self.path[last] = Step {
+            node: top.node,
+            next: place,
+        };
+        let (head, _) = *row.get(place)?;
+        Some(head as u32)
+    }
+
+    /// Takes the last node off the path, once all its links lead to done nodes.
+    fn leave(&mut self, top: u32) -> Result<(), AllocError>
+        requires full { 0 < vec_len self.old.path }
+        requires top { top ≡ slice_index (nodes_of self.old.path.items) (vec_len self.old.path - 1) }
+        requires below { top < length self.old.marks.items }
+        ensures search { OnOk result ((rows : Table) → IsSearch rows self.old → LeadsToDone (net_in rows).links self.old.marks.items top → IsSearch rows self.new) }
+        ensures kept { OnOk result (KeepsSeen self.old.marks.items self.new.marks.items) }
+        ensures one_each { OnOk result (length self.new.marks.items ≡ length self.old.marks.items) }
+        ensures fewer { OnOk result (left_count self.new < left_count self.old) }
+    {
+        let _last = self.path.pop();
+        self.marks[top as usize] = Mark::Done;
+        self.order.push(top)?;
+        Ok(())
+    }
+
+    /// A step from the last node of the path: on to a node that was not met, or back where there is none. Where a link leads back to a node of the
+    /// path instead, it answers that node.
+    fn step(&mut self, rows: &RowTable) -> Result<Option<u32>, AllocError>
+        requires search { IsSearch rows.now self.old }
+        requires full { 0 < vec_len self.old.path }
+        ensures back { IfOk result (λ back. IfSome back (LeadsBack (net_in rows.now).links (nodes_of self.new.path.items))) }
+        ensures search { OnOk result (IsSearch rows.now self.new) }
+        ensures kept { OnOk result (KeepsSeen self.old.marks.items self.new.marks.items) }
+        ensures one_each { OnOk result (length self.new.marks.items ≡ length self.old.marks.items) }
+        ensures fewer { IfOk result (λ back. IfNone back (left_count self.new < left_count self.old)) }
+    {
+        let top = self.path[self.path.len() - 1].node;
+        let Some(head) = self.next_head(rows) else {
+            self.leave(top)?;
+            return Ok(None);
+        };
+        match self.marks[head as usize] {
+            Mark::Open => return Ok(Some(head)),
+            _ => self.open(head)?,
+        }
+        Ok(None)
+    }
+
+    /// Goes on until the path is empty, or a link closes a walk with it: then it answers the node of the path that the link leads back to.
+    fn go_on(&mut self, rows: &RowTable) -> Result<Option<u32>, AllocError>
+        requires { IsSearch rows.now self.old }
+        ensures back { IfOk result (λ back. IfSome back (LeadsBack (net_in rows.now).links (nodes_of self.new.path.items))) }
+        ensures search { OnOk result (IsSearch rows.now self.new) }
+        ensures empty { IfOk result (λ back. IfNone back (self.new.path.items ≡ [])) }
+        ensures kept { OnOk result (KeepsSeen self.old.marks.items self.new.marks.items) }
+        ensures one_each { OnOk result (length self.new.marks.items ≡ length self.old.marks.items) }
+    {
+        'walk: while !self.path.is_empty() {
+            if let Some(node) = self.step(rows)? {
+                return Ok(Some(node));
+            }
+        }
+        Ok(None)
+    }
+
+    /// Searches from `root`, unless the search has met it. Where a link closes a walk with the path, it answers the node of the path that
+    /// the link leads back to.
+    fn visit(&mut self, rows: &RowTable, root: u32) -> Result<Option<u32>, AllocError>
+        requires search { IsSearch rows.now self.old }
+        requires empty { self.old.path.items ≡ [] }
+        requires root { root < length self.old.marks.items }
+        ensures back { IfOk result (λ back. IfSome back (LeadsBack (net_in rows.now).links (nodes_of self.new.path.items))) }
+        ensures search { OnOk result (IsSearch rows.now self.new) }
+        ensures empty { IfOk result (λ back. IfNone back (self.new.path.items ≡ [])) }
+        ensures seen { OnOk result (mark_of self.new.marks.items root ≢ Mark.Fresh) }
+        ensures kept { OnOk result (KeepsSeen self.old.marks.items self.new.marks.items) }
+        ensures one_each { OnOk result (length self.new.marks.items ≡ length self.old.marks.items) }
+    {
+        if self.has_met(root) {
+            return Ok(None);
+        }
+        self.open(root)?;
+        self.go_on(rows)
+    }
+
+    /// Searches from each node, up to where a link closes a walk with the path.
+    fn visit_all(&mut self, nodes: u32, rows: &RowTable) -> Result<Option<u32>, AllocError>
+        requires search { IsSearch rows.now self.old }
+        requires empty { self.old.path.items ≡ [] }
+        requires one_each { length self.old.marks.items ≡ nodes }
+        ensures search { OnOk result (IsSearch rows.now self.new) }
+        ensures back { IfOk result (λ back. IfSome back (LeadsBack (net_in rows.now).links (nodes_of self.new.path.items))) }
+        ensures acyclic { IfOk result (λ back. IfNone back (IsAcyclic (net_in rows.now).links)) }
+        ensures order { IfOk result (λ back. IfNone back (HasHeadsFirst nodes (net_in rows.now).links self.new.order.items)) }
+    {
+        for root in 0..nodes {
+            if let Some(node) = self.visit(rows, root)? {
+                return Ok(Some(node));
+            }
+        }
+        Ok(None)
+    }
+}
+
+/// A closed walk along the links that these rows of so many nodes show; or, where there is none, an order of the nodes along which
+/// all links lead back.
+pub(crate) fn find_cycle(alloc: Global, nodes: u32, rows: &RowTable) -> Result<Found, AllocError>
+    requires one_each { length rows.now.rows ≡ nodes }
+    requires below { AreEntriesBelow nodes rows.now }
+    ensures { IfOk result (IsFound nodes (net_in rows.now).links) }
+{
+    let mut search = Search::begun(alloc, nodes)?;
+    match search.visit_all(nodes, rows)? {
+        Some(node) => Ok(Found::Walk(closed_at(alloc, &search.path, node)?)),
+        None => Ok(Found::Order(search.order)),
+    }
+}

@@ -1,0 +1,330 @@
+//! What a network keeps, changed where it stands: a link is taken out or put in, and that is undone.
+
+ghost use Rattle.std.specs.Prelude.{◌≡◌, ◌≢◌, ◌<◌, ◌≤◌, ◌++◌, [], ◌∷◌, ◌⊎◌, length, true, ◌↔◌, IfOk, IfErr, IfSome, IfNone, IsTrue, OnOk, OnErr};
+ghost use Rattle.fr_graph.specs.Links.{HasPath, IsAcyclic, Joins, Points};
+ghost use Rattle.fr_graph.specs.Network.{Network};
+ghost use Rattle.fr_graph.specs.Rows.{row};
+ghost use Rattle.fr_graph.specs.Halves.{AreUnjoined};
+ghost use Rattle.fr_graph.specs.Faults.{IsNetworkOf};
+ghost use Rattle.fr_graph.specs.Edits.{IsJoinFault, without};
+ghost use Rattle.fr_graph.specs.Batches.{AreMade, IsEditFault, IsRefusedAt};
+ghost use Rattle.fr_graph.specs.Limits.{most_edits, most_links};
+ghost use Rattle.fr_graph.specs.PathSearch.{IsMeeting};
+ghost use Rattle.fr_graph.specs.Graph.{CanUndo, HasRoomFor, IsDone, IsEdited, IsGraph, IsSame, shown};
+ghost use Rattle.fr_graph.specs.Tables.{HasRoomIn};
+ghost use Rattle.fr_graph.specs.declared.fault.NetFault.TheVariants.{Memory};
+ghost use Rattle.fr_graph.specs.declared.edit.Edit.TheVariants.{Cut, Add, Join};
+
+use crate::checks::first_outside;
+use crate::cycle::{Found, find_cycle};
+use crate::edit::Edit;
+use crate::edits::{cut_from_rows, put_in_rows};
+use crate::fault::{EditFault, NetFault};
+use crate::heights::Heights;
+use crate::limits::MAX_LINKS;
+use crate::path_search::{Meeting, Way, way_between};
+use crate::row::place_in_row;
+use crate::row_table::RowTable;
+use crate::rows::First;
+use std::alloc::{AllocError, Global};
+
+/// The rows of a network's nodes, which show its links, and heights along which these fall.
+#[derive(Debug, Drop)]
+pub(crate) struct Graph {
+    pub(crate) nodes: u32,
+    pub(crate) link_count: usize,
+    pub(crate) rows: RowTable,
+    pub(crate) heights: Heights,
+}
+
+/// What an edit did to the links.
+#[derive(Drop, Clone, Copy)]
+pub(crate) enum Done {
+    /// The link was taken out.
+    Taken {
+        /// Its tail.
+        tail: u32,
+        /// Its head.
+        head: u32,
+    },
+    /// The link was put in.
+    Put {
+        /// Its tail.
+        tail: u32,
+        /// Its head.
+        head: u32,
+    },
+}
+
+impl Graph {
+    /// The neighbours of node `x` in rising order, each with the direction of its link as seen from `x`.
+    pub(crate) fn row(&self, x: u32) -> &[(u16, First)]
+        requires graph { IsGraph self.now }
+        requires node { x < self.now.nodes }
+        ensures { result.now ≡ row self.now.nodes (shown self.now).links x }
+    {
+        self.rows.row(x)
+    }
+
+    /// The link that joins `u` and `v`, from its tail to its head, if there is one.
+    fn link_between(&self, u: u32, v: u32) -> Option<(u32, u32)>
+        requires { IsGraph self.now }
+        ensures stands { IfSome result (λ link. Points (shown self.now).links link.0 link.1) }
+        ensures ends { IfSome result (λ link. (link ≡ (u, v)) ⊎ (link ≡ (v, u))) }
+        ensures none { IfNone result (¬ Joins (shown self.now).links u v) }
+    {
+        if u >= self.nodes {
+            return None;
+        }
+        let row = self.row(u);
+        let (w, first) = *row.get(place_in_row(row, v))?;
+        if w as u32 != v {
+            return None;
+        }
+        match first {
+            First::Outward => Some((u, v)),
+            First::Inward => Some((v, u)),
+        }
+    }
+
+    /// Whether a link can join `u` and `v`, be it one way or the other: Ok, or the fault that both have.
+    fn test_join(&self, u: u32, v: u32) -> Result<(), NetFault>
+        requires { IsGraph self.now }
+        ensures few { OnOk result (length (shown self.now).links < most_links) }
+        ensures nodes { OnOk result (AreUnjoined self.now.nodes (shown self.now).links u v) }
+        ensures refused { IfErr result (IsJoinFault self.now.nodes (shown self.now).links u v) }
+    {
+        if self.link_count >= MAX_LINKS {
+            return Err(NetFault::TooMany);
+        }
+        if let Some(x) = first_outside(self.nodes, &[(u, v)]) {
+            return Err(NetFault::Range(x));
+        }
+        if u == v {
+            return Err(NetFault::SelfLink(u));
+        }
+        if self.link_between(u, v).is_some() {
+            return Err(NetFault::Twice(u, v));
+        }
+        Ok(())
+    }
+
+    /// A copy, with as much room.
+    pub(crate) fn copied(&self, alloc: Global) -> Result<Graph, AllocError>
+        requires { IsGraph self.now }
+        ensures { IfOk result (λ copy. copy ≡ self.now) }
+    {
+        Ok(Graph {
+            nodes: self.nodes,
+            link_count: self.link_count,
+            rows: self.rows.copied(alloc)?,
+            heights: self.heights.copied(alloc)?,
+        })
+    }
+
+    /// Takes out the link from `tail` to `head`.
+    fn take_out(&mut self, tail: u32, head: u32)
+        requires graph { IsGraph self.old }
+        requires stands { Points (shown self.old).links tail head }
+        ensures graph { IsGraph self.new }
+        ensures taken { IsNetworkOf self.old.nodes (without tail head (shown self.old).links) (shown self.new) }
+        ensures rooms { self.new.rows.rooms ≡ self.old.rows.rooms }
+    {
+        cut_from_rows(&mut self.rows, tail, head);
+        self.link_count -= 1;
+    }
+
+    /// Takes room for a link between `u` and `v`, which are nodes.
+    fn make_room(&mut self, alloc: Global, u: u32, v: u32) -> Result<(), AllocError>
+        requires graph { IsGraph self.old }
+        requires u { u < self.old.nodes }
+        requires v { v < self.old.nodes }
+        ensures same { IsSame self.old self.new }
+        ensures u_room { OnOk result (HasRoomIn self.new.rows u) }
+        ensures v_room { OnOk result (HasRoomIn self.new.rows v) }
+    {
+        self.rows.make_room(alloc, u)?;
+        self.rows.make_room(alloc, v)
+    }
+
+    /// Puts in the link from `tail` to `head`, for which there has to be room.
+    fn put(&mut self, tail: u32, head: u32)
+        requires graph { IsGraph self.old }
+        requires few { length (shown self.old).links < most_links }
+        requires nodes { AreUnjoined self.old.nodes (shown self.old).links tail head }
+        requires acyclic { IsAcyclic ((shown self.old).links ++ (tail, head) ∷ []) }
+        requires tail_room { HasRoomIn self.old.rows tail }
+        requires head_room { HasRoomIn self.old.rows head }
+        ensures graph { IsGraph self.new }
+        ensures put { IsNetworkOf self.old.nodes ((shown self.old).links ++ (tail, head) ∷ []) (shown self.new) }
+        ensures rooms { self.new.rows.rooms ≡ self.old.rows.rooms }
+    {
+        put_in_rows(&mut self.rows, tail, head);
+        self.link_count += 1;
+        self.heights.admit(tail, head);
+    }
+
+    /// Makes the heights anew, unless they are known.
+    fn renew_heights(&mut self, alloc: Global) -> Result<(), AllocError>
+        requires graph { IsGraph self.old }
+        ensures same { IsSame self.old self.new }
+        ensures known { OnOk result (self.new.heights.known ≡ true) }
+    {
+        if self.heights.are_known() {
+            return Ok(());
+        }
+        let Found::Order(order) = find_cycle(alloc, self.nodes, &self.rows)? else {
+            unreachable!();
+        };
+        self.heights.put_in_order(&order);
+        Ok(())
+    }
+
+    /// Where the links lead from `v` to `u`, what shows it. The heights tell mostly that they do not; where it takes a search to tell so, a
+    /// link from `u` to `v` falls behind it, if there is room between the heights.
+    fn way_back(&mut self, alloc: Global, u: u32, v: u32) -> Result<Option<Meeting>, AllocError>
+        requires graph { IsGraph self.old }
+        requires nodes { AreUnjoined self.old.nodes (shown self.old).links u v }
+        ensures same { IsSame self.old self.new }
+        ensures found { IfOk result (λ found. IfSome found (IsMeeting (shown self.old).links v u)) }
+        ensures none { IfOk result (λ found. IfNone found (¬ HasPath (shown self.old).links v u)) }
+    {
+        self.renew_heights(alloc)?;
+        if self.heights.falls(u, v) {
+            return Ok(None);
+        }
+        match way_between(alloc, &self.rows, &self.heights, v, u)? {
+            Way::Leads(meeting) => Ok(Some(meeting)),
+            Way::Ends { nodes, low, high } => {
+                self.heights.put_between(nodes, low, high);
+                Ok(None)
+            }
+        }
+    }
+
+    /// Whether the links lead from `v` to `u`.
+    fn leads_back(&mut self, alloc: Global, u: u32, v: u32) -> Result<bool, AllocError>
+        requires graph { IsGraph self.old }
+        requires nodes { AreUnjoined self.old.nodes (shown self.old).links u v }
+        ensures same { IsSame self.old self.new }
+        ensures leads { IfOk result (λ found. IsTrue found ↔ HasPath (shown self.old).links v u) }
+    {
+        Ok(self.way_back(alloc, u, v)?.is_some())
+    }
+
+    /// Takes out the link between `u` and `v`, whichever way it points.
+    fn cut(&mut self, u: u32, v: u32) -> Result<Done, NetFault>
+        requires graph { IsGraph self.old }
+        ensures ok { IfOk result (IsEdited self.old (Cut u v) self.new) }
+        ensures refused { IfErr result (IsEditFault (shown self.old) (Cut u v)) }
+        ensures unchanged { OnErr result (self.new ≡ self.old) }
+    {
+        let Some((tail, head)) = self.link_between(u, v) else {
+            return Err(NetFault::NoLink);
+        };
+        self.rows.room_law();
+        self.take_out(tail, head);
+        Ok(Done::Taken { tail, head })
+    }
+
+    /// Puts in the link from `u` to `v`.
+    fn add(&mut self, alloc: Global, u: u32, v: u32) -> Result<Done, NetFault>
+        requires { IsGraph self.old }
+        ensures ok { IfOk result (IsEdited self.old (Add u v) self.new) }
+        ensures refused { IfErr result (λ fault. fault ≢ Memory → IsEditFault (shown self.old) (Add u v) fault) }
+        ensures unchanged { OnErr result (IsSame self.old self.new) }
+    {
+        self.test_join(u, v)?;
+        if let Some(meeting) = self.way_back(alloc, u, v)? {
+            return Err(NetFault::Cycle(meeting.closed_walk(alloc)?));
+        }
+        self.make_room(alloc, u, v)?;
+        self.rows.room_law();
+        self.put(u, v);
+        Ok(Done::Put { tail: u, head: v })
+    }
+
+    /// Joins `u` and `v`: by a link from `u` to `v`, or from `v` to `u` where a closed walk would follow the other.
+    fn join(&mut self, alloc: Global, u: u32, v: u32) -> Result<Done, NetFault>
+        requires { IsGraph self.old }
+        ensures ok { IfOk result (IsEdited self.old (Join u v) self.new) }
+        ensures refused { IfErr result (λ fault. fault ≢ Memory → IsEditFault (shown self.old) (Join u v) fault) }
+        ensures unchanged { OnErr result (IsSame self.old self.new) }
+    {
+        self.test_join(u, v)?;
+        let (tail, head) = if self.leads_back(alloc, u, v)? {
+            (v, u)
+        } else {
+            (u, v)
+        };
+        self.make_room(alloc, u, v)?;
+        self.rows.room_law();
+        self.put(tail, head);
+        Ok(Done::Put { tail, head })
+    }
+
+    /// Makes an edit. Where it is refused, or no room could be had, the network is as it was.
+    pub(crate) fn edit(&mut self, alloc: Global, edit: Edit) -> Result<Done, NetFault>
+        requires { IsGraph self.old }
+        ensures ok { IfOk result (IsEdited self.old edit self.new) }
+        ensures refused { IfErr result (λ fault. fault ≢ Memory → IsEditFault (shown self.old) edit fault) }
+        ensures unchanged { OnErr result (IsSame self.old self.new) }
+    {
+        match edit {
+            Edit::Cut { u, v } => self.cut(u, v),
+            Edit::Add { u, v } => self.add(alloc, u, v),
+            Edit::Join { u, v } => self.join(alloc, u, v),
+        }
+    }
+
+    /// Undoes what an edit did: it takes no memory.
+    fn undo(&mut self, done: Done)
+        requires graph { IsGraph self.old }
+        requires done { (net : Network) × IsDone net done (shown self.old) × HasRoomFor self.old net }
+        ensures graph { IsGraph self.new }
+        ensures undone { (net : Network) → IsDone net done (shown self.old) → shown self.new ≡ net }
+        ensures rooms { self.new.rows.rooms ≡ self.old.rows.rooms }
+    {
+        match done {
+            Done::Taken { tail, head } => self.put(tail, head),
+            Done::Put { tail, head } => self.take_out(tail, head),
+        }
+    }
+
+    /// Undoes what edits did, the last one first: it takes no memory.
+    pub(crate) fn undo_all(&mut self, mut done: Vec<Done>)
+        requires graph { IsGraph self.old }
+        requires done { (first : Network) × CanUndo first done.items self.old }
+        ensures graph { IsGraph self.new }
+        ensures undone { (first : Network) → CanUndo first done.items self.old → shown self.new ≡ first }
+    {
+        while let Some(last) = done.pop() {
+            self.undo(last);
+        }
+    }
+
+    /// Makes these edits, each on the links that those before it left, and answers what they did. Where one is refused, or no
+    /// room could be had, all are undone.
+    pub(crate) fn edit_all(&mut self, alloc: Global, edits: &[Edit]) -> Result<Vec<Done>, EditFault>
+        requires graph { IsGraph self.old }
+        requires few { length edits.now ≤ most_edits }
+        ensures graph { IsGraph self.new }
+        ensures ok { IfOk result (λ done. AreMade (shown self.old) edits.now (shown self.new) × CanUndo (shown self.old) done.items self.new) }
+        ensures refused { IfErr result (λ refused. refused.fault ≢ Memory
+            → IsRefusedAt (shown self.old) edits.now refused.at refused.fault) }
+        ensures unchanged { OnErr result (shown self.new ≡ shown self.old) }
+    {
+        let mut all = Vec::with_capacity(alloc, edits.len())?;
+        self.rows.trim(alloc)?;
+        for (at, edit) in edits.iter().enumerate() {
+            match self.edit(alloc, *edit) {
+                Ok(done) => all.push_reserved(done),
+                Err(fault) => {
+                    self.undo_all(all);
+                    return Err(EditFault { at, fault });
+                }
+            }
+        }
+        Ok(all)
+    }
+}

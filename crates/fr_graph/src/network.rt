@@ -1,0 +1,349 @@
+//! A network: how it is made of links, read by nodes and rows, and made into another by edits and by counts.
+
+ghost use Rattle.std.specs.Prelude.{◌≡◌, ◌≢◌, ℕ, ◌<◌, ◌≤◌, ◌+◌, ◌++◌, List, [], ◌∷◌, length, slice_get, slice_index, Some, Ok, IfOk, IfErr, IfSome, IfNone, MatchOption, OnOk, OnErr, All, ◌⊎◌};
+ghost use Rattle.std.specs.List.{HoldsAt};
+ghost use Rattle.std.specs.Borrow.{Bor};
+ghost use Rattle.std.specs.Fn.{FnOnceReturnsAt};
+ghost use Rattle.fr_graph.specs.Network.{Network};
+ghost use Rattle.fr_graph.specs.Graph.{IsGraph, shown};
+ghost use Rattle.fr_graph.specs.Halves.{AreHalvesOf};
+ghost use Rattle.fr_graph.specs.Heights.{HasHeadsFirst};
+ghost use Rattle.fr_graph.specs.KeptRows.{AreRows, net_in};
+ghost use Rattle.fr_graph.specs.Links.{HasNoSelfLink, Joins};
+ghost use Rattle.fr_graph.specs.Order.{AreRising};
+ghost use Rattle.fr_graph.specs.Counts.{IsKept, links_at};
+ghost use Rattle.fr_graph.specs.Rows.{alone_count, row};
+ghost use Rattle.fr_graph.specs.declared.fault.NetFault.TheVariants.{Memory, TooMany};
+ghost use Rattle.fr_graph.specs.Faults.{IsFaultless, IsFirstFault, IsInRange, IsNetworkOf};
+ghost use Rattle.fr_graph.specs.Edits.{IsCutFault, IsJoined, IsJoinFault, without};
+ghost use Rattle.fr_graph.specs.Batches.{AreMade, IsBatchFault, IsEditFault, IsMade, IsNotEdited};
+ghost use Rattle.fr_graph.specs.Limits.{IsWithinLimits, most_edits};
+
+use crate::checks::{first_outside, first_self_link};
+use crate::cycle::{Found, find_cycle};
+use crate::edit::Edit;
+use crate::fault::{EditFault, NetFault, NotEdited};
+use crate::graph::Graph;
+use crate::heights::Heights;
+use crate::limits::{MAX_EDITS, MAX_LINKS, MAX_NODES};
+use crate::row_table::RowTable;
+use crate::rows::{First, HalfLink, entries_of, first_twice, sorted_halves};
+use crate::turned::{links_of_rows, turn_rows};
+use crate::turns::Turns;
+use std::alloc::{AllocError, Global};
+use std::marker::Model;
+
+/// Whether nodes and links are within the limits, and each link joins two nodes, which are not the same: Ok, or the first fault that stands.
+fn test_ends(nodes: u32, links: &[(u32, u32)]) -> Result<(), NetFault>
+    ensures limits { OnOk result (IsWithinLimits nodes links.now) }
+    ensures range { OnOk result (IsInRange nodes links.now) }
+    ensures clear { OnOk result (HasNoSelfLink links.now) }
+    ensures refused { IfErr result (IsFirstFault nodes links.now) }
+{
+    if nodes > MAX_NODES || links.len() > MAX_LINKS {
+        return Err(NetFault::TooMany);
+    }
+    if let Some(x) = first_outside(nodes, links) {
+        return Err(NetFault::Range(x));
+    }
+    if let Some(node) = first_self_link(links) {
+        return Err(NetFault::SelfLink(node));
+    }
+    Ok(())
+}
+
+/// The rows of links, of their halves, with where those of each node start.
+fn rows_of(alloc: Global, halves: &[HalfLink], starts: Vec<usize>) -> Result<RowTable, AllocError>
+    requires { (nodes : ℕ) × (links : List (ℕ × ℕ)) × AreHalvesOf nodes links halves.now starts.items }
+    ensures { IfOk result (λ rows. (nodes : ℕ) (links : List (ℕ × ℕ)) → AreHalvesOf nodes links halves.now starts.items → AreRows nodes links rows) }
+{
+    RowTable::packed(alloc, starts, entries_of(alloc, halves)?)
+}
+
+/// The graph of the rows of so many links, which have no fault, and of an order of the nodes along which they lead back.
+fn graph_of(
+    alloc: Global,
+    nodes: u32,
+    link_count: usize,
+    rows: RowTable,
+    order: &[u32],
+) -> Result<Graph, AllocError>
+    requires links { (links : List (ℕ × ℕ)) × IsFaultless nodes links × AreRows nodes links rows × (link_count ≡ length links) }
+    requires order { HasHeadsFirst nodes (net_in rows).links order.now }
+    ensures graph { IfOk result IsGraph }
+    ensures shown { IfOk result (λ graph. (links : List (ℕ × ℕ)) → IsFaultless nodes links → AreRows nodes links rows → IsNetworkOf nodes links (shown graph)) }
+{
+    let mut heights = Heights::unknown(alloc, nodes)?;
+    heights.put_in_order(order);
+    Ok(Graph {
+        nodes,
+        link_count,
+        rows,
+        heights,
+    })
+}
+
+/// Whether these are no more edits than there may be.
+fn test_few(edits: &[Edit]) -> Result<(), EditFault>
+    ensures few { OnOk result (length edits.now ≤ most_edits) }
+    ensures refused { IfErr result (λ refused. (most_edits < length edits.now) × (refused.at ≡ most_edits) × (refused.fault ≡ TooMany)) }
+{
+    if edits.len() > MAX_EDITS {
+        return Err(EditFault {
+            at: MAX_EDITS,
+            fault: NetFault::TooMany,
+        });
+    }
+    Ok(())
+}
+
+/// A network: nodes, and links among which no closed walk stands. Contracts see the number of nodes and the links in
+/// rising order of tail, then head.
+#[derive(Debug, Drop)]
+pub struct Net {
+    graph: Graph,
+}
+
+impl Model for Net {
+    ghost use Rattle.fr_graph.specs.Network.{Network};
+
+    ghost Value = { Network };
+
+    ghost use Rattle.fr_graph.specs.Inside.{network_of, IsNetwork};
+
+    ghost view = { network_of };
+
+    ghost invariant = { IsNetwork };
+}
+
+impl Net {
+    /// The network with nodes 0 to `nodes - 1` and these links, each from its tail to its head, in whatever order they
+    /// are listed; or the first fault that stands, with its evidence, tested over the whole list in the order of [`NetFault`]: `TooMany`,
+    /// `Range`, `SelfLink`, `Twice` or `Cycle`. `Memory` where no room could be had. Time and memory are `O(n + m)`.
+    pub fn new(alloc: Global, nodes: u32, links: &[(u32, u32)]) -> Result<Net, NetFault>
+        ensures ok { IfOk result (IsNetworkOf nodes links.now) }
+        ensures refused { IfErr result (λ fault. fault ≢ Memory → IsFirstFault nodes links.now fault) }
+    {
+        test_ends(nodes, links)?;
+        let (halves, starts) = sorted_halves(alloc, nodes, links)?;
+        if let Some((u, v)) = first_twice(&halves) {
+            return Err(NetFault::Twice(u, v));
+        }
+        let rows = rows_of(alloc, &halves, starts)?;
+        match find_cycle(alloc, nodes, &rows)? {
+            Found::Walk(walk) => Err(NetFault::Cycle(walk)),
+            Found::Order(order) => Ok(Net {
+                graph: graph_of(alloc, nodes, links.len(), rows, &order)?,
+            }),
+        }
+    }
+
+    /// How many nodes there are, 1 or more. `O(1)`.
+    pub fn nodes(&self) -> u32
+        ensures value { result ≡ self.now.nodes }
+        ensures faultless { IsFaultless self.now.nodes self.now.links }
+    {
+        self.graph.nodes
+    }
+
+    /// The law of a network: none of the faults of [`NetFault`] stands among its links. It does nothing; a function whose proof
+    /// needs the law calls it.
+    pub fn network_law(&self)
+        ensures { IsFaultless self.now.nodes self.now.links }
+    {
+        // A field has to be read, since only then the proof sees the invariant.
+        let _nodes = self.graph.nodes;
+    }
+
+    /// How many links there are. `O(1)`.
+    pub fn link_count(&self) -> usize
+        ensures { result ≡ length self.now.links }
+    {
+        self.graph.link_count
+    }
+
+    /// The links in rising order of tail, then head, none twice: a list of them, written from the rows. `AllocError` where no room could be
+    /// had. `O(n + m)`.
+    pub fn links(&self, alloc: Global) -> Result<Vec<(u32, u32)>, AllocError>
+        ensures { IfOk result (λ links. links.items ≡ self.now.links) }
+    {
+        let Graph {
+            nodes,
+            link_count,
+            rows,
+            heights: _,
+        } = &self.graph;
+        links_of_rows(alloc, rows, *nodes, *link_count)
+    }
+
+    /// The law of the order of a network's links: each is before the next one, by tail, then head. It does nothing, as
+    /// [`network_law`](Net::network_law).
+    pub fn order_law(&self)
+        ensures { AreRising self.now.links }
+    {
+        let _nodes = self.graph.nodes;
+    }
+
+    /// How many nodes no link joins with another. `O(1)`.
+    pub fn alone(&self) -> u32
+        ensures { result ≡ alone_count self.now.nodes self.now.links }
+    {
+        self.graph.rows.empty_rows() as u32
+    }
+
+    /// How many neighbours node `x` has, which has to be a node. `O(1)`.
+    pub fn degree(&self, x: u32) -> u32
+        requires { x < self.now.nodes }
+        ensures { result ≡ length (row self.now.nodes self.now.links x) }
+    {
+        self.graph.row(x).len() as u32
+    }
+
+    /// The neighbour at place `j` of the row of node `x`, counted from 0 in rising order of the neighbours, and the
+    /// direction of its link as seen from `x`. There has to be such a node and such a place. `O(1)`.
+    pub fn neighbour(&self, x: u32, j: u32) -> (u32, First)
+        requires node { x < self.now.nodes }
+        requires place { j < length (row self.now.nodes self.now.links x) }
+        ensures value { slice_get (row self.now.nodes self.now.links x) j ≡ Some result }
+        ensures at { HoldsAt (λ e. e ≡ result) (row self.now.nodes self.now.links x) j }
+    {
+        let (neighbour, first) = self.graph.row(x)[j as usize];
+        (neighbour as u32, first)
+    }
+
+    /// All neighbours of node `x` in rising order, each with the direction of its link as seen from `x`: what
+    /// `neighbour` answers for each place, for a loop over a whole row. It has to be a node. Here nodes stand as `u16`, as they are
+    /// kept, since there are few, so that rows take half the room; `as u32` makes them what other calls take. `O(1)`.
+    pub fn row(&self, x: u32) -> &[(u16, First)]
+        requires { x < self.now.nodes }
+        ensures { result.now ≡ row self.now.nodes self.now.links x }
+    {
+        self.graph.row(x)
+    }
+
+    /// A copy. `AllocError` where no room could be had. Time and memory are `O(n + m)`.
+    pub fn copied(&self, alloc: Global) -> Result<Net, AllocError>
+        ensures { IfOk result (λ net. net ≡ self.now) }
+    {
+        let graph = self.graph.copied(alloc)?;
+        Ok(Net { graph })
+    }
+
+    /// The network after this edit, made on a copy.
+    fn with_edit(&self, alloc: Global, edit: Edit) -> Result<Net, NetFault>
+        ensures ok { IfOk result (IsMade self.now edit) }
+        ensures refused { IfErr result (λ fault. fault ≢ Memory → IsEditFault self.now edit fault) }
+    {
+        let mut graph = self.graph.copied(alloc)?;
+        graph.edit(alloc, edit)?;
+        Ok(Net { graph })
+    }
+
+    /// The network without the link between `u` and `v`, whichever way it points. `NoLink` exactly where there is none, as
+    /// where one of them is no node or both are the same; `Memory` where no room could be had. Time and memory are
+    /// `O(n + m)`, since the network is copied.
+    pub fn with_cut(&self, alloc: Global, u: u32, v: u32) -> Result<Net, NetFault>
+        ensures joined { OnOk result (Joins self.now.links u v) }
+        ensures ok { IfOk result (IsNetworkOf self.now.nodes (without u v self.now.links)) }
+        ensures refused { IfErr result (λ fault. fault ≢ Memory → IsCutFault self.now.links u v fault) }
+    {
+        self.with_edit(alloc, Edit::Cut { u, v })
+    }
+
+    /// The network with the link from `u` to `v` as well; or the first fault that then stands, in the order of
+    /// [`NetFault`], where a closed walk follows the links with the new one among them. `Memory` where no room could be had. `O(n + m)` for
+    /// the copy, and what [`edit_if`](Net::edit_if) costs.
+    pub fn with_link(&self, alloc: Global, u: u32, v: u32) -> Result<Net, NetFault>
+        ensures ok { IfOk result (IsNetworkOf self.now.nodes (self.now.links ++ (u, v) ∷ [])) }
+        ensures refused { IfErr result (λ fault. fault ≢ Memory
+            → IsFirstFault self.now.nodes (self.now.links ++ (u, v) ∷ []) fault) }
+    {
+        self.with_edit(alloc, Edit::Add { u, v })
+    }
+
+    /// The network with `u` and `v` joined: by a link from `u` to `v`, or from `v` to `u` where a closed walk would follow the
+    /// other; the law [`join_law`](crate::laws::join_law) says that then none follows this one. It is refused as by `with_link`, but
+    /// never for a `Cycle`. `O(n + m)` for the copy, and what [`edit_if`](Net::edit_if) costs.
+    pub fn with_join(&self, alloc: Global, u: u32, v: u32) -> Result<Net, NetFault>
+        ensures ok { IfOk result (IsJoined self.now.nodes self.now.links u v) }
+        ensures refused { IfErr result (λ fault. fault ≢ Memory → IsJoinFault self.now.nodes self.now.links u v fault) }
+    {
+        self.with_edit(alloc, Edit::Join { u, v })
+    }
+
+    /// The network after these edits, each made on the links that those before it left; or the first edit that is refused, with
+    /// the fault that `with_cut`, `with_link` or `with_join` names. More than [`MAX_EDITS`] are `TooMany` at `MAX_EDITS`, and none
+    /// is tried. `Memory` where no room could be had, at any edit. `O(n + m)` for one copy, and what [`edit_if`](Net::edit_if) costs.
+    pub fn with_edits(&self, alloc: Global, edits: &[Edit]) -> Result<Net, EditFault>
+        ensures few { OnOk result (length edits.now ≤ most_edits) }
+        ensures ok { IfOk result (AreMade self.now edits.now) }
+        ensures refused { IfErr result (λ refused. refused.fault ≢ Memory → IsBatchFault self.now edits.now refused) }
+    {
+        test_few(edits)?;
+        let mut graph = self.graph.copied(alloc)?;
+        graph.edit_all(alloc, edits)?;
+        Ok(Net { graph })
+    }
+
+    /// Makes these edits where the network stands, each on the links that those before it left, if `way` then answers Ok of the
+    /// network that they make, and answers what it answers. What `way` requires has to hold of that network. `Refused` where an edit is
+    /// refused, as by `with_edits`, or no room could be had, and `Fault` with the fault that `way` answers: then the edits are undone, and
+    /// the network is as it was. `O(d)` an edit; an added link or join is mostly a look at two heights, else a search between them with
+    /// tables of `O(n)`; `O(n + m)` where heights that are not known are made anew, or where a row is full, so that all are laid out anew,
+    /// with room to grow.
+    pub fn edit_if<T, E, F: FnOnce(&Net) -> Result<T, E>>(
+        &mut self,
+        alloc: Global,
+        edits: &[Edit],
+        way: F,
+    ) -> Result<T, NotEdited<E>>
+        requires callable { (made : Bor Network) → AreMade self.old edits.now made.now → F.pre way made }
+        ensures few { OnOk result (length edits.now ≤ most_edits) }
+        ensures ok { IfOk result (λ answer. AreMade self.old edits.now self.new × FnOnceReturnsAt F.FnOnce way self.new (Ok answer)) }
+        ensures refused { IfErr result (IsNotEdited self.old edits.now (FnOnceReturnsAt F.FnOnce way)) }
+        ensures unchanged { OnErr result (self.new ≡ self.old) }
+    {
+        if let Err(refused) = test_few(edits) {
+            return Err(NotEdited::Refused(refused));
+        }
+        let done = match self.graph.edit_all(alloc, edits) {
+            Ok(done) => done,
+            Err(refused) => return Err(NotEdited::Refused(refused)),
+        };
+        match way(self) {
+            Ok(answer) => Ok(answer),
+            Err(fault) => {
+                self.graph.undo_all(done);
+                Err(NotEdited::Fault(fault))
+            }
+        }
+    }
+
+    /// The network of the links that the counts give, one count for each node: a link stays where its head has turned
+    /// as often as its tail, and is reversed where its head has turned once more; the counts have to leave no other case. The
+    /// only fault is `Memory`, where no room could be had. `O(n + m)` for the copy, and what [`turn`](Net::turn) costs.
+    pub fn turned_by(&self, alloc: Global, counts: &[u64]) -> Result<Net, NetFault>
+        requires one_each { length counts.now ≡ self.now.nodes }
+        requires kept { All (IsKept counts.now) self.now.links }
+        ensures ok { IfOk result (IsNetworkOf self.now.nodes (links_at self.now.links counts.now)) }
+        ensures memory { IfErr result (λ fault. fault ≡ Memory) }
+    {
+        self.network_law();
+        let turns = Turns::of(alloc, counts.to_vec(alloc)?)?;
+        let mut net = self.copied(alloc)?;
+        net.turn(&turns);
+        Ok(net)
+    }
+
+    /// Turns the links as these turns say, as `turned_by`, but where the network stands: it takes no memory and has no fault. Only the rows
+    /// of nodes that turned are touched, with the entries of these in the rows of others. `O(k d log d + k log k)` for k nodes that have
+    /// turned.
+    pub fn turn(&mut self, turns: &Turns)
+        requires one_each { length turns.now ≡ self.old.nodes }
+        requires kept { All (IsKept turns.now) self.old.links }
+        ensures { IsNetworkOf self.old.nodes (links_at self.old.links turns.now) self.new }
+    {
+        turn_rows(&mut self.graph.rows, turns);
+        self.graph.heights.raise(turns);
+    }
+}

@@ -1,0 +1,335 @@
+//! Whether links lead from one node to another, sought from both ends: forward along the links from the one and backward against
+//! them from the other, mostly a row of the side that has fewer nodes left to read. All links fall, so either side leaves aside what lies
+//! beyond the height of the other end. The search ends where the sides meet, or where one has nothing left to read, so that it reads few
+//! rows where few nodes lie between the ends on either side. Each side keeps where it came from, so that where they meet the way can be told.
+
+ghost use Rattle.std.specs.Prelude.{◌≡◌, ◌≢◌, ℕ, List, ◌<◌, ◌≤◌, ◌+◌, ◌++◌, [], ◌∷◌, ◌⊎◌, ◌↔◌, length, slice_index, vec_capacity, Contains, IfOk, IfNone, IfSome, IsTrue, OnOk};
+ghost use Rattle.fr_graph.specs.Heights.{AreFalling};
+ghost use Rattle.fr_graph.specs.KeptRows.{ShowsNet, net_in};
+ghost use Rattle.fr_graph.specs.Links.{IsCycle};
+ghost use Rattle.fr_graph.specs.RowLists.{opposite};
+ghost use Rattle.fr_graph.specs.PathSearch.{AddsTrail, HasBegun, HasMet, HasMetMore, HasOrigins, HasRoom, IsBeyond, IsMeeting, IsPast, IsSide, IsWay, LiesOn, MeetAlong, MeetsNew, link_by, met_by, start_of, unread_count, way_of_ended};
+
+use crate::heights::Heights;
+use crate::row_table::RowTable;
+use crate::rows::First;
+use std::alloc::{AllocError, Global};
+
+/// Which side of the search has met a node.
+#[derive(Drop, Clone, Copy, PartialEq, Eq)]
+enum Met {
+    Never,
+    Forward,
+    Backward,
+}
+
+impl Met {
+    /// What stands at the nodes that the side which goes this way has met.
+    fn by(first: First) -> Met
+        ensures { result ≡ met_by first }
+    {
+        match first {
+            First::Outward => Met::Forward,
+            First::Inward => Met::Backward,
+        }
+    }
+}
+
+/// Whether links lead from one node to another.
+#[derive(Drop)]
+pub(crate) enum Way {
+    /// They do: the sides of the search have met.
+    Leads(Meeting),
+    /// They do not, and a link back falls once these nodes stand between the two heights.
+    Ends {
+        /// All nodes of the side of the search that had nothing left to read.
+        nodes: Vec<u32>,
+        /// The lower one of the heights.
+        low: u64,
+        /// The higher one.
+        high: u64,
+    },
+}
+
+/// So many times as many rows as the other side one may have read where it has fewer nodes left to read, so that the search reads few
+/// rows wherever one side is soon done.
+const LEAD: usize = 4;
+
+/// One side of the search: it goes along the links that leave a node in one direction.
+#[derive(Drop)]
+struct Side {
+    first: First,
+    // The height of the node that it seeks, beyond which it leaves nodes aside.
+    limit: u64,
+    // The height of the nearest node that it has left aside, or one beyond all nodes.
+    edge: u64,
+    // The nodes that it has met, in the order in which it met them.
+    nodes: Vec<u32>,
+    // For each of them the place of the one in whose row it was met.
+    origins: Vec<usize>,
+    // The rows of so many of them were read.
+    read: usize,
+}
+
+impl Side {
+    /// The side that goes this way from `start`, up to this height, with room for so many nodes.
+    fn begun(
+        alloc: Global,
+        first: First,
+        start: u32,
+        limit: u64,
+        nodes: usize,
+    ) -> Result<Side, AllocError>
+        requires { start < nodes }
+        ensures { IfOk result (HasBegun first start limit nodes) }
+    {
+        let mut met = Vec::with_capacity(alloc, nodes)?;
+        met.push_reserved(start);
+        let mut origins = Vec::with_capacity(alloc, nodes)?;
+        origins.push_reserved(0);
+        let edge = match first {
+            First::Outward => 0,
+            First::Inward => u64::MAX,
+        };
+        Ok(Side {
+            first,
+            limit,
+            edge,
+            nodes: met,
+            origins,
+            read: 0,
+        })
+    }
+
+    /// Whether the side goes on from a node of height `own` to a neighbour of this height. All links fall, so the two heights tell which
+    /// way the link between them points; and the neighbour has to lie within the limit.
+    fn goes_on(&self, own: u64, height: u64) -> bool
+        ensures lies { IsTrue result → LiesOn self.now.first own height }
+        ensures within { IsTrue result → ¬ IsBeyond self.now.first self.now.limit height }
+        ensures beyond { ¬ IsTrue result → LiesOn self.now.first own height → IsBeyond self.now.first self.now.limit height }
+    {
+        match self.first {
+            First::Outward => self.limit <= height && height < own,
+            First::Inward => own < height && height <= self.limit,
+        }
+    }
+
+    /// The edge, or the height of a neighbour beyond the limit that is nearer.
+    fn nearer(&self, edge: u64, height: u64) -> u64
+        ensures past { IsBeyond self.now.first self.now.limit height → IsPast self.now.first result height }
+        ensures nearer { (other : ℕ) → IsPast self.now.first edge other → IsPast self.now.first result other }
+    {
+        match self.first {
+            First::Outward if height < self.limit => edge.max(height),
+            First::Inward if height > self.limit => edge.min(height),
+            _ => edge,
+        }
+    }
+
+    /// Whether it has met a node whose row it has not read.
+    fn has_unread(&self) -> bool
+        ensures { IsTrue result ↔ self.now.read < length self.now.nodes.items }
+    {
+        self.read < self.nodes.len()
+    }
+
+    /// How many nodes it has met whose rows it has not read.
+    fn unread(&self) -> usize
+        ensures { result ≡ unread_count self.now }
+    {
+        self.nodes.len().saturating_sub(self.read)
+    }
+
+    /// Whether this side reads the next row, and not the other one: the side with fewer nodes left to read does, as it is likelier to be
+    /// done soon, unless it has read far more rows.
+    fn goes_next(&self, other: &Side) -> bool {
+        if self.unread() <= other.unread() {
+            self.read / LEAD <= other.read
+        } else {
+            other.read / LEAD > self.read
+        }
+    }
+
+    /// Meets a node that lies within the limit, in the row that it reads, unless it was met before, and answers whether the other side has
+    /// met it.
+    fn meet(&mut self, node: u32, met: &mut [Met]) -> bool
+        requires node { node < length met.old }
+        requires room { HasRoom self.old met.old }
+        ensures other { IsTrue result → HasMet (opposite self.old.first) met.new node }
+        ensures met { ¬ IsTrue result → HasMet self.old.first met.new node }
+        ensures change { ((self.new ≡ self.old) × (met.new ≡ met.old)) ⊎ MeetsNew self.old self.new met.old met.new node }
+    {
+        let own = Met::by(self.first);
+        match met[node as usize] {
+            Met::Never => {
+                met[node as usize] = own;
+                self.nodes.push_reserved(node);
+                self.origins.push_reserved(self.read);
+                false
+            }
+            side => side != own,
+        }
+    }
+
+    /// Where the side has nothing left to read: its nodes, and the heights between which they can stand.
+    fn ended(self) -> Way
+        ensures { result ≡ way_of_ended self }
+    {
+        let (low, high) = match self.first {
+            First::Outward => (self.edge, self.limit),
+            First::Inward => (self.limit, self.edge),
+        };
+        Way::Ends {
+            nodes: self.nodes,
+            low,
+            high,
+        }
+    }
+
+    /// The link between a node of this side and a neighbour on the other side, to which it leads on.
+    fn link_to(&self, node: u32, neighbour: u32) -> (u32, u32)
+        ensures { result ≡ link_by self.now.first node neighbour }
+    {
+        match self.first {
+            First::Outward => (node, neighbour),
+            First::Inward => (neighbour, node),
+        }
+    }
+
+    /// Reads the row of the next node, and answers the link that leads on to a node of the other side, if there is one.
+    fn read_next(
+        &mut self,
+        rows: &RowTable,
+        heights: &Heights,
+        met: &mut [Met],
+    ) -> Option<(u32, u32)>
+        requires rows { ShowsNet rows.now }
+        requires one_each { length heights.now.heights ≡ length rows.now.rows }
+        requires falling { AreFalling heights.now.heights (net_in rows.now).links }
+        requires side { IsSide (net_in rows.now) heights.now.heights self.old.first (start_of self.old) self.old.limit met.old self.old }
+        requires unread { self.old.read < length self.old.nodes.items }
+        ensures found { IfSome result (MeetAlong (net_in rows.now).links met.new) }
+        ensures side { IsSide (net_in rows.now) heights.now.heights self.old.first (start_of self.old) self.old.limit met.new self.new }
+        ensures read { IfNone result (self.new.read ≡ self.old.read + 1) }
+        ensures more { HasMetMore self.old self.new met.old met.new }
+    {
+        let node = self.nodes[self.read];
+        let own = heights.height(node);
+        let row = rows.row(node);
+        // Most entries lead nowhere, so that one test lets them pass, and the edge is kept beside.
+        let mut edge = self.edge;
+        for (neighbour, _) in row {
+            let neighbour = *neighbour as u32;
+            let height = heights.height(neighbour);
+            edge = self.nearer(edge, height);
+            if self.goes_on(own, height) && self.meet(neighbour, met) {
+                return Some(self.link_to(node, neighbour));
+            }
+        }
+        self.edge = edge;
+        self.read += 1;
+        None
+    }
+
+    /// The place of a node that it has met.
+    fn place_of(&self, node: u32) -> usize
+        requires { Contains self.now.nodes.items node }
+        ensures inside { result < length self.now.nodes.items }
+        ensures is { slice_index self.now.nodes.items result ≡ node }
+    {
+        let mut place = 0;
+        while self.nodes[place] != node {
+            place += 1;
+        }
+        place
+    }
+
+    /// Puts the node at this place and those from which it came, back to the start, behind these nodes.
+    fn push_trail(&self, nodes: &mut Vec<u32>, from: usize) -> Result<(), AllocError>
+        requires origins { (first : First) × (links : List (ℕ × ℕ)) × HasOrigins first links self.now.nodes.items self.now.origins.items }
+        requires inside { from < length self.now.nodes.items }
+        ensures { OnOk result ((first : First) (links : List (ℕ × ℕ)) → HasOrigins first links self.now.nodes.items self.now.origins.items
+            → AddsTrail first links (slice_index self.now.nodes.items from) (start_of self.now) nodes.old.items nodes.new.items) }
+    {
+        let mut place = from;
+        nodes.push(self.nodes[place])?;
+        while place > 0 {
+            place = self.origins[place];
+            nodes.push(self.nodes[place])?;
+        }
+        Ok(())
+    }
+}
+
+/// Where the sides of a search met: what shows that links lead from the one node to the other.
+#[derive(Drop)]
+pub(crate) struct Meeting {
+    ahead: Side,
+    behind: Side,
+    // A link from a node of the side ahead to one of the side behind.
+    link: (u32, u32),
+}
+
+impl Meeting {
+    /// The closed walk that a link back would close, from the end of the way by it to the start, and along the way.
+    pub(crate) fn closed_walk(&self, alloc: Global) -> Result<Vec<u32>, AllocError>
+        requires { (links : List (ℕ × ℕ)) × (from : ℕ) × (to : ℕ) × IsMeeting links from to self.now }
+        ensures { IfOk result (λ walk. (links : List (ℕ × ℕ)) (from to : ℕ) → IsMeeting links from to self.now
+            → IsCycle (links ++ (to, from) ∷ []) walk.items) }
+    {
+        let tail = self.ahead.place_of(self.link.0);
+        let head = self.behind.place_of(self.link.1);
+        let mut walk = Vec::new(alloc);
+        self.ahead.push_trail(&mut walk, tail)?;
+        walk.push(self.behind.nodes[0])?;
+        walk.reverse();
+        self.behind.push_trail(&mut walk, head)?;
+        Ok(walk)
+    }
+}
+
+/// Whether the links, which all fall, lead from `from` to `to`, which lies no higher.
+pub(crate) fn way_between(
+    alloc: Global,
+    rows: &RowTable,
+    heights: &Heights,
+    from: u32,
+    to: u32,
+) -> Result<Way, AllocError>
+    requires rows { ShowsNet rows.now }
+    requires one_each { length heights.now.heights ≡ length rows.now.rows }
+    requires falling { AreFalling heights.now.heights (net_in rows.now).links }
+    requires from { from < length rows.now.rows }
+    requires to { to < length rows.now.rows }
+    requires apart { from ≢ to }
+    requires no_higher { slice_index heights.now.heights to ≤ slice_index heights.now.heights from }
+    ensures { IfOk result (IsWay (net_in rows.now) heights.now.heights from to) }
+{
+    let nodes = rows.len();
+    let mut table = vec![in alloc; Met::Never; nodes]?;
+    let met = table.as_mut_slice();
+    met[from as usize] = Met::Forward;
+    met[to as usize] = Met::Backward;
+    let (high, low) = (heights.height(from), heights.height(to));
+    let mut ahead = Side::begun(alloc, First::Outward, from, low, nodes)?;
+    let mut behind = Side::begun(alloc, First::Inward, to, high, nodes)?;
+    while ahead.has_unread() && behind.has_unread() {
+        let met_along = if ahead.goes_next(&behind) {
+            ahead.read_next(rows, heights, met)
+        } else {
+            behind.read_next(rows, heights, met)
+        };
+        if let Some(link) = met_along {
+            return Ok(Way::Leads(Meeting {
+                ahead,
+                behind,
+                link,
+            }));
+        }
+    }
+    Ok(if ahead.has_unread() {
+        behind.ended()
+    } else {
+        ahead.ended()
+    })
+}

@@ -1,0 +1,54 @@
+//! What is done in one row: the place of a neighbour sought, its entries turned, or one of them reversed.
+
+ghost use Rattle.std.specs.Prelude.{◌≡◌, ℕ, ◌<◌, ◌≤◌, length, map, slice_index_or, All, Contains};
+ghost use Rattle.std.specs.List.Sorted.{IsNonDecreasingBy, IsStrictlyIncreasing};
+ghost use Rattle.fr_graph.specs.RowLists.{turned_entry};
+ghost use Rattle.fr_graph.specs.TurnedRows.{reversed_at};
+
+use crate::rows::First;
+
+/// The first place in the row, which is in rising order of the neighbour, whose neighbour is not below `w`.
+pub(crate) fn place_in_row(row: &[(u16, First)], w: u32) -> usize
+    requires { IsNonDecreasingBy (λ (e : ℕ × First). e.0) row.now }
+    ensures inside { result ≤ length row.now }
+    ensures before { (k : ℕ) (d : ℕ × First) → k < result → (slice_index_or row.now k d).0 < w }
+    ensures stops { (k : ℕ) (d : ℕ × First) → result ≤ k → k < length row.now → w ≤ (slice_index_or row.now k d).0 }
+{
+    row.partition_point(|entry| (entry.0 as u32) < w)
+}
+
+/// An entry of the row of `x`, with its link as the counts turn it.
+fn turned_at(entry: (u16, First), x: u32, counts: &[u64]) -> (u16, First)
+    requires node { x < length counts.now }
+    requires neighbour { entry.0 < length counts.now }
+    ensures { result ≡ turned_entry counts.now x entry }
+{
+    let (w, first) = entry;
+    if counts[w as usize] == counts[x as usize] {
+        entry
+    } else {
+        (w, first.opposite())
+    }
+}
+
+/// Turns each link of the row of `x` as the counts say.
+pub(crate) fn turn_row(row: &mut [(u16, First)], x: u32, counts: &[u64])
+    requires node { x < length counts.now }
+    requires below { All (λ (e : ℕ × First). e.0 < length counts.now) row.old }
+    ensures { row.new ≡ map (turned_entry counts.now x) row.old }
+{
+    for entry in row.iter_mut() {
+        *entry = turned_at(*entry, x, counts);
+    }
+}
+
+/// Reverses the entry of `w` in the row, which has one.
+pub(crate) fn reverse_entry(row: &mut [(u16, First)], w: u32)
+    requires rising { IsStrictlyIncreasing (map (λ (e : ℕ × First). e.0) row.old) }
+    requires stands { Contains (map (λ (e : ℕ × First). e.0) row.old) w }
+    ensures { row.new ≡ map (reversed_at w) row.old }
+{
+    let place = place_in_row(row, w);
+    let (neighbour, first) = row[place];
+    row[place] = (neighbour, first.opposite());
+}

@@ -1,0 +1,348 @@
+//! Rows of neighbours, one for each node, in one list, with room behind each row: a row grows and shrinks where it stands, and no
+//! other moves.
+
+ghost use Rattle.std.specs.Prelude.{◌≡◌, ℕ, ◌<◌, ◌≤◌, ◌+◌, ◌-◌, ◌==◌, ◌++◌, [], ◌∷◌, length, map, take, drop, replicate, slice_index, slice_range, insert, remove, count_by, IfOk, OnOk, OnErr, IsTrue, All, Contains};
+ghost use Rattle.std.specs.List.{range_with_len};
+ghost use Rattle.std.specs.List.Sorted.{IsStrictlyIncreasing};
+ghost use Rattle.fr_graph.specs.RowLists.{turned_entry};
+ghost use Rattle.fr_graph.specs.Tables.{ArePacked, HasRoomIn, KeepsRooms, end_at, has_none, places_of, room_of, row_of, start_at, with_row};
+ghost use Rattle.fr_graph.specs.TurnedRows.{reversed_at};
+ghost use Rattle.fr_graph.specs.declared.rows.First.TheVariants.{Outward};
+
+use crate::limits::MAX_LINKS;
+use crate::row::{reverse_entry, turn_row};
+use crate::rows::First;
+use std::alloc::{AllocError, Global};
+use std::marker::Model;
+
+/// How many entries all rows together may have room for before what they do not need is given back: four times as many as a
+/// network has at most.
+const MOST_ROOM: usize = 8 * MAX_LINKS;
+
+/// Where a row starts and where it ends. They stand beside each other, so that a row that is read costs one cache line for both.
+#[derive(Debug, Drop, Clone, Copy)]
+struct Place {
+    start: usize,
+    end: usize,
+}
+
+/// Rows of neighbours, one for each node. Contracts see the rows, and how many entries each has room for.
+#[derive(Debug, Drop)]
+pub(crate) struct RowTable {
+    // Each row stands in `entries` from where it starts up to where it ends, and its room goes on up to where the next one starts. Behind
+    // the places of the rows stands one more, where the room of the last row ends: its own end says nothing.
+    places: Vec<Place>,
+    entries: Vec<(u16, First)>,
+    // How many rows are empty.
+    empty: usize,
+}
+
+impl Model for RowTable {
+    ghost use Rattle.fr_graph.specs.Tables.{Table};
+
+    ghost Value = { Table };
+
+    ghost use Rattle.fr_graph.specs.Tables.{table_of, IsTable};
+
+    ghost view = { table_of };
+
+    ghost invariant = { IsTable };
+}
+
+/// The places of rows that stand one behind the other between these starts: each ends where the next one starts.
+fn places_between(alloc: Global, starts: &[usize]) -> Result<Vec<Place>, AllocError>
+    ensures { IfOk result (λ places. places.items ≡ places_of starts.now) }
+{
+    let mut places = Vec::with_capacity(alloc, starts.len())?;
+    for x in 0..starts.len() {
+        let end = starts.get(x + 1).copied().unwrap_or(0);
+        places.push(Place {
+            start: starts[x],
+            end,
+        })?;
+    }
+    Ok(places)
+}
+
+/// How many of the rows at these places are empty, where the last place is that of no row.
+fn empty_between(places: &[Place]) -> usize
+    requires { 0 < length places.now }
+    ensures { result ≡ count_by (λ x. start_at places.now x == end_at places.now x) (range_with_len 0 (length places.now - 1)) }
+{
+    let mut empty = 0;
+    for x in 0..places.len() - 1 {
+        let place = places[x];
+        empty += usize::from(place.start == place.end);
+    }
+    empty
+}
+
+/// Puts the entry first, and each other one place on: the last one is lost.
+fn shift_in(entries: &mut [(u16, First)], entry: (u16, First))
+    requires { 0 < length entries.old }
+    ensures { entries.new ≡ take (length entries.old) (entry ∷ entries.old) }
+{
+    let mut carried = entry;
+    for here in entries.iter_mut() {
+        let next = *here;
+        *here = carried;
+        carried = next;
+    }
+}
+
+/// Puts each entry but the first one place back: the first one is lost, and the last one stands twice.
+fn shift_out(entries: &mut [(u16, First)])
+    requires { 0 < length entries.old }
+    ensures one_each { length entries.new ≡ length entries.old }
+    ensures rest { take (length entries.old - 1) entries.new ≡ drop 1 entries.old }
+{
+    for place in 1..entries.len() {
+        entries[place - 1] = entries[place];
+    }
+}
+
+/// Keeps the entries up to `start`, and lays the row behind them, with room up to `next`.
+fn lay_behind(
+    entries: &mut Vec<(u16, First)>,
+    start: usize,
+    next: usize,
+    row: &[(u16, First)],
+) -> Result<(), AllocError>
+    requires inside { start ≤ length entries.old.items }
+    requires room { start + length row.now ≤ next }
+    ensures { OnOk result (entries.new.items
+        ≡ take start entries.old.items ++ (row.now ++ replicate (next - (start + length row.now)) (0, Outward))) }
+{
+    entries.truncate(start);
+    entries.extend_from_slice(row)?;
+    entries.resize(next, (0, First::Outward))?;
+    Ok(())
+}
+
+impl RowTable {
+    /// No rows yet, but room for so many, and for so many entries in all of them together.
+    fn with_capacity(alloc: Global, rows: usize, entries: usize) -> Result<RowTable, AllocError>
+        ensures { IfOk result (λ table. (table.rows ≡ []) × (table.rooms ≡ [])) }
+    {
+        let mut places = Vec::with_capacity(alloc, rows.saturating_add(1))?;
+        places.push(Place { start: 0, end: 0 })?;
+        Ok(RowTable {
+            places,
+            entries: Vec::with_capacity(alloc, entries)?,
+            empty: 0,
+        })
+    }
+
+    /// The table with a row behind the others, which has room for so many entries.
+    fn with_row_behind(self, row: &[(u16, First)], room: usize) -> Result<RowTable, AllocError>
+        requires { length row.now ≤ room }
+        ensures rows { IfOk result (λ table. table.rows ≡ self.rows ++ row.now ∷ []) }
+        ensures rooms { IfOk result (λ table. table.rooms ≡ self.rooms ++ room ∷ []) }
+    {
+        let RowTable {
+            mut places,
+            mut entries,
+            mut empty,
+        } = self;
+        let last = places.len() - 1;
+        let start = places[last].start;
+        let next = start.checked_add(room).ok_or(AllocError)?;
+        // Entries behind the room of the last row are of no row.
+        lay_behind(&mut entries, start, next, row)?;
+        places[last] = Place {
+            start,
+            end: start + row.len(),
+        };
+        places.push(Place {
+            start: next,
+            end: next,
+        })?;
+        empty += usize::from(row.is_empty());
+        Ok(RowTable {
+            places,
+            entries,
+            empty,
+        })
+    }
+
+    /// The row at this place.
+    fn row_at(&self, x: usize) -> &[(u16, First)]
+        requires { x < length self.now.rows }
+        ensures { result.now ≡ row_of self.now x }
+    {
+        let place = self.places[x];
+        &self.entries[place.start..place.end]
+    }
+
+    /// How many entries the row at this place has room for once it is laid out anew: an eighth more than it has, and six, for links
+    /// come to short rows as to long ones; and, if room is kept, no fewer than it has room for.
+    fn room_anew(&self, x: usize, keeps_room: bool) -> usize
+        requires { x < length self.now.rows }
+        ensures room { length (row_of self.now x) < result }
+        ensures kept { IsTrue keeps_room → room_of self.now x ≤ result }
+    {
+        let long = self.row_at(x).len();
+        let wide = long + long / 8 + 6;
+        let held = self.places[x + 1].start - self.places[x].start;
+        if keeps_room { wide.max(held) } else { wide }
+    }
+
+    /// How many entries all rows together have room for once they are laid out anew.
+    fn whole_room_anew(&self, keeps_room: bool) -> usize {
+        let mut whole: usize = 0;
+        for x in 0..self.len() {
+            whole = whole.saturating_add(self.room_anew(x, keeps_room));
+        }
+        whole
+    }
+
+    /// The same rows laid out anew, each with room to grow by an eighth and six more; and, if room is kept, with no less than it has.
+    fn laid_out(&self, alloc: Global, keeps_room: bool) -> Result<RowTable, AllocError>
+        ensures rows { IfOk result (λ table. table.rows ≡ self.now.rows) }
+        ensures room { IfOk result (λ table. (x : ℕ) → x < length self.now.rows → HasRoomIn table x) }
+        ensures kept { IsTrue keeps_room → IfOk result (KeepsRooms self.now) }
+    {
+        let rows = self.places.len() - 1;
+        let mut table = RowTable::with_capacity(alloc, rows, self.whole_room_anew(keeps_room))?;
+        for x in 0..rows {
+            table = table.with_row_behind(self.row_at(x), self.room_anew(x, keeps_room))?;
+        }
+        Ok(table)
+    }
+
+    /// The table of rows that stand one behind the other between these starts, with no room for more.
+    pub(crate) fn packed(
+        alloc: Global,
+        starts: Vec<usize>,
+        entries: Vec<(u16, First)>,
+    ) -> Result<RowTable, AllocError>
+        requires { ArePacked starts.items entries.items }
+        ensures one_each { IfOk result (λ table. length table.rows + 1 ≡ length starts.items) }
+        ensures rows { IfOk result (λ table. (x : ℕ) → x + 1 < length starts.items
+            → row_of table x ≡ slice_range entries.items (slice_index starts.items x) (slice_index starts.items (x + 1))) }
+    {
+        let places = places_between(alloc, &starts)?;
+        let empty = empty_between(&places);
+        Ok(RowTable {
+            places,
+            entries,
+            empty,
+        })
+    }
+
+    /// How many rows there are.
+    pub(crate) fn len(&self) -> usize
+        ensures { result ≡ length self.now.rows }
+    {
+        self.places.len() - 1
+    }
+
+    /// The row of `x`.
+    pub(crate) fn row(&self, x: u32) -> &[(u16, First)]
+        requires { x < length self.now.rows }
+        ensures { result.now ≡ row_of self.now x }
+    {
+        self.row_at(x as usize)
+    }
+
+    /// How many rows are empty. It takes the same time for each table.
+    pub(crate) fn empty_rows(&self) -> usize
+        ensures { result ≡ count_by has_none self.now.rows }
+    {
+        self.empty
+    }
+
+    /// The law of room: no row has more entries than it has room for. It does nothing.
+    pub(crate) fn room_law(&self)
+        ensures { (x : ℕ) → length (row_of self.now x) ≤ room_of self.now x }
+    {
+        let _empty = self.empty;
+    }
+
+    /// A copy, with as much room in each row.
+    pub(crate) fn copied(&self, alloc: Global) -> Result<RowTable, AllocError>
+        ensures { IfOk result (λ copy. copy ≡ self.now) }
+    {
+        Ok(RowTable {
+            places: self.places.to_vec(alloc)?,
+            entries: self.entries.to_vec(alloc)?,
+            empty: self.empty,
+        })
+    }
+
+    /// Takes room for one entry more in the row of `x`. Where it has none, all rows are laid out anew, each with room to grow by an
+    /// eighth and six more. No row has less room afterwards, so that edits made before can still be undone.
+    pub(crate) fn make_room(&mut self, alloc: Global, x: u32) -> Result<(), AllocError>
+        requires { x < length self.old.rows }
+        ensures rows { self.new.rows ≡ self.old.rows }
+        ensures kept { KeepsRooms self.old self.new }
+        ensures room { OnOk result (HasRoomIn self.new x) }
+        ensures unchanged { OnErr result (self.new ≡ self.old) }
+    {
+        if self.places[x as usize].end == self.places[x as usize + 1].start {
+            *self = self.laid_out(alloc, true)?;
+        }
+        Ok(())
+    }
+
+    /// Gives back room that rows no longer need, where all rows together have room for far more than a network has entries.
+    pub(crate) fn trim(&mut self, alloc: Global) -> Result<(), AllocError>
+        ensures rows { self.new.rows ≡ self.old.rows }
+    {
+        if self.entries.len() > MOST_ROOM {
+            *self = self.laid_out(alloc, false)?;
+        }
+        Ok(())
+    }
+
+    /// Puts an entry into the row of `x`, which has room for it, before the entry at this place.
+    pub(crate) fn insert(&mut self, x: u32, place: usize, entry: (u16, First))
+        requires row { x < length self.old.rows }
+        requires place { place ≤ length (row_of self.old x) }
+        requires room { HasRoomIn self.old x }
+        ensures { self.new ≡ with_row self.old x (insert (row_of self.old x) place entry) }
+    {
+        let Place { start, end } = self.places[x as usize];
+        shift_in(&mut self.entries[start + place..end + 1], entry);
+        self.places[x as usize] = Place {
+            start,
+            end: end + 1,
+        };
+        self.empty -= usize::from(start == end);
+    }
+
+    /// Takes the entry at this place out of the row of `x`.
+    pub(crate) fn remove(&mut self, x: u32, place: usize)
+        requires row { x < length self.old.rows }
+        requires place { place < length (row_of self.old x) }
+        ensures { self.new ≡ with_row self.old x (remove (row_of self.old x) place) }
+    {
+        let Place { start, end } = self.places[x as usize];
+        shift_out(&mut self.entries[start + place..end]);
+        let end = end - 1;
+        self.places[x as usize] = Place { start, end };
+        self.empty += usize::from(start == end);
+    }
+
+    /// Turns each link of the row of `x` as the counts say.
+    pub(crate) fn turn_row(&mut self, x: u32, counts: &[u64])
+        requires row { x < length self.old.rows }
+        requires node { x < length counts.now }
+        requires below { All (λ (e : ℕ × First). e.0 < length counts.now) (row_of self.old x) }
+        ensures { self.new ≡ with_row self.old x (map (turned_entry counts.now x) (row_of self.old x)) }
+    {
+        let place = self.places[x as usize];
+        turn_row(&mut self.entries[place.start..place.end], x, counts);
+    }
+
+    /// Reverses the entry of `w` in the row of `x`, which has one.
+    pub(crate) fn reverse_entry(&mut self, x: u32, w: u32)
+        requires row { x < length self.old.rows }
+        requires rising { IsStrictlyIncreasing (map (λ (e : ℕ × First). e.0) (row_of self.old x)) }
+        requires stands { Contains (map (λ (e : ℕ × First). e.0) (row_of self.old x)) w }
+        ensures { self.new ≡ with_row self.old x (map (reversed_at w) (row_of self.old x)) }
+    {
+        let place = self.places[x as usize];
+        reverse_entry(&mut self.entries[place.start..place.end], w);
+    }
+}

@@ -1,0 +1,73 @@
+//! Rows and links as counts turn them, each where it stands.
+
+ghost use Rattle.std.specs.Prelude.{◌≡◌, ℕ, ◌<◌, ◌++◌, Bool, false, length, slice_index, IfOk, OnOk};
+ghost use Rattle.fr_graph.specs.Network.{Network};
+ghost use Rattle.fr_graph.specs.KeptRows.{links_in};
+ghost use Rattle.fr_graph.specs.RowLists.{out_links};
+ghost use Rattle.fr_graph.specs.TurnedRows.{ArePartTurned, all_done, is_done, none_done, seen_too};
+
+use crate::row_table::RowTable;
+use crate::rows::First;
+use crate::turns::Turns;
+use std::alloc::{AllocError, Global};
+
+/// Turns the row of `x`, which has turned, as the counts say, and its entries in the rows of neighbours that have not.
+fn turn_node(rows: &mut RowTable, x: u32, counts: &[u64])
+    requires node { x < length counts.now }
+    requires turned { 0 < slice_index counts.now x }
+    requires rows { (net : Network) × (seen : ℕ → Bool) × (seen x ≡ false)
+        × ArePartTurned net counts.now (is_done counts.now seen) rows.old }
+    ensures { (net : Network) (seen : ℕ → Bool) → seen x ≡ false → ArePartTurned net counts.now (is_done counts.now seen) rows.old
+        → ArePartTurned net counts.now (is_done counts.now (seen_too x seen)) rows.new }
+{
+    rows.turn_row(x, counts);
+    for place in 0..rows.row(x).len() {
+        let w = rows.row(x)[place].0 as u32;
+        if counts[w as usize] == 0 {
+            rows.reverse_entry(w, x);
+        }
+    }
+}
+
+/// Turns the rows as these turns say: only those of nodes that have turned are touched, and in the others their entries.
+pub(crate) fn turn_rows(rows: &mut RowTable, turns: &Turns)
+    requires rows { (net : Network) × ArePartTurned net turns.now none_done rows.old }
+    ensures { (net : Network) → ArePartTurned net turns.now none_done rows.old → ArePartTurned net turns.now all_done rows.new }
+{
+    for x in turns.nodes() {
+        turn_node(rows, *x, turns.counts());
+    }
+}
+
+/// Puts the links of the row of `x` that point away from it behind the others.
+fn push_out_links(
+    links: &mut Vec<(u32, u32)>,
+    x: u32,
+    row: &[(u16, First)],
+) -> Result<(), AllocError>
+    ensures { OnOk result (links.new.items ≡ links.old.items ++ out_links x row.now) }
+{
+    for (w, first) in row {
+        if *first == First::Outward {
+            links.push((x, *w as u32))?;
+        }
+    }
+    Ok(())
+}
+
+/// The links that the rows show, row by row, with room for so many.
+pub(crate) fn links_of_rows(
+    alloc: Global,
+    rows: &RowTable,
+    nodes: u32,
+    count: usize,
+) -> Result<Vec<(u32, u32)>, AllocError>
+    requires { nodes ≡ length rows.now.rows }
+    ensures { IfOk result (λ links. links.items ≡ links_in nodes rows.now) }
+{
+    let mut links = Vec::with_capacity(alloc, count)?;
+    for x in 0..nodes {
+        push_out_links(&mut links, x, rows.row(x))?;
+    }
+    Ok(links)
+}

@@ -1,0 +1,114 @@
+-- What stands at the front of a text, as the lexeme that it is there.
+use Rattle.std.proofs.Common.{Bool, IsUtf8, List, Some, [], ap, append_assoc, arith, decimal, eqb-true, false, inl, inr, refl, rules, subst, sym, true, ℕ, ◌++◌, ◌<◌, ◌==◌, ◌||◌, ◌∙◌, ◌∷◌, ◌≡◌, ◌^◌, if◌then◌else◌}
+use Rattle.std.proofs.lemmas.Bool.{or_cases}
+use Rattle.std.proofs.lemmas.Fmt.{IsAscii-decimal}
+use Rattle.std.proofs.lemmas.Str.{IsUtf8-append, IsUtf8-from_ascii}
+use Rattle.json.proofs.Printed.Decimals.{IsNumber-decimal}
+use Rattle.json.proofs.Printed.Numbers.{lex-number}
+use Rattle.json.proofs.Printed.Strings.{content-escape, lex-escape}
+use Rattle.json.proofs.Printed.Utf8.{IsUtf8-are_ascii, are_ascii}
+use Rattle.json.specs.Lex.{Lexeme, between, class, comma, in_string, lex, lex_byte, operator, operator_lexeme, space, string_token, token}
+use Rattle.json.specs.Print.{escape}
+use Rattle.json.specs.Text.{content, plain}
+use Rattle.json.specs.Token.{Token}
+use Rattle.json.specs.Word.{ends_word, is_operator, is_space}
+use Rattle.fr_lines.specs.ListLines.{Begins, number_lexeme, unspaced, word_lexeme}
+
+either : (p q : Bool) (P : Type 0) → (p || q) ≡ true → (p ≡ true → P) → (q ≡ true → P) → P
+either p q P h f g = elim (or_cases p q h) [ inl e ↦ f e | inr e ↦ g e ]
+
+-- what holds of each byte of white space holds of this one
+space_is : (P : ℕ → Type 0) (b : ℕ) → is_space b ≡ true → P 32 → P 9 → P 10 → P 13 → P b
+space_is P b h p q r s =
+    let at : (k : ℕ) → P k → (b == k) ≡ true → P b = λ k given e. subst P (sym (eqb-true b k e)) given in
+    either _ _ (P b) h (λ h. either _ _ (P b) h (λ h. either _ _ (P b) h (at 32 p) (at 9 q)) (at 10 r)) (at 13 s)
+
+-- likewise of each mark
+mark_is : (P : ℕ → Type 0) (b : ℕ) → is_operator b ≡ true → P 123 → P 125 → P 91 → P 93 → P 58 → P 44 → P b
+mark_is P b h p q r s t u =
+    let at : (k : ℕ) → P k → (b == k) ≡ true → P b = λ k given e. subst P (sym (eqb-true b k e)) given in
+    either _ _ (P b) h
+    (λ h. either _ _ (P b) h (λ h. either _ _ (P b) h (λ h. either _ _ (P b) h (λ h. either _ _ (P b) h (at 123 p) (at 125 q)) (at 91 r)) (at 93 s)) (at 58 t)) (at 44 u)
+
+one_byte : (b : ℕ) (bs : List ℕ) → are_ascii (b ∷ []) ≡ true → IsUtf8 bs → IsUtf8 (b ∷ bs)
+one_byte b bs ascii utf8 = IsUtf8-append (b ∷ []) bs (IsUtf8-are_ascii (b ∷ []) ascii) utf8
+
+-- white space is no lexeme
+space_passes : (text : List ℕ) → (lex between text ≡ lex between (unspaced text)) × (IsUtf8 (unspaced text) → IsUtf8 text)
+unfolding lex
+space_passes [] = (refl, λ utf8. utf8)
+space_passes (b ∷ bs) = go (is_space b) refl (space_passes bs)
+  where
+    go : (s : Bool) → is_space b ≡ s → (lex between bs ≡ lex between (unspaced bs)) × (IsUtf8 (unspaced bs) → IsUtf8 bs)
+        → (lex between (b ∷ bs) ≡ lex between (if s then unspaced bs else b ∷ bs)) × (IsUtf8 (if s then unspaced bs else b ∷ bs) → IsUtf8 (b ∷ bs))
+    go true e more =
+        let blank : class b ≡ space = space_is (λ k. class k ≡ space) b e refl refl refl refl in
+        let ascii : are_ascii (b ∷ []) ≡ true = space_is (λ k. are_ascii (k ∷ []) ≡ true) b e refl refl refl refl in (
+          ap (λ c. lex_byte between c b bs (λ next. lex next bs)) blank ∙ more.0,
+          λ utf8. one_byte b bs ascii (more.1 utf8),
+        )
+    go false e more = (refl, λ utf8. utf8)
+
+-- what is read of the front of a text, behind white space
+begins : (text front rest : List ℕ) (found : List Lexeme) → unspaced text ≡ front ++ rest → IsUtf8 front
+    → lex between (front ++ rest) ≡ found ++ lex between rest → Begins text found rest
+begins text front rest found stands utf8 read =
+    let passed = space_passes text in
+    (passed.0 ∙ ap (lex between) stands ∙ read, λ more. passed.1 (subst IsUtf8 (sym stands) (IsUtf8-append front rest utf8 more)))
+
+-- and then more is read
+pub begins_more : (text mid rest : List ℕ) (xs ys : List Lexeme) → Begins text xs mid → Begins mid ys rest → Begins text (xs ++ ys) rest
+begins_more text mid rest xs ys first next =
+    (first.0 ∙ ap (λ ls. xs ++ ls) next.0 ∙ sym (append_assoc xs ys (lex between rest)), λ utf8. first.1 (next.1 utf8))
+
+pub mark_begins : (mark : ℕ) (text rest : List ℕ) → is_operator mark ≡ true → unspaced text ≡ mark ∷ rest → Begins text (operator_lexeme mark ∷ []) rest
+unfolding lex
+mark_begins mark text rest is stands =
+    let its : class mark ≡ operator = mark_is (λ k. class k ≡ operator) mark is refl refl refl refl refl refl in
+    let ascii : are_ascii (mark ∷ []) ≡ true = mark_is (λ k. are_ascii (k ∷ []) ≡ true) mark is refl refl refl refl refl refl in
+    begins text (mark ∷ []) rest (operator_lexeme mark ∷ []) stands (IsUtf8-are_ascii (mark ∷ []) ascii) (ap (λ c. lex_byte between c mark rest (λ next. lex next rest)) its)
+
+-- a word that needs no escape, between quotes
+pub word_begins : (word text rest : List ℕ) → escape word ≡ word → are_ascii (34 ∷ (word ++ 34 ∷ [])) ≡ true → unspaced text ≡ 34 ∷ (word ++ 34 ∷ rest)
+    → Begins text (word_lexeme word ∷ []) rest
+unfolding lex
+word_begins word text rest plain_word ascii stands =
+    let whole = append_assoc word (34 ∷ []) rest in
+    let inside : content plain (word ++ 34 ∷ rest) ≡ Some word = ap (λ w. content plain (w ++ 34 ∷ rest)) (sym plain_word) ∙ content-escape word rest in
+    let over : lex in_string (word ++ 34 ∷ rest) ≡ lex between rest = ap (λ w. lex in_string (w ++ 34 ∷ rest)) (sym plain_word) ∙ lex-escape word rest in
+    begins text (34 ∷ (word ++ 34 ∷ [])) rest (word_lexeme word ∷ []) (stands ∙ ap (λ bs. 34 ∷ bs) (sym whole)) (IsUtf8-are_ascii _ ascii)
+    (ap (λ bs. lex between (34 ∷ bs)) whole ∙ (λ i. token (string_token (inside i)) ∷ over i))
+
+-- a word has ended before a mark, and before the white space there
+ends_at_mark : (mark : ℕ) (text rest : List ℕ) → is_operator mark ≡ true → unspaced text ≡ mark ∷ rest → ends_word text ≡ true
+ends_at_mark mark [] rest is stands = refl
+ends_at_mark mark (b ∷ bs) rest is stands = go (is_space b) refl stands
+  where
+    go : (s : Bool) → is_space b ≡ s → (if s then unspaced bs else b ∷ bs) ≡ mark ∷ rest → (is_operator b || is_space b) ≡ true
+    go true e stands = search (rules, e)
+    go false e stands = let first : b ≡ mark = grind arith in search (rules, is, first)
+
+-- a number before a mark
+pub number_begins : (n mark : ℕ) (text between_them rest : List ℕ) → n < 2 ^ 64 → is_operator mark ≡ true → unspaced text ≡ decimal n ++ between_them
+    → unspaced between_them ≡ mark ∷ rest
+    → Begins text (number_lexeme n ∷ operator_lexeme mark ∷ []) rest
+number_begins n mark text between_them rest small is stands follows =
+    let ended = ends_at_mark mark between_them rest is follows in
+    begins_more text between_them rest (number_lexeme n ∷ []) (operator_lexeme mark ∷ [])
+    (begins text (decimal n) between_them (number_lexeme n ∷ []) stands (IsUtf8-from_ascii (decimal n) (IsAscii-decimal n small)) (lex-number (decimal n) between_them (IsNumber-decimal n small) ended))
+    (mark_begins mark between_them rest is follows)
+
+-- a line or an edit that opens with its word
+pub opens_with_word : (word line inside behind rest : List ℕ) → escape word ≡ word → are_ascii (34 ∷ (word ++ 34 ∷ [])) ≡ true → unspaced line ≡ 91 ∷ inside
+    → unspaced inside ≡ 34 ∷ (word ++ 34 ∷ behind)
+    → unspaced behind ≡ 44 ∷ rest → Begins line (token Token.begin_array ∷ word_lexeme word ∷ comma ∷ []) rest
+opens_with_word word line inside behind rest plain_word ascii opens stands follows =
+    begins_more line behind rest (token Token.begin_array ∷ word_lexeme word ∷ []) (comma ∷ [])
+    (begins_more line inside behind (token Token.begin_array ∷ []) (word_lexeme word ∷ []) (mark_begins 91 line inside refl opens) (word_begins word inside behind plain_word ascii stands))
+    (mark_begins 44 behind rest refl follows)
+
+-- the bracket of the line, and white space
+pub closed_line : (text behind : List ℕ) → unspaced text ≡ 93 ∷ behind → unspaced behind ≡ [] → Begins text (token Token.end_array ∷ []) []
+closed_line text behind closes over =
+    let passed = space_passes behind in
+    begins_more text behind [] (token Token.end_array ∷ []) [] (mark_begins 93 text behind refl closes) (passed.0 ∙ ap (lex between) over, λ utf8. passed.1 (subst IsUtf8 (sym over) utf8))

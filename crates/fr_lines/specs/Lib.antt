@@ -1,0 +1,4 @@
+pub mod Requests
+pub mod LineTokens
+pub mod ShortLines
+pub mod ListLines

@@ -1,0 +1,172 @@
+-- Which line is which request. `serde_json` reads a line as one value; a request is an array of exactly these items, where
+-- n, d, u, v and x are numbers, and every other value is no request:
+--     ["net", n, d, [[u, v], ..]]    take the network of n nodes, with destination d and the links from u to v
+--     ["cut", u, v]                  take out the link between u and v
+--     ["add", u, v]                  add the link from u to v
+--     ["join", u, v]                 add a link between u and v, whichever way it can point
+--     ["batch", [EDIT, ..]]          make these edits, of which each is an array as for "cut", "add" or "join"
+--     ["dest", d]                    take the destination d
+--     ["walk", x]                    ask how one gets from x to the destination
+--     ["links"]                      ask which links there are
+--     ["counts"]                     ask how often each node has turned
+--     ["hops"]                       ask where each node sends on to
+use Rattle.std.specs.Prelude.{ℕ, ◌^◌, List, [], ◌∷◌, Option, Some, None, ok_or, option_map, option_and_then, Result, Err, nat_lt, if◌then◌else◌, codes}
+use Rattle.std.specs.Str.{bytes_eq, is_utf8}
+use Rattle.serde_json.specs.Data.{Data, Items, no_items, item}
+use Rattle.serde_json.specs.Find.{as_number, as_str, as_array, as_u64}
+use Rattle.serde_json.specs.Read.{read}
+use Rattle.fr_lines.specs.declared.requests.LineFault.{LineFault}
+use Rattle.fr_lines.specs.declared.requests.LineFault.TheVariants.{NotJson, NotRequest}
+use Rattle.fr_lines.specs.declared.requests.Question.{Question}
+use Rattle.fr_lines.specs.declared.requests.Question.TheVariants.{Links, Counts, Hops}
+use Rattle.fr_graph.specs.declared.edit.Edit.{Edit}
+use Rattle.fr_graph.specs.declared.edit.Edit.TheVariants as edit
+use Rattle.fr_lines.specs.declared.requests.Request.{Request}
+use Rattle.fr_lines.specs.declared.requests.Request.TheVariants.{Network, Cut, Add, Join, Batch, Destination, Walk, Ask}
+
+-- a request, with its links or edits as a list
+pub data PlainRequest : Type 0 where
+  new_network : ℕ → ℕ → List (ℕ × ℕ) → PlainRequest
+  cut_link : ℕ → ℕ → PlainRequest
+  add_link : ℕ → ℕ → PlainRequest
+  join_nodes : ℕ → ℕ → PlainRequest
+  make_edits : List Edit → PlainRequest
+  move_dest : ℕ → PlainRequest
+  walk_from : ℕ → PlainRequest
+  ask : Question → PlainRequest
+
+-- a request of the code, without the room that its `Vec` has
+abbrev pub plain : Request → PlainRequest
+plain (Network nodes dest links) = new_network nodes dest links.items
+plain (Cut u v) = cut_link u v
+plain (Add u v) = add_link u v
+plain (Join u v) = join_nodes u v
+plain (Batch edits) = make_edits edits.items
+plain (Destination d) = move_dest d
+plain (Walk x) = walk_from x
+plain (Ask question) = ask question
+
+-- the items, one after the other
+abbrev pub item_list : Items → List Data
+item_list no_items = []
+item_list (item d ds) = d ∷ item_list ds
+
+-- the items of an array
+abbrev pub items_in : Data → Option (List Data)
+items_in d = option_map item_list (as_array d)
+
+-- n, where it is at most 4,294,967,295
+abbrev pub small_number : ℕ → Option ℕ
+small_number n = if nat_lt n (2 ^ 32) then Some n else None
+
+-- a number: what `as_u64` gives, where that is at most 4,294,967,295; -1 and 1.0 are none
+abbrev pub number_in : Data → Option ℕ
+number_in d = option_and_then small_number (option_and_then as_u64 (as_number d))
+
+-- just one item, a number
+abbrev pub single_number : List Data → Option ℕ
+single_number [] = None
+single_number (d ∷ []) = number_in d
+single_number (d ∷ e ∷ rest) = None
+
+-- just two items, both numbers
+abbrev pub number_pair : List Data → Option (ℕ × ℕ)
+number_pair [] = None
+number_pair (d ∷ []) = None
+number_pair (d ∷ e ∷ []) = option_and_then (λ u. option_map (λ v. (u, v)) (number_in e)) (number_in d)
+number_pair (d ∷ e ∷ f ∷ rest) = None
+
+-- a link: an array of just its tail and its head
+abbrev pub link_in : Data → Option (ℕ × ℕ)
+link_in d = option_and_then number_pair (items_in d)
+
+-- what all items are, where each is one
+abbrev pub read_all : {X : Type 0} → (Data → Option X) → List Data → Option (List X)
+read_all read_one [] = Some []
+read_all read_one (d ∷ ds) = option_and_then (λ x. option_map (λ xs. x ∷ xs) (read_all read_one ds)) (read_one d)
+
+-- links: an array of them
+abbrev pub links_in : Data → Option (List (ℕ × ℕ))
+links_in d = option_and_then (read_all link_in) (items_in d)
+
+-- what items are, by the first of them, which is a word, and the items after it
+abbrev pub read_by_word : {X : Type 0} → (List ℕ → List Data → Option X) → List Data → Option X
+read_by_word read_rest [] = None
+read_by_word read_rest (d ∷ rest) = option_and_then (λ word. read_rest word rest) (as_str d)
+
+-- the edit of a word and the items after it
+unfoldable pub edit_of_word : List ℕ → List Data → Option Edit
+edit_of_word word rest =
+    if bytes_eq word (codes "cut") then option_map (λ pair. edit.Cut pair.0 pair.1) (number_pair rest)
+    else (if bytes_eq word (codes "add") then option_map (λ pair. edit.Add pair.0 pair.1) (number_pair rest)
+    else (if bytes_eq word (codes "join") then option_map (λ pair. edit.Join pair.0 pair.1) (number_pair rest)
+    else None))
+
+-- an edit: an array of just its word and two nodes
+abbrev pub edit_in : Data → Option Edit
+edit_in d = option_and_then (read_by_word edit_of_word) (items_in d)
+
+-- edits: an array of them
+abbrev pub edits_in : Data → Option (List Edit)
+edits_in d = option_and_then (read_all edit_in) (items_in d)
+
+-- the network of just three items: how many nodes, the destination, the links
+abbrev pub network_request : List Data → Option PlainRequest
+network_request [] = None
+network_request (n ∷ []) = None
+network_request (n ∷ d ∷ []) = None
+network_request (n ∷ d ∷ ls ∷ []) =
+    option_and_then (λ nodes. option_and_then (λ dest. option_map (new_network nodes dest)
+    (links_in ls)) (number_in d)) (number_in n)
+network_request (n ∷ d ∷ ls ∷ x ∷ rest) = None
+
+-- the request of two numbers, where just these are left
+abbrev pub pair_request : (ℕ → ℕ → PlainRequest) → List Data → Option PlainRequest
+pair_request request rest = option_map (λ pair. request pair.0 pair.1) (number_pair rest)
+
+-- the batch of edits, where just an array of these is left
+abbrev pub batch_request : List Data → Option PlainRequest
+batch_request [] = None
+batch_request (d ∷ []) = option_map make_edits (edits_in d)
+batch_request (d ∷ e ∷ rest) = None
+
+-- the request of one number, where just this is left
+abbrev pub node_request : (ℕ → PlainRequest) → List Data → Option PlainRequest
+node_request request rest = option_map request (single_number rest)
+
+-- the question, where no item is left
+abbrev pub ask_request : Question → List Data → Option PlainRequest
+ask_request question [] = Some (ask question)
+ask_request question (d ∷ rest) = None
+
+-- the request of a word and the items after it
+unfoldable pub request_of_word : List ℕ → List Data → Option PlainRequest
+request_of_word word rest =
+    if bytes_eq word (codes "net") then network_request rest
+    else (if bytes_eq word (codes "cut") then pair_request cut_link rest
+    else (if bytes_eq word (codes "add") then pair_request add_link rest
+    else (if bytes_eq word (codes "join") then pair_request join_nodes rest
+    else (if bytes_eq word (codes "batch") then batch_request rest
+    else (if bytes_eq word (codes "dest") then node_request move_dest rest
+    else (if bytes_eq word (codes "walk") then node_request walk_from rest
+    else (if bytes_eq word (codes "links") then ask_request Links rest
+    else (if bytes_eq word (codes "counts") then ask_request Counts rest
+    else (if bytes_eq word (codes "hops") then ask_request Hops rest
+    else None)))))))))
+
+-- the request that a value is
+abbrev pub request_of : Data → Option PlainRequest
+request_of d = option_and_then (read_by_word request_of_word) (items_in d)
+
+-- the value that a line is: UTF-8, JSON, and nesting at most 127
+abbrev pub value_of_line : List ℕ → Option Data
+value_of_line line = if is_utf8 line then read line else None
+
+-- the request of a line's value, or why there is none
+abbrev pub reading_of_value : Option Data → Result PlainRequest LineFault
+reading_of_value None = Err NotJson
+reading_of_value (Some d) = ok_or (request_of d) NotRequest
+
+-- the request that a line is, or why it is none
+abbrev pub reading : List ℕ → Result PlainRequest LineFault
+reading line = reading_of_value (value_of_line line)

@@ -1,0 +1,96 @@
+//! What stands at the front of a text of JSON, by its bytes: white space, a mark, a number.
+
+ghost use Rattle.std.specs.Prelude.{◌≡◌, ◌<◌, ◌∷◌, ◌++◌, [], true, IfSome, decimal};
+ghost use Rattle.json.specs.Lex.{operator_lexeme};
+ghost use Rattle.json.specs.Word.{is_operator};
+ghost use Rattle.fr_lines.specs.ListLines.{unspaced, Begins, number_lexeme};
+
+/// A number above this is too large once a digit is behind it.
+const TENTH: u64 = 429_496_729;
+
+/// What is behind white space, of which there is seldom any.
+#[inline(always)]
+pub(crate) fn behind_space(text: &[u8]) -> &[u8]
+    ensures { result.now ≡ unspaced text.now }
+{
+    match text {
+        [b'!'..=u8::MAX, ..] => text,
+        _ => behind_some_space(text),
+    }
+}
+
+/// What is behind white space. It is kept out of the way of lines without any.
+#[inline(never)]
+fn behind_some_space(text: &[u8]) -> &[u8]
+    ensures { result.now ≡ unspaced text.now }
+{
+    let mut rest = text;
+    'spaces: while let [b' ' | b'\t' | b'\n' | b'\r', behind @ ..] = rest {
+        rest = behind;
+    }
+    rest
+}
+
+/// What is behind this mark, where it stands next.
+#[inline(always)]
+pub(crate) fn behind_mark(mark: u8, text: &[u8]) -> Option<&[u8]>
+    requires { is_operator mark ≡ true }
+    ensures { IfSome result (λ behind. unspaced text.now ≡ mark ∷ behind.now) }
+{
+    match text {
+        [first, behind @ ..] if *first == mark => Some(behind),
+        _ => behind_spaced_mark(mark, text),
+    }
+}
+
+/// What is behind this mark, where it stands next, with white space before it.
+#[inline(always)]
+fn behind_spaced_mark(mark: u8, text: &[u8]) -> Option<&[u8]>
+    ensures { IfSome result (λ behind. unspaced text.now ≡ mark ∷ behind.now) }
+{
+    match behind_some_space(text) {
+        [first, behind @ ..] if *first == mark => Some(behind),
+        _ => None,
+    }
+}
+
+/// The number that stands next, where this mark is behind it, and what is behind the mark.
+#[inline(always)]
+pub(crate) fn number_before(mark: u8, text: &[u8]) -> Option<(u32, &[u8])>
+    requires { is_operator mark ≡ true }
+    ensures { IfSome result (λ next. Begins text.now (number_lexeme next.0 ∷ operator_lexeme mark ∷ []) next.1.now) }
+{
+    let (n, rest) = number(behind_space(text))?;
+    let behind = behind_mark(mark, rest)?;
+    Some((n, behind))
+}
+
+/// The number at the front, and what is behind it.
+#[inline(always)]
+pub(crate) fn number(text: &[u8]) -> Option<(u32, &[u8])>
+    ensures { IfSome result (λ next. text.now ≡ decimal next.0 ++ next.1.now) }
+{
+    match text {
+        [b'0', behind @ ..] => Some((0, behind)),
+        [first @ b'1'..=b'9', behind @ ..] => more_digits(u32::from(first - b'0'), behind),
+        _ => None,
+    }
+}
+
+/// The number whose first digits are those of `start`, and whose others stand next; and what is behind it.
+#[inline(always)]
+fn more_digits(start: u32, digits: &[u8]) -> Option<(u32, &[u8])>
+    requires { 0 < start }
+    ensures { IfSome result (λ next. decimal start ++ digits.now ≡ decimal next.0 ++ next.1.now) }
+{
+    let mut number = u64::from(start);
+    let mut rest = digits;
+    'more: while let [digit @ b'0'..=b'9', behind @ ..] = rest {
+        if number > TENTH {
+            return None;
+        }
+        number = number * 10 + u64::from(digit - b'0');
+        rest = behind;
+    }
+    Some((u32::try_from(number).ok()?, rest))
+}

@@ -1,0 +1,266 @@
+//! Reading a line as a request. `specs/Requests.antt` says which line is which.
+
+ghost use Rattle.std.specs.Prelude.{◌≡◌, ◌≢◌, Ok, Err, Some, None, IfOk, IfErr, OnOk, map, ok_or, option_map};
+ghost use Rattle.serde_json.specs.View.{view};
+ghost use Rattle.fr_lines.specs.declared.requests.LineFault.TheVariants.{NotRequest, Memory};
+ghost use Rattle.fr_lines.specs.LineTokens.{IsReadNext, Tells};
+ghost use Rattle.fr_lines.specs.Requests.{plain, reading, request_of, request_of_word, cut_link, add_link, join_nodes, move_dest, walk_from, network_request, pair_request, batch_request, node_request, ask_request, items_in, links_in, link_in, edits_in, edit_in, edit_of_word, number_pair, single_number, number_in};
+
+use crate::requests::{LineFault, Question, Request};
+use fr_graph::Edit;
+use serde_json::Value;
+use std::alloc::Global;
+
+/// The request that a line is, in JSON with white space wherever JSON has it; `NotJson` or `NotRequest` where it is none, as [`LineFault`]
+/// says, and `Memory` where no room could be had. A fault other than `Memory` is settled by the line alone. Linear in a line with no
+/// object.
+pub fn read_line(alloc: Global, line: &[u8]) -> Result<Request, LineFault>
+    ensures ok { IfOk result (λ request. reading line.now ≡ Ok (plain request)) }
+    ensures refused { IfErr result (λ fault. fault ≢ Memory → reading line.now ≡ Err fault) }
+{
+    match Value::from_slice(alloc, line) {
+        Ok(value) => request_in(alloc, &value),
+        Err(fault) if fault.is_memory() => Err(LineFault::Memory),
+        Err(_) => Err(LineFault::NotJson),
+    }
+}
+
+/// The request that a value of JSON is.
+pub(crate) fn request_in(alloc: Global, value: &Value) -> Result<Request, LineFault>
+    ensures { Tells (ok_or (request_of (view value.now)) NotRequest) result }
+{
+    let Some([first, rest @ ..]) = items_of(value) else {
+        return Err(LineFault::NotRequest);
+    };
+    let Some(word) = first.as_str() else {
+        return Err(LineFault::NotRequest);
+    };
+    request_by_word(alloc, word, rest)
+}
+
+/// The request of a word and the items after it: an arm for each word.
+#[tactic(auto, unfolding(crate::specs::Requests::request_of_word))]
+pub(crate) fn request_by_word(
+    alloc: Global,
+    word: &str,
+    rest: &[Value],
+) -> Result<Request, LineFault>
+    ensures { Tells (ok_or (request_of_word word.now (map view rest.now)) NotRequest) result }
+{
+    match word {
+        "net" => network(alloc, rest),
+        "cut" => cut(rest),
+        "add" => add(rest),
+        "join" => join(rest),
+        "batch" => batch(alloc, rest),
+        "dest" => destination(rest),
+        "walk" => walk(rest),
+        "links" => ask(Question::Links, rest),
+        "counts" => ask(Question::Counts, rest),
+        "hops" => ask(Question::Hops, rest),
+        _ => Err(LineFault::NotRequest),
+    }
+}
+
+/// A cut, where just the two ends of a link stand after its word.
+fn cut(rest: &[Value]) -> Result<Request, LineFault>
+    ensures ok { IfOk result (λ request. pair_request cut_link (map view rest.now) ≡ Some (plain request)) }
+    ensures refused { IfErr result (λ fault. ok_or (pair_request cut_link (map view rest.now)) NotRequest ≡ Err fault) }
+{
+    let (u, v) = two_numbers(rest).ok_or(LineFault::NotRequest)?;
+    Ok(Request::Cut { u, v })
+}
+
+/// An added link, where just its tail and its head stand after the word.
+fn add(rest: &[Value]) -> Result<Request, LineFault>
+    ensures ok { IfOk result (λ request. pair_request add_link (map view rest.now) ≡ Some (plain request)) }
+    ensures refused { IfErr result (λ fault. ok_or (pair_request add_link (map view rest.now)) NotRequest ≡ Err fault) }
+{
+    let (u, v) = two_numbers(rest).ok_or(LineFault::NotRequest)?;
+    Ok(Request::Add { u, v })
+}
+
+/// A join, where just the two nodes stand after its word.
+fn join(rest: &[Value]) -> Result<Request, LineFault>
+    ensures ok { IfOk result (λ request. pair_request join_nodes (map view rest.now) ≡ Some (plain request)) }
+    ensures refused { IfErr result (λ fault. ok_or (pair_request join_nodes (map view rest.now)) NotRequest ≡ Err fault) }
+{
+    let (u, v) = two_numbers(rest).ok_or(LineFault::NotRequest)?;
+    Ok(Request::Join { u, v })
+}
+
+/// A walk, where just its first node stands after the word.
+fn walk(rest: &[Value]) -> Result<Request, LineFault>
+    ensures ok { IfOk result (λ request. node_request walk_from (map view rest.now) ≡ Some (plain request)) }
+    ensures refused { IfErr result (λ fault. ok_or (node_request walk_from (map view rest.now)) NotRequest ≡ Err fault) }
+{
+    let x = one_number(rest).ok_or(LineFault::NotRequest)?;
+    Ok(Request::Walk { x })
+}
+
+/// A batch, where just an array of its edits stands after the word.
+fn batch(alloc: Global, rest: &[Value]) -> Result<Request, LineFault>
+    ensures { Tells (ok_or (batch_request (map view rest.now)) NotRequest) result }
+{
+    let [edits] = rest else {
+        return Err(LineFault::NotRequest);
+    };
+    let edits = edit_list(alloc, edits)?;
+    Ok(Request::Batch { edits })
+}
+
+/// Another destination, where just its number stands after the word.
+fn destination(rest: &[Value]) -> Result<Request, LineFault>
+    ensures ok { IfOk result (λ request. node_request move_dest (map view rest.now) ≡ Some (plain request)) }
+    ensures refused { IfErr result (λ fault. ok_or (node_request move_dest (map view rest.now)) NotRequest ≡ Err fault) }
+{
+    let dest = one_number(rest).ok_or(LineFault::NotRequest)?;
+    Ok(Request::Destination { dest })
+}
+
+/// A question, where no item stands after its word.
+fn ask(question: Question, rest: &[Value]) -> Result<Request, LineFault>
+    ensures ok { IfOk result (λ request. ask_request question (map view rest.now) ≡ Some (plain request)) }
+    ensures refused { IfErr result (λ fault. ok_or (ask_request question (map view rest.now)) NotRequest ≡ Err fault) }
+{
+    match rest {
+        [] => Ok(Request::Ask(question)),
+        _ => Err(LineFault::NotRequest),
+    }
+}
+
+/// A network of just three items: how many nodes, the destination, the links.
+fn network(alloc: Global, rest: &[Value]) -> Result<Request, LineFault>
+    ensures { Tells (ok_or (network_request (map view rest.now)) NotRequest) result }
+{
+    let [nodes, dest, links] = rest else {
+        return Err(LineFault::NotRequest);
+    };
+    let (Some(nodes), Some(dest)) = (number(nodes), number(dest)) else {
+        return Err(LineFault::NotRequest);
+    };
+    let links = link_list(alloc, links)?;
+    Ok(Request::Network { nodes, dest, links })
+}
+
+/// The links that an array lists.
+fn link_list(alloc: Global, value: &Value) -> Result<Vec<(u32, u32)>, LineFault>
+    ensures ok { IfOk result (λ links. links_in (view value.now) ≡ Some links.items) }
+    ensures refused { IfErr result (λ fault. fault ≢ Memory → (fault ≡ NotRequest) × (links_in (view value.now) ≡ None)) }
+{
+    let Some(items) = items_of(value) else {
+        return Err(LineFault::NotRequest);
+    };
+    let mut links = Vec::new(alloc);
+    for item in items {
+        push_link(&mut links, item)?;
+    }
+    Ok(links)
+}
+
+/// Puts the link that an item is behind those of the items before it.
+#[inline(always)]
+fn push_link(links: &mut Vec<(u32, u32)>, item: &Value) -> Result<(), LineFault>
+    ensures ok { OnOk result (IsReadNext link_in links.old.items (view item.now) links.new.items) }
+    ensures refused { IfErr result (λ fault. fault ≢ Memory → (fault ≡ NotRequest) × (link_in (view item.now) ≡ None)) }
+{
+    let Some(link) = link(item) else {
+        return Err(LineFault::NotRequest);
+    };
+    links.push(link)?;
+    Ok(())
+}
+
+/// A link: an array of its tail and its head.
+fn link(value: &Value) -> Option<(u32, u32)>
+    ensures { result ≡ link_in (view value.now) }
+{
+    two_numbers(items_of(value)?)
+}
+
+/// The edits that an array lists.
+fn edit_list(alloc: Global, value: &Value) -> Result<Vec<Edit>, LineFault>
+    ensures ok { IfOk result (λ edits. edits_in (view value.now) ≡ Some edits.items) }
+    ensures refused { IfErr result (λ fault. fault ≢ Memory → (fault ≡ NotRequest) × (edits_in (view value.now) ≡ None)) }
+{
+    let Some(items) = items_of(value) else {
+        return Err(LineFault::NotRequest);
+    };
+    let mut edits = Vec::new(alloc);
+    for item in items {
+        push_edit(&mut edits, item)?;
+    }
+    Ok(edits)
+}
+
+/// Puts the edit that an item is behind those of the items before it.
+#[inline(always)]
+fn push_edit(edits: &mut Vec<Edit>, item: &Value) -> Result<(), LineFault>
+    ensures ok { OnOk result (IsReadNext edit_in edits.old.items (view item.now) edits.new.items) }
+    ensures refused { IfErr result (λ fault. fault ≢ Memory → (fault ≡ NotRequest) × (edit_in (view item.now) ≡ None)) }
+{
+    let Some(edit) = edit(item) else {
+        return Err(LineFault::NotRequest);
+    };
+    edits.push(edit)?;
+    Ok(())
+}
+
+/// An edit: an array of its word and two nodes.
+fn edit(value: &Value) -> Option<Edit>
+    ensures { result ≡ edit_in (view value.now) }
+{
+    let [first, rest @ ..] = items_of(value)? else {
+        return None;
+    };
+    edit_by_word(first.as_str()?, rest)
+}
+
+/// The edit of a word and the items after it: an arm for each word.
+#[tactic(auto, unfolding(crate::specs::Requests::edit_of_word))]
+fn edit_by_word(word: &str, rest: &[Value]) -> Option<Edit>
+    ensures { result ≡ edit_of_word word.now (map view rest.now) }
+{
+    let (u, v) = two_numbers(rest)?;
+    match word {
+        "cut" => Some(Edit::Cut { u, v }),
+        "add" => Some(Edit::Add { u, v }),
+        "join" => Some(Edit::Join { u, v }),
+        _ => None,
+    }
+}
+
+/// The items of an array.
+#[inline(always)]
+fn items_of(value: &Value) -> Option<&[Value]>
+    ensures { option_map (λ items. map view items.now) result ≡ items_in (view value.now) }
+{
+    Some(value.as_array()?.as_slice())
+}
+
+/// Just one item, a number.
+fn one_number(items: &[Value]) -> Option<u32>
+    ensures { result ≡ single_number (map view items.now) }
+{
+    let [x] = items else {
+        return None;
+    };
+    number(x)
+}
+
+/// Just two items, both numbers.
+fn two_numbers(items: &[Value]) -> Option<(u32, u32)>
+    ensures { result ≡ number_pair (map view items.now) }
+{
+    let [u, v] = items else {
+        return None;
+    };
+    Some((number(u)?, number(v)?))
+}
+
+/// A number, at most 4,294,967,295.
+fn number(value: &Value) -> Option<u32>
+    ensures { result ≡ number_in (view value.now) }
+{
+    u32::try_from(value.as_u64()?).ok()
+}

@@ -1,5 +1,0 @@
-use Rattle.fr_net.proofs.Joining.{one_way_free}
-use Rattle.fr_net.proofs.laws.join_law.Goals as goal
-
-pub returns : goal.returns
-returns c = one_way_free

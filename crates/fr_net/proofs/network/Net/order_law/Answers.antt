@@ -1,9 +1,0 @@
-use Rattle.std.proofs.Common.{subst}
-use Rattle.fr_net.proofs.Rising.{links_rise}
-use Rattle.fr_net.specs.Graph.{shown}
-use Rattle.fr_net.specs.Network.{Network}
-use Rattle.fr_net.specs.Order.{AreRising}
-use Rattle.fr_net.proofs.network.Net.order_law.Goals as goal
-
-pub returns : goal.returns
-returns c = subst (λ (m : Network). AreRising m.links) c.self.view_is (links_rise (shown c.self.inside.graph).links c.self.invariant.sorted c.self.invariant.faultless.is_net.single)
