@@ -5,6 +5,7 @@ import shutil
 import subprocess
 import sys
 import time
+from concurrent.futures import FIRST_COMPLETED, ThreadPoolExecutor, wait
 
 import crates
 
@@ -32,59 +33,102 @@ def is_newer(file, moment):
     return file.is_file() and file.stat().st_mtime > moment
 
 
+class NotProved(Exception):
+    """A crate is not proved or not built: its name, and what was said."""
+
+
 class Progress:
     """Tells on standard error how far the proofs of a crate and of those below it are."""
 
     def __init__(self, name):
-        self.name, self.begun, self.moves = name, time.monotonic(), sys.stderr.isatty()
+        self.name, self.begun, self.moves, self.running = name, time.monotonic(), sys.stderr.isatty(), {}
 
     def clock(self):
         seconds = int(time.monotonic() - self.begun)
         return f"{seconds // 60}:{seconds % 60:02}"
 
-    def moved(self, crate):
+    def moved(self):
         if self.moves:
-            print(f"\r\033[K{self.name}: proving {crate}  {self.clock()}", end="", file=sys.stderr, flush=True)
+            print(f"\r\033[K{self.name}: proving {', '.join(self.running)}  {self.clock()}", end="", file=sys.stderr, flush=True)
 
-    def ended(self, text):
+    def told(self, text):
         print(f"{chr(13) + chr(27) + '[K' if self.moves else ''}{self.name}: {text}, {self.clock()}", file=sys.stderr, flush=True)
 
+    def failed(self, crate, said):
+        for it in [*self.running.values()]:
+            it.terminate()
+        self.told(f"{crate} is not proved or not built")
+        print(said, end="", file=sys.stderr)
+        sys.exit(FAILED)
 
-def said_by(run, progress, name):
+
+def said_by(run, progress):
     """What a started rattle says, as it comes to its end."""
     while True:
         try:
             return run.communicate(timeout=1)[0]
         except subprocess.TimeoutExpired:
-            progress.moved(name)
+            progress.moved()
 
 
 def prove(progress, name, words):
     """Proves and builds one crate."""
-    run = crates.rattle("build", *words, cwd=crates.CRATES / name)
-    said = said_by(run, progress, name)
+    run = progress.running[name] = crates.rattle("build", *words, cwd=crates.CRATES / name)
+    said = said_by(run, progress)
+    del progress.running[name]
     proved = re.search(r"^logic=proved functions=(\d+)", said, re.M)
     if run.returncode or not proved:
-        progress.ended(f"{name} is not proved or not built")
-        print(said, end="", file=sys.stderr)
-        sys.exit(FAILED)
-    progress.ended(f"{name} is proved, {proved[1]} functions")
+        raise NotProved(name, said)
+    progress.told(f"{name} is proved, {proved[1]} functions")
+
+
+def prove_library(progress, name, jobs):
+    """Proves and builds one library, and keeps by which files."""
+    stamp = PROVED / f"{name}.stamp"
+    stamp.unlink(missing_ok=True)
+    prove(progress, name, [*crates.words(name, own_rlib, jobs), "--statements", "-o", str(own_rlib(name))])
+    stamp.write_text(crates.stamp(name))
+
+
+def is_kept(name):
+    """Whether a library was proved from the files as they are."""
+    stamp = PROVED / f"{name}.stamp"
+    return stamp.is_file() and stamp.read_text() == crates.stamp(name)
+
+
+def prove_each(progress, names, jobs):
+    """Proves libraries, each once those below it are proved: of those that can be, the one that most stand on by all jobs but one each for
+    the others."""
+    above = {it: sum(it in crates.below(other) for other in names) for it in names}
+    left, running = sorted(names, key=lambda it: -above[it]), {}
+    with ThreadPoolExecutor(jobs) as pool:
+        while left or running:
+            waiting = {*left, *(it for it, _ in running.values())}
+            ready = [it for it in left if not waiting.intersection(crates.below(it))]
+            for at, it in enumerate(ready):
+                idle = jobs - sum(given for _, given in running.values())
+                if idle > 0:
+                    given = max(1, idle - (len(ready) - 1)) if at == 0 else 1
+                    left.remove(it)
+                    running[pool.submit(prove_library, progress, it, given)] = it, given
+            for it in wait(running, return_when=FIRST_COMPLETED).done:
+                del running[it]
+                try:
+                    it.result()
+                except NotProved as why:
+                    progress.failed(*why.args)
 
 
 def libraries(progress, name, jobs):
     """Proves the libraries below a crate, but for those that were proved since their last edit, and returns where each is."""
-    names, anew = crates.below(name), set()
+    names, anew = crates.below(name), []
     if are_proved_by_the_gate(names):
         return gate_rlib
     for it in names:
-        stamp = PROVED / f"{it}.stamp"
-        is_proved = stamp.is_file() and stamp.read_text() == crates.stamp(it)
         # What was built fits just the libraries over which it was.
-        if not is_proved or anew.intersection(crates.below(it)):
-            anew.add(it)
-            stamp.unlink(missing_ok=True)
-            prove(progress, it, [*crates.words(it, own_rlib, jobs), "--statements", "-o", str(own_rlib(it))])
-            stamp.write_text(crates.stamp(it))
+        if not is_kept(it) or set(anew).intersection(crates.below(it)):
+            anew.append(it)
+    prove_each(progress, anew, jobs)
     return own_rlib
 
 
@@ -124,7 +168,10 @@ def build(name):
     else:
         words = crates.words(name, libraries(progress, name, jobs), jobs)
         words += ["--toolchain", str(crates.kit() / "toolchain"), "--backend", "llvm", "-o", str(made)]
-        prove(progress, name, words)
+        try:
+            prove(progress, name, words)
+        except NotProved as why:
+            progress.failed(*why.args)
         if crates.is_program(name):
             link(made)
     made.replace(to)
