@@ -260,7 +260,8 @@ class Session:
             self._begin_call()
             try:
                 if piece:
-                    self._pieces.append((piece, ctypes.cast(piece, ctypes.c_void_p).value, len(piece)))
+                    address = ctypes.cast(ctypes.c_char_p(piece), ctypes.c_void_p).value or 0
+                    self._pieces.append((piece, address, len(piece)))
                 fresh: list[str] = []
                 while self._pieces:
                     self._take_line(*self._pieces[0])
@@ -432,7 +433,8 @@ class Session:
             if status == _calls.NO_MEMORY:
                 raise MemoryError
             if status != _calls.TOO_SHORT:
-                return values[: self._count.value] if status == _calls.ANSWERED else []
+                found: list[int] = values[: self._count.value] if status == _calls.ANSWERED else []
+                return found
             room = self._count.value
 
     def _fill(self, places: Any, room: int) -> int:
