@@ -1,5 +1,5 @@
 -- What stands at the front of a text, as the lexeme that it is there.
-use Rattle.std.proofs.Common.{Bool, IsUtf8, List, Some, [], ap, append_assoc, arith, decimal, eqb-true, false, inl, inr, refl, rules, subst, sym, true, ℕ, ◌++◌, ◌<◌, ◌==◌, ◌||◌, ◌∙◌, ◌∷◌, ◌≡◌, ◌^◌, if◌then◌else◌}
+use Rattle.std.proofs.Common.{Bool, IsUtf8, List, Some, [], ap, append_assoc, decimal, eqb-true, false, get_or, inl, inr, refl, subst, sym, true, ℕ, ◌++◌, ◌<◌, ◌==◌, ◌||◌, ◌∙◌, ◌∷◌, ◌≡◌, ◌^◌, if◌then◌else◌}
 use Rattle.std.proofs.lemmas.Bool.{or_cases}
 use Rattle.std.proofs.lemmas.Fmt.{IsAscii-decimal}
 use Rattle.std.proofs.lemmas.Str.{IsUtf8-append, IsUtf8-from_ascii}
@@ -79,14 +79,18 @@ word_begins word text rest plain_word ascii stands =
     begins text (34 ∷ (word ++ 34 ∷ [])) rest (word_lexeme word ∷ []) (stands ∙ ap (λ bs. 34 ∷ bs) (sym whole)) (IsUtf8-are_ascii _ ascii)
     (ap (λ bs. lex between (34 ∷ bs)) whole ∙ (λ i. token (string_token (inside i)) ∷ over i))
 
+or_true : (p : Bool) → (p || true) ≡ true
+or_true true = refl
+or_true false = refl
+
 -- a word has ended before a mark, and before the white space there
 ends_at_mark : (mark : ℕ) (text rest : List ℕ) → is_operator mark ≡ true → unspaced text ≡ mark ∷ rest → ends_word text ≡ true
 ends_at_mark mark [] rest is stands = refl
 ends_at_mark mark (b ∷ bs) rest is stands = go (is_space b) refl stands
   where
     go : (s : Bool) → is_space b ≡ s → (if s then unspaced bs else b ∷ bs) ≡ mark ∷ rest → (is_operator b || is_space b) ≡ true
-    go true e stands = search (rules, e)
-    go false e stands = let first : b ≡ mark = grind arith in search (rules, is, first)
+    go true e stands = ap (λ s. is_operator b || s) e ∙ or_true (is_operator b)
+    go false e stands = ap (λ k. is_operator k || is_space b) (ap (λ bytes. get_or bytes 0 0) stands) ∙ ap (λ p. p || is_space b) is
 
 -- a number before a mark
 pub number_begins : (n mark : ℕ) (text between_them rest : List ℕ) → n < 2 ^ 64 → is_operator mark ≡ true → unspaced text ≡ decimal n ++ between_them

@@ -154,12 +154,17 @@ fn edit_before(mark: u8, text: &[u8]) -> Option<(Edit, &[u8])>
 fn edit_word(text: &[u8]) -> Option<(EditWord, &[u8])>
     ensures { IfSome result (λ next. Begins text.now (word_lexeme (text_of next.0) ∷ []) next.1.now) }
 {
-    match behind_space(text) {
-        [b'"', b'c', b'u', b't', b'"', behind @ ..] => Some((EditWord::Cut, behind)),
-        [b'"', b'a', b'd', b'd', b'"', behind @ ..] => Some((EditWord::Add, behind)),
-        [b'"', b'j', b'o', b'i', b'n', b'"', behind @ ..] => Some((EditWord::Join, behind)),
-        _ => None,
+    let word = behind_space(text);
+    if let [b'"', b'c', b'u', b't', b'"', behind @ ..] = word {
+        return Some((EditWord::Cut, behind));
     }
+    if let [b'"', b'a', b'd', b'd', b'"', behind @ ..] = word {
+        return Some((EditWord::Add, behind));
+    }
+    if let [b'"', b'j', b'o', b'i', b'n', b'"', behind @ ..] = word {
+        return Some((EditWord::Join, behind));
+    }
+    None
 }
 
 /// The edit of a word and two nodes.
