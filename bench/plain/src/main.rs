@@ -11,6 +11,7 @@ mod request;
 mod round;
 mod session;
 mod settle;
+mod straight;
 #[cfg(test)]
 mod tests;
 

@@ -1,6 +1,7 @@
 //! What a line asks for, and why it is refused.
 
 use crate::edit::{Edit, Refusal};
+use crate::straight;
 use serde_json::Value;
 
 pub enum Request {
@@ -24,8 +25,11 @@ pub enum Request {
     Hops,
 }
 
-/// Reads the line as one JSON value, and the request from that.
+/// Reads a request straight from the bytes of its line, or else the line as one JSON value, and the request from that.
 pub fn read_line(line: &[u8]) -> Result<Request, Refusal> {
+    if let Some(request) = straight::request(line) {
+        return Ok(request);
+    }
     let value: Value = serde_json::from_slice(line).map_err(|_| Refusal::NotJson)?;
     request_in(&value).ok_or(Refusal::NotRequest)
 }
