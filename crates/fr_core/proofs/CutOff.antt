@@ -15,8 +15,8 @@ use Rattle.fr_graph.specs.Counts.{AreLawful, IsKept}
 use Rattle.fr_graph.specs.Links.{IsNet, Joins}
 use Rattle.fr_graph.specs.Rows.{row}
 use Rattle.fr_graph.specs.Turns.{set_to}
-use Rattle.fr_graph.specs.declared.rows.First.{First}
-use Rattle.fr_graph.specs.declared.rows.First.TheVariants.{Inward, Outward}
+use Rattle.fr_graph.specs.declared.first.First.{First}
+use Rattle.fr_graph.specs.declared.first.First.TheVariants.{Inward, Outward}
 
 entry_joins : (n : ℕ) (first : List (ℕ × ℕ)) (x : ℕ) (e : ℕ × First) → Contains (row n first x) e → Joins first x e.0
 entry_joins n first x (w, Outward) h = inl (out_of_row n first x w h)

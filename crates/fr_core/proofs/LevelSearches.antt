@@ -13,7 +13,7 @@ use Rattle.fr_graph.proofs.Linking.{joined_below}
 use Rattle.fr_graph.proofs.Neighbours.{in_of_row, out_of_row, row_of_in, row_of_out}
 use Rattle.fr_graph.specs.Links.{IsAlone, IsNet, Joins, Points}
 use Rattle.fr_graph.specs.Rows.{row}
-use Rattle.fr_graph.specs.declared.rows.First.TheVariants.{Inward, Outward}
+use Rattle.fr_graph.specs.declared.first.First.TheVariants.{Inward, Outward}
 
 module _ (n d : ℕ) (first : List (ℕ × ℕ)) (c q : List ℕ) (closed opened start level : ℕ) (s : IsLevelSearch n d first c q closed opened start level) where
   positive : 0 < n

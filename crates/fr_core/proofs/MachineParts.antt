@@ -5,7 +5,7 @@ use Rattle.std.proofs.lemmas.List.{append_assoc, get_or-set_other, get_or-set_sa
 use Rattle.std.proofs.lemmas.List.Elements.{filter-append}
 use Rattle.fr_graph.specs.Links.{IsNet}
 use Rattle.fr_graph.specs.Rows.{row}
-use Rattle.fr_graph.specs.declared.rows.First.{First}
+use Rattle.fr_graph.specs.declared.first.First.{First}
 use Rattle.fr_core.proofs.MachineRuns.{machine_runs}
 use Rattle.fr_core.specs.History.{part}
 use Rattle.fr_core.specs.Machine.{Outcome, MachineState, WorkerState, all_but_first, begin_call, bound_of, confirm, decided_by, decides, entries_of, entry_of, exchange, fresh, goes_on, load_neighbour, load_own, neighbour_at, outcome, outcome_of, phase_unheld, start, state_after, step, step_idle, worker_of}

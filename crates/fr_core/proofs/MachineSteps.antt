@@ -8,8 +8,8 @@ use Rattle.fr_graph.specs.Counts.{AreLawful, links_at}
 use Rattle.fr_graph.specs.Links.{IsNet, Joins, Points}
 use Rattle.fr_graph.specs.Rows.{row}
 use Rattle.fr_graph.specs.Turn.{IsSink}
-use Rattle.fr_graph.specs.declared.rows.First.{First}
-use Rattle.fr_graph.specs.declared.rows.First.TheVariants.{Inward, Outward}
+use Rattle.fr_graph.specs.declared.first.First.{First}
+use Rattle.fr_graph.specs.declared.first.First.TheVariants.{Inward, Outward}
 use Rattle.fr_core.proofs.Loads.{held_against, held_along, sink_from_seen}
 use Rattle.fr_core.proofs.Turning.{raised-here, raised-other, turn-links_at, turn_lawful}
 use Rattle.fr_core.specs.History.{after_all, moment_of}

@@ -9,7 +9,7 @@ use Rattle.fr_graph.proofs.Neighbours.{row_holds}
 use Rattle.fr_graph.specs.Counts.{links_at}
 use Rattle.fr_graph.specs.Links.{IsNet, Points}
 use Rattle.fr_graph.specs.Rows.{row, row_entry}
-use Rattle.fr_graph.specs.declared.rows.First.{First}
+use Rattle.fr_graph.specs.declared.first.First.{First}
 
 pub inward_is_other : (s : Option Sense) → s ≡ Some Inward → ¬ (s ≡ Some Outward)
 inward_is_other s e f = cc

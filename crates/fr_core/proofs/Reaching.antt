@@ -5,8 +5,8 @@ use Rattle.std.proofs.lemmas.List.{get_or-set_other, get_or-set_same, get_or_app
 use Rattle.std.proofs.lemmas.List.Elements.{All-more, Contains-get_or}
 use Rattle.std.proofs.lemmas.List.Sums.{sum_by-set}
 use Rattle.fr_core.specs.Reaching.{IsNeighbour, IsQueued, IsReached, ReachesOnly, unreached_count}
-use Rattle.fr_graph.specs.declared.rows.First.{First}
-use Rattle.fr_graph.specs.declared.rows.First.TheVariants.{Outward}
+use Rattle.fr_graph.specs.declared.first.First.{First}
+use Rattle.fr_graph.specs.declared.first.First.TheVariants.{Outward}
 
 pub queued_more : (q r : List ℕ) (x : ℕ) → length q ≤ length r → ((i : ℕ) → i < length q → slice_index r i ≡ slice_index q i) → IsQueued q x → IsQueued r x
 queued_more q r x longer kept h = (h.0, omega (arith, h.1), kept h.0 h.1 ∙ h.2)
@@ -60,21 +60,21 @@ module _ (n level : ℕ) (c q : List ℕ) (x : ℕ) (one_each : length c ≡ n) 
   }
 
 -- the neighbours of a row are reached one by one
-module _ (n level : ℕ) (row : List (ℕ × First)) (way : First) (c q : List ℕ) (i : ℕ) (l : i < length row) where
+module _ (n level : ℕ) (row : List (ℕ × First)) (wanted : First) (c q : List ℕ) (i : ℕ) (l : i < length row) where
   -- what holds once the entries before j are reached
   abbrev pub AreReached : ℕ → List ℕ → List ℕ → Type 0
-  AreReached j d r = ReachesOnly n (IsNeighbour row way) level c q d r × All (IsReached n d way) (take j row)
+  AreReached j d r = ReachesOnly n (IsNeighbour row wanted) level c q d r × All (IsReached n d wanted) (take j row)
 
   pub reached_step : (d r e s : List ℕ) → AreReached i d r
-      → ReachesOnly n (λ (x : ℕ). (x ≡ (get_or row i (0, Outward)).0) × ((get_or row i (0, Outward)).1 ≡ way)) level d r e s
-      → IsReached n e way (get_or row i (0, Outward)) → AreReached (i + 1) e s
+      → ReachesOnly n (λ (x : ℕ). (x ≡ (get_or row i (0, Outward)).0) × ((get_or row i (0, Outward)).1 ≡ wanted)) level d r e s
+      → IsReached n e wanted (get_or row i (0, Outward)) → AreReached (i + 1) e s
   reached_step d r e s h g here =
       let at : ℕ × First = get_or row i (0, Outward) in
       let stands : Contains row (at.0, at.1) = Contains-get_or row i (0, Outward) l in
-      let before : All (IsReached n e way) (take i row) = λ k x m w z.
+      let before : All (IsReached n e wanted) (take i row) = λ k x m w z.
       let out : ¬ (slice_index d (get_or (take i row) k x).0 ≡ n) = h.1 k x m w in
       out (sym (g.same (get_or (take i row) k x).0 out) ∙ z) in (
-        reaches_more n (IsNeighbour row way) (λ (x : ℕ). (x ≡ at.0) × (at.1 ≡ way)) level c q d r e s h.0 g
-            (λ x p. subst (λ (z : ℕ). Contains row (z, way)) (sym p.0) (subst (λ (b : First). Contains row (at.0, b)) p.1 stands)),
-        All-more (IsReached n e way) row i (0, Outward) l before here,
+        reaches_more n (IsNeighbour row wanted) (λ (x : ℕ). (x ≡ at.0) × (at.1 ≡ wanted)) level c q d r e s h.0 g
+            (λ x p. subst (λ (z : ℕ). Contains row (z, wanted)) (sym p.0) (subst (λ (b : First). Contains row (at.0, b)) p.1 stands)),
+        All-more (IsReached n e wanted) row i (0, Outward) l before here,
       )

@@ -4,8 +4,8 @@ use Rattle.std.proofs.lemmas.List.Elements.{Contains-get_or}
 use Rattle.fr_core.specs.Senses.{first_link}
 use Rattle.fr_graph.proofs.Neighbours.{in_of_row, out_of_row, row_holds}
 use Rattle.fr_graph.specs.Rows.{row}
-use Rattle.fr_graph.specs.declared.rows.First.{First}
-use Rattle.fr_graph.specs.declared.rows.First.TheVariants.{Inward, Outward}
+use Rattle.fr_graph.specs.declared.first.First.{First}
+use Rattle.fr_graph.specs.declared.first.First.TheVariants.{Inward, Outward}
 
 -- each entry of a row is a link
 pub link_of_row : (n : ℕ) (links : List (ℕ × ℕ)) (x w : ℕ) (f : First) → Contains (row n links x) (w, f) → Contains links (first_link x w f)

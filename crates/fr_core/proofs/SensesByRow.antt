@@ -13,8 +13,8 @@ use Rattle.fr_graph.specs.Counts.{IsKept, link_at, links_at}
 use Rattle.fr_graph.specs.Links.{IsNet, Points}
 use Rattle.fr_graph.specs.Rows.{row}
 use Rattle.fr_graph.specs.Turn.{IsSink}
-use Rattle.fr_graph.specs.declared.rows.First.{First}
-use Rattle.fr_graph.specs.declared.rows.First.TheVariants as first
+use Rattle.fr_graph.specs.declared.first.First.{First}
+use Rattle.fr_graph.specs.declared.first.First.TheVariants as first
 
 -- the link that the counts give, and the sense of the link
 pub link_at-first_link : (c : List ℕ) (x w : ℕ) (f : First) → link_at c (first_link x w f) ≡ option_map (link_by x w) (sense_of f (slice_index c x) (slice_index c w))

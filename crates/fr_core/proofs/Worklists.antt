@@ -20,8 +20,8 @@ use Rattle.fr_graph.proofs.TurnedLinks.{net_turned}
 use Rattle.fr_graph.specs.Counts.{AreLawful, links_at}
 use Rattle.fr_graph.specs.Links.{IsNet, Joins, Points}
 use Rattle.fr_graph.specs.Rows.{has_link, row}
-use Rattle.fr_graph.specs.declared.rows.First.{First}
-use Rattle.fr_graph.specs.declared.rows.First.TheVariants.{Outward}
+use Rattle.fr_graph.specs.declared.first.First.{First}
+use Rattle.fr_graph.specs.declared.first.First.TheVariants.{Outward}
 
 pub nodes_push : (n : ℕ) (work : List ℕ) (x : ℕ) → x < n → AreNodes n work → AreNodes n (work ++ x ∷ [])
 nodes_push n work x l all i m =

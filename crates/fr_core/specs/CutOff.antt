@@ -1,7 +1,7 @@
 -- Nodes that have turned, and are joined with no others. For the finisher alone.
 use Rattle.std.specs.Prelude.{ℕ, ◌<◌, List, slice_index}
 use Rattle.fr_graph.specs.Links.{Joins}
-use Rattle.fr_graph.specs.declared.rows.First.{First}
+use Rattle.fr_graph.specs.declared.first.First.{First}
 
 -- the neighbour of a row's entry has turned
 abbrev pub HasTurned : List ℕ → ℕ × First → Type 0

@@ -6,7 +6,7 @@ use Rattle.std.specs.Option.{option_map}
 use Rattle.fr_graph.specs.Links.{Points, Joins, IsAcyclic, IsNet, IsAlone, HasPath, HaveSameLinks}
 use Rattle.fr_graph.specs.Turn.{IsSink, turn}
 use Rattle.fr_graph.specs.Counts.{link_at, links_at, AreLawful}
-use Rattle.fr_graph.specs.declared.rows.First.{First}
+use Rattle.fr_graph.specs.declared.first.First.{First}
 use Rattle.fr_core.specs.Bounds.{MeetsBounds}
 use Rattle.fr_core.specs.Finish.{IsFinish}
 use Rattle.fr_core.specs.History.{Moment, moment_of, after_all, links_after, count_after, turn_count, turn_count_of}

@@ -1,7 +1,7 @@
 -- How a search reaches nodes and queues them. A node is not reached while its count is n. For `finish` alone.
 use Rattle.std.specs.Prelude.{◌≡◌, ℕ, ◌+◌, ◌<◌, ◌≤◌, ◌==◌, ◌⊎◌, List, length, slice_index}
 use Rattle.std.specs.List.{count_by, Contains}
-use Rattle.fr_graph.specs.declared.rows.First.{First}
+use Rattle.fr_graph.specs.declared.first.First.{First}
 
 -- how many nodes are not reached
 abbrev pub unreached_count : ℕ → List ℕ → ℕ
@@ -23,8 +23,8 @@ pub record ReachesOnly (n : ℕ) (P : ℕ → Type 0) (level : ℕ) (c q d r : L
 
 -- x is the neighbour of an entry of the row whose link first points this way
 abbrev pub IsNeighbour : List (ℕ × First) → First → ℕ → Type 0
-IsNeighbour row way x = Contains row (x, way)
+IsNeighbour row wanted x = Contains row (x, wanted)
 
 -- the neighbour of the entry is reached, if its link first points this way
 abbrev pub IsReached : ℕ → List ℕ → First → ℕ × First → Type 0
-IsReached n counts way entry = entry.1 ≡ way → ¬ (slice_index counts entry.0 ≡ n)
+IsReached n counts wanted entry = entry.1 ≡ wanted → ¬ (slice_index counts entry.0 ≡ n)

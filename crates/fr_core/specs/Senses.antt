@@ -1,7 +1,7 @@
 -- Where a link points, as seen from the node x at one of its ends.
 use Rattle.std.specs.Prelude.{ℕ, ◌+◌, ◌==◌, if◌then◌else◌, Option, Some, None}
-use Rattle.fr_graph.specs.declared.rows.First.{First}
-use Rattle.fr_graph.specs.declared.rows.First.TheVariants as first
+use Rattle.fr_graph.specs.declared.first.First.{First}
+use Rattle.fr_graph.specs.declared.first.First.TheVariants as first
 use Rattle.fr_core.specs.declared.directions.Sense.{Sense}
 use Rattle.fr_core.specs.declared.directions.Sense.TheVariants as sense
 

@@ -17,7 +17,7 @@ use fr_graph::{First, Net};
 fn reach(
     net: &Net,
     entry: (u16, First),
-    way: First,
+    wanted: First,
     level: u64,
     counts: &mut [u64],
     queue: &mut Queue<ALL_NODES>,
@@ -26,12 +26,12 @@ fn reach(
     requires node { entry.0 < net.now.nodes }
     requires few { length queue.old + unreached_count net.now.nodes counts.old ≤ net.now.nodes }
     requires low { level ≤ length queue.old }
-    ensures only { ReachesOnly net.now.nodes (λ (x : ℕ). (x ≡ entry.0) × (entry.1 ≡ way)) level
+    ensures only { ReachesOnly net.now.nodes (λ (x : ℕ). (x ≡ entry.0) × (entry.1 ≡ wanted)) level
         counts.old queue.old counts.new queue.new }
-    ensures reached { IsReached net.now.nodes counts.new way entry }
+    ensures reached { IsReached net.now.nodes counts.new wanted entry }
 {
     let (node, first) = entry;
-    if counts[node as usize] != net.nodes() as u64 || first != way {
+    if counts[node as usize] != net.nodes() as u64 || first != wanted {
         return;
     }
     counts[node as usize] = level;
@@ -42,7 +42,7 @@ fn reach(
 fn reach_neighbours(
     net: &Net,
     x: u32,
-    way: First,
+    wanted: First,
     level: u64,
     counts: &mut [u64],
     queue: &mut Queue<ALL_NODES>,
@@ -51,12 +51,12 @@ fn reach_neighbours(
     requires node { x < net.now.nodes }
     requires few { length queue.old + unreached_count net.now.nodes counts.old ≤ net.now.nodes }
     requires low { level ≤ length queue.old }
-    ensures only { ReachesOnly net.now.nodes (IsNeighbour (row net.now.nodes net.now.links x) way) level
+    ensures only { ReachesOnly net.now.nodes (IsNeighbour (row net.now.nodes net.now.links x) wanted) level
         counts.old queue.old counts.new queue.new }
-    ensures reached { All (IsReached net.now.nodes counts.new way) (row net.now.nodes net.now.links x) }
+    ensures reached { All (IsReached net.now.nodes counts.new wanted) (row net.now.nodes net.now.links x) }
 {
     for entry in net.row(x) {
-        reach(net, *entry, way, level, counts, queue);
+        reach(net, *entry, wanted, level, counts, queue);
     }
 }
 

@@ -4,7 +4,7 @@ ghost use Rattle.std.specs.Prelude.{◌≡◌, ℕ, ◌<◌, ◌≤◌, ◌++◌
 ghost use Rattle.fr_graph.specs.Counts.{AreLawful};
 ghost use Rattle.fr_graph.specs.Links.{IsNet};
 ghost use Rattle.fr_graph.specs.Rows.{row};
-ghost use Rattle.fr_graph.specs.declared.rows.First.{First};
+ghost use Rattle.fr_graph.specs.declared.first.First.{First};
 ghost use Rattle.fr_core.specs.Finish.{HoldsAllThatCanTurn};
 ghost use Rattle.fr_core.specs.History.{moment_of};
 ghost use Rattle.fr_core.specs.Legal.{NoneCanTurn};

@@ -6,8 +6,8 @@ use Rattle.crossbeam_deque.specs.Tasks.{Takes, Pops}
 use Rattle.fr_graph.proofs.Neighbours.{Points-has_link, row_entry_known, row_holds}
 use Rattle.fr_graph.specs.Links.{Joins}
 use Rattle.fr_graph.specs.Rows.{has_link, row}
-use Rattle.fr_graph.specs.declared.rows.First.{First}
-use Rattle.fr_graph.specs.declared.rows.First.TheVariants.{Outward}
+use Rattle.fr_graph.specs.declared.first.First.{First}
+use Rattle.fr_graph.specs.declared.first.First.TheVariants.{Outward}
 use Rattle.fr_core.specs.Machine.{neighbour_at}
 use Rattle.fr_core.proofs.RowLinks.{row_below}
 use Rattle.fr_round.specs.Knowledge.{Refuses}

@@ -23,10 +23,10 @@ pub record IsCountAnswer (net : Network) (d : ℕ) (answer : Result (List ℕ) C
 
 module _ {F : Type 0} where
   -- a way to settle counts: it takes all that it can be asked, and gives such answers alone
-  pub record Settles (pre : F → Bor Network → ℕ → Option (Bor (List ℕ)) → List ℕ → Type 0) (post : F → Bor Network → ℕ → Option (Bor (List ℕ)) → List ℕ → Result (List ℕ) CrewFault → Type 0) (way : F) : Type 0 where
-    pub takes : (net : Bor Network) (d : ℕ) (from : Option (Bor (List ℕ))) (turns : List ℕ) → CanAsk net d from turns → pre way net d from turns
-    pub gives : (net : Bor Network) (d : ℕ) (from : Option (Bor (List ℕ))) (turns : List ℕ) (answer : Result (List ℕ) CrewFault) → CanAsk net d from turns → post way net d from turns answer → IsCountAnswer net.now d answer
+  pub record Settles (pre : F → Bor Network → ℕ → Option (Bor (List ℕ)) → List ℕ → Type 0) (post : F → Bor Network → ℕ → Option (Bor (List ℕ)) → List ℕ → Result (List ℕ) CrewFault → Type 0) (settle : F) : Type 0 where
+    pub takes : (net : Bor Network) (d : ℕ) (from : Option (Bor (List ℕ))) (turns : List ℕ) → CanAsk net d from turns → pre settle net d from turns
+    pub gives : (net : Bor Network) (d : ℕ) (from : Option (Bor (List ℕ))) (turns : List ℕ) (answer : Result (List ℕ) CrewFault) → CanAsk net d from turns → post settle net d from turns answer → IsCountAnswer net.now d answer
 
   -- a way that never answers `Start`
   abbrev pub NeverStarts : (post : F → Bor Network → ℕ → Option (Bor (List ℕ)) → List ℕ → Result (List ℕ) CrewFault → Type 0) → F → Type 0
-  NeverStarts post way = (net : Bor Network) (d : ℕ) (from : Option (Bor (List ℕ))) (turns : List ℕ) (answer : Result (List ℕ) CrewFault) → CanAsk net d from turns → post way net d from turns answer → IfErr answer (λ fault. fault ≢ Start)
+  NeverStarts post settle = (net : Bor Network) (d : ℕ) (from : Option (Bor (List ℕ))) (turns : List ℕ) (answer : Result (List ℕ) CrewFault) → CanAsk net d from turns → post settle net d from turns answer → IfErr answer (λ fault. fault ≢ Start)

@@ -14,19 +14,19 @@ use fr_graph::{Net, Turns};
 /// no node, and never `Start` where no node can turn, or where the way never answers it. A closure over `settled_counts` has to state
 /// what that call requires of `from` and `turns`. It costs what the way costs.
 pub fn settled_counts_by<F: Fn(&Net, u32, Option<&[u32]>, Turns) -> Result<Turns, CrewFault>>(
-    way: &F,
+    settle: &F,
     net: &Net,
     dest: u32,
     from: Option<&[u32]>,
     turns: Turns,
 ) -> Result<Turns, CrewFault>
-    requires way { Settles F.pre F.post way.now }
+    requires settle { Settles F.pre F.post settle.now }
     requires from { IfSome from (λ from. HoldsSinks net.now dest from.now) }
     requires none { turns ≡ replicate net.now.nodes 0 }
     ensures settled { IfOk result (IsCounted net.now.nodes dest net.now.links) }
     ensures range { IfErr result (λ fault. (fault ≡ Range) ↔ (net.now.nodes ≤ dest)) }
-    ensures no_start { NeverStarts F.post way.now → IfErr result (λ fault. fault ≢ Start) }
+    ensures no_start { NeverStarts F.post settle.now → IfErr result (λ fault. fault ≢ Start) }
     ensures still { AreSettled net.now.nodes dest net.now.links (replicate net.now.nodes 0) → IfErr result (λ fault. fault ≢ Start) }
 {
-    way(net, dest, from, turns)
+    settle(net, dest, from, turns)
 }

@@ -12,8 +12,8 @@ use Rattle.fr_graph.proofs.TurnedRows.{entry, row_entry_back, row_entry_none}
 use Rattle.fr_graph.specs.Halves.{AreUnjoined}
 use Rattle.fr_graph.specs.Links.{Joins, Points}
 use Rattle.fr_graph.specs.Rows.{row, row_entry}
-use Rattle.fr_graph.specs.declared.rows.First.{First}
-use Rattle.fr_graph.specs.declared.rows.First.TheVariants.{Inward, Outward}
+use Rattle.fr_graph.specs.declared.first.First.{First}
+use Rattle.fr_graph.specs.declared.first.First.TheVariants.{Inward, Outward}
 
 -- the entries with one put before the first that has no lesser neighbour
 abbrev pub with_entry : ℕ × First → List (ℕ × First) → List (ℕ × First)

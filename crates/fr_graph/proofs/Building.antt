@@ -11,8 +11,8 @@ use Rattle.fr_graph.specs.Halves.{AreHalvesOf, AreHalvesRising, ShowsRow, entry_
 use Rattle.fr_graph.specs.Limits.{IsWithinLimits}
 use Rattle.fr_graph.specs.Links.{AreBelow, AreSingle, HasNoSelfLink, IsAcyclic, IsCycle, IsNet, Points, is_between}
 use Rattle.fr_graph.specs.Order.{IsBefore}
-use Rattle.fr_graph.specs.declared.rows.First.TheVariants.{Inward, Outward}
-use Rattle.fr_graph.specs.declared.rows.HalfLink.{HalfLink}
+use Rattle.fr_graph.specs.declared.first.First.TheVariants.{Inward, Outward}
+use Rattle.fr_graph.specs.declared.half_links.HalfLink.{HalfLink}
 
 one_half : (a b c d : Bool) → ¬ ((a ≡ true) × (b ≡ true) × (c ≡ true) × (d ≡ true)) → weigh (a && b) + weigh (d && c) ≡ weigh ((a && b) || (c && d))
 one_half false b false true bar = refl

@@ -16,7 +16,7 @@ use Rattle.fr_graph.specs.Edits.{without}
 use Rattle.fr_graph.specs.Links.{Points, is_between}
 use Rattle.fr_graph.specs.Order.{AreInOrder, IsNotAfter, in_order}
 use Rattle.fr_graph.specs.Rows.{row, row_entry}
-use Rattle.fr_graph.specs.declared.rows.First.{First}
+use Rattle.fr_graph.specs.declared.first.First.{First}
 
 -- whether an entry of x stays where the link between u and v is cut
 abbrev pub stays : ℕ → ℕ → ℕ → ℕ × First → Bool

@@ -20,8 +20,8 @@ use Rattle.fr_graph.specs.Links.{IsNet, Joins, is_between}
 use Rattle.fr_graph.specs.Network.{Network}
 use Rattle.fr_graph.specs.Rows.{row}
 use Rattle.fr_graph.specs.Tables.{Table, row_of, with_row}
-use Rattle.fr_graph.specs.declared.rows.First.{First}
-use Rattle.fr_graph.specs.declared.rows.First.TheVariants.{Inward, Outward}
+use Rattle.fr_graph.specs.declared.first.First.{First}
+use Rattle.fr_graph.specs.declared.first.First.TheVariants.{Inward, Outward}
 
 -- the row of an end of the link that is cut
 not_other : (x w y : ℕ) → y ≢ w → x ≢ w → is_between x w (x, y) ≡ false

@@ -9,7 +9,7 @@ use Rattle.fr_graph.proofs.RowTables.{none_is}
 use Rattle.fr_graph.specs.KeptRows.{AreRows}
 use Rattle.fr_graph.specs.Rows.{alone_count, has_no_neighbour, row}
 use Rattle.fr_graph.specs.Tables.{Table, has_none, row_of, with_row}
-use Rattle.fr_graph.specs.declared.rows.First.{First}
+use Rattle.fr_graph.specs.declared.first.First.{First}
 
 pub row_of_with_row_at : (table : Table) (x : ℕ) (entries : List (ℕ × First)) → x < length table.rows → row_of (with_row table x entries) x ≡ entries
 row_of_with_row_at table x entries inside = get_or-set_same table.rows x entries [] inside

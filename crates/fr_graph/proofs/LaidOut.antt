@@ -10,7 +10,7 @@ use Rattle.fr_graph.proofs.RowTables.{alike_below, length_rows, nowhere, starts_
 use Rattle.fr_graph.specs.Tables.{HasRoomIn, IsTable, KeepsRooms, Table, end_of, has_none, room_between, room_of, row_between, row_of, rows_in, start_of, table_of}
 use Rattle.fr_graph.specs.declared.row_table.Place.{Place}
 use Rattle.fr_graph.specs.declared.row_table.RowTable.TheInside.{Inside}
-use Rattle.fr_graph.specs.declared.rows.First.{First}
+use Rattle.fr_graph.specs.declared.first.First.{First}
 
 -- what stands below a place stays where what follows is laid anew
 pub part_before : {X : Type 0} (xs rest : List X) (s a b : ℕ) → b ≤ s → s ≤ length xs → slice_range (take s xs ++ rest) a b ≡ slice_range xs a b

@@ -7,8 +7,8 @@ use Rattle.fr_graph.proofs.Joining.{path_walks}
 use Rattle.fr_graph.specs.Links.{HasPath, IsCycle, IsPath, Points, end_of}
 use Rattle.fr_graph.specs.PathSearch.{AddsTrail, HasOrigins, IsMeeting, IsTrail, LeadsOn}
 use Rattle.fr_graph.specs.declared.path_search.Meeting.{Meeting}
-use Rattle.fr_graph.specs.declared.rows.First.{First}
-use Rattle.fr_graph.specs.declared.rows.First.TheVariants.{Inward, Outward}
+use Rattle.fr_graph.specs.declared.first.First.{First}
+use Rattle.fr_graph.specs.declared.first.First.TheVariants.{Inward, Outward}
 
 -- a trail goes on by one node more
 pub trail_on : (f : First) (links : List (ℕ × ℕ)) (x : ℕ) (ws : List ℕ) (w : ℕ) → IsTrail f links x ws → LeadsOn f links w (end_of x ws) → IsTrail f links x (ws ++ w ∷ []) × (end_of x (ws ++ w ∷ []) ≡ w)

@@ -9,8 +9,8 @@ use Rattle.fr_graph.proofs.Linking.{IsOneWay, link_below, one_way}
 use Rattle.fr_graph.proofs.Members.{Contains-cases, Contains-head, Contains-tail}
 use Rattle.fr_graph.specs.Links.{IsAlone, IsNet, Joins, Points}
 use Rattle.fr_graph.specs.Rows.{has_link, row, row_entry}
-use Rattle.fr_graph.specs.declared.rows.First.{First}
-use Rattle.fr_graph.specs.declared.rows.First.TheVariants.{Inward, Outward}
+use Rattle.fr_graph.specs.declared.first.First.{First}
+use Rattle.fr_graph.specs.declared.first.First.TheVariants.{Inward, Outward}
 
 -- the neighbours of a row rise
 abbrev pub Rises : List (ℕ × First) → Type 0

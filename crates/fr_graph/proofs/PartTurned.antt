@@ -20,8 +20,8 @@ use Rattle.fr_graph.specs.RowLists.{opposite, turned_entry}
 use Rattle.fr_graph.specs.Rows.{row}
 use Rattle.fr_graph.specs.Tables.{Table, row_of, with_row}
 use Rattle.fr_graph.specs.TurnedRows.{ArePartTurned, all_done, entry_done, is_done, none_done, reversed_at, seen_too}
-use Rattle.fr_graph.specs.declared.rows.First.{First}
-use Rattle.fr_graph.specs.declared.rows.First.TheVariants.{Inward, Outward}
+use Rattle.fr_graph.specs.declared.first.First.{First}
+use Rattle.fr_graph.specs.declared.first.First.TheVariants.{Inward, Outward}
 
 map_alike : {X Y : Type 0} (f g : X → Y) (xs : List X) → ((x : X) → Contains xs x → f x ≡ g x) → map f xs ≡ map g xs
 map_alike f g [] same = refl

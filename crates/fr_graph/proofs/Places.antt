@@ -13,8 +13,8 @@ use Rattle.fr_graph.proofs.Neighbours.{Rises, in_of_row, out_of_row, row_of_in, 
 use Rattle.fr_graph.specs.Edits.{without}
 use Rattle.fr_graph.specs.Links.{AreSingle, IsNet, Joins, Points, is_between}
 use Rattle.fr_graph.specs.Rows.{row}
-use Rattle.fr_graph.specs.declared.rows.First.{First}
-use Rattle.fr_graph.specs.declared.rows.First.TheVariants.{Inward, Outward}
+use Rattle.fr_graph.specs.declared.first.First.{First}
+use Rattle.fr_graph.specs.declared.first.First.TheVariants.{Inward, Outward}
 
 -- a test that all elements pass but one
 pub filter_one : {X : Type 0} (t : X → Bool) (xs : List X) (k : ℕ) (d : X) → k < length xs → t (get_or xs k d) ≡ false → ((i : ℕ) (e : X) → i < length xs → i ≢ k → t (get_or xs i e) ≡ true) → filter t xs ≡ remove xs k

@@ -17,7 +17,7 @@ use Rattle.fr_graph.specs.RowLists.{out_links, rows_below}
 use Rattle.fr_graph.specs.Rows.{has_link, row, row_entry}
 use Rattle.fr_graph.specs.Tables.{KeepsRooms, Table, row_of}
 use Rattle.fr_graph.specs.declared.graph.Graph.{Graph}
-use Rattle.fr_graph.specs.declared.rows.First.{First}
+use Rattle.fr_graph.specs.declared.first.First.{First}
 
 -- rows depend on which links there are alone
 same_test : (a b : List (ℕ × ℕ)) (u v : ℕ) → (Points a u v → Points b u v) → (Points b u v → Points a u v) → has_link a u v ≡ has_link b u v

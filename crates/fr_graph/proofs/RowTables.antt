@@ -17,7 +17,7 @@ use Rattle.fr_graph.proofs.RowsInPlace.{length_put, starts_up}
 use Rattle.fr_graph.specs.Tables.{ArePacked, HasRoomIn, IsTable, Table, end_of, has_none, place_between, places_of, room_between, room_of, row_between, row_of, rows_in, start_of, table_of, with_row}
 use Rattle.fr_graph.specs.declared.row_table.Place.{Place}
 use Rattle.fr_graph.specs.declared.row_table.RowTable.TheInside.{Inside}
-use Rattle.fr_graph.specs.declared.rows.First.{First}
+use Rattle.fr_graph.specs.declared.first.First.{First}
 
 -- entries written over one by one, one more of them
 pub shifted_more : {X : Type 0} (xs ys : List X) (i : ℕ) (d : X) → i < length xs → i < length ys → set (take i ys ++ drop i xs) i (get_or ys i d) ≡ take (i + 1) ys ++ drop (i + 1) xs

@@ -14,8 +14,8 @@ use Rattle.fr_graph.specs.declared.cycle.Mark.{Mark}
 use Rattle.fr_graph.specs.declared.cycle.Mark.TheVariants.{Done, Fresh, Open}
 use Rattle.fr_graph.specs.declared.cycle.Search.{Search}
 use Rattle.fr_graph.specs.declared.cycle.Step.{Step}
-use Rattle.fr_graph.specs.declared.rows.First.{First}
-use Rattle.fr_graph.specs.declared.rows.First.TheVariants.{Outward}
+use Rattle.fr_graph.specs.declared.first.First.{First}
+use Rattle.fr_graph.specs.declared.first.First.TheVariants.{Outward}
 
 -- how far rows were read, as more nodes are done
 pub reads_stay : (rows : Table) (old new : List Mark) (path : List Step) → ((x : ℕ) → mark_of old x ≡ Done → mark_of new x ≡ Done) → All (HasRead rows old) path → All (HasRead rows new) path

@@ -14,8 +14,8 @@ use Rattle.fr_graph.specs.Links.{AreBelow, HaveSameLinks, Points}
 use Rattle.fr_graph.specs.RowLists.{link_to, out_links}
 use Rattle.fr_graph.specs.Rows.{row}
 use Rattle.fr_graph.specs.Tables.{Table, row_of}
-use Rattle.fr_graph.specs.declared.rows.First.{First}
-use Rattle.fr_graph.specs.declared.rows.First.TheVariants.{Outward}
+use Rattle.fr_graph.specs.declared.first.First.{First}
+use Rattle.fr_graph.specs.declared.first.First.TheVariants.{Outward}
 
 -- a link stands in the row of its tail
 pub row_of_shown : (n : ℕ) (table : Table) (x w : ℕ) → Points (links_in n table) x w → (x < n) × Contains (row_of table x) (w, Outward)

@@ -17,8 +17,8 @@ use Rattle.fr_graph.specs.Links.{AreSingle, IsNet, Points, is_between}
 use Rattle.fr_graph.specs.Order.{AreInOrder, IsBefore, IsNotAfter, in_order}
 use Rattle.fr_graph.specs.RowLists.{link_to, opposite, out_links, rows_below, turned_entry}
 use Rattle.fr_graph.specs.Rows.{has_link, row, row_entry}
-use Rattle.fr_graph.specs.declared.rows.First.{First}
-use Rattle.fr_graph.specs.declared.rows.First.TheVariants.{Inward, Outward}
+use Rattle.fr_graph.specs.declared.first.First.{First}
+use Rattle.fr_graph.specs.declared.first.First.TheVariants.{Inward, Outward}
 
 not_linked : (links : List (ℕ × ℕ)) (u v : ℕ) → ¬ Points links u v → has_link links u v ≡ false
 not_linked links u v bar = elim (cases_Bool (has_link links u v)) [ inl e ↦ absurd (bar (Points-has_link links u v e)) | inr e ↦ e ]

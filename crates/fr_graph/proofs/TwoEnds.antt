@@ -12,7 +12,7 @@ use Rattle.fr_graph.proofs.Cycles.{node_cases}
 use Rattle.fr_graph.proofs.Neighbours.{entry_is, in_of_row, out_of_row, row_holds, row_of_in, row_of_out}
 use Rattle.fr_graph.specs.Heights.{AreFalling, FitBetween}
 use Rattle.fr_graph.specs.Links.{HasPath, IsNet, IsPath, Points, end_of}
-use Rattle.fr_graph.specs.PathSearch.{HasBegun, HasMet, HasMetMore, HasMovedEdge, HasOrigins, HasPassed, IsBeyond, IsMeeting, IsPast, IsMetOrAside, IsSide, IsWay, LeadsOn, LiesOn, MeetAlong, MeetsNew, is_never, link_by, met_by, met_of, never_count, way_of_ended, start_of}
+use Rattle.fr_graph.specs.PathSearch.{HasBegun, HasMet, HasMetMore, HasMovedEdge, HasOrigins, HasPassed, IsBeyond, IsMeeting, IsPast, IsMetOrAside, IsSide, IsPathAnswer, LeadsOn, LiesOn, MeetAlong, MeetsNew, is_never, link_by, met_by, met_of, never_count, answer_of_ended, start_of}
 use Rattle.fr_graph.specs.Network.{Network}
 use Rattle.fr_graph.specs.RowLists.{opposite}
 use Rattle.fr_graph.specs.Rows.{row}
@@ -20,8 +20,8 @@ use Rattle.fr_graph.specs.declared.path_search.Meeting.{Meeting}
 use Rattle.fr_graph.specs.declared.path_search.Met.{Met}
 use Rattle.fr_graph.specs.declared.path_search.Met.TheVariants.{Backward, Forward, Never}
 use Rattle.fr_graph.specs.declared.path_search.Side.{Side}
-use Rattle.fr_graph.specs.declared.rows.First.{First}
-use Rattle.fr_graph.specs.declared.rows.First.TheVariants.{Inward, Outward}
+use Rattle.fr_graph.specs.declared.first.First.{First}
+use Rattle.fr_graph.specs.declared.first.First.TheVariants.{Inward, Outward}
 
 -- the links that the row of a node shows in one direction
 leads_by_row : (f : First) (n : ℕ) (links : List (ℕ × ℕ)) (x w : ℕ) → Contains (row n links x) (w, f) → LeadsOn f links x w
@@ -421,7 +421,7 @@ old_falls : (heights : List ℕ) (links : List (ℕ × ℕ)) (a b u v : ℕ) →
 old_falls heights links a b u v falling p old = elim (points_added links a b u v p) [ inl step ↦ falling u v step | inr new ↦ absurd (old new) ]
 
 -- so it is decided whether links lead from the one node to the other, once a side has read all rows of its nodes
-pub ended_ahead : {net : Network} {heights : List ℕ} {from to : ℕ} {met : List Met} {ahead behind : Side} → AreFalling heights net.links → IsSide net heights Outward from (slice_index heights to) met ahead → IsSide net heights Inward to (slice_index heights from) met behind → length ahead.nodes.items ≤ ahead.read → IsWay net heights from to (way_of_ended ahead)
+pub ended_ahead : {net : Network} {heights : List ℕ} {from to : ℕ} {met : List Met} {ahead behind : Side} → AreFalling heights net.links → IsSide net heights Outward from (slice_index heights to) met ahead → IsSide net heights Inward to (slice_index heights from) met behind → length ahead.nodes.items ≤ ahead.read → IsPathAnswer net heights from to (answer_of_ended ahead)
 ended_ahead {net} {heights} {from} {to} {met} {ahead} {behind} falling s o all =
     let links = net.links in
     let here : Contains ahead.nodes.items from = s.listed from (start_met s) in
@@ -445,7 +445,7 @@ ended_ahead {net} {heights} {from} {to} {met} {ahead} {behind} falling s o all =
     let first_is = s.first_is in
     rw (first_is, s.limit_is) (none, (λ k d l. met_below _ s (s.all_met k d l), fit))
 
-pub ended_behind : {net : Network} {heights : List ℕ} {from to : ℕ} {met : List Met} {ahead behind : Side} → AreFalling heights net.links → IsSide net heights Outward from (slice_index heights to) met ahead → IsSide net heights Inward to (slice_index heights from) met behind → length behind.nodes.items ≤ behind.read → IsWay net heights from to (way_of_ended behind)
+pub ended_behind : {net : Network} {heights : List ℕ} {from to : ℕ} {met : List Met} {ahead behind : Side} → AreFalling heights net.links → IsSide net heights Outward from (slice_index heights to) met ahead → IsSide net heights Inward to (slice_index heights from) met behind → length behind.nodes.items ≤ behind.read → IsPathAnswer net heights from to (answer_of_ended behind)
 ended_behind {net} {heights} {from} {to} {met} {ahead} {behind} falling o s all =
     let links = net.links in
     let here : Contains behind.nodes.items to = s.listed to (start_met s) in

@@ -11,8 +11,8 @@ use Rattle.fr_graph.specs.declared.cycle.Mark.{Mark}
 use Rattle.fr_graph.specs.declared.cycle.Mark.TheVariants.{Fresh, Open, Done}
 use Rattle.fr_graph.specs.declared.cycle.Search.{Search}
 use Rattle.fr_graph.specs.declared.cycle.Step.{Step}
-use Rattle.fr_graph.specs.declared.rows.First.{First}
-use Rattle.fr_graph.specs.declared.rows.First.TheVariants.{Outward}
+use Rattle.fr_graph.specs.declared.first.First.{First}
+use Rattle.fr_graph.specs.declared.first.First.TheVariants.{Outward}
 
 abbrev pub mark_of : List Mark → ℕ → Mark
 mark_of marks x = slice_index_or marks x Fresh

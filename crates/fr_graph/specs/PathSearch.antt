@@ -8,10 +8,10 @@ use Rattle.fr_graph.specs.declared.path_search.Met.{Met}
 use Rattle.fr_graph.specs.declared.path_search.Met.TheVariants.{Never, Forward, Backward}
 use Rattle.fr_graph.specs.declared.path_search.Meeting.{Meeting}
 use Rattle.fr_graph.specs.declared.path_search.Side.{Side}
-use Rattle.fr_graph.specs.declared.path_search.Way.{Way}
-use Rattle.fr_graph.specs.declared.path_search.Way.TheVariants.{Leads, Ends}
-use Rattle.fr_graph.specs.declared.rows.First.{First}
-use Rattle.fr_graph.specs.declared.rows.First.TheVariants.{Outward, Inward}
+use Rattle.fr_graph.specs.declared.path_search.PathAnswer.{PathAnswer}
+use Rattle.fr_graph.specs.declared.path_search.PathAnswer.TheVariants.{Leads, Ends}
+use Rattle.fr_graph.specs.declared.first.First.{First}
+use Rattle.fr_graph.specs.declared.first.First.TheVariants.{Outward, Inward}
 
 -- a link leads on from x to w for the side that goes this way: along the link, or against it
 abbrev pub LeadsOn : First → List (ℕ × ℕ) → ℕ → ℕ → Type 0
@@ -174,8 +174,8 @@ abbrev pub high_of : First → ℕ → ℕ → ℕ
 high_of Outward limit edge = limit
 high_of Inward limit edge = edge
 
-abbrev pub way_of_ended : Side → Way
-way_of_ended side = Ends side.nodes (low_of side.first side.limit side.edge) (high_of side.first side.limit side.edge)
+abbrev pub answer_of_ended : Side → PathAnswer
+answer_of_ended side = Ends side.nodes (low_of side.first side.limit side.edge) (high_of side.first side.limit side.edge)
 
 -- the sides have met the two ends of this link
 pub record MeetAlong (links : List (ℕ × ℕ)) (met : List Met) (link : ℕ × ℕ) : Type 0 where
@@ -195,7 +195,7 @@ pub record IsMeeting (links : List (ℕ × ℕ)) (from to : ℕ) (meeting : Meet
 
 -- whether the links lead from the one node to the other; where they do not, nodes that make all links fall, and a link back too, once they
 -- stand between two heights
-abbrev pub IsWay : Network → List ℕ → ℕ → ℕ → Way → Type 0
-IsWay net heights from to (Leads meeting) = IsMeeting net.links from to meeting
-IsWay net heights from to (Ends nodes low high) =
+abbrev pub IsPathAnswer : Network → List ℕ → ℕ → ℕ → PathAnswer → Type 0
+IsPathAnswer net heights from to (Leads meeting) = IsMeeting net.links from to meeting
+IsPathAnswer net heights from to (Ends nodes low high) =
     ¬ HasPath net.links from to × (All (λ (x : ℕ). x < net.nodes) nodes.items × FitBetween (net.links ++ (to, from) ∷ []) heights nodes.items low high)

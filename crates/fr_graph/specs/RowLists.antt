@@ -2,8 +2,8 @@
 -- For the making of a `Net` alone.
 use Rattle.std.specs.Prelude.{ℕ, zero, suc, ◌++◌, ◌==◌, if◌then◌else◌, List, [], slice_index, Option, Some, None}
 use Rattle.std.specs.List.{filter_map}
-use Rattle.fr_graph.specs.declared.rows.First.{First}
-use Rattle.fr_graph.specs.declared.rows.First.TheVariants.{Outward, Inward}
+use Rattle.fr_graph.specs.declared.first.First.{First}
+use Rattle.fr_graph.specs.declared.first.First.TheVariants.{Outward, Inward}
 
 -- the rows of the nodes below k, one after the other
 abbrev pub rows_below : {X : Type 0} → ℕ → (ℕ → List X) → List X

@@ -1,8 +1,8 @@
 -- The neighbours of a node, as a row.
 use Rattle.std.specs.Prelude.{ℕ, zero, suc, ◌==◌, ◌&&◌, ◌++◌, Bool, if◌then◌else◌, List, [], length, Option, Some, None, option_to_list, count_by}
 use Rattle.std.specs.List.{list_any, range_with_len}
-use Rattle.fr_graph.specs.declared.rows.First.{First}
-use Rattle.fr_graph.specs.declared.rows.First.TheVariants.{Outward, Inward}
+use Rattle.fr_graph.specs.declared.first.First.{First}
+use Rattle.fr_graph.specs.declared.first.First.TheVariants.{Outward, Inward}
 
 -- whether a link points from u to v
 abbrev pub has_link : List (ℕ × ℕ) → ℕ → ℕ → Bool

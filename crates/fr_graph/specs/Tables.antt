@@ -3,7 +3,7 @@ use Rattle.std.specs.Prelude.{◌≡◌, ℕ, ◌<◌, ◌≤◌, ◌+◌, ◌-�
 use Rattle.std.specs.List.{range_with_len}
 use Rattle.fr_graph.specs.declared.row_table.Place.{Place}
 use Rattle.fr_graph.specs.declared.row_table.RowTable.TheInside.{Inside}
-use Rattle.fr_graph.specs.declared.rows.First.{First}
+use Rattle.fr_graph.specs.declared.first.First.{First}
 
 -- the rows, and how many entries each has room for
 pub record Table : Type 0 where

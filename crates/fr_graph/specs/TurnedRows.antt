@@ -5,7 +5,7 @@ use Rattle.fr_graph.specs.Network.{Network}
 use Rattle.fr_graph.specs.RowLists.{opposite, turned_entry}
 use Rattle.fr_graph.specs.Rows.{row}
 use Rattle.fr_graph.specs.Tables.{Table, row_of}
-use Rattle.fr_graph.specs.declared.rows.First.{First}
+use Rattle.fr_graph.specs.declared.first.First.{First}
 
 -- whether the entry of w in the row of y is done with, by the nodes that have been seen to: a node that has turned sees to its own row,
 -- and in those of nodes that have not to its own entries

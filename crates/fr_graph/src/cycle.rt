@@ -8,8 +8,8 @@ ghost use Rattle.fr_graph.specs.Links.{IsAcyclic};
 ghost use Rattle.fr_graph.specs.CycleSearch.{AreEntriesBelow, IsFound, IsPassed, IsSearch, KeepsSeen, LeadsBack, LeadsTo, LeadsToDone, LeadsToOther, left_count, mark_of, nodes_of};
 ghost use Rattle.fr_graph.specs.Tables.{Table};
 
+use crate::first::First;
 use crate::row_table::RowTable;
-use crate::rows::First;
 use std::alloc::{AllocError, Global};
 
 /// How far the search has come with a node: not met, on the path, or left with no closed walk from it.

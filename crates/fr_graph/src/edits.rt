@@ -9,9 +9,9 @@ ghost use Rattle.fr_graph.specs.KeptRows.{AreRows, ShowsLink, ShowsNoLink};
 ghost use Rattle.fr_graph.specs.Limits.{most_nodes};
 ghost use Rattle.fr_graph.specs.Tables.{HasRoomIn, row_of, with_row};
 
+use crate::first::First;
 use crate::row::place_in_row;
 use crate::row_table::RowTable;
-use crate::rows::First;
 
 /// Takes the entry of `w` out of the row of `x`, which has one.
 fn cut_entry(rows: &mut RowTable, x: u32, w: u32)

@@ -20,12 +20,12 @@ use crate::cycle::{Found, find_cycle};
 use crate::edit::Edit;
 use crate::edits::{cut_from_rows, put_in_rows};
 use crate::fault::{EditFault, NetFault};
+use crate::first::First;
 use crate::heights::Heights;
 use crate::limits::MAX_LINKS;
-use crate::path_search::{Meeting, Way, way_between};
+use crate::path_search::{Meeting, PathAnswer, path_between};
 use crate::row::place_in_row;
 use crate::row_table::RowTable;
-use crate::rows::First;
 use std::alloc::{AllocError, Global};
 
 /// The rows of a network's nodes, which show its links, and heights along which these fall.
@@ -182,7 +182,7 @@ impl Graph {
 
     /// Where the links lead from `v` to `u`, what shows it. The heights tell mostly that they do not; where it takes a search to tell so, a
     /// link from `u` to `v` falls behind it, if there is room between the heights.
-    fn way_back(&mut self, alloc: Global, u: u32, v: u32) -> Result<Option<Meeting>, AllocError>
+    fn path_back(&mut self, alloc: Global, u: u32, v: u32) -> Result<Option<Meeting>, AllocError>
         requires graph { IsGraph self.old }
         requires nodes { AreUnjoined self.old.nodes (shown self.old).links u v }
         ensures same { IsSame self.old self.new }
@@ -193,9 +193,9 @@ impl Graph {
         if self.heights.falls(u, v) {
             return Ok(None);
         }
-        match way_between(alloc, &self.rows, &self.heights, v, u)? {
-            Way::Leads(meeting) => Ok(Some(meeting)),
-            Way::Ends { nodes, low, high } => {
+        match path_between(alloc, &self.rows, &self.heights, v, u)? {
+            PathAnswer::Leads(meeting) => Ok(Some(meeting)),
+            PathAnswer::Ends { nodes, low, high } => {
                 self.heights.put_between(nodes, low, high);
                 Ok(None)
             }
@@ -209,7 +209,7 @@ impl Graph {
         ensures same { IsSame self.old self.new }
         ensures leads { IfOk result (λ found. IsTrue found ↔ HasPath (shown self.old).links v u) }
     {
-        Ok(self.way_back(alloc, u, v)?.is_some())
+        Ok(self.path_back(alloc, u, v)?.is_some())
     }
 
     /// Takes out the link between `u` and `v`, whichever way it points.
@@ -235,7 +235,7 @@ impl Graph {
         ensures unchanged { OnErr result (IsSame self.old self.new) }
     {
         self.test_join(u, v)?;
-        if let Some(meeting) = self.way_back(alloc, u, v)? {
+        if let Some(meeting) = self.path_back(alloc, u, v)? {
             return Err(NetFault::Cycle(meeting.closed_walk(alloc)?));
         }
         self.make_room(alloc, u, v)?;

@@ -23,11 +23,12 @@ use crate::checks::{first_outside, first_self_link};
 use crate::cycle::{Found, find_cycle};
 use crate::edit::Edit;
 use crate::fault::{EditFault, NetFault, NotEdited};
+use crate::first::First;
 use crate::graph::Graph;
+use crate::half_links::{HalfLink, entries_of, first_twice, sorted_halves};
 use crate::heights::Heights;
 use crate::limits::{MAX_EDITS, MAX_LINKS, MAX_NODES};
 use crate::row_table::RowTable;
-use crate::rows::{First, HalfLink, entries_of, first_twice, sorted_halves};
 use crate::turned::{links_of_rows, turn_rows};
 use crate::turns::Turns;
 use std::alloc::{AllocError, Global};
@@ -285,9 +286,9 @@ impl Net {
         Ok(Net { graph })
     }
 
-    /// Makes these edits where the network stands, each on the links that those before it left, if `way` then answers Ok of the
-    /// network that they make, and answers what it answers. What `way` requires has to hold of that network. `Refused` where an edit is
-    /// refused, as by `with_edits`, or no room could be had, and `Fault` with the fault that `way` answers: then the edits are undone, and
+    /// Makes these edits where the network stands, each on the links that those before it left, if `accept` then answers Ok of the
+    /// network that they make, and answers what it answers. What `accept` requires has to hold of that network. `Refused` where an edit is
+    /// refused, as by `with_edits`, or no room could be had, and `Fault` with the fault that `accept` answers: then the edits are undone, and
     /// the network is as it was. `O(d)` an edit; an added link or join is mostly a look at two heights, else a search between them with
     /// tables of `O(n)`; `O(n + m)` where heights that are not known are made anew, or where a row is full, so that all are laid out anew,
     /// with room to grow.
@@ -295,12 +296,12 @@ impl Net {
         &mut self,
         alloc: Global,
         edits: &[Edit],
-        way: F,
+        accept: F,
     ) -> Result<T, NotEdited<E>>
-        requires callable { (made : Bor Network) → AreMade self.old edits.now made.now → F.pre way made }
+        requires callable { (made : Bor Network) → AreMade self.old edits.now made.now → F.pre accept made }
         ensures few { OnOk result (length edits.now ≤ most_edits) }
-        ensures ok { IfOk result (λ answer. AreMade self.old edits.now self.new × FnOnceReturnsAt F.FnOnce way self.new (Ok answer)) }
-        ensures refused { IfErr result (IsNotEdited self.old edits.now (FnOnceReturnsAt F.FnOnce way)) }
+        ensures ok { IfOk result (λ answer. AreMade self.old edits.now self.new × FnOnceReturnsAt F.FnOnce accept self.new (Ok answer)) }
+        ensures refused { IfErr result (IsNotEdited self.old edits.now (FnOnceReturnsAt F.FnOnce accept)) }
         ensures unchanged { OnErr result (self.new ≡ self.old) }
     {
         if let Err(refused) = test_few(edits) {
@@ -310,7 +311,7 @@ impl Net {
             Ok(done) => done,
             Err(refused) => return Err(NotEdited::Refused(refused)),
         };
-        match way(self) {
+        match accept(self) {
             Ok(answer) => Ok(answer),
             Err(fault) => {
                 self.graph.undo_all(done);

@@ -8,11 +8,11 @@ ghost use Rattle.fr_graph.specs.Heights.{AreFalling};
 ghost use Rattle.fr_graph.specs.KeptRows.{ShowsNet, net_in};
 ghost use Rattle.fr_graph.specs.Links.{IsCycle};
 ghost use Rattle.fr_graph.specs.RowLists.{opposite};
-ghost use Rattle.fr_graph.specs.PathSearch.{AddsTrail, HasBegun, HasMet, HasMetMore, HasOrigins, HasRoom, IsBeyond, IsMeeting, IsPast, IsSide, IsWay, LiesOn, MeetAlong, MeetsNew, link_by, met_by, start_of, unread_count, way_of_ended};
+ghost use Rattle.fr_graph.specs.PathSearch.{AddsTrail, HasBegun, HasMet, HasMetMore, HasOrigins, HasRoom, IsBeyond, IsMeeting, IsPast, IsSide, IsPathAnswer, LiesOn, MeetAlong, MeetsNew, link_by, met_by, start_of, unread_count, answer_of_ended};
 
+use crate::first::First;
 use crate::heights::Heights;
 use crate::row_table::RowTable;
-use crate::rows::First;
 use std::alloc::{AllocError, Global};
 
 /// Which side of the search has met a node.
@@ -37,7 +37,7 @@ impl Met {
 
 /// Whether links lead from one node to another.
 #[derive(Drop)]
-pub(crate) enum Way {
+pub(crate) enum PathAnswer {
     /// They do: the sides of the search have met.
     Leads(Meeting),
     /// They do not, and a link back falls once these nodes stand between the two heights.
@@ -172,14 +172,14 @@ impl Side {
     }
 
     /// Where the side has nothing left to read: its nodes, and the heights between which they can stand.
-    fn ended(self) -> Way
-        ensures { result ≡ way_of_ended self }
+    fn ended(self) -> PathAnswer
+        ensures { result ≡ answer_of_ended self }
     {
         let (low, high) = match self.first {
             First::Outward => (self.edge, self.limit),
             First::Inward => (self.limit, self.edge),
         };
-        Way::Ends {
+        PathAnswer::Ends {
             nodes: self.nodes,
             low,
             high,
@@ -289,13 +289,13 @@ impl Meeting {
 }
 
 /// Whether the links, which all fall, lead from `from` to `to`, which lies no higher.
-pub(crate) fn way_between(
+pub(crate) fn path_between(
     alloc: Global,
     rows: &RowTable,
     heights: &Heights,
     from: u32,
     to: u32,
-) -> Result<Way, AllocError>
+) -> Result<PathAnswer, AllocError>
     requires rows { ShowsNet rows.now }
     requires one_each { length heights.now.heights ≡ length rows.now.rows }
     requires falling { AreFalling heights.now.heights (net_in rows.now).links }
@@ -303,7 +303,7 @@ pub(crate) fn way_between(
     requires to { to < length rows.now.rows }
     requires apart { from ≢ to }
     requires no_higher { slice_index heights.now.heights to ≤ slice_index heights.now.heights from }
-    ensures { IfOk result (IsWay (net_in rows.now) heights.now.heights from to) }
+    ensures { IfOk result (IsPathAnswer (net_in rows.now) heights.now.heights from to) }
 {
     let nodes = rows.len();
     let mut table = vec![in alloc; Met::Never; nodes]?;
@@ -320,7 +320,7 @@ pub(crate) fn way_between(
             behind.read_next(rows, heights, met)
         };
         if let Some(link) = met_along {
-            return Ok(Way::Leads(Meeting {
+            return Ok(PathAnswer::Leads(Meeting {
                 ahead,
                 behind,
                 link,

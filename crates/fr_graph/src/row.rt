@@ -5,7 +5,7 @@ ghost use Rattle.std.specs.List.Sorted.{IsNonDecreasingBy, IsStrictlyIncreasing}
 ghost use Rattle.fr_graph.specs.RowLists.{turned_entry};
 ghost use Rattle.fr_graph.specs.TurnedRows.{reversed_at};
 
-use crate::rows::First;
+use crate::first::First;
 
 /// The first place in the row, which is in rising order of the neighbour, whose neighbour is not below `w`.
 pub(crate) fn place_in_row(row: &[(u16, First)], w: u32) -> usize

@@ -7,11 +7,11 @@ ghost use Rattle.std.specs.List.Sorted.{IsStrictlyIncreasing};
 ghost use Rattle.fr_graph.specs.RowLists.{turned_entry};
 ghost use Rattle.fr_graph.specs.Tables.{ArePacked, HasRoomIn, KeepsRooms, end_at, has_none, places_of, room_of, row_of, start_at, with_row};
 ghost use Rattle.fr_graph.specs.TurnedRows.{reversed_at};
-ghost use Rattle.fr_graph.specs.declared.rows.First.TheVariants.{Outward};
+ghost use Rattle.fr_graph.specs.declared.first.First.TheVariants.{Outward};
 
+use crate::first::First;
 use crate::limits::MAX_LINKS;
 use crate::row::{reverse_entry, turn_row};
-use crate::rows::First;
 use std::alloc::{AllocError, Global};
 use std::marker::Model;
 

@@ -6,8 +6,8 @@ ghost use Rattle.fr_graph.specs.KeptRows.{links_in};
 ghost use Rattle.fr_graph.specs.RowLists.{out_links};
 ghost use Rattle.fr_graph.specs.TurnedRows.{ArePartTurned, all_done, is_done, none_done, seen_too};
 
+use crate::first::First;
 use crate::row_table::RowTable;
-use crate::rows::First;
 use crate::turns::Turns;
 use std::alloc::{AllocError, Global};
 

@@ -5,8 +5,8 @@ use Rattle.std.specs.List.{All}
 use Rattle.std.proofs.lemmas.List.Elements.{All-contains, All-from_get_or}
 use Rattle.fr_graph.specs.Links.{IsNet}
 use Rattle.fr_graph.specs.Rows.{row}
-use Rattle.fr_graph.specs.declared.rows.First.{First}
-use Rattle.fr_graph.specs.declared.rows.First.TheVariants.{Outward, Inward}
+use Rattle.fr_graph.specs.declared.first.First.{First}
+use Rattle.fr_graph.specs.declared.first.First.TheVariants.{Outward, Inward}
 use Rattle.fr_graph.proofs.Neighbours.{row_of_in, row_of_out}
 use Rattle.fr_core.specs.Machine.{bound_of, neighbour_at}
 use Rattle.fr_core.specs.declared.entry.Reply.TheVariants.{Held}

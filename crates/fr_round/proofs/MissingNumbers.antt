@@ -12,8 +12,8 @@ use Rattle.fr_graph.proofs.Neighbours.{Points-has_link, row_entry_known, row_ent
 use Rattle.fr_graph.specs.Links.{IsNet}
 use Rattle.fr_graph.specs.RowLists.{opposite}
 use Rattle.fr_graph.specs.Rows.{has_link, row, row_entry}
-use Rattle.fr_graph.specs.declared.rows.First.{First}
-use Rattle.fr_graph.specs.declared.rows.First.TheVariants.{Inward, Outward}
+use Rattle.fr_graph.specs.declared.first.First.{First}
+use Rattle.fr_graph.specs.declared.first.First.TheVariants.{Inward, Outward}
 use Rattle.fr_core.specs.Machine.{bound_of}
 use Rattle.fr_round.specs.declared.seen.Seen.{Seen}
 use Rattle.fr_round.specs.Missing.{IsCounted, misses, missing_of}

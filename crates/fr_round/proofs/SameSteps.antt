@@ -3,8 +3,8 @@ use Rattle.std.proofs.Common.{Bool, List, ap, arith, eqb, eqb-true, false, lengt
 use Rattle.std.specs.Prelude.{IsSome, if◌then◌else◌}
 use Rattle.std.proofs.lemmas.Bool.{eqb-false}
 use Rattle.fr_graph.specs.Rows.{row}
-use Rattle.fr_graph.specs.declared.rows.First.{First}
-use Rattle.fr_graph.specs.declared.rows.First.TheVariants.{Inward, Outward}
+use Rattle.fr_graph.specs.declared.first.First.{First}
+use Rattle.fr_graph.specs.declared.first.First.TheVariants.{Inward, Outward}
 use Rattle.fr_core.specs.Machine.{Outcome, bound_of, decides, goes_on, load_neighbour, neighbour_at, phase_unheld}
 use Rattle.fr_core.specs.Targets.{node_of}
 use Rattle.fr_core.specs.declared.entry.Reply.TheVariants.{Cut, Held, Moved, Sink, Turned}

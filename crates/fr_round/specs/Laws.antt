@@ -6,8 +6,8 @@ use prog.Atomic.{either}
 use Rattle.atomic_table.specs.Table.{State, Step, Me, Allows, Splits, Joins, Enters, opening, step}
 use Rattle.fr_graph.specs.Links.{IsNet, Points}
 use Rattle.fr_graph.specs.Rows.{row}
-use Rattle.fr_graph.specs.declared.rows.First.{First}
-use Rattle.fr_graph.specs.declared.rows.First.TheVariants.{Outward, Inward}
+use Rattle.fr_graph.specs.declared.first.First.{First}
+use Rattle.fr_graph.specs.declared.first.First.TheVariants.{Outward, Inward}
 use Rattle.fr_core.specs.History.{part}
 use Rattle.fr_core.specs.Machine.{Outcome, WorkerState, all_but_first, outcome, neighbour_at, phase_unheld}
 use Rattle.fr_core.specs.Runs.{IsRunTo}

@@ -1,7 +1,7 @@
 -- Of how many neighbours of a node the seen counts miss their bounds. For the fields of a worker alone.
 use Rattle.std.specs.Prelude.{◌≡◌, ℕ, ◌<◌, Bool, nat_lt, List, length, slice_index, count_by}
 use Rattle.fr_graph.specs.Rows.{row}
-use Rattle.fr_graph.specs.declared.rows.First.{First}
+use Rattle.fr_graph.specs.declared.first.First.{First}
 use Rattle.fr_core.specs.Machine.{bound_of}
 use Rattle.fr_round.specs.declared.seen.Seen.{Seen}
 

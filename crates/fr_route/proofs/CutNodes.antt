@@ -20,7 +20,7 @@ use Rattle.fr_crew.specs.Settlements.{IsCounted}
 use Rattle.fr_route.proofs.RoundEnds.{alone_cut_off, capped_cut_off, lawful, round_end, round_joined, round_joins, round_net}
 use Rattle.fr_route.proofs.Routing.{route_joined}
 use Rattle.fr_route.proofs.Touched.{into_filter}
-use Rattle.fr_route.specs.Outcomes.{cut_off_nodes, lone_count, state_after}
+use Rattle.fr_route.specs.Outcomes.{cut_off_nodes, lone_count, settled_state}
 use Rattle.fr_route.specs.Routes.{IsHop, AreHops, is_cut_off}
 use Rattle.fr_route.specs.States.{State, IsCutOff, IsAfterRound, IsCutCount, IsReport, IsRound}
 use Rattle.fr_route.specs.declared.hops.Hop.{Hop}
@@ -183,15 +183,15 @@ module _ (n d : ℕ) (first : List (ℕ × ℕ)) (s : State) (net : IsNet n firs
   }
 
 module _ (net : Network) (d : ℕ) (counts : List ℕ) (is : IsNet net.nodes net.links) (counted : IsCounted net.nodes d net.links counts) where
-  pub ended : IsRound net.nodes d net.links (state_after net d counts)
+  pub ended : IsRound net.nodes d net.links (settled_state net d counts)
   ended = round_end net.nodes d net.links counts (net_of net.nodes (links_at net.links counts)) counted.settled refl
 
-  pub after_outcome : IsAfterRound (state_after net d counts)
+  pub after_outcome : IsAfterRound (settled_state net d counts)
   after_outcome = record { first = net.links; is_net = is; dest = counted.destination; round = ended }
 
   -- by the rows before the round
-  pub cut_by_rows : IsCutCount net.nodes d (state_after net d counts).links (lone_count net.nodes net.links d + count_by (λ count. count == net.nodes) counts)
-  cut_by_rows = cut_count net.nodes d net.links (state_after net d counts) is counted.destination ended (has_no_neighbour net.nodes net.links) (λ x low. alone_just net.nodes net.links is x)
+  pub cut_by_rows : IsCutCount net.nodes d (settled_state net d counts).links (lone_count net.nodes net.links d + count_by (λ count. count == net.nodes) counts)
+  cut_by_rows = cut_count net.nodes d net.links (settled_state net d counts) is counted.destination ended (has_no_neighbour net.nodes net.links) (λ x low. alone_just net.nodes net.links is x)
 
 module _ (s : State) (after : IsAfterRound s) where
   -- the nodes with a link that the round cut off are those that have turned as often as there are nodes

@@ -6,7 +6,7 @@ use Rattle.fr_crew.specs.Settlements.{IsCounted}
 use Rattle.fr_graph.specs.Counts.{links_at}
 use Rattle.fr_graph.specs.Links.{IsNet}
 use Rattle.fr_graph.specs.Network.{Network, net_of}
-use Rattle.fr_route.specs.Outcomes.{state_after}
+use Rattle.fr_route.specs.Outcomes.{settled_state}
 use Rattle.fr_route.specs.RouterInside.{IsSoundRouter}
 use Rattle.fr_route.specs.Routes.{AreHops}
 use Rattle.fr_route.specs.States.{IsReport}
@@ -19,8 +19,8 @@ module _ (d : ℕ) (turns : List ℕ) (spare : Option (List ℕ)) (hops : Vec Ho
   inside : Network → Inside
   inside net = record { net = net; dest = d; turns = turns; spare = spare; hops = hops; report = report }
 
-  pub sound_after : (net turned : Network) → IsNet net.nodes net.links → IsCounted net.nodes d net.links turns → IsReport (state_after net d turns) report.turned report.cut
-      → turned ≡ net_of net.nodes (links_at net.links turns) → AreHops (state_after net d turns) net.nodes hops.items → IfSome spare (λ turns. turns ≡ replicate net.nodes 0)
+  pub sound_after : (net turned : Network) → IsNet net.nodes net.links → IsCounted net.nodes d net.links turns → IsReport (settled_state net d turns) report.turned report.cut
+      → turned ≡ net_of net.nodes (links_at net.links turns) → AreHops (settled_state net d turns) net.nodes hops.items → IfSome spare (λ turns. turns ≡ replicate net.nodes 0)
       → IsSoundRouter (record { net = turned; dest = d; turns = turns; spare = spare; hops = hops; report = report })
   unfolding inside
   sound_after net turned is counted reported turned_is hops_are unturned =

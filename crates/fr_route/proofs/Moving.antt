@@ -14,7 +14,7 @@ use Rattle.fr_graph.proofs.Members.{Contains-head, Contains-tail, cases_some}
 use Rattle.fr_graph.specs.Counts.{links_at}
 use Rattle.fr_graph.proofs.Ordering.{into_order, out_of_order}
 use Rattle.fr_crew.specs.Settlements.{HoldsSinks, IsCounted}
-use Rattle.fr_route.specs.Outcomes.{HoldsMoved, IsStale, cut_off_nodes, ends_of, movable, state_after, touched}
+use Rattle.fr_route.specs.Outcomes.{HoldsMoved, IsStale, cut_off_nodes, ends_of, movable, settled_state, touched}
 use Rattle.fr_route.specs.Routes.{AreHops, IsHop}
 use Rattle.fr_route.specs.States.{IsAfterRound, IsRound, State, net_at}
 use Rattle.fr_route.specs.declared.hops.Hop.{Hop}
@@ -81,38 +81,38 @@ module _ (s : State) (after : IsAfterRound s) where
     }
 
     module _ (counts : List ℕ) (counted : IsCounted net.nodes d net.links counts) where
-      round : IsRound net.nodes d net.links (state_after net d counts)
+      round : IsRound net.nodes d net.links (settled_state net d counts)
       round = ended net d counts left.is_net counted
 
       -- a node that has not turned keeps of its links away those to nodes that have not,
-      still_away : (x y : ℕ) → slice_index counts x ≡ 0 → slice_index counts y ≡ 0 → Points net.links x y → Points (state_after net d counts).links x y
+      still_away : (x y : ℕ) → slice_index counts x ≡ 0 → slice_index counts y ≡ 0 → Points net.links x y → Points (settled_state net d counts).links x y
       still_away x y rests stays h = into_order (links_at net.links counts) (x, y) (Points-links_at_same net.links counts x y h (stays ∙ sym rests))
 
       -- and gets no other
-      was_away : (x y : ℕ) → slice_index counts x ≡ 0 → Points (state_after net d counts).links x y → Points net.links x y
+      was_away : (x y : ℕ) → slice_index counts x ≡ 0 → Points (settled_state net d counts).links x y → Points net.links x y
       was_away x y rests h = ⊎_elim (λ p. p.0) (λ p. absurd (omega (arith, rests, p.1)))
           (Points-links_at_from net.links counts x y (out_of_order (links_at net.links counts) (x, y) h))
 
       -- so where its links stayed in the edits, and it was not cut off with a link, it sends on to where it did, unless that node has
       -- turned, or it was or is the destination
-      hop_stands : (x : ℕ) (hop : Hop) → HaveSameAt s.links net.links x → ¬ (x ≡ s.dest) → ¬ (x ≡ d) → ¬ (slice_index s.counts x ≡ s.nodes) → ¬ IsStale (state_after net d counts) x hop → slice_index counts x ≡ 0 → IsHop s x hop → IsHop (state_after net d counts) x hop
+      hop_stands : (x : ℕ) (hop : Hop) → HaveSameAt s.links net.links x → ¬ (x ≡ s.dest) → ¬ (x ≡ d) → ¬ (slice_index s.counts x ≡ s.nodes) → ¬ IsStale (settled_state net d counts) x hop → slice_index counts x ≡ 0 → IsHop s x hop → IsHop (settled_state net d counts) x hop
       hop_stands x Here same was becomes free fresh rests h = absurd (was h)
       hop_stands x (To y) same was becomes free fresh rests h =
           let link : Points net.links x y = (same.out y).0 h.1.1.link in
           let stays : slice_index counts y ≡ 0 = ⊎_elim
           (λ e. e)
-          (λ some. absurd (fresh (y, (omega (arith, some), inr ((round_joins net.nodes d net.links (state_after net d counts) left.is_net counted.destination round x y).0 (inl link), refl)))))
+          (λ some. absurd (fresh (y, (omega (arith, some), inr ((round_joins net.nodes d net.links (settled_state net d counts) left.is_net counted.destination round x y).0 (inl link), refl)))))
           (cases_eq (slice_index counts y) 0) in
-          hop_leads_on net.nodes d net.links (state_after net d counts) left.is_net counted.destination round x y becomes (λ e. omega (arith, e, rests, counted.destination))
+          hop_leads_on net.nodes d net.links (settled_state net d counts) left.is_net counted.destination round x y becomes (λ e. omega (arith, e, rests, counted.destination))
           (record { link = still_away x y rests stays link; least = λ w g. h.1.1.least w ((same.out w).1 (was_away x w rests g)) })
       hop_stands x CutOff same was becomes free fresh rests h =
-          still_cut_off net.nodes d net.links (state_after net d counts) left.is_net counted.destination round x becomes
+          still_cut_off net.nodes d net.links (settled_state net d counts) left.is_net counted.destination round x becomes
           (λ w g.
           let joins : Joins s.links x w = inl ((same.out w).1 (was_away x w rests g)) in
           h.1 ((round_joined s.nodes s.dest after.first s after.is_net after.dest after.round x).0 (linked_joined s.nodes s.dest after.first s after.is_net after.dest after.round x w joins free)))
 
       -- and the hop of each node that cannot move stays right, unless it is stale
-      pub unmoved_hops : (hops : List Hop) → AreHops s s.nodes hops → HoldsMoved (state_after net d counts) hops (movable s d edits)
+      pub unmoved_hops : (hops : List Hop) → AreHops s s.nodes hops → HoldsMoved (settled_state net d counts) hops (movable s d edits)
       unmoved_hops hops are = record {
         below = movable_below;
         others = λ x hop at none fresh.

@@ -6,8 +6,8 @@ use Rattle.std.proofs.lemmas.Option.{get_or_from_slice_get}
 use Rattle.fr_graph.proofs.Neighbours.{row_of_in, row_of_out}
 use Rattle.fr_graph.specs.Links.{IsNet}
 use Rattle.fr_graph.specs.Rows.{row}
-use Rattle.fr_graph.specs.declared.rows.First.{First}
-use Rattle.fr_graph.specs.declared.rows.First.TheVariants.{Inward, Outward}
+use Rattle.fr_graph.specs.declared.first.First.{First}
+use Rattle.fr_graph.specs.declared.first.First.TheVariants.{Inward, Outward}
 use Rattle.fr_route.specs.Outcomes.{AreRenewed, SendsTo}
 use Rattle.fr_route.specs.Routes.{IsHop}
 use Rattle.fr_route.specs.States.{State}

@@ -24,13 +24,13 @@ use Rattle.fr_route.specs.declared.hops.Hop.TheVariants.{CutOff, To}
 use Rattle.fr_route.specs.declared.outcome.Outcome.{Outcome}
 
 -- the state after a round with these counts on a network
-abbrev pub state_after : Network → ℕ → List ℕ → State
-state_after net d counts = state_with (net_of net.nodes (links_at net.links counts)) d counts
+abbrev pub settled_state : Network → ℕ → List ℕ → State
+settled_state net d counts = state_with (net_of net.nodes (links_at net.links counts)) d counts
 
 -- the settled counts of a network, and the report of the round on it
 pub record IsOutcome (net : Network) (d : ℕ) (outcome : Outcome) : Type 0 where
   pub counts : IsCounted net.nodes d net.links outcome.turns
-  pub report : IsReport (state_after net d outcome.turns) outcome.report.turned outcome.report.cut
+  pub report : IsReport (settled_state net d outcome.turns) outcome.report.turned outcome.report.cut
 
 -- how many of n nodes other than d have no neighbour
 abbrev pub lone_count : ℕ → List (ℕ × ℕ) → ℕ → ℕ

@@ -12,7 +12,7 @@ ghost use Rattle.fr_graph.specs.Network.{net_of};
 ghost use Rattle.fr_route.specs.Routes.{AreHops};
 ghost use Rattle.fr_route.specs.States.{IsReport};
 ghost use Rattle.fr_route.specs.Changes.{IsOpenFault, IsStill};
-ghost use Rattle.fr_route.specs.Outcomes.{AreOthers, HoldsMoved, IsOutcome, ends_of, lone_count, state_after};
+ghost use Rattle.fr_route.specs.Outcomes.{AreOthers, HoldsMoved, IsOutcome, ends_of, lone_count, settled_state};
 ghost use Rattle.fr_route.specs.declared.fault.RouteFault.TheVariants.{Start};
 
 use crate::change::Report;
@@ -38,18 +38,18 @@ pub(crate) fn outcome_of<F: Fn(&Net, u32, Option<&[u32]>, Turns) -> Result<Turns
     net: &Net,
     dest: u32,
     from: &[u32],
-    way: &F,
+    settle: &F,
     turns: Turns,
 ) -> Result<Outcome, RouteFault>
-    requires settles { Settles F.pre F.post way.now }
+    requires settles { Settles F.pre F.post settle.now }
     requires from { (dest < net.now.nodes) × HoldsSinks net.now dest from.now }
     requires none { turns ≡ replicate net.now.nodes 0 }
     ensures outcome { IfOk result (IsOutcome net.now dest) }
     ensures fault { IfErr result (IsOpenFault net.now.nodes dest) }
     ensures still { IsStill net.now dest → IfErr result (λ fault. fault ≢ Start) }
-    ensures no_start { NeverStarts F.post way.now → IfErr result (λ fault. fault ≢ Start) }
+    ensures no_start { NeverStarts F.post settle.now → IfErr result (λ fault. fault ≢ Start) }
 {
-    let turns = settled_from(net, dest, from, way, turns)?;
+    let turns = settled_from(net, dest, from, settle, turns)?;
     let report = report_of(net, dest, &turns);
     Ok(Outcome { turns, report })
 }
@@ -60,22 +60,22 @@ fn settled_from<F: Fn(&Net, u32, Option<&[u32]>, Turns) -> Result<Turns, CrewFau
     net: &Net,
     dest: u32,
     from: &[u32],
-    way: &F,
+    settle: &F,
     turns: Turns,
 ) -> Result<Turns, CrewFault>
-    requires settles { Settles F.pre F.post way.now }
+    requires settles { Settles F.pre F.post settle.now }
     requires from { (dest < net.now.nodes) × HoldsSinks net.now dest from.now }
     requires none { turns ≡ replicate net.now.nodes 0 }
     ensures settled { IfOk result (IsCounted net.now.nodes dest net.now.links) }
     ensures range { IfErr result (λ fault. (fault ≡ Range) ↔ (net.now.nodes ≤ dest)) }
     ensures still { IsStill net.now dest → IfErr result (λ fault. fault ≢ CrewStart) }
-    ensures no_start { NeverStarts F.post way.now → IfErr result (λ fault. fault ≢ CrewStart) }
+    ensures no_start { NeverStarts F.post settle.now → IfErr result (λ fault. fault ≢ CrewStart) }
 {
     net.network_law();
     if !any_can_turn(net, dest, turns.counts(), from) {
         return Ok(turns);
     }
-    settled_counts_by(way, net, dest, Some(from), turns)
+    settled_counts_by(settle, net, dest, Some(from), turns)
 }
 
 /// Whether one of these nodes can turn.
@@ -96,7 +96,7 @@ fn any_can_turn(net: &Net, dest: u32, counts: &[u64], among: &[u32]) -> bool
 /// there are nodes.
 pub(crate) fn report_of(net: &Net, dest: u32, turns: &Turns) -> Report
     requires { IsCounted net.now.nodes dest net.now.links turns.now }
-    ensures { IsReport (state_after net.now dest turns.now) result.turned result.cut }
+    ensures { IsReport (settled_state net.now dest turns.now) result.turned result.cut }
 {
     net.network_law();
     let turned = turns.total();
@@ -144,9 +144,9 @@ pub(crate) fn put_in_place(
 )
     requires counted { IsCounted net.old.nodes dest net.old.links turns.now }
     requires one_each { length hops.old ≡ net.old.nodes }
-    requires moved { HoldsMoved (state_after net.old dest turns.now) hops.old moved.now }
+    requires moved { HoldsMoved (settled_state net.old dest turns.now) hops.old moved.now }
     ensures net { net.new ≡ net_of net.old.nodes (links_at net.old.links turns.now) }
-    ensures hops { AreHops (state_after net.old dest turns.now) net.old.nodes hops.new }
+    ensures hops { AreHops (settled_state net.old dest turns.now) net.old.nodes hops.new }
     ensures rerouted { net.old.nodes ≤ vec_capacity rerouted.old → AreOthers hops.old hops.new rerouted.new.items }
 {
     net.network_law();

@@ -55,20 +55,20 @@ fn first_counts<F: Fn(&Net, u32, Option<&[u32]>, Turns) -> Result<Turns, CrewFau
     alloc: Global,
     net: &Net,
     dest: u32,
-    way: &F,
+    settle: &F,
 ) -> Result<Turns, RouteFault>
-    requires { Settles F.pre F.post way.now }
+    requires { Settles F.pre F.post settle.now }
     ensures counted { IfOk result (IsCounted net.now.nodes dest net.now.links) }
     ensures fault { IfErr result (IsOpenFault net.now.nodes dest) }
     ensures still { IsStill net.now dest → IfErr result (λ fault. fault ≢ Start) }
-    ensures no_start { NeverStarts F.post way.now → IfErr result (λ fault. fault ≢ Start) }
+    ensures no_start { NeverStarts F.post settle.now → IfErr result (λ fault. fault ≢ Start) }
 {
     if dest >= net.nodes() {
         return Err(RouteFault::Range);
     }
     net.network_law();
     let turns = Turns::none(alloc, net.nodes())?;
-    Ok(settled_counts_by(way, net, dest, None, turns)?)
+    Ok(settled_counts_by(settle, net, dest, None, turns)?)
 }
 
 /// Puts these turns in place of the last ones, whose table is cleared and kept for the next round.
@@ -131,15 +131,15 @@ impl Router {
         alloc: Global,
         net: Net,
         dest: u32,
-        way: &F,
+        settle: &F,
     ) -> Result<Router, RouteFault>
-        requires { Settles F.pre F.post way.now }
+        requires { Settles F.pre F.post settle.now }
         ensures opened { IfOk result (λ router. (dest < net.nodes) × IsRound net.nodes dest net.links router) }
         ensures fault { IfErr result (IsOpenFault net.nodes dest) }
         ensures still { IsStill net dest → IfErr result (λ fault. fault ≢ Start) }
-        ensures no_start { NeverStarts F.post way.now → IfErr result (λ fault. fault ≢ Start) }
+        ensures no_start { NeverStarts F.post settle.now → IfErr result (λ fault. fault ≢ Start) }
     {
-        let turns = first_counts(alloc, &net, dest, way)?;
+        let turns = first_counts(alloc, &net, dest, settle)?;
         Router::settled(alloc, net, dest, turns)
     }
 
@@ -288,21 +288,21 @@ impl Router {
         &mut self,
         alloc: Global,
         change: &Change,
-        way: &F,
+        settle: &F,
         rerouted: &mut Vec<u32>,
     ) -> Result<Report, RouteFault>
-        requires settles { Settles F.pre F.post way.now }
+        requires settles { Settles F.pre F.post settle.now }
         ensures changed { IfOk result (λ _. IsChanged self.old change.now self.new) }
         ensures report { IfOk result (λ report. IsReport self.new report.turned report.cut) }
         ensures rerouted { IfOk result (λ _. AreRerouted self.old self.new rerouted.new.items) }
         ensures fault { IfErr result (IsRouteFault self.old change.now) }
         ensures unchanged { OnErr result (self.new ≡ self.old) }
         ensures untold { OnErr result (rerouted.new.items ≡ rerouted.old.items) }
-        ensures no_start { NeverStarts F.post way.now → IfErr result (λ fault. fault ≢ Start) }
+        ensures no_start { NeverStarts F.post settle.now → IfErr result (λ fault. fault ≢ Start) }
     {
         let nodes = self.net.nodes() as usize;
         rerouted.reserve(nodes.saturating_sub(rerouted.len()))?;
-        self.change_by(alloc, change, way, &|report| Ok(report), rerouted)
+        self.change_by(alloc, change, settle, &|report| Ok(report), rerouted)
     }
 
     /// Changes the network or its destination where it stands, settled anew in a way that is passed in, and answers what is told of
@@ -316,30 +316,30 @@ impl Router {
         &mut self,
         alloc: Global,
         change: &Change,
-        way: &F,
+        settle: &F,
         tell: &K,
         rerouted: &mut Vec<u32>,
     ) -> Result<T, RouteFault>
-        requires settles { Settles F.pre F.post way.now }
+        requires settles { Settles F.pre F.post settle.now }
         requires tells { K.IsAlwaysCallable tell.now }
-        ensures { IsTried (NeverStarts F.post way.now) self.old (IsChanged self.old change.now) (IsRouteFault self.old change.now) (λ report told. K.post tell.now report (Ok told)) rerouted.old result self.new rerouted.new }
+        ensures { IsTried (NeverStarts F.post settle.now) self.old (IsChanged self.old change.now) (IsRouteFault self.old change.now) (λ report told. K.post tell.now report (Ok told)) rerouted.old result self.new rerouted.new }
     {
         match change {
             Change::Cut { u, v } => {
-                self.one_edit_by(alloc, Edit::Cut { u: *u, v: *v }, way, tell, rerouted)
+                self.one_edit_by(alloc, Edit::Cut { u: *u, v: *v }, settle, tell, rerouted)
             }
             Change::Add { u, v } => {
-                self.one_edit_by(alloc, Edit::Add { u: *u, v: *v }, way, tell, rerouted)
+                self.one_edit_by(alloc, Edit::Add { u: *u, v: *v }, settle, tell, rerouted)
             }
             Change::Join { u, v } => {
-                self.one_edit_by(alloc, Edit::Join { u: *u, v: *v }, way, tell, rerouted)
+                self.one_edit_by(alloc, Edit::Join { u: *u, v: *v }, settle, tell, rerouted)
             }
-            Change::Batch(edits) => self.edit_by(alloc, edits, self.dest, way, tell, rerouted),
+            Change::Batch(edits) => self.edit_by(alloc, edits, self.dest, settle, tell, rerouted),
             Change::Destination { dest } => {
                 if *dest >= self.net.nodes() {
                     return Err(RouteFault::Range);
                 }
-                self.edit_by(alloc, &[], *dest, way, tell, rerouted)
+                self.edit_by(alloc, &[], *dest, settle, tell, rerouted)
             }
         }
     }
@@ -353,15 +353,15 @@ impl Router {
         &mut self,
         alloc: Global,
         edit: Edit,
-        way: &F,
+        settle: &F,
         tell: &K,
         rerouted: &mut Vec<u32>,
     ) -> Result<T, RouteFault>
-        requires settles { Settles F.pre F.post way.now }
+        requires settles { Settles F.pre F.post settle.now }
         requires tells { K.IsAlwaysCallable tell.now }
-        ensures { IsTried (NeverStarts F.post way.now) self.old (IsEdited self.old (edit ∷ []) self.old.dest) (IsEditingFault self.old (edit ∷ []) self.old.dest) (λ report told. K.post tell.now report (Ok told)) rerouted.old result self.new rerouted.new }
+        ensures { IsTried (NeverStarts F.post settle.now) self.old (IsEdited self.old (edit ∷ []) self.old.dest) (IsEditingFault self.old (edit ∷ []) self.old.dest) (λ report told. K.post tell.now report (Ok told)) rerouted.old result self.new rerouted.new }
     {
-        self.edit_by(alloc, &[edit], self.dest, way, tell, rerouted)
+        self.edit_by(alloc, &[edit], self.dest, settle, tell, rerouted)
     }
 
     /// Makes these edits where the network stands, and settles it anew toward `dest`.
@@ -374,14 +374,14 @@ impl Router {
         alloc: Global,
         edits: &[Edit],
         dest: u32,
-        way: &F,
+        settle: &F,
         tell: &K,
         rerouted: &mut Vec<u32>,
     ) -> Result<T, RouteFault>
-        requires settles { Settles F.pre F.post way.now }
+        requires settles { Settles F.pre F.post settle.now }
         requires tells { K.IsAlwaysCallable tell.now }
         requires node { dest < self.old.nodes }
-        ensures { IsTried (NeverStarts F.post way.now) self.old (IsEdited self.old edits.now dest) (IsEditingFault self.old edits.now dest) (λ report told. K.post tell.now report (Ok told)) rerouted.old result self.new rerouted.new }
+        ensures { IsTried (NeverStarts F.post settle.now) self.old (IsEdited self.old edits.now dest) (IsEditingFault self.old edits.now dest) (λ report told. K.post tell.now report (Ok told)) rerouted.old result self.new rerouted.new }
     {
         let (movable, turns) = self.before_edits(alloc, edits, dest)?;
         let from = movable.as_slice();
@@ -389,7 +389,7 @@ impl Router {
             alloc,
             edits,
             |net|
-                requires settles { Settles F.pre F.post way.now }
+                requires settles { Settles F.pre F.post settle.now }
                 requires tells { K.IsAlwaysCallable tell.now }
                 requires from { (dest < net.now.nodes) × HoldsSinks net.now dest from.now }
                 requires none { turns ≡ replicate net.now.nodes 0 }
@@ -397,9 +397,9 @@ impl Router {
                 ensures told { IfOk result (λ made. K.post tell.entry.now made.0.report (Ok made.1)) }
                 ensures fault { IfErr result (IsOpenFault net.entry.now.nodes dest) }
                 ensures still { IsStill net.entry.now dest → IfErr result (λ fault. fault ≢ Start) }
-                ensures no_start { NeverStarts F.post way.entry.now → IfErr result (λ fault. fault ≢ Start) }
+                ensures no_start { NeverStarts F.post settle.entry.now → IfErr result (λ fault. fault ≢ Start) }
             {
-                let outcome = outcome_of(net, dest, from, way, turns)?;
+                let outcome = outcome_of(net, dest, from, settle, turns)?;
                 let told = tell(outcome.report)?;
                 Ok((outcome, told))
             },

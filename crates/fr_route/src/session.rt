@@ -178,11 +178,11 @@ impl Session {
         &mut self,
         alloc: Global,
         line: &[u8],
-        way: &F,
+        settle: &F,
         telling: bool,
         rerouted: &mut Vec<u32>,
     ) -> Result<Option<String>, AnswerFault>
-        requires { Settles F.pre F.post way.now }
+        requires { Settles F.pre F.post settle.now }
         ensures blank { IfOk result (λ answer. IfNone answer ((is_blank_line line.now ≡ true) × (self.new ≡ self.old))) }
         ensures text { IfOk result (λ answer. IfSome answer (λ text. (is_blank_line line.now ≡ false)
             × IsLineAnswer self.old (reading line.now) (string_bytes text) self.new)) }
@@ -192,12 +192,12 @@ impl Session {
         ensures untold { OnErr result (rerouted.new.items ≡ rerouted.old.items) }
         ensures short { IfOk result (λ answer. IfSome answer (λ text. ((self.new ≡ self.old) × (rerouted.new.items ≡ rerouted.old.items)) ⊎ (length (string_bytes text) ≤ longest_report))) }
         ensures start { IfErr result (λ fault. fault ≡ Start → MayStartForLine self.old (reading line.now)) }
-        ensures no_start { NeverStarts F.post way.now → IfErr result (λ fault. fault ≢ Start) }
+        ensures no_start { NeverStarts F.post settle.now → IfErr result (λ fault. fault ≢ Start) }
     {
         if is_blank(line) {
             return Ok(None);
         }
-        Ok(Some(self.answer_words_by(alloc, line, way, telling, rerouted)?))
+        Ok(Some(self.answer_words_by(alloc, line, settle, telling, rerouted)?))
     }
 
     /// The answer to a line that is not blank.
@@ -205,21 +205,21 @@ impl Session {
         &mut self,
         alloc: Global,
         line: &[u8],
-        way: &F,
+        settle: &F,
         telling: bool,
         rerouted: &mut Vec<u32>,
     ) -> Result<String, AnswerFault>
-        requires { Settles F.pre F.post way.now }
+        requires { Settles F.pre F.post settle.now }
         ensures text { IfOk result (λ text. IsLineAnswer self.old (reading line.now) (string_bytes text) self.new) }
         ensures told { telling ≡ true → IfOk result (λ _. IsLineTold self.old (reading line.now) self.new rerouted.old.items rerouted.new.items) }
         ensures unchanged { OnErr result (self.new ≡ self.old) }
         ensures untold { OnErr result (rerouted.new.items ≡ rerouted.old.items) }
         ensures short { IfOk result (λ text. ((self.new ≡ self.old) × (rerouted.new.items ≡ rerouted.old.items)) ⊎ (length (string_bytes text) ≤ longest_report)) }
         ensures start { IfErr result (λ fault. fault ≡ Start → MayStartForLine self.old (reading line.now)) }
-        ensures no_start { NeverStarts F.post way.now → IfErr result (λ fault. fault ≢ Start) }
+        ensures no_start { NeverStarts F.post settle.now → IfErr result (λ fault. fault ≢ Start) }
     {
         match self.reader.read(alloc, line) {
-            Ok(request) => self.answer_read_by(alloc, request, way, telling, rerouted),
+            Ok(request) => self.answer_read_by(alloc, request, settle, telling, rerouted),
             Err(LineFault::NotJson) => refuse(alloc, Refusal::NotJson),
             Err(LineFault::NotRequest) => refuse(alloc, Refusal::NotRequest),
             Err(LineFault::Memory) => Err(AnswerFault::Memory),
@@ -231,14 +231,14 @@ impl Session {
         &mut self,
         alloc: Global,
         request: Request,
-        way: &F,
+        settle: &F,
         telling: bool,
         rerouted: &mut Vec<u32>,
     ) -> Result<String, AnswerFault>
-        requires { Settles F.pre F.post way.now }
-        ensures { IsAnswered (NeverStarts F.post way.now) self.old (plain request) telling rerouted.old.items result self.new rerouted.new.items }
+        requires { Settles F.pre F.post settle.now }
+        ensures { IsAnswered (NeverStarts F.post settle.now) self.old (plain request) telling rerouted.old.items result self.new rerouted.new.items }
     {
-        self.answer_by(alloc, &request, way, telling, rerouted)
+        self.answer_by(alloc, &request, settle, telling, rerouted)
     }
 
     /// The answer to a request, as `answer_line` gives it to the line of the request, with the same faults. The text has no line end.
@@ -291,44 +291,44 @@ impl Session {
         &mut self,
         alloc: Global,
         request: &Request,
-        way: &F,
+        settle: &F,
         telling: bool,
         rerouted: &mut Vec<u32>,
     ) -> Result<String, AnswerFault>
-        requires { Settles F.pre F.post way.now }
-        ensures { IsAnswered (NeverStarts F.post way.now) self.old (plain request.now) telling rerouted.old.items result self.new rerouted.new.items }
+        requires { Settles F.pre F.post settle.now }
+        ensures { IsAnswered (NeverStarts F.post settle.now) self.old (plain request.now) telling rerouted.old.items result self.new rerouted.new.items }
     {
         match request {
             Request::Network { nodes, dest, links } => self.open(
-                alloc, *nodes, *dest, links, way, telling, rerouted,
+                alloc, *nodes, *dest, links, settle, telling, rerouted,
             ),
             Request::Cut { u, v } => self.change(
                 alloc,
                 Change::Cut { u: *u, v: *v },
-                way,
+                settle,
                 telling,
                 rerouted,
             ),
             Request::Add { u, v } => self.change(
                 alloc,
                 Change::Add { u: *u, v: *v },
-                way,
+                settle,
                 telling,
                 rerouted,
             ),
             Request::Join { u, v } => self.change(
                 alloc,
                 Change::Join { u: *u, v: *v },
-                way,
+                settle,
                 telling,
                 rerouted,
             ),
-            Request::Batch { edits } => self.edit(alloc, edits, way, telling, rerouted),
+            Request::Batch { edits } => self.edit(alloc, edits, settle, telling, rerouted),
             Request::Destination { dest } => {
                 self.change(
                     alloc,
                     Change::Destination { dest: *dest },
-                    way,
+                    settle,
                     telling,
                     rerouted,
                 )
@@ -345,14 +345,14 @@ impl Session {
         nodes: u32,
         dest: u32,
         links: &[(u32, u32)],
-        way: &F,
+        settle: &F,
         telling: bool,
         rerouted: &mut Vec<u32>,
     ) -> Result<String, AnswerFault>
-        requires { Settles F.pre F.post way.now }
-        ensures { IsAnswered (NeverStarts F.post way.now) self.old (new_network nodes dest links.now) telling rerouted.old.items result self.new rerouted.new.items }
+        requires { Settles F.pre F.post settle.now }
+        ensures { IsAnswered (NeverStarts F.post settle.now) self.old (new_network nodes dest links.now) telling rerouted.old.items result self.new rerouted.new.items }
     {
-        match opened(alloc, nodes, dest, links, way) {
+        match opened(alloc, nodes, dest, links, settle) {
             Ok(router) => self.put(alloc, router, telling, rerouted),
             Err(fault) => refusal(alloc, fault),
         }
@@ -363,17 +363,17 @@ impl Session {
         &mut self,
         alloc: Global,
         change: Change,
-        way: &F,
+        settle: &F,
         telling: bool,
         rerouted: &mut Vec<u32>,
     ) -> Result<String, AnswerFault>
-        requires { Settles F.pre F.post way.now }
-        ensures { IsAnswered (NeverStarts F.post way.now) self.old (request_of_change change) telling rerouted.old.items result self.new rerouted.new.items }
+        requires { Settles F.pre F.post settle.now }
+        ensures { IsAnswered (NeverStarts F.post settle.now) self.old (request_of_change change) telling rerouted.old.items result self.new rerouted.new.items }
     {
         let Some(router) = &mut self.router else {
             return refuse(alloc, Refusal::NoNetwork);
         };
-        changed(alloc, router, &change, way, telling, rerouted)
+        changed(alloc, router, &change, settle, telling, rerouted)
     }
 
     /// Makes these edits, or says for which fault one is refused.
@@ -381,17 +381,17 @@ impl Session {
         &mut self,
         alloc: Global,
         edits: &[Edit],
-        way: &F,
+        settle: &F,
         telling: bool,
         rerouted: &mut Vec<u32>,
     ) -> Result<String, AnswerFault>
-        requires { Settles F.pre F.post way.now }
-        ensures { IsAnswered (NeverStarts F.post way.now) self.old (make_edits edits.now) telling rerouted.old.items result self.new rerouted.new.items }
+        requires { Settles F.pre F.post settle.now }
+        ensures { IsAnswered (NeverStarts F.post settle.now) self.old (make_edits edits.now) telling rerouted.old.items result self.new rerouted.new.items }
     {
         let Some(router) = &mut self.router else {
             return refuse(alloc, Refusal::NoNetwork);
         };
-        edited(alloc, router, edits, way, telling, rerouted)
+        edited(alloc, router, edits, settle, telling, rerouted)
     }
 
     /// Puts a router in place, once the line that reports its round is made, and tells which nodes are not cut off if that is asked.
@@ -497,18 +497,18 @@ fn changed<F: Fn(&Net, u32, Option<&[u32]>, Turns) -> Result<Turns, CrewFault>>(
     alloc: Global,
     router: &mut Router,
     change: &Change,
-    way: &F,
+    settle: &F,
     telling: bool,
     rerouted: &mut Vec<u32>,
 ) -> Result<String, AnswerFault>
-    requires { Settles F.pre F.post way.now }
-    ensures { IsAnswered (NeverStarts F.post way.now) (Some router.old) (request_of_change change.now) telling rerouted.old.items result (Some router.new) rerouted.new.items }
+    requires { Settles F.pre F.post settle.now }
+    ensures { IsAnswered (NeverStarts F.post settle.now) (Some router.old) (request_of_change change.now) telling rerouted.old.items result (Some router.new) rerouted.new.items }
 {
     make_room(rerouted, router.net().nodes(), telling)?;
     match router.change_by(
         alloc,
         change,
-        way,
+        settle,
         &|report| report_line(alloc, report),
         rerouted,
     ) {
@@ -522,12 +522,12 @@ fn edited<F: Fn(&Net, u32, Option<&[u32]>, Turns) -> Result<Turns, CrewFault>>(
     alloc: Global,
     router: &mut Router,
     edits: &[Edit],
-    way: &F,
+    settle: &F,
     telling: bool,
     rerouted: &mut Vec<u32>,
 ) -> Result<String, AnswerFault>
-    requires { Settles F.pre F.post way.now }
-    ensures { IsAnswered (NeverStarts F.post way.now) (Some router.old) (make_edits edits.now) telling rerouted.old.items result (Some router.new) rerouted.new.items }
+    requires { Settles F.pre F.post settle.now }
+    ensures { IsAnswered (NeverStarts F.post settle.now) (Some router.old) (make_edits edits.now) telling rerouted.old.items result (Some router.new) rerouted.new.items }
 {
     let dest = router.dest();
     make_room(rerouted, router.net().nodes(), telling)?;
@@ -535,7 +535,7 @@ fn edited<F: Fn(&Net, u32, Option<&[u32]>, Turns) -> Result<Turns, CrewFault>>(
         alloc,
         edits,
         dest,
-        way,
+        settle,
         &|report| report_line(alloc, report),
         rerouted,
     ) {
@@ -550,13 +550,13 @@ fn opened<F: Fn(&Net, u32, Option<&[u32]>, Turns) -> Result<Turns, CrewFault>>(
     nodes: u32,
     dest: u32,
     links: &[(u32, u32)],
-    way: &F,
+    settle: &F,
 ) -> Result<Router, RouteFault>
-    requires { Settles F.pre F.post way.now }
+    requires { Settles F.pre F.post settle.now }
     ensures accepted { IfOk result (IsAccepted None (new_network nodes dest links.now)) }
     ensures refused { IfErr result (IsNewFault nodes dest links.now) }
-    ensures no_start { NeverStarts F.post way.now → IfErr result (λ fault. fault ≢ RouteStart) }
+    ensures no_start { NeverStarts F.post settle.now → IfErr result (λ fault. fault ≢ RouteStart) }
 {
     let net = Net::new(alloc, nodes, links)?;
-    Router::open_by(alloc, net, dest, way)
+    Router::open_by(alloc, net, dest, settle)
 }

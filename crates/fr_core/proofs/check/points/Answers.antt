@@ -2,8 +2,8 @@ use Rattle.std.proofs.Common.{All, Some, ap, arith, refl, sym, ◌∙◌, subst,
 use Rattle.std.proofs.lemmas.Bool.{false≢true}
 use Rattle.fr_core.proofs.PointsByRow.{inward_is_other, no_entry, none_is_other, points_at}
 use Rattle.fr_core.proofs.RowLinks.{row_below}
-use Rattle.fr_graph.specs.declared.rows.First.{First}
-use Rattle.fr_graph.specs.declared.rows.First.TheVariants as first
+use Rattle.fr_graph.specs.declared.first.First.{First}
+use Rattle.fr_graph.specs.declared.first.First.TheVariants as first
 use Rattle.fr_core.proofs.check.points.Goals as goal
 
 pub bounds-counts-w : goal.bounds-counts-w

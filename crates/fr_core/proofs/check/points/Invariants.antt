@@ -1,5 +1,5 @@
 use Rattle.std.proofs.Common.{All, take, ℕ, ◌≡◌}
-use Rattle.fr_graph.specs.declared.rows.First.{First}
+use Rattle.fr_graph.specs.declared.first.First.{First}
 use Rattle.fr_core.proofs.check.points.Given as goal
 
 abbrev pub invariant-loop-neighbour : goal.invariant-loop-neighbour

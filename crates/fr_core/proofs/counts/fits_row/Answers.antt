@@ -3,8 +3,8 @@ use Rattle.std.proofs.lemmas.Bool.{false≢true}
 use Rattle.std.proofs.lemmas.List.Elements.{All-more}
 use Rattle.fr_core.proofs.RowLinks.{row_below}
 use Rattle.fr_core.proofs.SensesByRow.{IsKeptOut, kept_by_row, kept_from_sense, row_kept, sense_from_kept}
-use Rattle.fr_graph.specs.declared.rows.First.{First}
-use Rattle.fr_graph.specs.declared.rows.First.TheVariants as first
+use Rattle.fr_graph.specs.declared.first.First.{First}
+use Rattle.fr_graph.specs.declared.first.First.TheVariants as first
 use Rattle.fr_core.proofs.counts.fits_row.Goals as goal
 use Rattle.fr_core.proofs.counts.fits_row.Goals.{else-eq-via-else-eq, else-eq-via-then-eq+else-is_none}
 

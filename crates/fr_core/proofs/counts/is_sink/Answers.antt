@@ -6,8 +6,8 @@ use Rattle.fr_core.proofs.RowLinks.{row_below}
 use Rattle.fr_core.proofs.SensesByRow.{PointsBy, row_of_sink, row_points_in, sink_from_row}
 use Rattle.fr_core.specs.declared.directions.Sense.TheVariants.{Inward}
 use Rattle.fr_graph.specs.Rows.{row}
-use Rattle.fr_graph.specs.declared.rows.First.{First}
-use Rattle.fr_graph.specs.declared.rows.First.TheVariants as first
+use Rattle.fr_graph.specs.declared.first.First.{First}
+use Rattle.fr_graph.specs.declared.first.First.TheVariants as first
 use Rattle.fr_core.proofs.counts.is_sink.Goals as goal
 
 pub bounds-counts-w : goal.bounds-counts-w

@@ -3,8 +3,8 @@ use Rattle.std.proofs.lemmas.Bool.{false≢true}
 use Rattle.std.proofs.lemmas.List.Elements.{All-more}
 use Rattle.fr_core.proofs.RowLinks.{row_below}
 use Rattle.fr_core.specs.CutOff.{HasTurned}
-use Rattle.fr_graph.specs.declared.rows.First.{First}
-use Rattle.fr_graph.specs.declared.rows.First.TheVariants as first
+use Rattle.fr_graph.specs.declared.first.First.{First}
+use Rattle.fr_graph.specs.declared.first.First.TheVariants as first
 use Rattle.fr_core.proofs.cut_off.have_neighbours_turned.Goals as goal
 
 pub bounds-counts-w : goal.bounds-counts-w

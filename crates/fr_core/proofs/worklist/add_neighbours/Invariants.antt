@@ -1,5 +1,5 @@
 use Rattle.std.proofs.Common.{ℕ, map, take, ◌++◌, ◌≡◌}
-use Rattle.fr_graph.specs.declared.rows.First.{First}
+use Rattle.fr_graph.specs.declared.first.First.{First}
 use Rattle.fr_core.proofs.worklist.add_neighbours.Given as goal
 
 abbrev pub invariant-loop-w : goal.invariant-loop-w

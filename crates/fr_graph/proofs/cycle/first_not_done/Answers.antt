@@ -1,4 +1,4 @@
-use Rattle.fr_graph.specs.declared.rows.First.TheVariants.{Outward}
+use Rattle.fr_graph.specs.declared.first.First.TheVariants.{Outward}
 use Rattle.fr_graph.proofs.cycle.first_not_done.Goals as goal
 
 pub bounds-marks-head : goal.bounds-marks-head

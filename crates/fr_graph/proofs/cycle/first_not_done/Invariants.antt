@@ -1,6 +1,6 @@
 use Rattle.std.proofs.Common.{slice_index_or, ℕ, ◌<◌, ◌≤◌}
 use Rattle.fr_graph.specs.CycleSearch.{IsPassed}
-use Rattle.fr_graph.specs.declared.rows.First.{First}
+use Rattle.fr_graph.specs.declared.first.First.{First}
 use Rattle.fr_graph.proofs.cycle.first_not_done.Given as goal
 
 abbrev pub invariant-loop-place : goal.invariant-loop-place

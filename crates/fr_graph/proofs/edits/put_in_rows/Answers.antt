@@ -4,7 +4,7 @@ use Rattle.fr_graph.proofs.EditedNets.{length_beside, row_beside, row_rising, ro
 use Rattle.fr_graph.proofs.Neighbours.{neighbours_rise}
 use Rattle.fr_graph.specs.Rows.{row}
 use Rattle.fr_graph.specs.Tables.{Table, room_of, row_of}
-use Rattle.fr_graph.specs.declared.rows.First.TheVariants.{Outward}
+use Rattle.fr_graph.specs.declared.first.First.TheVariants.{Outward}
 use Rattle.fr_graph.proofs.edits.put_in_rows.Goals as goal
 use Rattle.fr_graph.proofs.edits.put_in_rows.Goals.{After-put_entry}
 

@@ -1,7 +1,7 @@
 use Rattle.std.proofs.Common.{arith, ltb, ltb-true, rules, ℕ}
 use Rattle.std.proofs.lemmas.Bool.{ltb-false}
 use Rattle.std.proofs.lemmas.List.Sorted.{IsPartitionPoint-from_clause, IsPartitionedBy-ltb}
-use Rattle.fr_graph.specs.declared.rows.First.{First}
+use Rattle.fr_graph.specs.declared.first.First.{First}
 use Rattle.fr_graph.proofs.row.place_in_row.Goals as goal
 
 pub returns-clause-before : goal.returns-clause-before

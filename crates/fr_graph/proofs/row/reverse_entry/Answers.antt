@@ -2,8 +2,8 @@ use Rattle.std.proofs.Common.{get_or, length, refl, ◌<◌, ◌≡◌, ◌∙�
 use Rattle.std.proofs.lemmas.List.{get_or_default}
 use Rattle.fr_graph.proofs.PartTurned.{entry_reversed, neighbour_in, rises_from}
 use Rattle.fr_graph.proofs.Places.{neighbour_at, rises_by}
-use Rattle.fr_graph.specs.declared.rows.First.{First}
-use Rattle.fr_graph.specs.declared.rows.First.TheVariants.{Outward}
+use Rattle.fr_graph.specs.declared.first.First.{First}
+use Rattle.fr_graph.specs.declared.first.First.TheVariants.{Outward}
 use Rattle.fr_graph.proofs.row.reverse_entry.Goals as goal
 use Rattle.fr_graph.proofs.row.reverse_entry.Goals.{After-place_in_row-place}
 

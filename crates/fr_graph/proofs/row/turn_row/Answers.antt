@@ -3,8 +3,8 @@ use Rattle.std.proofs.Math.Seq.{get_or-append_seam}
 use Rattle.std.proofs.lemmas.List.{get_or_default, length-map, length-take-le}
 use Rattle.std.proofs.lemmas.List.Edits.{map_over_more}
 use Rattle.fr_graph.specs.RowLists.{turned_entry}
-use Rattle.fr_graph.specs.declared.rows.First.{First}
-use Rattle.fr_graph.specs.declared.rows.First.TheVariants.{Outward}
+use Rattle.fr_graph.specs.declared.first.First.{First}
+use Rattle.fr_graph.specs.declared.first.First.TheVariants.{Outward}
 use Rattle.fr_graph.proofs.row.turn_row.Goals as goal
 
 pub loop-entry-preserved : goal.loop-entry-preserved

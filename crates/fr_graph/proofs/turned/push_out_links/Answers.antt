@@ -2,8 +2,8 @@ use Rattle.std.proofs.Common.{List, [], ap, append_assoc, get_or, inl, false, in
 use Rattle.std.proofs.lemmas.Bool.{true≢false}
 use Rattle.fr_graph.proofs.TurnedRows.{in_link_more, out_link_more}
 use Rattle.fr_graph.specs.RowLists.{out_links}
-use Rattle.fr_graph.specs.declared.rows.First.{First}
-use Rattle.fr_graph.specs.declared.rows.First.TheVariants.{Inward, Outward}
+use Rattle.fr_graph.specs.declared.first.First.{First}
+use Rattle.fr_graph.specs.declared.first.First.TheVariants.{Inward, Outward}
 use Rattle.fr_graph.proofs.turned.push_out_links.Goals as goal
 use Rattle.fr_graph.proofs.turned.push_out_links.Goals.{then-eq+in_ok-push, else-eq}
 

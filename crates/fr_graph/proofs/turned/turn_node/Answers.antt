@@ -6,7 +6,7 @@ use Rattle.fr_graph.specs.Network.{Network}
 use Rattle.fr_graph.specs.RowLists.{opposite}
 use Rattle.fr_graph.specs.Rows.{row}
 use Rattle.fr_graph.specs.TurnedRows.{ArePartTurned, is_done}
-use Rattle.fr_graph.specs.declared.rows.First.TheVariants.{Outward}
+use Rattle.fr_graph.specs.declared.first.First.TheVariants.{Outward}
 use Rattle.fr_graph.proofs.turned.turn_node.Goals as goal
 use Rattle.fr_graph.proofs.turned.turn_node.Goals.{After-row, After-row-place-end, else-counts-w-eq0, then-counts-w-eq0}
 

@@ -1,7 +1,7 @@
 use Rattle.std.proofs.Common.{◌≡◌, ◌≤◌, List, ap, arith, length, subst, ◌∙◌, ℕ}
 use Rattle.std.specs.Prelude.{slice_index}
 use Rattle.fr_graph.specs.Rows.{row}
-use Rattle.fr_graph.specs.declared.rows.First.{First}
+use Rattle.fr_graph.specs.declared.first.First.{First}
 use Rattle.fr_core.specs.Machine.{bound_of, neighbour_at}
 use Rattle.fr_round.specs.Setups.{setup_of}
 use Rattle.fr_round.proofs.Calling.{all_meet, looks_on}

@@ -1,7 +1,7 @@
 use Rattle.std.proofs.Common.{◌≡◌, List, ap, arith, length, ℕ}
 use Rattle.fr_graph.proofs.Neighbours.{length-row-le}
 use Rattle.fr_graph.specs.Rows.{row}
-use Rattle.fr_graph.specs.declared.rows.First.{First}
+use Rattle.fr_graph.specs.declared.first.First.{First}
 use Rattle.fr_round.proofs.seen.count_outward.Goals as goal
 
 pub overflow_add-outward : goal.overflow_add-outward

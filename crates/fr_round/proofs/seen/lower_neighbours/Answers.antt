@@ -1,5 +1,5 @@
 use Rattle.std.proofs.Common.{◌≡◌, ◌+◌, List, ap, arith, get_or, slice_index, subst, sym, true, ◌∙◌, ℕ}
-use Rattle.fr_graph.specs.declared.rows.First.TheVariants.{Outward}
+use Rattle.fr_graph.specs.declared.first.First.TheVariants.{Outward}
 use Rattle.fr_round.proofs.MissingNumbers.{IsLoweredTo, all_lowered, begins_by, begins_to_meet, lowered_no, lowered_yes, other_node, room_to_lower}
 use Rattle.fr_round.proofs.seen.lower_neighbours.Goals as goal
 use Rattle.fr_round.proofs.seen.lower_neighbours.Goals.{then-begins_to_meet, else-begins_to_meet}

@@ -2,7 +2,7 @@ use Rattle.std.proofs.Common.{arith, subst}
 use Rattle.std.specs.List.{Contains}
 use Rattle.fr_graph.proofs.Neighbours.{in_of_row, out_of_row, row_holds}
 use Rattle.fr_graph.specs.Rows.{row}
-use Rattle.fr_graph.specs.declared.rows.First.{First}
+use Rattle.fr_graph.specs.declared.first.First.{First}
 use Rattle.fr_round.specs.Setups.{setup_of}
 use Rattle.fr_round.proofs.Keeping.{loads_along_at, loads_against_at}
 use Rattle.fr_round.proofs.steps.load_neighbour.Goals as goal

@@ -1,6 +1,6 @@
 use Rattle.std.proofs.Common.{List, arith, subst, sym, ℕ, ◌∙◌, ◌≡◌, ◌<◌, ◌+◌, All}
 use Rattle.fr_core.proofs.RowLinks.{row_below}
-use Rattle.fr_graph.specs.declared.rows.First.{First}
+use Rattle.fr_graph.specs.declared.first.First.{First}
 use Rattle.fr_route.specs.States.{State, state_with}
 use Rattle.fr_route.proofs.Noting.{notes_then}
 use Rattle.fr_route.proofs.Renewing.{NoneSends, none_left, none_more, renewed_as, renewed_then}

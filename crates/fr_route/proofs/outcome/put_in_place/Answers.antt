@@ -2,7 +2,7 @@ use Rattle.std.proofs.Common.{◌≡◌, ◌∙◌, ◌≤◌, ap, arith, length
 use Rattle.fr_graph.specs.Counts.{links_at}
 use Rattle.fr_graph.specs.Network.{Network, net_of}
 use Rattle.fr_core.proofs.Unique.{settled_lawful}
-use Rattle.fr_route.specs.Outcomes.{AreNoted, HoldsMoved, state_after}
+use Rattle.fr_route.specs.Outcomes.{AreNoted, HoldsMoved, settled_state}
 use Rattle.fr_route.specs.Routes.{AreHops}
 use Rattle.fr_route.specs.States.{IsAfterRound, State, state_with}
 use Rattle.fr_route.proofs.CutNodes.{after_outcome}
@@ -14,7 +14,7 @@ turned : (c : After-turn) → c.turn.new.self ≡ net_of c.args.net.now.nodes (l
 turned c = c.turn.ensures.is
 
 -- the hops are made anew in the state after the round
-reached : (c : After-turn) → state_with c.turn.new.self c.args.dest c.args.turns.now ≡ state_after c.args.net.now c.args.dest c.args.turns.now
+reached : (c : After-turn) → state_with c.turn.new.self c.args.dest c.args.turns.now ≡ settled_state c.args.net.now c.args.dest c.args.turns.now
 reached c = ap (λ (m : Network). state_with m c.args.dest c.args.turns.now) (turned c)
 
 pub turn-requires-clause-kept : goal.turn-requires-clause-kept
@@ -36,7 +36,7 @@ renew_hops-requires-clause-moved c =
 pub returns-clause-hops : goal.returns-clause-hops
 returns-clause-hops c =
     let at = (goal.at.returns-clause-hops c).After-turn in
-    let after = state_after c.args.net.now c.args.dest c.args.turns.now in
+    let after = settled_state c.args.net.now c.args.dest c.args.turns.now in
     let nodes : c.turn.new.self.nodes ≡ c.args.net.now.nodes = ap (λ (m : Network). m.nodes) (turned at) in
     subst (λ (n : ℕ). AreHops after n c.renew_hops.new.hops) nodes
     (subst (λ (s : State). AreHops s c.turn.new.self.nodes c.renew_hops.new.hops) (reached at) c.renew_hops.ensures.hops)

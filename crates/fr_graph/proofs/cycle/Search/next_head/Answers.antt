@@ -8,8 +8,8 @@ use Rattle.fr_graph.specs.CycleSearch.{HasRead, IsPassed, IsSearch, nodes_of}
 use Rattle.fr_graph.specs.Tables.{row_of}
 use Rattle.fr_graph.specs.declared.cycle.Search.{Search}
 use Rattle.fr_graph.specs.declared.cycle.Step.{Step}
-use Rattle.fr_graph.specs.declared.rows.First.{First}
-use Rattle.fr_graph.specs.declared.rows.First.TheVariants.{Outward}
+use Rattle.fr_graph.specs.declared.first.First.{First}
+use Rattle.fr_graph.specs.declared.first.First.TheVariants.{Outward}
 use Rattle.fr_graph.proofs.cycle.Search.next_head.Goals as goal
 use Rattle.fr_graph.proofs.cycle.Search.next_head.Goals.{After-index-top, After-index_mut}
 

@@ -13,17 +13,17 @@ use Rattle.fr_graph.proofs.graph.Graph.add.Goals.{After-make_room, In-Some}
 
 -- the graph shows the network that was tested
 same : (c : After-make_room) → IsSame c.args.self.now c.make_room.new.self
-same c = same_through c.args.self.now c.way_back.new.self c.make_room.new.self c.in_ok-meeting.ensures.same c.make_room.ensures.same
+same c = same_through c.args.self.now c.path_back.new.self c.make_room.new.self c.in_ok-meeting.ensures.same c.make_room.ensures.same
 
 -- the sides of the search met
 met : (c : In-Some) → IsMeeting (shown c.args.self.now).links c.args.v c.args.u c.in-Some.meeting
 met c = rw c.in-Some.is at c.in_ok-meeting.ensures.found
 
-pub way_back-requires-clause-graph : goal.way_back-requires-clause-graph
-way_back-requires-clause-graph c = c.requires
+pub path_back-requires-clause-graph : goal.path_back-requires-clause-graph
+path_back-requires-clause-graph c = c.requires
 
-pub way_back-requires-clause-nodes : goal.way_back-requires-clause-nodes
-way_back-requires-clause-nodes c = c.in_ok-test_join.ensures.nodes
+pub path_back-requires-clause-nodes : goal.path_back-requires-clause-nodes
+path_back-requires-clause-nodes c = c.in_ok-test_join.ensures.nodes
 
 pub returns-in-Some-clause-unchanged : goal.returns-in-Some-clause-unchanged
 returns-in-Some-clause-unchanged c = c.in_ok-meeting.ensures.same

@@ -10,14 +10,14 @@ told : (links : List (ℕ × ℕ)) (from to : ℕ) (b : Bool) (met : Option Meet
 told links from to b None is found none = (λ t. cc (is, t), λ path. absurd (none path))
 told links from to b (Some meeting) is found none = (λ t. meeting_leads links from to meeting found, λ path. is)
 
-pub way_back-requires-clause-graph : goal.way_back-requires-clause-graph
-way_back-requires-clause-graph c = c.requires.graph
+pub path_back-requires-clause-graph : goal.path_back-requires-clause-graph
+path_back-requires-clause-graph c = c.requires.graph
 
-pub way_back-requires-clause-nodes : goal.way_back-requires-clause-nodes
-way_back-requires-clause-nodes c = c.requires.nodes
+pub path_back-requires-clause-nodes : goal.path_back-requires-clause-nodes
+path_back-requires-clause-nodes c = c.requires.nodes
 
 pub returns-clause-same : goal.returns-clause-same
-returns-clause-same c = c.in_ok-way_back.ensures.same
+returns-clause-same c = c.in_ok-path_back.ensures.same
 
 pub returns-clause-leads : goal.returns-clause-leads
-returns-clause-leads c = told (shown c.args.self.now).links c.args.v c.args.u c.is_some.result c.in_ok-way_back.field-0 c.is_some.ensures c.in_ok-way_back.ensures.found c.in_ok-way_back.ensures.none
+returns-clause-leads c = told (shown c.args.self.now).links c.args.v c.args.u c.is_some.result c.in_ok-path_back.field-0 c.is_some.ensures c.in_ok-path_back.ensures.found c.in_ok-path_back.ensures.none

@@ -5,7 +5,7 @@ use Rattle.fr_graph.proofs.Places.{entry_in, entry_out, not_joined, rises_by}
 use Rattle.fr_graph.specs.Graph.{shown}
 use Rattle.fr_graph.specs.Links.{IsNet}
 use Rattle.fr_graph.specs.Rows.{row}
-use Rattle.fr_graph.specs.declared.rows.First.{First}
+use Rattle.fr_graph.specs.declared.first.First.{First}
 use Rattle.fr_graph.proofs.graph.Graph.link_between.Goals as goal
 
 pub place_in_row-requires : goal.place_in_row-requires

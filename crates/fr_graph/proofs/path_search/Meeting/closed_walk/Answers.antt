@@ -2,7 +2,7 @@ use Rattle.std.proofs.Common.{[], refl, reverse, ◌++◌, ◌∙◌, ◌∷◌,
 use Rattle.std.proofs.lemmas.List.{get_or_read}
 use Rattle.fr_graph.proofs.Meetings.{trails_close}
 use Rattle.fr_graph.specs.PathSearch.{AddsTrail}
-use Rattle.fr_graph.specs.declared.rows.First.TheVariants.{Inward, Outward}
+use Rattle.fr_graph.specs.declared.first.First.TheVariants.{Inward, Outward}
 use Rattle.fr_graph.proofs.path_search.Meeting.closed_walk.Goals as goal
 
 pub returns : goal.returns

@@ -1,6 +1,6 @@
 use Rattle.std.proofs.Common.{List, get_or, length, ℕ, ◌<◌}
 use Rattle.fr_graph.specs.PathSearch.{AddsTrail, HasOrigins}
-use Rattle.fr_graph.specs.declared.rows.First.{First}
+use Rattle.fr_graph.specs.declared.first.First.{First}
 use Rattle.fr_graph.proofs.path_search.Side.push_trail.Given as goal
 
 abbrev pub invariant-loop-place : goal.invariant-loop-place

@@ -6,8 +6,8 @@ use Rattle.fr_graph.specs.PathSearch.{HasMet, HasPassed, IsBeyond, IsMetOrAside,
 use Rattle.fr_graph.specs.RowLists.{opposite}
 use Rattle.fr_graph.specs.Rows.{row}
 use Rattle.fr_graph.specs.declared.path_search.Side.{Side}
-use Rattle.fr_graph.specs.declared.rows.First.{First}
-use Rattle.fr_graph.specs.declared.rows.First.TheVariants.{Outward}
+use Rattle.fr_graph.specs.declared.first.First.{First}
+use Rattle.fr_graph.specs.declared.first.First.TheVariants.{Outward}
 use Rattle.fr_graph.proofs.path_search.Side.read_next.Goals as goal
 use Rattle.fr_graph.proofs.path_search.Side.read_next.Goals.{After-goes_on, After-row-row, else-goes_on-via-then-goes_on+else-meet, else-goes_on-via-else-goes_on}
 

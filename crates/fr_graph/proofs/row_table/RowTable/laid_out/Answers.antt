@@ -1,6 +1,6 @@
 use Rattle.std.proofs.Common.{List, [], ap, arith, length, ◌++◌, ◌<◌, ◌∙◌, ◌∷◌, ◌≡◌, ℕ}
 use Rattle.fr_graph.proofs.LaidOut.{AreLaidOut, all_have_room, one_more_laid_out, room_kept, rooms_counted, rows_counted, same_rows}
-use Rattle.fr_graph.specs.declared.rows.First.{First}
+use Rattle.fr_graph.specs.declared.first.First.{First}
 use Rattle.fr_graph.proofs.row_table.RowTable.laid_out.Goals as goal
 use Rattle.fr_graph.proofs.row_table.RowTable.laid_out.Goals.{After-loop-x, In-loop-x}
 

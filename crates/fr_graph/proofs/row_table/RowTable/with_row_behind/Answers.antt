@@ -4,8 +4,8 @@ use Rattle.fr_graph.proofs.Counting.{weigh}
 use Rattle.fr_graph.proofs.LaidOut.{IsBehind, rooms_behind, rows_behind, start_behind, table_behind}
 use Rattle.fr_graph.proofs.RowTables.{bit_is, none_few, none_is, start_read, weigh-le}
 use Rattle.fr_graph.specs.Tables.{Table, has_none, rows_in, start_at}
-use Rattle.fr_graph.specs.declared.rows.First.{First}
-use Rattle.fr_graph.specs.declared.rows.First.TheVariants.{Outward}
+use Rattle.fr_graph.specs.declared.first.First.{First}
+use Rattle.fr_graph.specs.declared.first.First.TheVariants.{Outward}
 use Rattle.fr_graph.proofs.row_table.RowTable.with_row_behind.Goals as goal
 use Rattle.fr_graph.proofs.row_table.RowTable.with_row_behind.Goals.{After-from-empty}
 

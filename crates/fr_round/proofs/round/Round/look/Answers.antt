@@ -2,7 +2,7 @@ use Rattle.std.proofs.lemmas.Bool.Decides.{nat_tests}
 use Rattle.std.proofs.Common.{List, ap, arith, length, refl, subst, ℕ, ◌≡◌}
 use Rattle.fr_graph.proofs.Neighbours.{row_alone, row_linked}
 use Rattle.fr_graph.specs.Rows.{row}
-use Rattle.fr_graph.specs.declared.rows.First.{First}
+use Rattle.fr_graph.specs.declared.first.First.{First}
 use Rattle.fr_core.specs.Targets.{IsLookable}
 use Rattle.fr_round.specs.declared.faults.Refusal.TheVariants.{Alone}
 use Rattle.fr_round.specs.Knowledge.{OpenRound, RefusesLook}

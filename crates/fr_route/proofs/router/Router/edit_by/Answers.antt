@@ -9,7 +9,7 @@ use Rattle.fr_graph.specs.declared.fault.NotEdited.{NotEdited}
 use Rattle.fr_graph.specs.declared.fault.NotEdited.TheVariants.{Fault, Refused}
 use Rattle.fr_route.specs.Changes.{IsOpenFault, IsStill}
 use Rattle.fr_route.specs.Faults.{of_not_edited}
-use Rattle.fr_route.specs.Outcomes.{HoldsMoved, IsEditingFault, IsOutcome, movable, state_after}
+use Rattle.fr_route.specs.Outcomes.{HoldsMoved, IsEditingFault, IsOutcome, movable, settled_state}
 use Rattle.fr_route.specs.Reroutes.{AreRerouted}
 use Rattle.fr_route.specs.Routes.{AreHops}
 use Rattle.fr_route.specs.RouterInside.{state_of}
@@ -108,7 +108,7 @@ put_in_place-requires-clause-moved g c =
     let net : Network = c.edit_if.new.self in
     let counts : List ℕ = c.in_ok-outcome.outcome.turns in
     let hops : AreHops s s.nodes c.deref_mut.result.now = rw c.deref_mut.ensures.value c.self.invariant.hops in
-    subst (HoldsMoved (state_after net c.args.dest counts) c.deref_mut.result.now) (sym (from_movable g at.After-self))
+    subst (HoldsMoved (settled_state net c.args.dest counts) c.deref_mut.result.now) (sym (from_movable g at.After-self))
     (unmoved_hops s c.self.invariant.round c.args.edits.now net c.args.dest (in_range g at.After-self) (edits_made g at.In_ok-outcome) counts (outcome_is g at.In_ok-outcome).counts c.deref_mut.result.now hops)
 
 pub invariant_of-self-2 : goal.invariant_of-self-2
@@ -129,14 +129,14 @@ invariant_of-self-2 g c =
     (sound_after c.args.dest counts c.keep_turns.new.spare (with_items c.self.inside.hops c.put_in_place.new.hops) c.in_ok-outcome.outcome.report net c.put_in_place.new.net
     (made_net s c.args.edits.now net c.self.invariant.round made)
     outcome.counts outcome.report c.put_in_place.ensures.net
-    (subst (AreHops (state_after net c.args.dest counts) net.nodes) (sym items) c.put_in_place.ensures.hops) spare)
+    (subst (AreHops (settled_state net c.args.dest counts) net.nodes) (sym items) c.put_in_place.ensures.hops) spare)
 
 pub returns : goal.returns
 returns g c =
     let at = goal.at.returns g c in
     let s : State = state_of c.self.inside in
     let net : Network = c.edit_if.new.self in
-    let after : State = state_after net c.args.dest c.in_ok-outcome.outcome.turns in
+    let after : State = settled_state net c.args.dest c.in_ok-outcome.outcome.turns in
     let made = edits_made g at.In_ok-outcome in
     let outcome = outcome_is g at.In_ok-outcome in
     let nodes : net.nodes ≡ s.nodes = made_nodes c.self.inside.net c.args.edits.now net made in

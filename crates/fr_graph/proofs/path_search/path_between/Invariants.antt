@@ -1,8 +1,8 @@
 use Rattle.std.proofs.Common.{slice_index, ◌*◌, ◌+◌}
 use Rattle.fr_graph.specs.KeptRows.{net_in}
 use Rattle.fr_graph.specs.PathSearch.{IsSide, never_count, unread_count}
-use Rattle.fr_graph.specs.declared.rows.First.TheVariants.{Inward, Outward}
-use Rattle.fr_graph.proofs.path_search.way_between.Given as goal
+use Rattle.fr_graph.specs.declared.first.First.TheVariants.{Inward, Outward}
+use Rattle.fr_graph.proofs.path_search.path_between.Given as goal
 
 abbrev pub invariant-loop-behind : goal.invariant-loop-behind
 invariant-loop-behind l = record {

@@ -5,9 +5,9 @@ use Rattle.fr_graph.specs.KeptRows.{net_in}
 use Rattle.fr_graph.specs.PathSearch.{IsSide, MeetAlong}
 use Rattle.fr_graph.specs.declared.path_search.Met.{Met}
 use Rattle.fr_graph.specs.declared.path_search.Met.TheVariants.{Backward, Forward, Never}
-use Rattle.fr_graph.specs.declared.rows.First.TheVariants.{Inward, Outward}
-use Rattle.fr_graph.proofs.path_search.way_between.Goals as goal
-use Rattle.fr_graph.proofs.path_search.way_between.Goals.{Joined-goes_next, In-Some, else-goes_next, else-has_unread-2, else-loop-behind-test, then-goes_next, then-has_unread-2, then-loop-behind-test+else-has_unread}
+use Rattle.fr_graph.specs.declared.first.First.TheVariants.{Inward, Outward}
+use Rattle.fr_graph.proofs.path_search.path_between.Goals as goal
+use Rattle.fr_graph.proofs.path_search.path_between.Goals.{Joined-goes_next, In-Some, else-goes_next, else-has_unread-2, else-loop-behind-test, then-goes_next, then-has_unread-2, then-loop-behind-test+else-has_unread}
 
 -- a side that says that it has no unread node has read all its rows
 none_left : {has : Bool} {read nodes : ℕ} → has ≡ false → IsTrue has ↔ (read < nodes) → nodes ≤ read

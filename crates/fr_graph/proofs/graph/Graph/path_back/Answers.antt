@@ -9,9 +9,9 @@ use Rattle.fr_graph.specs.declared.graph.Graph.{Graph}
 use Rattle.fr_graph.specs.Heights.{AreFalling}
 use Rattle.fr_graph.specs.Links.{HasPath}
 use Rattle.fr_graph.specs.Network.{Network}
-use Rattle.fr_graph.specs.PathSearch.{IsMeeting, IsWay}
-use Rattle.fr_graph.proofs.graph.Graph.way_back.Goals as goal
-use Rattle.fr_graph.proofs.graph.Graph.way_back.Goals.{In_ok-meeting}
+use Rattle.fr_graph.specs.PathSearch.{IsMeeting, IsPathAnswer}
+use Rattle.fr_graph.proofs.graph.Graph.path_back.Goals as goal
+use Rattle.fr_graph.proofs.graph.Graph.path_back.Goals.{In_ok-meeting}
 
 -- no path leads up
 no_path_up : (links : List (ℕ × ℕ)) (heights : List ℕ) (x y : ℕ) → AreFalling heights links → slice_index heights x < slice_index heights y → ¬ HasPath links x y
@@ -31,17 +31,17 @@ falls-requires-clause-tail c = has_height c.args.self.now c.renew_heights.new.se
 pub falls-requires-clause-head : goal.falls-requires-clause-head
 falls-requires-clause-head c = has_height c.args.self.now c.renew_heights.new.self c.args.v c.in_ok-renew_heights.ensures.same c.requires.nodes.head
 
-pub way_between-requires-clause-from : goal.way_between-requires-clause-from
-way_between-requires-clause-from c = has_row c.args.self.now c.renew_heights.new.self c.args.v c.in_ok-renew_heights.ensures.same c.requires.nodes.head
+pub path_between-requires-clause-from : goal.path_between-requires-clause-from
+path_between-requires-clause-from c = has_row c.args.self.now c.renew_heights.new.self c.args.v c.in_ok-renew_heights.ensures.same c.requires.nodes.head
 
-pub way_between-requires-clause-to : goal.way_between-requires-clause-to
-way_between-requires-clause-to c = has_row c.args.self.now c.renew_heights.new.self c.args.u c.in_ok-renew_heights.ensures.same c.requires.nodes.tail
+pub path_between-requires-clause-to : goal.path_between-requires-clause-to
+path_between-requires-clause-to c = has_row c.args.self.now c.renew_heights.new.self c.args.u c.in_ok-renew_heights.ensures.same c.requires.nodes.tail
 
-pub way_between-requires-clause-apart : goal.way_between-requires-clause-apart
-way_between-requires-clause-apart c e = c.requires.nodes.apart (sym e)
+pub path_between-requires-clause-apart : goal.path_between-requires-clause-apart
+path_between-requires-clause-apart c e = c.requires.nodes.apart (sym e)
 
-pub way_between-requires-clause-no_higher : goal.way_between-requires-clause-no_higher
-way_between-requires-clause-no_higher c =
+pub path_between-requires-clause-no_higher : goal.path_between-requires-clause-no_higher
+path_between-requires-clause-no_higher c =
     let heights = c.renew_heights.new.self.heights.heights in
     elim (cases_lt (slice_index heights c.args.v) (slice_index heights c.args.u)) [
       | inl below ↦ cc (c.falls.ensures.1 (c.in_ok-renew_heights.ensures.known, below), c.if-falls.false)
@@ -61,23 +61,23 @@ returns-then-falls-clause-none c =
     let falls = c.falls.ensures.0 c.if-falls.true in
     λ path. absurd (no_path_up (shown after).links after.heights.heights c.args.v c.args.u (same.graph.fit falls.0) falls.1 (subst (λ (m : Network). HasPath m.links c.args.v c.args.u) (sym same.same) path))
 
-pub way_between-requires-clause-rows : goal.way_between-requires-clause-rows
-way_between-requires-clause-rows c = shows_net c.renew_heights.new.self c.in_ok-renew_heights.ensures.same.graph
+pub path_between-requires-clause-rows : goal.path_between-requires-clause-rows
+path_between-requires-clause-rows c = shows_net c.renew_heights.new.self c.in_ok-renew_heights.ensures.same.graph
 
-pub way_between-requires-clause-one_each : goal.way_between-requires-clause-one_each
-way_between-requires-clause-one_each c = let is = c.in_ok-renew_heights.ensures.same.graph in is.height_each ∙ sym is.rows.one_each
+pub path_between-requires-clause-one_each : goal.path_between-requires-clause-one_each
+path_between-requires-clause-one_each c = let is = c.in_ok-renew_heights.ensures.same.graph in is.height_each ∙ sym is.rows.one_each
 
-pub way_between-requires-clause-falling : goal.way_between-requires-clause-falling
-way_between-requires-clause-falling c =
+pub path_between-requires-clause-falling : goal.path_between-requires-clause-falling
+path_between-requires-clause-falling c =
     let after = c.renew_heights.new.self in
     let is = c.in_ok-renew_heights.ensures.same.graph in
     subst (λ (m : Network). AreFalling after.heights.heights m.links) (sym (net_shown after is)) (is.fit c.in_ok-renew_heights.ensures.known)
 
 -- what the search found, in the network that the graph shows
-found : (c : In_ok-meeting) → IsWay (shown c.renew_heights.new.self) c.renew_heights.new.self.heights.heights c.args.v c.args.u c.in_ok-meeting.field-0
+found : (c : In_ok-meeting) → IsPathAnswer (shown c.renew_heights.new.self) c.renew_heights.new.self.heights.heights c.args.v c.args.u c.in_ok-meeting.field-0
 found c =
     let after = c.renew_heights.new.self in
-    subst (λ (m : Network). IsWay m after.heights.heights c.args.v c.args.u c.in_ok-meeting.field-0) (net_shown after c.in_ok-renew_heights.ensures.same.graph) c.in_ok-meeting.ensures
+    subst (λ (m : Network). IsPathAnswer m after.heights.heights c.args.v c.args.u c.in_ok-meeting.field-0) (net_shown after c.in_ok-renew_heights.ensures.same.graph) c.in_ok-meeting.ensures
 
 pub put_between-requires : goal.put_between-requires
 put_between-requires c =

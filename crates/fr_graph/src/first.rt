@@ -1,0 +1,25 @@
+//! Where a link of a network points, as seen from one of its ends.
+
+ghost use Rattle.std.specs.Prelude.{◌≡◌};
+ghost use Rattle.fr_graph.specs.RowLists.{opposite};
+
+/// The direction of a network's link as seen from the node `x` at one of its ends, before any turn.
+#[derive(Debug, Drop, Clone, Copy, PartialEq, Eq)]
+pub enum First {
+    /// The link points from `x` to the neighbour.
+    Outward,
+    /// The link points from the neighbour to `x`.
+    Inward,
+}
+
+impl First {
+    /// The direction as seen from the other end of the link.
+    pub fn opposite(self) -> First
+        ensures { result ≡ opposite self }
+    {
+        match self {
+            First::Outward => First::Inward,
+            First::Inward => First::Outward,
+        }
+    }
+}
