@@ -11,6 +11,8 @@ import crates
 
 PROVED = crates.BUILT / "proved"
 FAILED = 70
+# More jobs for one crate cost more than they bring: each loads what it needs, and by four a crate takes half as many seconds again.
+MOST_JOBS = 2
 
 
 def own_rlib(name):
@@ -97,8 +99,8 @@ def is_kept(name):
 
 
 def prove_each(progress, names, jobs):
-    """Proves libraries, each once those below it are proved: of those that can be, the one that most stand on by all jobs but one each for
-    the others."""
+    """Proves libraries, each once those below it are proved: of those that can be, the one that most stand on by two jobs, where the others
+    leave it as many, and each other by one."""
     above = {it: sum(it in crates.below(other) for other in names) for it in names}
     left, running = sorted(names, key=lambda it: -above[it]), {}
     with ThreadPoolExecutor(jobs) as pool:
@@ -108,7 +110,7 @@ def prove_each(progress, names, jobs):
             for at, it in enumerate(ready):
                 idle = jobs - sum(given for _, given in running.values())
                 if idle > 0:
-                    given = max(1, idle - (len(ready) - 1)) if at == 0 else 1
+                    given = min(MOST_JOBS, max(1, idle - (len(ready) - 1))) if at == 0 else 1
                     left.remove(it)
                     running[pool.submit(prove_library, progress, it, given)] = it, given
             for it in wait(running, return_when=FIRST_COMPLETED).done:
@@ -166,7 +168,7 @@ def build(name):
     if is_newer(left, edited):
         shutil.copy(left, made)
     else:
-        words = crates.words(name, libraries(progress, name, jobs), jobs)
+        words = crates.words(name, libraries(progress, name, jobs), min(jobs, MOST_JOBS))
         words += ["--toolchain", str(crates.kit() / "toolchain"), "--backend", "llvm", "-o", str(made)]
         try:
             prove(progress, name, words)
