@@ -1,24 +1,25 @@
 //! Full reversal by threads, as a crew of a plain program would do it: one atomic count a node, and a deque of candidates for each
-//! worker, from which the others steal.
+//! worker, from which the others steal. A flag a node keeps it from standing in the deques twice.
 
 use crate::net::{Net, Way};
 use crossbeam_deque::{Steal, Stealer, Worker};
-use std::sync::atomic::{AtomicU32, Ordering::SeqCst};
+use std::sync::atomic::{AtomicBool, AtomicU32, Ordering::SeqCst};
 use std::thread;
 
 /// How often each node has turned once so many workers find no candidate any more: mostly, but not always, until no node can
 /// turn.
 pub fn turned_by(net: &Net, dest: u32, workers: usize) -> Vec<u32> {
     let deques: Vec<Worker<u32>> = (0..workers).map(|_| Worker::new_fifo()).collect();
-    for x in (0..net.nodes()).filter(|&x| x != dest && net.degree(x) > 0) {
-        deques[x as usize % workers].push(x);
-    }
     let crew = Crew {
         net,
         dest,
         counts: (0..net.nodes()).map(|_| AtomicU32::new(0)).collect(),
+        standing: (0..net.nodes()).map(|_| AtomicBool::new(false)).collect(),
         stealers: deques.iter().map(Worker::stealer).collect(),
     };
+    for x in (0..net.nodes()).filter(|&x| x != dest && net.degree(x) > 0) {
+        crew.put(&deques[x as usize % workers], x);
+    }
     thread::scope(|scope| {
         let mut numbered = deques.into_iter().enumerate();
         let last = numbered.next_back();
@@ -37,6 +38,7 @@ struct Crew<'a> {
     net: &'a Net,
     dest: u32,
     counts: Vec<AtomicU32>,
+    standing: Vec<AtomicBool>,
     stealers: Vec<Stealer<u32>>,
 }
 
@@ -44,13 +46,23 @@ impl Crew<'_> {
     /// Turns candidates until it finds none.
     fn work(&self, number: usize, own: &Worker<u32>) {
         while let Some(x) = own.pop().or_else(|| self.stolen(number)) {
+            // Before the call, so that a turn of a neighbour in the meantime puts it again.
+            self.standing[x as usize].store(false, SeqCst);
             if self.turn(x) {
                 for entry in self.net.row(x) {
                     if entry.neighbour != self.dest {
-                        own.push(entry.neighbour);
+                        self.put(own, entry.neighbour);
                     }
                 }
             }
+        }
+    }
+
+    /// Puts a candidate, unless it stands in a deque.
+    fn put(&self, own: &Worker<u32>, x: u32) {
+        let standing = &self.standing[x as usize];
+        if !standing.load(SeqCst) && !standing.swap(true, SeqCst) {
+            own.push(x);
         }
     }
 

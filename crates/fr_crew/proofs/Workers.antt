@@ -1,5 +1,5 @@
 -- The workers of a crew are those of its round.
-use Rattle.std.proofs.Common.{◌≡◌, ◌∙◌, ◌++◌, ◌<◌, ◌≤◌, ℕ, zero, suc, ◌∷◌, [], List, length, ap, refl, arith, length-append}
+use Rattle.std.proofs.Common.{◌≡◌, ◌∙◌, ◌<◌, ◌≤◌, ℕ, zero, suc, ◌∷◌, [], List, length, ap, refl, arith, length-append}
 use Rattle.std.specs.List.{AllByRecursion as Each}
 use Rattle.fr_round.specs.Knowledge.{Knowledge, OpenRound, IsOwn, new_worker, new_workers}
 use Rattle.fr_round.specs.declared.view.Setup.{Setup}

@@ -12,6 +12,7 @@ use crate::gate::Gate;
 use crate::members::{Member, Members, deal, equip, room_for};
 use crate::naming::Naming;
 use crate::plan::Plan;
+use crate::standing::Standing;
 use fr_core::Reply;
 use fr_round::{Round, Worker};
 use std::alloc::{AllocError, Global};
@@ -25,6 +26,7 @@ use std::thread::{Promise, PromisedHandle, Scope, Threads};
 struct Job<J: Naming> {
     round: Round,
     stealers: Vec<Stealer<J>>,
+    standing: Standing<J>,
     budget: u64,
     ghost some_stealer: { 0 < vec_len stealers },
 }
@@ -63,6 +65,7 @@ fn work<J: Naming, G: Gate>(job: &Job<J>, gate: &G, member: Member<J>) -> Worker
     let Job {
         round,
         stealers,
+        standing,
         budget,
     } = job;
     let Member {
@@ -74,12 +77,14 @@ fn work<J: Naming, G: Gate>(job: &Job<J>, gate: &G, member: Member<J>) -> Worker
         let Some(x) = deque.take(stealers) else {
             break;
         };
+        // Before the call, so that a turn of a neighbour in the meantime makes it a candidate again.
+        standing.leaves(x);
         gate.before(number, made + 1);
         let reply = round.try_turn(&mut worker, x);
         gate.after(number, made + 1);
         match reply {
-            Ok(Reply::Turned { .. }) => deque.put_neighbours(round, x),
-            Ok(Reply::Moved { .. }) => deque.put(x),
+            Ok(Reply::Turned { .. }) => deque.put_neighbours(standing, round, x),
+            Ok(Reply::Moved { .. }) => deque.put(standing, x),
             // Whoever turns the neighbour that held it makes it a candidate again.
             Ok(Reply::Held { .. }) | Ok(Reply::Cut) => {}
             // No candidate is refused.
@@ -250,15 +255,17 @@ pub(crate) fn run_crew<J: Naming + Send + Sync, R: Threads + Wait, G: Gate + Syn
     ensures fault { IfErr result (λ fault. fault ≢ Range) }
     ensures no_start { vec_len workers ≡ 1 → IfErr result (λ fault. fault ≢ Start) }
 {
-    let room = room_for(&round, from);
+    let room = room_for(&round, from, workers.len());
     let Members {
         mut members,
         stealers,
     } = equip::<J>(alloc, workers, room, plan.seed())?;
-    deal(&round, &mut members, from);
+    let standing = Standing::none(alloc, &round)?;
+    deal(&round, &standing, &mut members, from);
     let job = Job {
         round,
         stealers,
+        standing,
         budget: plan.budget(),
     };
     let workers = run_threads(rt, alloc, &job, gate, members)?;

@@ -4,6 +4,7 @@ ghost use Rattle.std.specs.Prelude.{◌≡◌, ◌<◌, ◌≤◌, IfSome, lengt
 ghost use Rattle.fr_crew.specs.Candidates.{IsCandidate};
 
 use crate::naming::{Candidates, Naming};
+use crate::standing::Standing;
 use crossbeam_deque::{Steal, Worker};
 use fr_round::Round;
 use rand_core::SeedableRng;
@@ -40,15 +41,18 @@ impl<J: Naming> Deque<J> {
         self.own.stealer()
     }
 
-    /// Puts a candidate at the end. One that finds no memory is dropped, and so left to the finisher.
-    pub fn put(&mut self, x: u32)
+    /// Puts a candidate at the end, unless it stands in a deque. One that finds no memory is dropped, and so left to the finisher or to
+    /// who puts it next.
+    pub fn put(&mut self, standing: &Standing<J>, x: u32)
         requires { IsCandidate J.setup x }
     {
-        let _ = self.own.push_as::<Candidates<J>>(x);
+        if standing.enters(x) && self.own.push_as::<Candidates<J>>(x).is_err() {
+            standing.leaves(x);
+        }
     }
 
     /// Puts all neighbours of a node but the destination: each may be a sink now that the node has turned.
-    pub fn put_neighbours(&mut self, round: &Round, x: u32)
+    pub fn put_neighbours(&mut self, standing: &Standing<J>, round: &Round, x: u32)
         requires named { round.now.setup ≡ J.setup }
         requires node { x < J.setup.nodes }
     {
@@ -56,7 +60,7 @@ impl<J: Naming> Deque<J> {
         for (neighbour, _) in round.net().row(x) {
             let neighbour = *neighbour as u32;
             if neighbour != dest {
-                self.put(neighbour);
+                self.put(standing, neighbour);
             }
         }
     }

@@ -18,6 +18,7 @@ mod members;
 mod naming;
 mod plan;
 mod settlement;
+mod standing;
 mod ways;
 
 pub use fault::CrewFault;

@@ -7,6 +7,7 @@ ghost use Rattle.fr_crew.specs.Crews.{IsOwnMember};
 
 use crate::deques::{Deque, Stealer};
 use crate::naming::Naming;
+use crate::standing::Standing;
 use fr_round::{Round, Worker};
 use std::alloc::{AllocError, Global};
 
@@ -45,24 +46,33 @@ pub(crate) fn equip<J: Naming>(
     Ok(Members { members, stealers })
 }
 
-/// The least room that a deque has at first: a turn makes candidates of all neighbours of a node.
-const LEAST_ROOM: usize = 64;
+/// How much more room a deque has at first than is dealt to it: a turn makes candidates of all neighbours of a node.
+const SLACK: usize = 64;
 
-/// How many candidates a deque is to have room for at first: as many as may be dealt, or `LEAST_ROOM` where these are fewer, but no
-/// more than there are nodes. It grows where that is too little.
-pub(crate) fn room_for(round: &Round, from: Option<&[u32]>) -> usize
+/// How many candidates the deque of each of so many workers is to have room for at first: as many as are dealt to one, and some more,
+/// but no more than there are nodes, since none stands there twice. It grows where that is too little.
+pub(crate) fn room_for(round: &Round, from: Option<&[u32]>, workers: usize) -> usize
+    requires { 0 < workers }
     ensures { result ≤ round.now.setup.nodes }
 {
     let nodes = round.net().nodes() as usize;
-    match from {
-        Some(from) => nodes.min(from.len().max(LEAST_ROOM)),
+    let dealt = match from {
+        Some(from) => from.len(),
         None => nodes,
-    }
+    };
+    let room = dealt / workers + SLACK;
+    if room < nodes { room } else { nodes }
 }
 
 /// Deals a node to the member whose number is `turn` modulo the number of members, where the node is a candidate: it has a link, and is
 /// not the destination.
-fn deal_node<J: Naming>(round: &Round, members: &mut [Member<J>], turn: usize, x: u32)
+fn deal_node<J: Naming>(
+    round: &Round,
+    standing: &Standing<J>,
+    members: &mut [Member<J>],
+    turn: usize,
+    x: u32,
+)
     requires named { round.now.setup ≡ J.setup }
     requires some { 0 < length members.old }
     ensures own { (own : OpenRound) → Each (IsOwnMember own) members.old → Each (IsOwnMember own) members.new }
@@ -70,41 +80,51 @@ fn deal_node<J: Naming>(round: &Round, members: &mut [Member<J>], turn: usize, x
     let net = round.net();
     if x < net.nodes() && x != round.dest() && net.degree(x) > 0 {
         let to = turn % members.len();
-        members[to].deque.put(x);
+        members[to].deque.put(standing, x);
     }
 }
 
 /// Deals all candidates in rising order, each to the member whose number is that of the node modulo the number of members.
-fn deal_all<J: Naming>(round: &Round, members: &mut [Member<J>])
+fn deal_all<J: Naming>(round: &Round, standing: &Standing<J>, members: &mut [Member<J>])
     requires named { round.now.setup ≡ J.setup }
     requires some { 0 < length members.old }
     ensures own { (own : OpenRound) → Each (IsOwnMember own) members.old → Each (IsOwnMember own) members.new }
 {
     for x in 0..round.net().nodes() {
-        deal_node(round, members, x as usize, x);
+        deal_node(round, standing, members, x as usize, x);
     }
 }
 
 /// Deals the candidates among these nodes, each to the member whose number is the node's place modulo the number of members.
-fn deal_each<J: Naming>(round: &Round, members: &mut [Member<J>], nodes: &[u32])
+fn deal_each<J: Naming>(
+    round: &Round,
+    standing: &Standing<J>,
+    members: &mut [Member<J>],
+    nodes: &[u32],
+)
     requires named { round.now.setup ≡ J.setup }
     requires some { 0 < length members.old }
     ensures own { (own : OpenRound) → Each (IsOwnMember own) members.old → Each (IsOwnMember own) members.new }
 {
     for (turn, x) in nodes.iter().enumerate() {
-        deal_node(round, members, turn, *x);
+        deal_node(round, standing, members, turn, *x);
     }
 }
 
 /// Deals the first candidates: those among the nodes of `from`, where it is given, and else all nodes with a link but the
 /// destination.
-pub(crate) fn deal<J: Naming>(round: &Round, members: &mut [Member<J>], from: Option<&[u32]>)
+pub(crate) fn deal<J: Naming>(
+    round: &Round,
+    standing: &Standing<J>,
+    members: &mut [Member<J>],
+    from: Option<&[u32]>,
+)
     requires named { round.now.setup ≡ J.setup }
     requires some { 0 < length members.old }
     ensures own { (own : OpenRound) → Each (IsOwnMember own) members.old → Each (IsOwnMember own) members.new }
 {
     match from {
-        Some(from) => deal_each(round, members, from),
-        None => deal_all(round, members),
+        Some(from) => deal_each(round, standing, members, from),
+        None => deal_all(round, standing, members),
     }
 }

@@ -227,14 +227,15 @@ module _ {S : Type 0} where
           let b = v.setup in
           let mine = (r.views id v here).worker works in
           let is : found ≡ reached b r.history i = word_is b s r i in
+          let most : found ≤ b.nodes = let m = (lawful_here b s r).lawful.capped i in omega arith in
           let own : v.count ≤ reached b r.history v.node = let p = mine.below v.node in let q = word_is b s r v.node in omega arith in
           dite (dec_lt found (v.count + more))
           (λ (miss : found < v.count + more).
           let low : reached b r.history i < v.count + more = omega arith in
           let d = call_ended s id v r v.node (Held i) i found s.words here works (inside, points (moment b r.history) (lawful_here b s r) own low) r.words (λ z. le_refl _) (le_refl found) in
-          (decided_view v (r.history ++ entry v.number v.node (Held i) ∷ []) i found, keeps, tt, d.0, (mine.below i, (λ meets. absurd (omega arith)), (λ _. d.1), refl)))
+          (decided_view v (r.history ++ entry v.number v.node (Held i) ∷ []) i found, keeps, tt, d.0, (mine.below i, most, (λ meets. absurd (omega arith)), (λ _. d.1), refl)))
           (λ (meets : ¬ (found < v.count + more)).
-          (noted v i found, keeps, tt, notes s id v r i found v.node v.count here works (le_refl found), (mine.below i, (λ _. refl), (λ miss. absurd (meets miss)), refl)))
+          (noted v i found, keeps, tt, notes s id v r i found v.node v.count here works (le_refl found), (mine.below i, most, (λ _. refl), (λ miss. absurd (meets miss)), refl)))
 
   pub loads_along : (b : Setup) (slots id : ℕ) (me : Me S View) (i : ℕ) → me.0.works ≡ true → me.0.node < me.0.setup.nodes → me.0.count ≤ slice_index me.0.seen me.0.node → Contains me.0.setup.links (me.0.node, i)
       → Allows (KeepsRule b) slots id me i (λ n. n) (neighbour_loaded 1 (step slots i 0 0 none) me)
@@ -265,6 +266,7 @@ module _ {S : Type 0} where
           let st = lawful_here b s r in
           let mine = (r.views id v here).worker works in
           let is : found ≡ count_at m x = word_is b s r x in
+          let most : found ≤ b.nodes = let k = st.lawful.capped x in omega arith in
           exchanged found c new (λ z. Outcome s id me (slice_set s.words x z) (exchange_made (step slots x c new none) me found) b)
           (λ (hit : found ≡ c).
           let own : count_at m x ≡ c = sym is ∙ hit in
@@ -278,13 +280,13 @@ module _ {S : Type 0} where
           let same : words' ≡ slice_set m.counts x (count_at m x + 1) = λ i. slice_set (r.words i) x (new_is i) in
           let here_now : slice_index words' x ≡ new = get_or-set_same s.words x new 0 long in
           let t = call_ended s id v r x (Turned (c + 1)) x (c + 1) words' here works (inside, (can, ap (λ (z : ℕ). z + 1) (sym own))) same (set_up s.words x new (omega arith)) (omega arith) in
-          (decided_view v (r.history ++ entry v.number x (Turned (c + 1)) ∷ []) x (c + 1), keeps, tt, t.0, (mine.below x, (λ _. t.1), (λ other. absurd (other hit)), refl)))
+          (decided_view v (r.history ++ entry v.number x (Turned (c + 1)) ∷ []) x (c + 1), keeps, tt, t.0, (mine.below x, most, (λ _. t.1), (λ other. absurd (other hit)), refl)))
           (λ (miss : found ≢ c).
           let above : c < found = let p = mine.below x in omega arith in
           let stays : slice_set s.words x found ≡ s.words = set_same_value s.words x in
           let t = call_ended s id v r x (Moved c found) x found s.words here works (inside, (is, above)) r.words (λ z. le_refl _) (le_refl found) in
           subst (λ ws. Outcome s id me ws (exchange_made (step slots x c new none) me found) b) (sym stays)
-          (decided_view v (r.history ++ entry v.number x (Moved c found) ∷ []) x found, keeps, tt, t.0, (mine.below x, (λ hit. absurd (miss hit)), (λ _. t.1), refl)))
+          (decided_view v (r.history ++ entry v.number x (Moved c found) ∷ []) x found, keeps, tt, t.0, (mine.below x, most, (λ hit. absurd (miss hit)), (λ _. t.1), refl)))
 
   pub begins_look : (b : Setup) (slots id : ℕ) (me : Me S View) (i : ℕ) → me.0.works ≡ true
       → Allows (KeepsRule b) slots id me i (λ n. n) (look_begun (step slots i 0 0 none) me)
@@ -321,6 +323,7 @@ module _ {S : Type 0} where
           let st = lawful_here b s r in
           let mine = (r.views id v here).worker works in
           let is : found ≡ count_at m x = word_is b s r x in
+          let most : found ≤ b.nodes = let k = st.lawful.capped x in omega arith in
           dite (ℕ_discrete found c)
           (λ (hit : found ≡ c).
           let own : count_at m x ≡ c = sym is ∙ hit in
@@ -328,11 +331,11 @@ module _ {S : Type 0} where
           (λ y. let q = mine.below y in let e = word_is b s r y in omega arith) (w, joined)
           (λ y l. let p = met.along y l in omega arith) (λ y l. let p = met.against y l in omega arith) in
           let t = call_ended s id v r x Sink x found s.words here works (inside, subst (λ (ls : List (ℕ × ℕ)). IsSink ls x) (sym st.links) sink) r.words (λ z. le_refl _) (le_refl found) in
-          (decided_view v (r.history ++ entry v.number x Sink ∷ []) x found, keeps, tt, t.0, (mine.below x, (λ _. t.1), (λ other. absurd (other hit)), refl)))
+          (decided_view v (r.history ++ entry v.number x Sink ∷ []) x found, keeps, tt, t.0, (mine.below x, most, (λ _. t.1), (λ other. absurd (other hit)), refl)))
           (λ (miss : found ≢ c).
           let above : c < found = let p = mine.below x in omega arith in
           let t = call_ended s id v r x (Moved c found) x found s.words here works (inside, (is, above)) r.words (λ z. le_refl _) (le_refl found) in
-          (decided_view v (r.history ++ entry v.number x (Moved c found) ∷ []) x found, keeps, tt, t.0, (mine.below x, (λ hit. absurd (miss hit)), (λ _. t.1), refl)))
+          (decided_view v (r.history ++ entry v.number x (Moved c found) ∷ []) x found, keeps, tt, t.0, (mine.below x, most, (λ hit. absurd (miss hit)), (λ _. t.1), refl)))
 
 module _ {S : Type 0} (b : Setup) (slots id : ℕ) (me : Me S View) (x c w : ℕ) (call : IsInCall b x c me.0) where
   here_begun : me.0.count ≤ slice_index me.0.seen me.0.node

@@ -1,6 +1,7 @@
 -- The numbers of neighbours that miss their bounds, and what becomes of them when a seen count rises.
 use Rattle.std.proofs.Common.{Bool, List, None, Option, Some, [], ap, arith, cond, count_by, eq-eqb, eqb, false, get_or, get_or-set_other, get_or-set_same, inl, inr, length, length-set, ltb, ltb-false, ltb-true, ne_eqb, option_to_list, refl, slice_index, slice_set, subst, suc, sym, take, take_all, true, zero, ℕ, ◌&&◌, ◌++◌, ◌+◌, ◌-◌, ◌<◌, ◌∙◌, ◌∷◌, ◌≡◌, ◌≢◌, ◌≤◌}
 use Rattle.std.specs.Prelude.{nat_lt, not}
+use mir.Val.{bool_byte as from_bool}
 use Rattle.std.proofs.lemmas.Bool.{cases_Bool, cases_lt}
 use Rattle.std.proofs.lemmas.List.Elements.{Contains-get_or}
 use Rattle.std.proofs.lemmas.List.Sums.{count_by_more_no, count_by_more_yes, sum_by-append, sum_by_more_le}
@@ -139,6 +140,20 @@ pub record IsCountedTo (list : List (ℕ × First)) (counts : List ℕ) (own : �
   pub so_far : missing ≡ count_by (misses counts own) (take j list)
   pub few : missing ≤ j
 
+-- one entry more is counted
+pub counted_on : (list : List (ℕ × First)) (counts : List ℕ) (own missing j more : ℕ) (b : Bool) → IsCountedTo list counts own missing j → j < length list → misses counts own (get_or list j (0, Outward)) ≡ b → more ≡ from_bool b
+    → IsCountedTo list counts own (missing + more) (j + 1)
+counted_on list counts own missing j more true t inside passes is =
+    let one : more ≡ 1 = is in
+    record { so_far = omega (arith, t.so_far, one, count_by_more_yes (misses counts own) list j (0, Outward) inside passes); few = omega (arith, t.few, one) }
+counted_on list counts own missing j more false t inside fails is =
+    let none : more ≡ 0 = is in
+    record { so_far = omega (arith, t.so_far, none, count_by_more_no (misses counts own) list j (0, Outward) inside fails); few = omega (arith, t.few, none) }
+
+pub one_at_most : (b : Bool) (more : ℕ) → more ≡ from_bool b → more ≤ 1
+one_at_most true more is = omega (arith, is)
+one_at_most false more is = omega (arith, is)
+
 -- the numbers of the nodes but y, once node y is taken off those of the first j entries of its row
 pub record IsLoweredTo (n : ℕ) (links : List (ℕ × ℕ)) (list : List (ℕ × First)) (counts missing : List ℕ) (y count j : ℕ) : Type 0 where
   pub as_many : length missing ≡ n
@@ -222,6 +237,24 @@ all_lowered n links list counts missing y count j net is y_in long up t end z z_
     let whole = missing_lowered n links counts y z count net y_in z_in other long up in
     let same : count_by D (take j list) ≡ count_by D (row n links y) = ap (count_by D) (take_all j list end ∙ is) in
     omega (arith, t.left z z_in other, whole, same)
+
+-- tests that agree at each place count alike
+count_alike : (p q : ℕ × First → Bool) (entries : List (ℕ × First)) → ((k : ℕ) → k < length entries → p (get_or entries k (0, Outward)) ≡ q (get_or entries k (0, Outward))) → count_by p entries ≡ count_by q entries
+count_alike p q [] same = refl
+count_alike p q (e ∷ es) same =
+    let first : count_by p (e ∷ []) ≡ count_by q (e ∷ []) = ap (λ (b : Bool). 0 + cond b 1 0) (same 0 (omega arith)) in
+    omega (arith, count_by-append p (e ∷ []) es, count_by-append q (e ∷ []) es, first, count_alike p q es (λ k inside. same (suc k) (omega arith)))
+
+-- and what was counted is the number of y for that count, since no entry is y
+pub all_counted : (n : ℕ) (links : List (ℕ × ℕ)) (list : List (ℕ × First)) (counts : List ℕ) (y count own j : ℕ) → IsNet n links → list ≡ row n links y → y < n → length counts ≡ n
+    → IsCountedTo list counts count own j → length list ≤ j → own ≡ missing_of n links (slice_set counts y count) y
+all_counted n links list counts y count own j net is y_in long t end =
+    let new : List ℕ = slice_set counts y count in
+    let now : slice_index new y ≡ count = get_or-set_same counts y count 0 (omega arith) in
+    let alike : count_by (misses counts count) list ≡ count_by (misses new count) list =
+    count_alike (misses counts count) (misses new count) list
+    (λ k inside. ap (λ (s : ℕ). nat_lt s (bound_of (get_or list k (0, Outward)).1 count)) (sym (get_or-set_other counts y (get_or list k (0, Outward)).0 count 0 (other_node n links y list k net is inside).1))) in
+    t.so_far ∙ (ap (count_by (misses counts count)) (take_all j list end) ∙ (alike ∙ (ap (count_by (misses new count)) is ∙ ap (λ (c : ℕ). count_by (misses new c) (row n links y)) (sym now))))
 
 -- the numbers of the nodes below k are right
 abbrev pub AreRightTo : ℕ → List (ℕ × ℕ) → List ℕ → List ℕ → ℕ → Type 0

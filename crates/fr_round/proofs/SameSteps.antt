@@ -50,7 +50,7 @@ goes_past v w words targets true one other stays = record { counts = refl; decid
 goes_past v w words targets false one other stays = record { counts = refl; decided = stays; worker = refl }
 
 pub neighbour_load_same : NeighbourLoadIsTheMachines
-neighbour_load_same s me me' found j f t first words targets at on here (up, meets, misses, same) =
+neighbour_load_same s me me' found j f t first words targets at on here (up, low, meets, misses, same) =
     subst (λ (x : ℕ). ComesToTheSame v me'.0 words targets (phase_past (row v.setup.nodes first x) t me'.0.count j) (load_neighbour (row v.setup.nodes first (node_of t)) words targets t c j)) on
     (subst (λ (p : ℕ × First). P (if (ltb (slice_index words p.0) (bound_of p.1 c)) then decides words targets (node_of t) (Held p.0) else past)) (sym here_on)
     (by_test P (ltb (slice_index words s.word) (bound_of f c)) (decides words targets (node_of t) (Held s.word)) past
@@ -86,7 +86,7 @@ neighbour_load_same s me me' found j f t first words targets at on here (up, mee
     here_on = ap (λ (x : ℕ). neighbour_at (row v.setup.nodes first x) j) on ∙ here
 
 pub exchange_same : ExchangeIsTheMachines
-exchange_same s me me' found first words targets at (up, wins, loses, same) =
+exchange_same s me me' found first words targets at (up, low, wins, loses, same) =
     let x = s.word in
     let c = s.first in
     let word = slice_index words x in
@@ -119,7 +119,7 @@ look_begins_same s me me' found first words rest at (up, low, begun, same) =
     }
 
 pub look_ends_same : LookEndsAsTheMachines
-look_ends_same s me me' found first words targets at (up, stays, moves, same) =
+look_ends_same s me me' found first words targets at (up, low, stays, moves, same) =
     let x = s.word in
     let c = me.0.count in
     let word = slice_index words x in

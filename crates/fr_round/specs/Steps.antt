@@ -46,7 +46,7 @@ module _ {S : Type 0} where
   -- the load of a neighbour's count, whose bound is `more` above the own one: less decides Held, and else it is noted
   abbrev pub neighbour_loaded : ℕ → Step S → Me S View → ℕ → Me S View → Type 0
   neighbour_loaded more s me found me' =
-      (slice_index me.0.seen s.word ≤ found)
+      (slice_index me.0.seen s.word ≤ found) × (found ≤ me.0.setup.nodes)
       × (me.0.count + more ≤ found → me'.0 ≡ noted me.0 s.word found)
       × (found < me.0.count + more → EndsCall me.0 me.0.node (Held s.word) s.word found me'.0)
       × (me'.1 ≡ me.1)
@@ -54,7 +54,7 @@ module _ {S : Type 0} where
   -- the exchange of the own count: Turned where it was still there, and else Moved
   abbrev pub exchange_made : Step S → Me S View → ℕ → Me S View → Type 0
   exchange_made s me found me' =
-      (slice_index me.0.seen s.word ≤ found)
+      (slice_index me.0.seen s.word ≤ found) × (found ≤ me.0.setup.nodes)
       × (found ≡ s.first → EndsCall me.0 s.word (Turned (s.first + 1)) s.word (s.first + 1) me'.0)
       × (found ≢ s.first → EndsCall me.0 s.word (Moved s.first found) s.word found me'.0)
       × (me'.1 ≡ me.1)
@@ -69,7 +69,7 @@ module _ {S : Type 0} where
   -- its second load of the own count: Sink where it was still there, and else Moved
   abbrev pub look_ended : Step S → Me S View → ℕ → Me S View → Type 0
   look_ended s me found me' =
-      (slice_index me.0.seen s.word ≤ found)
+      (slice_index me.0.seen s.word ≤ found) × (found ≤ me.0.setup.nodes)
       × (found ≡ me.0.count → EndsCall me.0 s.word Sink s.word found me'.0)
       × (found ≢ me.0.count → EndsCall me.0 s.word (Moved me.0.count found) s.word found me'.0)
       × (me'.1 ≡ me.1)

@@ -11,8 +11,8 @@ use std::alloc::{AllocError, Global};
 /// neighbours miss their bounds by what was seen. Counts never fall, so a bound that was seen to be met is met.
 #[derive(Drop)]
 pub(crate) struct Seen {
-    counts: Vec<u64>,
-    missing: Vec<u32>,
+    counts: Vec<u16>,
+    missing: Vec<u16>,
 }
 
 /// Whether a neighbour of this count misses its bound for the count `own` of a node, from which their link was `first`.
@@ -32,25 +32,8 @@ fn begins_to_meet(first: First, own: u64, had: u64, count: u64) -> bool
     is_below(first, own, had) && !is_below(first, own, count)
 }
 
-/// How many neighbours of node `x` miss their bounds by these counts.
-fn count_missing(net: &Net, counts: &[u64], x: u32) -> u32
-    requires node { x < net.now.nodes }
-    requires one_each { length counts.now ≡ net.now.nodes }
-    ensures { result ≡ missing_of net.now.nodes net.now.links counts.now x }
-{
-    net.network_law();
-    let own = counts[x as usize];
-    let mut missing = 0;
-    for (neighbour, first) in net.row(x) {
-        if is_below(*first, own, counts[*neighbour as usize]) {
-            missing += 1;
-        }
-    }
-    missing
-}
-
 /// How many links of node `x` point away from it first: so many of its neighbours miss their bounds while no node has turned.
-fn count_outward(net: &Net, x: u32) -> u32
+fn count_outward(net: &Net, x: u32) -> u16
     requires { x < net.now.nodes }
     ensures { result ≡ missing_of net.now.nodes net.now.links (replicate net.now.nodes 0) x }
 {
@@ -64,24 +47,29 @@ fn count_outward(net: &Net, x: u32) -> u32
     outward
 }
 
-/// Takes node `y` off the number of each neighbour for which it meets its bound with this count, and missed it with the
-/// count that stands there still.
-fn lower_neighbours(net: &Net, counts: &[u64], missing: &mut [u32], y: u32, count: u64)
+/// Walks over the row of node `y`, of which this count is seen now, and with the counts as they were seen before. It takes the node
+/// off the number of each neighbour for which it begins to meet its bound, and answers how many neighbours miss theirs for it.
+fn pass_row(net: &Net, counts: &[u16], missing: &mut [u16], y: u32, count: u64) -> u16
     requires node { y < net.now.nodes }
     requires one_each { (length counts.now ≡ net.now.nodes) × (length missing.old ≡ net.now.nodes) }
     requires up { slice_index counts.now y ≤ count }
     requires right { (z : ℕ) → z < net.now.nodes → slice_index missing.old z ≡ missing_of net.now.nodes net.now.links counts.now z }
-    ensures { (z : ℕ) → z < net.now.nodes → z ≢ y
+    ensures others { (z : ℕ) → z < net.now.nodes → z ≢ y
         → slice_index missing.new z ≡ missing_of net.now.nodes net.now.links (slice_set counts.now y count) z }
+    ensures own { result ≡ missing_of net.now.nodes net.now.links (slice_set counts.now y count) y }
 {
     net.network_law();
-    let had = counts[y as usize];
+    let had = u64::from(counts[y as usize]);
+    let mut own = 0;
     for (neighbour, first) in net.row(y) {
         let at = *neighbour as usize;
-        if begins_to_meet(first.opposite(), counts[at], had, count) {
+        let other = u64::from(counts[at]);
+        own += u16::from(is_below(*first, count, other));
+        if begins_to_meet(first.opposite(), other, had, count) {
             missing[at] -= 1;
         }
     }
+    own
 }
 
 impl Seen {
@@ -91,8 +79,8 @@ impl Seen {
         ensures counted { IfOk result (IsCounted net.now.nodes net.now.links) }
     {
         let nodes = net.nodes();
-        let counts = vec![in alloc; 0u64; nodes as usize]?;
-        let mut missing = vec![in alloc; 0u32; nodes as usize]?;
+        let counts = vec![in alloc; 0u16; nodes as usize]?;
+        let mut missing = vec![in alloc; 0u16; nodes as usize]?;
         for x in 0..nodes {
             missing[x as usize] = count_outward(net, x);
         }
@@ -115,7 +103,7 @@ impl Seen {
         requires { x < length self.now.counts.items }
         ensures { result ≡ slice_index self.now.counts.items x }
     {
-        self.counts[x as usize]
+        u64::from(self.counts[x as usize])
     }
 
     /// Whether every neighbour of node `x` meets its bound for the seen count of `x`, by what was seen.
@@ -131,23 +119,25 @@ impl Seen {
         requires { entry.0 < length self.now.counts.items }
         ensures { result ≡ misses self.now.counts.items own entry }
     {
-        is_below(entry.1, own, self.counts[entry.0 as usize])
+        is_below(entry.1, own, u64::from(self.counts[entry.0 as usize]))
     }
 
     /// Notes a count of node `y`, which is no less than what was seen of it. Where it is more, the numbers of `y` and of its
-    /// neighbours are brought up to date, by two walks over the row of `y`.
+    /// neighbours are brought up to date, by a walk over the row of `y`.
     pub fn raise(&mut self, net: &Net, y: u32, count: u64)
         requires node { y < net.now.nodes }
         requires up { slice_index self.old.counts.items y ≤ count }
+        requires low { count ≤ net.now.nodes }
         requires counted { IsCounted net.now.nodes net.now.links self.old }
         ensures counts { self.new.counts.items ≡ slice_set self.old.counts.items y count }
         ensures counted { IsCounted net.now.nodes net.now.links self.new }
     {
-        if self.counts[y as usize] == count {
+        if self.count(y) == count {
             return;
         }
-        lower_neighbours(net, &self.counts, &mut self.missing, y, count);
-        self.counts[y as usize] = count;
-        self.missing[y as usize] = count_missing(net, &self.counts, y);
+        net.network_law();
+        let missing = pass_row(net, &self.counts, &mut self.missing, y, count);
+        self.counts[y as usize] = count as u16;
+        self.missing[y as usize] = missing;
     }
 }

@@ -39,6 +39,7 @@ fn load_neighbour(
     requires entry { Contains (row (setup_of words.now.key).nodes (setup_of words.now.key).links x) entry }
     ensures seat { IsSameSeat seat.old seat.new }
     ensures up { slice_index seat.old.me.0.seen entry.0 ≤ result }
+    ensures low { result ≤ seat.old.me.0.setup.nodes }
     ensures met { bound_of entry.1 c ≤ result → seat.new.me.0 ≡ noted seat.old.me.0 entry.0 result }
     ensures missed { result < bound_of entry.1 c → EndsCall seat.old.me.0 x (Held entry.0) entry.0 result seat.new.me.0 }
 {

@@ -9,7 +9,7 @@ use std::alloc::Global;
 use std::sync::Wait;
 use std::thread::Threads;
 
-/// What a case can ask for. The last six are threads and gates, which are no data.
+/// What a case can ask for. The last seven are threads and gates, which are no data.
 #[derive(Clone, Copy)]
 enum Asked {
     Open,
@@ -29,10 +29,11 @@ enum Asked {
     Held,
     OddHeld,
     Slow,
+    TriedAgain,
 }
 
 /// The words that ask.
-const WORDS: [(&str, Asked); 17] = [
+const WORDS: [(&str, Asked); 18] = [
     ("open", Asked::Open),
     ("calls", Asked::Calls),
     ("walk", Asked::Walk),
@@ -50,6 +51,7 @@ const WORDS: [(&str, Asked); 17] = [
     ("held", Asked::Held),
     ("odd held", Asked::OddHeld),
     ("slow", Asked::Slow),
+    ("tried again", Asked::TriedAgain),
 ];
 
 /// Puts what comes of the case of a line.
@@ -91,5 +93,6 @@ fn put_answer<R: Threads + Wait + Sync + Alloc<A = Global>>(
         Asked::Held => gates::one_held(rt, text, case),
         Asked::OddHeld => gates::odd_held(rt, text),
         Asked::Slow => gates::slow(rt, text),
+        Asked::TriedAgain => gates::tried_again(rt, text),
     }
 }

@@ -96,7 +96,8 @@ pub fn settle_to_end<R: Threads + Wait + Sync + Alloc<A = Global>>(
     Ok(())
 }
 
-fn put_turns(text: &mut Answer, it: &Settled) {
+/// Who made how many turns.
+pub fn put_turns(text: &mut Answer, it: &Settled) {
     text.put("by workers ", &it.by_workers);
     text.put(", by the finisher ", &it.by_finisher);
     text.say(", ");

@@ -2,7 +2,7 @@
 //! who is slow.
 
 use crate::answers::Answer;
-use crate::crews::{long_chain, named_plan, plan, put_total};
+use crate::crews::{long_chain, named_plan, plan, put_total, put_turns};
 use crate::fault::Fault;
 use crate::values::{network, small_number};
 use fr_crew::{Gate, Plan, Settled, settle};
@@ -18,6 +18,16 @@ const LIMIT: u64 = 1_000_000_000;
 
 /// Two ways from node 0 to node 3.
 const SQUARE: [(u32, u32); 4] = [(0, 1), (0, 2), (1, 3), (2, 3)];
+
+/// Waits until this is counted once, and says whether that came before the limit.
+fn comes(counted: &AtomicU64) -> bool {
+    for _ in 0..LIMIT {
+        if counted.load(Ordering::SeqCst) > 0 {
+            return true;
+        }
+    }
+    false
+}
 
 /// Which workers a gate holds before their first call.
 #[derive(Drop, Clone, Copy)]
@@ -58,12 +68,9 @@ impl HoldingGate {
     }
 
     fn wait(&self) {
-        for _ in 0..LIMIT {
-            if self.answered.load(Ordering::SeqCst) > 0 {
-                return;
-            }
+        if !comes(&self.answered) {
+            self.reached.fetch_add(1, Ordering::SeqCst);
         }
-        self.reached.fetch_add(1, Ordering::SeqCst);
     }
 
     /// Whether the limit was never reached, and at least four calls passed on both sides.
@@ -104,6 +111,35 @@ impl Gate for SlowGate {
     }
 
     fn after(&self, _worker: u32, _call: u64) {}
+}
+
+/// A gate that holds worker 0 until the first call of worker 1 is answered, and worker 1 behind that call until worker 0 comes to its
+/// second one.
+#[derive(Drop)]
+struct CrossingGate {
+    answered: AtomicU64,
+    came: AtomicU64,
+}
+
+impl Gate for CrossingGate {
+    fn before(&self, worker: u32, call: u64) {
+        match (worker, call) {
+            (0, 1) => {
+                comes(&self.answered);
+            }
+            (0, 2) => {
+                self.came.fetch_add(1, Ordering::SeqCst);
+            }
+            _ => {}
+        }
+    }
+
+    fn after(&self, worker: u32, call: u64) {
+        if (worker, call) == (1, 1) {
+            self.answered.fetch_add(1, Ordering::SeqCst);
+            comes(&self.came);
+        }
+    }
 }
 
 /// What a gate was told of the calls of one worker.
@@ -260,4 +296,22 @@ pub fn slow<R: Threads + Wait + Sync + Alloc<A = Global>>(
     let plan = plan(8, 1_000_000)?;
     let gate = SlowGate(AtomicU64::new(0));
     put_total(rt, text, long_chain(rt.alloc(), 1024, 0)?, &plan, &gate)
+}
+
+/// The chain of three nodes by two workers: the node that worker 1 finds held is made a candidate again, and turned, before worker 1
+/// goes on. Who made how many turns.
+pub fn tried_again<R: Threads + Wait + Sync + Alloc<A = Global>>(
+    rt: &R,
+    text: &mut Answer,
+) -> Result<(), Fault> {
+    let plan = plan(2, 1000)?;
+    let gate = CrossingGate {
+        answered: AtomicU64::new(0),
+        came: AtomicU64::new(0),
+    };
+    let net = long_chain(rt.alloc(), 3, 0)?;
+    let it = settle(rt, rt.alloc(), net, 0, &plan, &gate)?;
+    put_turns(text, &it);
+    text.put("counts ", &it.counts);
+    Ok(())
 }

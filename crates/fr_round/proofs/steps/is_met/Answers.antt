@@ -2,6 +2,7 @@ use Rattle.std.proofs.Common.{◌≡◌, ap, arith, get_or-set_same, length, ◌
 use Rattle.std.specs.Prelude.{nat_lt, slice_index}
 use Rattle.fr_graph.proofs.Neighbours.{row_holds}
 use Rattle.fr_core.specs.Machine.{bound_of}
+use Rattle.fr_round.specs.declared.view.Setup.{Setup}
 use Rattle.fr_round.proofs.Calling.{met_or_held}
 use Rattle.fr_round.proofs.steps.is_met.Goals as goal
 
@@ -14,6 +15,9 @@ pub raise-requires-clause-node : goal.raise-requires-clause-node
 raise-requires-clause-node c =
     let net = c.args.terms.now.net in
     (row_holds net.nodes net.links c.args.x c.args.entry c.requires.entry).0
+
+pub raise-requires-clause-low : goal.raise-requires-clause-low
+raise-requires-clause-low c = omega (arith, c.load_neighbour-found.ensures.low, ap (λ (b : Setup). b.nodes) c.requires.call.worker.setup)
 
 pub misses-requires-2 : goal.misses-requires-2
 misses-requires-2 c =

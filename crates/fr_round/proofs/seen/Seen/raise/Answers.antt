@@ -9,11 +9,11 @@ returns-clause-counted c =
     let net = c.args.net.now in
     let was = c.args.self.now in
     let y : ℕ = c.args.y in
-    let lowered : List ℕ = c.lower_neighbours.new.missing in
-    let m : ℕ = c.count_missing.result in
+    let lowered : List ℕ = c.pass_row-missing.new.missing in
+    let m : ℕ = c.pass_row-missing.result in
     let long : length lowered ≡ length was.missing.items = search rules in
     let written : (Rattle.std.specs.Vec.with_items was.missing lowered).items ≡ lowered = with_items_is was.missing lowered (search rules) in
     let others : (z : ℕ) → z < net.nodes → z ≢ y → slice_index lowered z ≡ missing_of net.nodes net.links (slice_set was.counts.items y c.args.count) z =
-    subst (λ (l : List ℕ). (z : ℕ) → z < net.nodes → z ≢ y → slice_index lowered z ≡ missing_of net.nodes net.links (slice_set l y c.args.count) z) c.deref.ensures.value c.lower_neighbours.ensures in
+    subst (λ (l : List ℕ). (z : ℕ) → z < net.nodes → z ≢ y → slice_index lowered z ≡ missing_of net.nodes net.links (slice_set l y c.args.count) z) c.deref.ensures.value c.pass_row-missing.ensures.others in
     raised net.nodes net.links was _ y c.args.count m lowered c.requires.node c.requires.counted long others refl (ap (λ (l : List ℕ). slice_set l y m) written)
-    (c.count_missing.ensures ∙ ap (λ (l : List ℕ). missing_of net.nodes net.links l y) c.deref-2.ensures.value)
+    (c.pass_row-missing.ensures.own ∙ ap (λ (l : List ℕ). missing_of net.nodes net.links (slice_set l y c.args.count) y) c.deref.ensures.value)

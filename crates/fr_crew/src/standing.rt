@@ -1,0 +1,50 @@
+//! Which nodes stand in the deques of a crew, so that none stands there twice.
+
+ghost use Rattle.std.specs.Prelude.{◌≡◌, ◌<◌, IfOk, vec_len};
+
+use crate::naming::Naming;
+use fr_round::Round;
+use std::alloc::{AllocError, Global};
+use std::marker::PhantomData;
+use std::sync::atomic::{AtomicBool, Ordering};
+
+/// A flag for each node, which all workers share: whether the node stands in a deque. No proof rests on what the flags say.
+#[derive(Drop)]
+pub(crate) struct Standing<J: Naming> {
+    flags: Vec<AtomicBool>,
+    of: PhantomData<J>,
+    ghost one_each: { vec_len flags ≡ J.setup.nodes },
+}
+
+impl<J: Naming> Standing<J> {
+    /// No node stands in a deque yet.
+    pub fn none(alloc: Global, round: &Round) -> Result<Standing<J>, AllocError>
+        requires { round.now.setup ≡ J.setup }
+    {
+        let nodes = round.net().nodes();
+        let mut flags = Vec::with_capacity(alloc, nodes as usize)?;
+        for _ in 0..nodes {
+            flags.push_reserved(AtomicBool::new(false));
+        }
+        Ok(Standing {
+            flags,
+            of: PhantomData,
+        })
+    }
+
+    /// Notes that a node comes to stand in a deque, and says whether it stood in none.
+    pub fn enters(&self, x: u32) -> bool
+        requires { x < J.setup.nodes }
+    {
+        let flag = &self.flags[x as usize];
+        // Most stand in one already, and a load is cheaper than the exchange.
+        !flag.load(Ordering::SeqCst) && !flag.swap(true, Ordering::SeqCst)
+    }
+
+    /// Notes that a node stands in no deque any more.
+    pub fn leaves(&self, x: u32)
+        requires { x < J.setup.nodes }
+    {
+        self.flags[x as usize].store(false, Ordering::SeqCst);
+    }
+}
