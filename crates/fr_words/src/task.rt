@@ -15,6 +15,13 @@ use fr_crew::Plan;
 use std::alloc::{AllocError, Global};
 use thiserror::Error as FaultError;
 
+/// What `clap` writes before the usage.
+const USAGE: &str = "\n\nUsage:";
+
+/// The same behind a tip for whoever names a file.
+const USAGE_WITH_TIP: &str =
+    "\n\n  tip: requests are read from standard input, as by 'revroute run < FILE'\n\nUsage:";
+
 /// What the program is to do.
 #[derive(Clone, Copy, Debug, PartialEq, Eq)]
 pub enum Task {
@@ -114,9 +121,20 @@ fn usage_of(alloc: Global, error: &Error) -> TaskFault
         ErrorKind::DisplayHelp | ErrorKind::DisplayVersion => true,
         _ => false,
     };
-    match error.to_string(alloc) {
+    match text_of(alloc, error) {
         Ok(text) => TaskFault::Usage { text, asked },
         Err(AllocError) => TaskFault::Memory,
+    }
+}
+
+/// The text of an error, with a tip where a word too many is no option: it may name a file.
+fn text_of(alloc: Global, error: &Error) -> Result<String, AllocError> {
+    let text = error.to_string(alloc)?;
+    let is_too_many = matches!(error.kind(), ErrorKind::UnknownArgument);
+    if is_too_many && !text.contains("argument '-") {
+        text.replacen(alloc, USAGE, USAGE_WITH_TIP, 1)
+    } else {
+        Ok(text)
     }
 }
 
