@@ -56,7 +56,7 @@ const RUN_SEED: &str =
 const PLAY_SEED: &str = "The seed of the schedule, 0 to 18446744073709551615";
 
 const BUDGET: &str =
-    "How many calls each worker makes at most in a round, 0 to 1000000000; 0 is fastest for answers alone";
+    "How many calls each worker makes at most in a round, 0 to 1000000000; 0 starts no thread, and is fastest";
 
 const STEPS: &str = "How many steps are made, 0 to 10000";
 
@@ -134,11 +134,7 @@ fn serve_command<'a>(alloc: Global) -> Result<Command<'a>, AllocError>
 }
 
 /// A subcommand that settles networks by a plan; its help names the requests.
-fn answering<'a>(
-    alloc: Global,
-    name: &'a str,
-    about: &'a str,
-) -> Result<Command<'a>, AllocError>
+fn answering<'a>(alloc: Global, name: &'a str, about: &'a str) -> Result<Command<'a>, AllocError>
     ensures { IfOk result (λ c. (app_of c ≡ answering_of name.entry.now) × ((out-Command c).has_globals ≡ false)) }
 {
     let command = described(alloc, name, about, REQUESTS);

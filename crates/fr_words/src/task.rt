@@ -49,7 +49,7 @@ pub enum TaskFault {
 /// number is given, any seed, or 0, and a budget of at most 1,000,000,000 calls, or 1,000,000; or `play`, with 1 to 16 workers, or
 /// 2, any seed, or 0, and at most 10,000 steps, or 100. `specs/Commands.antt` has the command line as `clap` reads it. `Usage`
 /// where `clap` does not take the words: because they ask for help or the version, or are not those of the command line; the text is what
-/// `clap` says then. `Memory` where no room could be had. Linear in the words.
+/// `clap` says then. `Memory` where no room could be had. `O(b)` for b bytes of words.
 pub fn task_of<'a>(alloc: Global, words: &'a [&'a str], version: &'a str) -> Result<Task, TaskFault>
     ensures ok { IfOk result (IsTaskIn (map (λ s. s.now) words.entry.now)) }
     ensures fault { IfErr result (IsFaultOf (map (λ s. s.now) words.entry.now)) }
