@@ -6,6 +6,8 @@ this gives is compared with the one that came. The text is what `revdot --page` 
 import heapq
 import json
 
+# What is answered to a line that asks nothing.
+NO_REQUEST = {'refused 1': 'no JSON', 'refused 2': 'no request'}
 NODES = 256
 TURNS = 4096
 
@@ -155,10 +157,12 @@ def story(data, answers):
     network, out = None, []
     for (number, line), answer in zip(request_lines(data), answers, strict=True):
         out += [f'line {number}', answer]
-        if answer.startswith('refused'):
-            out += [] if answer in ('refused 1', 'refused 2') else [words('asks', asked(json.loads(line)))]
+        if answer in NO_REQUEST:
             continue
         request = json.loads(line)
+        out.append(words('asks', asked(request)))
+        if answer.startswith('refused'):
+            continue
         network = changed(network, request)
         if isinstance(network, list):
             out += [words('net', network), 'omitted'] if answer.startswith('turned') else []

@@ -150,7 +150,9 @@ def link(made):
     made.replace(compiled)
     words = ["--target", "x86_64-unknown-linux-gnu", "--toolchain", kit / "toolchain", "-o", made]
     words += [compiled, kit / "c" / "libos_c.a", kit / "c" / "liblibc_c.a"]
-    if subprocess.run([kit / "bin" / "rattle-link", *words], stdout=subprocess.DEVNULL).returncode:
+    linked = subprocess.run([kit / "bin" / "rattle-link", *words], stdout=subprocess.PIPE, stderr=subprocess.STDOUT, text=True, errors="replace")
+    if linked.returncode:
+        print(linked.stdout, end="", file=sys.stderr)
         sys.exit(FAILED)
     compiled.unlink()
 

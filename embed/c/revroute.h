@@ -145,45 +145,48 @@ typedef struct revroute_refusal {
 
 /* Takes a network of so many nodes, with this destination and these links, in place of the one that was there, if any. It is refused for
  * links that are no network, as one is where no closed walk follows the links and no two of them join the same nodes, and else for a
- * destination that is no node. Linear in nodes and links, and the turns of the round. */
+ * destination that is no node. O(n + m) for n nodes and m links. */
 uint32_t revroute_open(revroute *session, uint32_t nodes, uint32_t dest, const revroute_link *links, size_t count,
                        revroute_round *round, revroute_refusal *refusal);
 
 /* Makes edits one after the other, and one round behind the last. Where one is refused none is made; one of an unknown kind is refused before
- * all others. A round takes time for what it turns and for the neighbours of that; a refusal is linear in nodes and links. */
+ * all others. O(d) an edit where no node turns, for d links at its nodes; else the links of those that turn, and of those that sent on to them;
+ * O(n + m) at most. */
 uint32_t revroute_change(revroute *session, const revroute_edit *edits, size_t count, revroute_round *round,
                          revroute_refusal *refusal);
 
-/* Moves the destination. */
+/* Moves the destination. O(n + m). */
 uint32_t revroute_move(revroute *session, uint32_t dest, revroute_round *round, revroute_refusal *refusal);
 
 /* The closed walk for which revroute_change refuses these edits, its first node again at the end, into an array of `room` places, as questions
- * write theirs; or REVROUTE_NO_WALK, REVROUTE_TOO_SHORT, REVROUTE_NO_MEMORY or REVROUTE_NO_NETWORK. Nothing changes. Linear in nodes and links. */
+ * write theirs; or REVROUTE_NO_WALK, REVROUTE_TOO_SHORT, REVROUTE_NO_MEMORY or REVROUTE_NO_NETWORK. Nothing changes. O(n + m). */
 uint32_t revroute_closed_walk(revroute *session, const revroute_edit *edits, size_t count, uint32_t *nodes, size_t room,
                               size_t *length);
 
-/* The same of the links with which revroute_open refuses a network of so many nodes. */
+/* The same of the links with which revroute_open refuses a network of so many nodes. O(n + m). */
 uint32_t revroute_closed_walk_of(uint32_t nodes, const revroute_link *links, size_t count, uint32_t *walk, size_t room,
                                  size_t *length);
 
 /* Answers a line of line_length bytes, which is without its line end, into the buffer `answer` of `room` bytes, and returns how
  * that ended. A line that is refused is answered as well, by `refused` and a number. The buffer is as it was behind the answer;
  * after any end but REVROUTE_ANSWERED the session, its own bytes too, and the whole buffer are as they were, so that a session
- * that has answered nothing holds no memory. An answer that changes the session always fits into REVROUTE_LEAST_ROOM. */
+ * that has answered nothing holds no memory. An answer that changes the session always fits into REVROUTE_LEAST_ROOM.
+ * O(b) for b bytes of line and answer, and what the call with numbers costs. */
 uint32_t revroute_answer(revroute *session, const uint8_t *line, size_t line_length, uint8_t *answer, size_t room,
                          size_t *length);
 
 /* For bytes that come in pieces cut anywhere, as from a socket. Takes the bytes of a piece up to and with its first line end (byte 10),
  * and answers that line, with what was kept before it, as revroute_answer does; where the piece has no line end it takes all of them, and
  * keeps them. *taken is how many it took: call it again with the rest until none is left. After REVROUTE_TOO_SHORT, REVROUTE_NO_MEMORY and
- * REVROUTE_TOO_LONG it is 0, and all is as it was. revroute_answer neither reads nor changes what is kept. */
+ * REVROUTE_TOO_LONG it is 0, and all is as it was. revroute_answer neither reads nor changes what is kept. O(b) for b
+ * bytes taken, and at a line end what revroute_answer costs. */
 uint32_t revroute_take(revroute *session, const uint8_t *piece, size_t piece_length, uint8_t *answer, size_t room,
                        size_t *length, size_t *taken);
 
-/* The end of the input ends a line that has begun: answers it, as revroute_answer does. */
+/* The end of the input ends a line that has begun: answers it, as revroute_answer does, at its cost. */
 uint32_t revroute_finish(revroute *session, uint8_t *answer, size_t room, size_t *length);
 
-/* Gives back all memory of a session, which is then as REVROUTE_NEW made it: it can be closed again, or used. */
+/* Gives back all memory of a session, which is then as REVROUTE_NEW made it: it can be closed again, or used. O(1). */
 void revroute_close(revroute *session);
 
 /* Questions. They change nothing and, but for a route and the links, take no memory; as any call, each has the session for itself while it runs.
@@ -191,32 +194,32 @@ void revroute_close(revroute *session);
  * Those that write into an array of `room` places write to its front, and leave the rest: *length is how many they are, which
  * REVROUTE_TOO_SHORT tells as well. After any end but REVROUTE_ANSWERED the array is as it was. */
 
-/* Where a node sends on to: a node, or one of the values above. */
+/* Where a node sends on to: a node, or one of the values above. O(1). */
 uint32_t revroute_next_hop(revroute *session, uint32_t node);
 
-/* The same of all nodes, in their order, by the same values. */
+/* The same of all nodes, in their order, by the same values. O(n). */
 uint32_t revroute_next_hops(revroute *session, uint32_t *hops, size_t room, size_t *length);
 
 /* The nodes whose next hop the last accepted round changed, in rising order: after a new network all that are not cut off. What is
- * refused, and questions, leave them. There are none before the first network. */
+ * refused, and questions, leave them. There are none before the first network. O(r) for r of them. */
 uint32_t revroute_rerouted(revroute *session, uint32_t *nodes, size_t room, size_t *length);
 
-/* How often each node turned in the last round, in the order of the nodes. */
+/* How often each node turned in the last round, in the order of the nodes. O(n). */
 uint32_t revroute_counts(revroute *session, uint64_t *counts, size_t room, size_t *length);
 
-/* The way from a node to the destination, hop by hop, with both ends. REVROUTE_NO_ROUTE where there is none, and
- * REVROUTE_NO_MEMORY where memory ran out. */
+/* The route from a node to the destination, with both ends. REVROUTE_NO_ROUTE where there is none, and REVROUTE_NO_MEMORY where memory ran
+ * out. O(r) for r nodes of the route. */
 uint32_t revroute_route(revroute *session, uint32_t node, uint32_t *nodes, size_t room, size_t *length);
 
 /* The links in rising order of tail, then head: the two nodes of each, tail first, one link after the other, so *length is twice their
- * number. REVROUTE_NO_MEMORY where memory ran out. */
+ * number. REVROUTE_NO_MEMORY where memory ran out. O(n + m). */
 uint32_t revroute_links(revroute *session, uint32_t *ends, size_t room, size_t *length);
 
 /* What the last round reported: how many turns it took, and how many nodes it cut off. Before the first network REVROUTE_NO_NETWORK, and
- * both are 0. */
+ * both are 0. O(1). */
 uint32_t revroute_report(revroute *session, uint64_t *turned, uint64_t *cut_off);
 
-/* How many nodes and links there are. Before the first network REVROUTE_NO_NETWORK, and both are 0. */
+/* How many nodes and links there are. Before the first network REVROUTE_NO_NETWORK, and both are 0. O(1). */
 uint32_t revroute_size(revroute *session, uint32_t *nodes, size_t *links);
 
 /* The version of this header, which a program may compare with that of the library it runs with. */
@@ -226,7 +229,7 @@ uint32_t revroute_size(revroute *session, uint32_t *nodes, size_t *links);
 #define REVROUTE_VERSION "0.1.0"
 
 /* Writes the version of the library, as REVROUTE_VERSION has it, into the buffer `text` of `room` bytes. Returns REVROUTE_ANSWERED or
- * REVROUTE_TOO_SHORT, and *length is the length of the version in both cases. */
+ * REVROUTE_TOO_SHORT, and *length is the length of the version in both cases. O(1). */
 uint32_t revroute_version(uint8_t *text, size_t room, size_t *length);
 
 #ifdef __cplusplus

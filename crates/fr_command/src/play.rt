@@ -28,7 +28,7 @@ use std::io::{Read, Write};
 /// all that is written is that it is refused. At most one byte past the limit, [`MAX_BYTES`](crate::MAX_BYTES), is read.
 ///
 /// `Read` where a read failed, `TooLong` where the input goes past the limit, and `Memory` where no room could be had: then nothing is
-/// written. `Write` where a write or the flush failed: what went out is a beginning of the output. Never `Start`. Linear in the input, what
+/// written. `Write` where a write or the flush failed: what went out is a beginning of the output. Never `Start`. `O(b)` for b bytes of input, what
 /// [`read_line`] costs for one line, `O(n + m + w s)` for w workers and s steps, `O(d)` an entry, and what [`Net::turned_by`] costs at the
 /// end.
 pub fn play_drawn<R: Read, W: Write>(

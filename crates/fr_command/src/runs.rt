@@ -21,7 +21,7 @@ use std::thread::Threads;
 ///
 /// `Read` where a read failed, `TooLong` where the input goes past the limit, and `Memory` where it found no room: then nothing is written.
 /// `Write` where a write or the flush failed: what went out is a beginning of the output. `Start` where a thread could not be started, or
-/// `Memory`, at a line: what went out is the answers to the lines before it. Linear in the input, and what
+/// `Memory`, at a line: what went out is the answers to the lines before it. `O(b)` for b bytes of input, and what
 /// [`Session::answer_line`](fr_route::Session::answer_line) costs for each line.
 pub fn run<T: Threads + Wait + Sync, R: Read, W: Write, G: Gate + Sync>(
     rt: &T,

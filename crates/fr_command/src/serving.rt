@@ -23,7 +23,7 @@ use std::thread::Threads;
 /// and for the threads that settle networks, as [`run`](crate::run) does.
 ///
 /// At `Read` and `TooLong` the lines that had ended are answered, at `Start` and `Memory` those before the one that found no thread or no
-/// room, and at `Write` what went out is a beginning of the output. It costs what `run` does, but room for the longest line alone.
+/// room, and at `Write` what went out is a beginning of the output. It costs what `run` does, but room for the longest line and no more.
 pub fn serve<T: Threads + Wait + Sync, R: Read, W: Write, G: Gate + Sync>(
     rt: &T,
     alloc: Global,

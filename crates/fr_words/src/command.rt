@@ -22,7 +22,10 @@ const EXAMPLE: &str = "Example:\n  revroute run < requests > answers";
 const RUN_ABOUT: &str =
     "Answers requests: a line of JSON each on standard input, a line of text each on standard output";
 
-const RUN_EXAMPLE: &str = "\
+const SERVE_ABOUT: &str =
+    "Answers requests as run does, but each line as soon as it has come, and input of any length";
+
+const REQUESTS: &str = "\
 Requests:
   [\"net\",N,D,[[U,V],..]]  take the network of N nodes with destination D and links from U to V
   [\"cut\",U,V]            take out the link between two nodes
@@ -33,13 +36,9 @@ Requests:
   [\"walk\",X]             tell the route of node X
   [\"links\"]  [\"counts\"]  [\"hops\"]  tell all links, counts or next hops
 
-Example:
-  echo '[\"net\",3,0,[[0,1],[1,2]]]' | revroute run --workers 2";
-
-const SERVE_ABOUT: &str =
-    "Answers requests as run does, but each line as soon as it has come, and input of any length";
-
-const SERVE_EXAMPLE: &str = "Example:\n  tail -f requests | revroute serve --budget 0";
+Examples:
+  echo '[\"net\",3,0,[[0,1],[1,2]]]' | revroute run --workers 2
+  tail -f requests | revroute serve --budget 0";
 
 const PLAY_ABOUT: &str =
     "Plays a drawn schedule: a line with a network on standard input, what each call came to on standard output, and then the links and the counts";
@@ -57,7 +56,7 @@ const RUN_SEED: &str =
 const PLAY_SEED: &str = "The seed of the schedule, 0 to 18446744073709551615";
 
 const BUDGET: &str =
-    "How many calls each worker makes at most in a round, 0 to 1000000000; 0 is fastest for answers alone";
+    "How many calls each worker makes at most in a round, 0 to 1000000000; 0 starts no thread, and is fastest";
 
 const STEPS: &str = "How many steps are made, 0 to 10000";
 
@@ -124,26 +123,21 @@ fn bare_command<'a>(alloc: Global, version: &'a str) -> Command<'a>
 fn run_command<'a>(alloc: Global) -> Result<Command<'a>, AllocError>
     ensures { IfOk result (λ c. (app_of c ≡ run_command_of) × ((out-Command c).has_globals ≡ false)) }
 {
-    answering(alloc, "run", RUN_ABOUT, RUN_EXAMPLE)
+    answering(alloc, "run", RUN_ABOUT)
 }
 
 /// The subcommand that answers each request as it comes.
 fn serve_command<'a>(alloc: Global) -> Result<Command<'a>, AllocError>
     ensures { IfOk result (λ c. (app_of c ≡ serve_command_of) × ((out-Command c).has_globals ≡ false)) }
 {
-    answering(alloc, "serve", SERVE_ABOUT, SERVE_EXAMPLE)
+    answering(alloc, "serve", SERVE_ABOUT)
 }
 
-/// A subcommand that settles networks by a plan.
-fn answering<'a>(
-    alloc: Global,
-    name: &'a str,
-    about: &'a str,
-    example: &'a str,
-) -> Result<Command<'a>, AllocError>
+/// A subcommand that settles networks by a plan; its help names the requests.
+fn answering<'a>(alloc: Global, name: &'a str, about: &'a str) -> Result<Command<'a>, AllocError>
     ensures { IfOk result (λ c. (app_of c ≡ answering_of name.entry.now) × ((out-Command c).has_globals ≡ false)) }
 {
-    let command = described(alloc, name, about, example);
+    let command = described(alloc, name, about, REQUESTS);
     let command = with_option(
         alloc,
         command,

@@ -15,6 +15,13 @@ use fr_crew::Plan;
 use std::alloc::{AllocError, Global};
 use thiserror::Error as FaultError;
 
+/// What `clap` writes before the usage.
+const USAGE: &str = "\n\nUsage:";
+
+/// The same behind a tip for whoever names a file.
+const USAGE_WITH_TIP: &str =
+    "\n\n  tip: requests are read from standard input, as by 'revroute run < FILE'\n\nUsage:";
+
 /// What the program is to do.
 #[derive(Clone, Copy, Debug, PartialEq, Eq)]
 pub enum Task {
@@ -42,7 +49,7 @@ pub enum TaskFault {
 /// number is given, any seed, or 0, and a budget of at most 1,000,000,000 calls, or 1,000,000; or `play`, with 1 to 16 workers, or
 /// 2, any seed, or 0, and at most 10,000 steps, or 100. `specs/Commands.antt` has the command line as `clap` reads it. `Usage`
 /// where `clap` does not take the words: because they ask for help or the version, or are not those of the command line; the text is what
-/// `clap` says then. `Memory` where no room could be had. Linear in the words.
+/// `clap` says then. `Memory` where no room could be had. `O(b)` for b bytes of words.
 pub fn task_of<'a>(alloc: Global, words: &'a [&'a str], version: &'a str) -> Result<Task, TaskFault>
     ensures ok { IfOk result (IsTaskIn (map (λ s. s.now) words.entry.now)) }
     ensures fault { IfErr result (IsFaultOf (map (λ s. s.now) words.entry.now)) }
@@ -114,9 +121,20 @@ fn usage_of(alloc: Global, error: &Error) -> TaskFault
         ErrorKind::DisplayHelp | ErrorKind::DisplayVersion => true,
         _ => false,
     };
-    match error.to_string(alloc) {
+    match text_of(alloc, error) {
         Ok(text) => TaskFault::Usage { text, asked },
         Err(AllocError) => TaskFault::Memory,
+    }
+}
+
+/// The text of an error, with a tip where a word too many is no option: it may name a file.
+fn text_of(alloc: Global, error: &Error) -> Result<String, AllocError> {
+    let text = error.to_string(alloc)?;
+    let is_too_many = matches!(error.kind(), ErrorKind::UnknownArgument);
+    if is_too_many && !text.contains("argument '-") {
+        text.replacen(alloc, USAGE, USAGE_WITH_TIP, 1)
+    } else {
+        Ok(text)
     }
 }
 

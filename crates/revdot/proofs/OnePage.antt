@@ -9,7 +9,8 @@ use Rattle.fr_route.specs.States.{State}
 use Rattle.fr_route.proofs.Determined.{answer_unique, line_unique}
 use Rattle.fr_bytes.specs.Lines.{lines_of}
 use Rattle.revdot.specs.Pages.{IsPage}
-use Rattle.revdot.specs.Stories.{AreBlocks, AreSettledLines, IsAnswerLine, IsAnswered, IsBlock, IsRoundStory, IsToldRound, IsTurnByTurn, about_text, answer_text, beginning_text, is_short, most_told_turns, net_text, reports_round}
+use Rattle.revdot.specs.Asked.{asked_text}
+use Rattle.revdot.specs.Stories.{AreBlocks, AreSettledLines, IsAnswerLine, IsAnswered, IsBlock, IsRoundStory, IsToldRound, IsTurnByTurn, answer_text, beginning_text, is_short, most_told_turns, net_text, reports_round}
 use Rattle.revdot.specs.Strips.{beginning}
 use Rattle.revdot.proofs.OneDrawing.{all_turns_unique}
 
@@ -49,7 +50,7 @@ answered_unique s number line a b p q h k =
     let of_round : IsRoundStory (reports_round k.answer) q h.told =
     subst (λ (t : Option State). IsRoundStory (reports_round k.answer) t h.told) one.1 (subst (λ (t : List ℕ). IsRoundStory (reports_round t) p h.told) one.0 h.of_round) in
     let told : h.told ≡ k.told = round_story_unique (reports_round k.answer) q h.told k.told of_round k.of_round in
-    let texts : (answer_text number h.answer ++ about_text h.answer line) ++ h.told ≡ (answer_text number k.answer ++ about_text k.answer line) ++ k.told = (λ i. (answer_text number (one.0 i) ++ about_text (one.0 i) line) ++ told i) in
+    let texts : (answer_text number h.answer ++ asked_text (reading line)) ++ h.told ≡ (answer_text number k.answer ++ asked_text (reading line)) ++ k.told = (λ i. (answer_text number (one.0 i) ++ asked_text (reading line)) ++ told i) in
     (h.text ∙ (texts ∙ sym k.text), one.1)
 
 block_unique : (s : Option State) (number : ℕ) (line a b : List ℕ) (p q : Option State) → IsBlock s number line a p → IsBlock s number line b q → (a ≡ b) × (p ≡ q)

@@ -9,7 +9,8 @@ use Rattle.fr_lines.specs.declared.requests.Question.TheVariants.{Links, Counts,
 use Rattle.fr_lines.specs.Requests.{reading}
 use Rattle.fr_route.specs.Answers.{IsLineAnswer}
 use Rattle.fr_route.specs.Blank.{is_blank}
-use Rattle.revdot.specs.Stories.{AreBlocks, AreSettledLines, IsAnswerLine, IsAnswered, IsBlock, IsRoundStory, IsStory, IsTurnByTurn, about_text, answer_text, beginning_text, is_short, most_told_turns, net_text, reports_round}
+use Rattle.revdot.specs.Asked.{asked_text}
+use Rattle.revdot.specs.Stories.{AreBlocks, AreSettledLines, IsAnswerLine, IsAnswered, IsBlock, IsRoundStory, IsStory, IsTurnByTurn, answer_text, beginning_text, is_short, most_told_turns, net_text, reports_round}
 use Rattle.revdot.specs.Strips.{AreAllTurns, beginning}
 use Rattle.revdot.proofs.Beginnings.{begins}
 
@@ -113,10 +114,10 @@ asked true P Q e q = absurd (true_is_not_false e)
 
 -- what is told of an answer, and of its round, behind one another
 pub line_told : (s next : Option State) (number : ℕ) (line answer told old one new : List ℕ) → is_blank line ≡ false → IsLineAnswer s (reading line) answer next
-    → IsRoundStory (reports_round answer) next told → one ≡ old ++ (answer_text number answer ++ about_text answer line) → new ≡ one ++ told
+    → IsRoundStory (reports_round answer) next told → one ≡ old ++ (answer_text number answer ++ asked_text (reading line)) → new ≡ one ++ told
     → (block : List ℕ) × IsBlock s number line block next × (new ≡ old ++ block)
 line_told s next number line answer told old one new asks is_answer of_round e f =
-    let first = answer_text number answer ++ about_text answer line in
+    let first = answer_text number answer ++ asked_text (reading line) in
     let block : IsAnswered s number line (first ++ told) next = record {
       answer = answer;
       is_answer = is_answer;

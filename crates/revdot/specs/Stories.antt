@@ -1,5 +1,5 @@
 -- The story of an input: the answer to each line, and each round turn by turn.
-use Rattle.std.specs.Prelude.{◌≡◌, ℕ, ◌+◌, nat_le, eqb, ◌&&◌, Bool, true, false, List, [], ◌∷◌, ◌++◌, Option, Some, None, MatchBool, if◌then◌else◌, codes, decimal, sum}
+use Rattle.std.specs.Prelude.{◌≡◌, ℕ, ◌+◌, nat_le, eqb, ◌&&◌, Bool, true, false, List, [], ◌∷◌, ◌++◌, Option, Some, None, MatchBool, codes, decimal, sum}
 use Rattle.std.specs.List.{starts_with}
 use Rattle.fr_lines.specs.Requests.{ask, reading}
 use Rattle.fr_lines.specs.declared.requests.Question.{Question}
@@ -72,14 +72,6 @@ IsRoundStory false s told = told ≡ []
 abbrev pub reports_round : List ℕ → Bool
 reports_round answer = starts_with eqb answer (codes "turned")
 
--- an answer that refuses, and no other, begins so
-abbrev pub refuses : List ℕ → Bool
-refuses answer = starts_with eqb answer (codes "refused")
-
--- what a line asked that is refused
-abbrev pub about_text : List ℕ → List ℕ → List ℕ
-about_text answer line = if refuses answer then asked_text (reading line) else []
-
 -- the number of a line, and its answer
 abbrev pub answer_text : ℕ → List ℕ → List ℕ
 answer_text number answer = codes "line " ++ (decimal number ++ (codes "\n" ++ (answer ++ codes "\n")))
@@ -90,7 +82,7 @@ pub record IsAnswered (s : Option State) (number : ℕ) (line block : List ℕ) 
   pub is_answer : IsLineAnswer s (reading line) answer next
   pub told : List ℕ
   pub of_round : IsRoundStory (reports_round answer) next told
-  pub text : block ≡ (answer_text number answer ++ about_text answer line) ++ told
+  pub text : block ≡ (answer_text number answer ++ asked_text (reading line)) ++ told
 
 -- what is told of a line, and the state after it: a blank line has no answer
 abbrev pub IsBlock : Option State → ℕ → List ℕ → List ℕ → Option State → Type 0

@@ -1,4 +1,4 @@
-//! What a story tells of a line that is refused: what it asked.
+//! What a story tells of a line: what it asked.
 
 ghost use Rattle.std.specs.Prelude.{◌≡◌, ◌++◌, OnOk, codes, decimal, string_bytes};
 ghost use Rattle.fr_lines.specs.Requests.{plain, reading};

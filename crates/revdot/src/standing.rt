@@ -8,7 +8,7 @@ use fr_bytes::Lines;
 use fr_route::Session;
 use std::alloc::{AllocError, Global};
 
-/// A session that was asked each line of the input. Networks are settled on this thread alone.
+/// A session that was asked each line of the input. No thread is started.
 pub fn session_after(alloc: Global, input: &[u8]) -> Result<Session, AllocError>
     ensures { IfOk result (IsLeftBy input.now) }
 {

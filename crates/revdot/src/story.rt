@@ -4,7 +4,8 @@ ghost use Rattle.std.specs.Prelude.{◌≡◌, ◌++◌, ℕ, List, None, IfNone
 ghost use Rattle.fr_lines.specs.Requests.{ask, reading};
 ghost use Rattle.fr_route.specs.Answers.{IsAnswer, IsLineAnswer};
 ghost use Rattle.fr_route.specs.Blank.{is_blank};
-ghost use Rattle.revdot.specs.Stories.{IsBlock, IsRoundStory, IsStory, about_text, answer_text, refuses, reports_round as reports_a_round};
+ghost use Rattle.revdot.specs.Asked.{asked_text};
+ghost use Rattle.revdot.specs.Stories.{IsBlock, IsRoundStory, IsStory, answer_text, reports_round as reports_a_round};
 
 use crate::asked::push_asked;
 use crate::rounds::push_round;
@@ -13,7 +14,7 @@ use fr_route::Session;
 use std::alloc::{AllocError, Global};
 use std::fmt::Write;
 
-/// Adds the story of an input. Networks are settled on this thread alone.
+/// Adds the story of an input. No thread is started.
 pub fn push_story(story: &mut String, alloc: Global, input: &[u8]) -> Result<(), AllocError>
     ensures { OnOk result ((told : List ℕ) × IsStory input.now told × (string_bytes story.new ≡ string_bytes story.old ++ told)) }
 {
@@ -72,7 +73,7 @@ fn answer_to(
     }
 }
 
-/// Adds the number of a line, its answer, and what it asked where that refuses it.
+/// Adds the number of a line, its answer, and what it asked.
 fn push_answered(
     story: &mut String,
     alloc: Global,
@@ -80,10 +81,10 @@ fn push_answered(
     answer: &str,
     line: &[u8],
 ) -> Result<(), AllocError>
-    ensures { OnOk result (string_bytes story.new ≡ string_bytes story.old ++ (answer_text number answer.now ++ about_text answer.now line.now)) }
+    ensures { OnOk result (string_bytes story.new ≡ string_bytes story.old ++ (answer_text number answer.now ++ asked_text (reading line.now))) }
 {
     push_answer(story, number, answer)?;
-    push_about(story, alloc, answer, line)
+    push_asked(story, alloc, line)
 }
 
 /// Adds the number of a line and its answer.
@@ -93,29 +94,6 @@ fn push_answer(story: &mut String, number: u64, answer: &str) -> Result<(), Allo
     writeln!(story, "line {number}")?;
     story.push_str(answer)?;
     story.push_str("\n")
-}
-
-/// Adds what a line asked, where the answer refuses it.
-fn push_about(
-    story: &mut String,
-    alloc: Global,
-    answer: &str,
-    line: &[u8],
-) -> Result<(), AllocError>
-    ensures { OnOk result (string_bytes story.new ≡ string_bytes story.old ++ about_text answer.now line.now) }
-{
-    if is_refusal(answer) {
-        push_asked(story, alloc, line)
-    } else {
-        Ok(())
-    }
-}
-
-/// Whether an answer refuses: its first word is `refused`.
-fn is_refusal(answer: &str) -> bool
-    ensures { result ≡ refuses answer.now }
-{
-    answer.starts_with("refused")
 }
 
 /// Adds what is told of a round, where the answer reports one.

@@ -10,36 +10,42 @@ pub const FIRST_PART: &str = "\
 <meta http-equiv='Content-Security-Policy' content='default-src &#39;none&#39;; script-src &#39;unsafe-inline&#39;; style-src &#39;unsafe-inline&#39;'>
 <title>revroute: a network at work</title>
 <style>
-:root{--back:#fbfbf9;--panel:#fff;--ink:#1d2329;--soft:#5c6670;--edge:#d5d9dd;--link:#7c8894;--hop:#1259b5;--turn:#b35c00;--gold:#ffd24d;
+:root{--back:#fbfbf9;--panel:#fff;--ink:#1d2329;--soft:#5c6670;--edge:#d5d9dd;--link:#39434d;--hop:#1259b5;--turn:#b35c00;--gold:#ffd24d;
 --grey:#b9bfc5;--route:#0b7a4b;--face:#eef3f9;--bad:#a8261c}
-@media (prefers-color-scheme:dark){:root{--back:#14181c;--panel:#1b2126;--ink:#e8ecef;--soft:#a0abb5;--edge:#343c44;--link:#7f8b97;--hop:#76b2ff;
+@media (prefers-color-scheme:dark){:root{--back:#14181c;--panel:#1b2126;--ink:#e8ecef;--soft:#a0abb5;--edge:#343c44;--link:#d3dae0;--hop:#76b2ff;
 --turn:#ffab4a;--gold:#7a5c00;--grey:#4f5962;--route:#4fd39a;--face:#26303a;--bad:#ff8a80}}
 *{box-sizing:border-box}
 body{margin:0;background:var(--back);color:var(--ink);font:15px/1.45 system-ui,sans-serif;min-height:100vh;display:grid;
-grid-template:auto 1fr auto auto/19rem minmax(0,1fr);height:100vh}
+grid-template:auto 1fr auto auto/22rem minmax(0,1fr);height:100vh}
 header{grid-column:1/3;padding:.6rem 1rem;border-bottom:1px solid var(--edge);display:flex;gap:.3rem 1.2rem;flex-wrap:wrap;align-items:baseline}
 h1{font-size:1.05rem;margin:0}
 #say{margin:0;color:var(--soft);flex:1 1 20rem;min-width:0}
 aside{grid-row:2/4;border-right:1px solid var(--edge);overflow:auto;background:var(--panel);display:flex;flex-direction:column;min-height:0}
 #list{list-style:none;margin:0;padding:.3rem;overflow:auto;flex:1 1 40%;min-height:6rem}
-#list button{display:block;width:100%;text-align:left;border:0;border-radius:6px;background:none;color:inherit;padding:.2rem .5rem;font:inherit;
-white-space:nowrap;overflow:hidden;text-overflow:ellipsis;cursor:pointer}
+#list button{display:grid;grid-template-columns:2.2em minmax(0,1fr) minmax(0,1fr);gap:.5em;align-items:baseline;width:100%;text-align:left;border:0;border-radius:6px;background:none;color:inherit;padding:.2rem .5rem;font:inherit;
+white-space:nowrap;cursor:pointer}
+#list button>*{overflow:hidden;text-overflow:ellipsis}
 #list button:hover{background:var(--face)}
 #list button[aria-current]{background:var(--face);box-shadow:inset 3px 0 var(--hop)}
-#list b{display:inline-block;min-width:2.2em;color:var(--soft);font-weight:400}
+#list b{color:var(--soft);font-weight:400}
+#list code{font-size:.85em}
 #list .no{color:var(--bad)}
 #about{border-top:1px solid var(--edge);padding:.6rem .9rem;overflow:auto;flex:0 1 auto;max-height:55%}
 #about p{margin:0 0 .4rem;overflow-wrap:anywhere}
-#answer{max-height:7rem;overflow:auto;font-family:ui-monospace,monospace;font-size:.9em}
+#request,#answer{max-height:7rem;overflow:auto;font-family:ui-monospace,monospace;font-size:.9em}
 #chart{width:100%;height:70px;display:block}
+#ring{display:block;margin:auto}
 main{min-height:0;min-width:0;overflow:auto;display:grid;place-items:safe center;padding:.5rem}
-#net{display:block;flex:none}
+#net{display:block;flex:none;overflow:visible}
 #none{color:var(--soft);max-width:34rem;padding:1rem;text-align:center}
 #bar{display:flex;gap:.5rem;align-items:center;padding:.5rem 1rem;border-top:1px solid var(--edge);flex-wrap:wrap;background:var(--panel)}
 #bar button,#bar select{font:inherit;color:inherit;background:var(--face);border:1px solid var(--edge);border-radius:6px;padding:.3rem .7rem;min-width:2.6rem;cursor:pointer}
 #slide{flex:1 1 12rem;min-width:8rem;accent-color:var(--hop)}
 #at{color:var(--soft);min-width:6em;text-align:right;font-variant-numeric:tabular-nums}
 footer{grid-column:1/3;border-top:1px solid var(--edge);padding:.45rem 1rem;color:var(--soft);font-size:.85rem}
+#legend{list-style:none;margin:0 0 .3rem;padding:0;display:flex;flex-wrap:wrap;gap:.1rem 1.1rem;color:var(--ink)}
+#legend li{display:flex;align-items:center;gap:.35rem}
+#legend .node{cursor:auto}
 :focus-visible{outline:2px solid var(--hop);outline-offset:2px}
 [hidden]{display:none!important}
 .link path{stroke:var(--link);stroke-width:1.3;fill:none}
@@ -52,16 +58,18 @@ footer{grid-column:1/3;border-top:1px solid var(--edge);padding:.45rem 1rem;colo
 .link.now .tip{fill:var(--turn);stroke:none}
 .link.way path{stroke:var(--route);stroke-width:4.2}
 .link.way .tip{fill:var(--route);stroke:none}
+.link.closed path{stroke:var(--bad);stroke-width:3.2}
+.link.closed .tip{fill:var(--bad);stroke:none}
+.link.asked path{stroke-dasharray:7 4}
 .node{cursor:pointer;outline:none}
 .node .face{fill:var(--panel);stroke:var(--ink);stroke-width:1.5}
 .node text{text-anchor:middle;fill:var(--ink);font:600 13px system-ui,sans-serif}
-.node .count{font:400 11px system-ui,sans-serif;fill:var(--soft)}
+.node .count{font:400 11px system-ui,sans-serif}
 .node .ring{fill:none;stroke:none}
 .node.home .ring{stroke:var(--ink);stroke-width:1.5}
 .node.out .face{stroke:var(--grey)}
 .node.out text{fill:var(--soft)}
 .node.now .face{fill:var(--gold);stroke:var(--turn);stroke-width:2.6}
-.node.now .count{fill:var(--ink)}
 .node.new .ring{stroke:var(--hop);stroke-width:1.6;stroke-dasharray:3 3}
 .node.way .face{stroke:var(--route);stroke-width:3}
 .node.pick .face{stroke-width:3.4}
@@ -78,7 +86,8 @@ main{order:1;max-height:75vh}#bar{order:2;position:sticky;bottom:0}aside{order:3
 <aside aria-label='Requests'>
 <ol id='list' aria-label='Requests and their answers'></ol>
 <div id='about'>
-<p id='answer' tabindex='0' aria-label='The answer to this line'></p><p id='more'></p><p id='changed'></p>
+<p id='request' tabindex='0' aria-label='What this line asks'></p><p id='answer' tabindex='0' aria-label='The answer to this line'></p><p id='more'></p>
+<svg id='ring' role='img' hidden></svg><p id='changed'></p>
 <p id='picked'>Choose a node to see its route and its count over time.</p><p id='route'></p>
 <svg id='chart' role='img' hidden></svg>
 </div>
@@ -89,7 +98,20 @@ main{order:1;max-height:75vh}#bar{order:2;position:sticky;bottom:0}aside{order:3
 <input id='slide' type='range' min='0' value='0' aria-label='Step'><span id='at'></span>
 <label>Speed <select id='speed'><option value='1600'>slow</option><option value='800' selected>normal</option><option value='300'>fast</option><option value='60'>very fast</option></select></label>
 </div>
-<footer><b>Proved:</b> the data of this page, which is the text that the definitions give for the lines that were read: each answer, link, turn, count and next hop.
+<footer>
+<ul id='legend' aria-label='What is drawn'>
+<li><svg width='26' height='26' aria-hidden='true'><g class='node home' transform='translate(13 13)'><circle r='12' class='ring'/><circle r='9.5' class='face'/></g></svg>the destination</li>
+<li><svg width='38' height='26' aria-hidden='true'><g class='link hop'><path d='M2 13H28'/><path class='tip' d='M36 13L27 8.4V17.6Z'/></g></svg>to the next hop</li>
+<li><svg width='38' height='26' aria-hidden='true'><g class='link'><path d='M2 13H28'/><path class='tip' d='M36 13L27 8.4V17.6Z'/></g></svg>another link</li>
+<li><svg width='64' height='26' aria-hidden='true'><g class='node now' transform='translate(13 13)'><circle r='12' class='ring'/><circle r='9.5' class='face'/></g><g class='link now'><path d='M28 13H54'/><path class='tip' d='M62 13L53 8.4V17.6Z'/></g></svg>turns next</li>
+<li><svg width='64' height='26' aria-hidden='true'><g class='node out' transform='translate(13 13)'><circle r='12' class='ring'/><circle r='9.5' class='face'/></g><g class='link out'><path d='M28 13H54'/><path class='tip' d='M62 13L53 8.4V17.6Z'/></g></svg>cut off</li>
+<li><svg width='26' height='26' aria-hidden='true'><g class='node new' transform='translate(13 13)'><circle r='12' class='ring'/><circle r='9.5' class='face'/></g></svg>has a new next hop</li>
+<li><svg width='64' height='26' aria-hidden='true'><g class='node way' transform='translate(13 13)'><circle r='12' class='ring'/><circle r='9.5' class='face'/></g><g class='link way'><path d='M28 13H54'/><path class='tip' d='M62 13L53 8.4V17.6Z'/></g></svg>a route</li>
+<li><svg width='38' height='26' aria-hidden='true'><g class='link closed'><path d='M2 13H28'/><path class='tip' d='M36 13L27 8.4V17.6Z'/></g></svg>a closed walk that was refused</li>
+<li><svg width='38' height='26' aria-hidden='true'><g class='link closed asked'><path d='M2 13H28'/><path class='tip' d='M36 13L27 8.4V17.6Z'/></g></svg>its link that was asked for</li>
+<li>below a number: how often the node has turned</li>
+</ul>
+<b>Proved:</b> the data of this page, which is the text that the definitions give for the lines that were read: each request, answer, link, turn, count and next hop.
 <b>Not proved:</b> the drawing, which is made of it by a script here and tested in a browser.
 Keys: left and right, a step; up and down, a line; space, play; n and p, a node.</footer>
 <script type='text/plain' id='story'>
@@ -107,6 +129,7 @@ const meanings = {1: 'the line is no JSON', 2: 'the value is no request', 3: 'th
 const settledLines = ['first', 'turns', 'links', 'counts', 'hops'];
 const listed = (text, item) => text.split(' ').slice(1).map(item);
 const linkOf = word => word.split('>').map(Number);
+const stepsOf = walk => new Set(walk.slice(1).map((node, at) => walk[at] + '>' + node));
 const short = text => text.length > 300 ? text.slice(0, 300) + ' ..' : text;
 const keyOf = (a, b) => a < b ? a * 4096 + b : b * 4096 + a;
 
@@ -132,6 +155,21 @@ function readStory(text) {
     }
   }
   return blocks;
+}
+
+// What a line asks, as a line, or why nobody knows: one that is no request has no words here.
+function requestOf(block) {
+  if (!block.asks) return block.answer === 'refused 1' ? 'no JSON' : 'no request';
+  const [name, ...words] = block.asks.split(' ');
+  if (name === 'net') return JSON.stringify([name, Number(words[0]), Number(words[1]), words.slice(2).map(linkOf)]);
+  return JSON.stringify(name === 'batch' ? [name, editsOf(words)] : [name, ...words.map(Number)]);
+}
+
+// The edits of a batch, each by a name and two numbers.
+function editsOf(words) {
+  const edits = [];
+  for (let place = 0; place < words.length; place += 3) edits.push([words[place], Number(words[place + 1]), Number(words[place + 2])]);
+  return edits;
 }
 
 // The nodes from one to another along links, few as can be, or null where no links lead there.
@@ -162,11 +200,9 @@ function edit(heads, [name, u, v]) {
 // The walk that a refused line would have closed, by its nodes: along the links of its own network, if these are few, or those on which
 // its edits begin.
 function closedWalk(block) {
-  const words = block.asks.split(' '), heads = new Map(), edits = [];
-  if (words[0] === 'net') for (const word of words.slice(3)) edits.push(['add', ...linkOf(word)]);
-  else {
-    const at = words[0] === 'batch' ? 1 : 0;
-    for (let place = at; place + 2 < words.length; place += 3) edits.push([words[place], Number(words[place + 1]), Number(words[place + 2])]);
+  const words = block.asks.split(' '), heads = new Map();
+  const edits = words[0] === 'net' ? words.slice(3).map(word => ['add', ...linkOf(word)]) : editsOf(words[0] === 'batch' ? words.slice(1) : words);
+  if (words[0] !== 'net') {
     if (!block.round || !block.round.drawn) return null;
     for (const [a, b] of block.round.links) heads.has(a) ? heads.get(a).add(b) : heads.set(a, new Set([b]));
   }
@@ -176,6 +212,12 @@ function closedWalk(block) {
     if (walk) return walk;
   }
   return null;
+}
+
+// The closed walk of a line, if it has one: found once.
+function walkOf(block) {
+  if (block.walk === undefined) block.walk = block.answer === 'refused 7' && block.asks ? closedWalk(block) : null;
+  return block.walk || [];
 }
 
 // Rounds that share a node number and most links are of one network: it is laid out once, as its last round leaves it.
@@ -343,6 +385,7 @@ function build(view) {
     view.shapes.set(key, {a, b, bend: bendOf(view, a, b), g, line: make(g, 'path', {}), tip: make(g, 'path', {class: 'tip'})});
   }
   makeRoom(view);
+  view.asked = make(view.group, 'g', {});
   view.spots = view.place.map(([x, y], node) => {
     const g = make(view.group, 'g', {class: 'node', role: 'button', tabindex: -1, transform: 'translate(' + x.toFixed(1) + ' ' + y.toFixed(1) + ')'});
     make(g, 'circle', {r: 22, class: 'ring'});
@@ -395,8 +438,8 @@ function routeShown(block, state) {
   return picked !== null && picked < block.round.nodes ? routeOf(block.round, picked) : [];
 }
 
-function drawLinks(view, round, state, way) {
-  const there = new Set(), steps = new Set(way.slice(1).map((node, at) => way[at] + '>' + node));
+function drawLinks(view, round, state, way, walk) {
+  const there = new Set(), steps = stepsOf(way), closed = stepsOf(walk);
   for (const [tail, head] of state.links) {
     const key = keyOf(tail, head), shape = view.shapes.get(key);
     there.add(key);
@@ -407,11 +450,45 @@ function drawLinks(view, round, state, way) {
       shape.tail = tail;
     }
     const hop = state.settled && round.hops[tail] === String(head), out = round.hops[tail] === 'cut';
-    const kind = (hop ? ' hop' : head === state.sink ? ' now' : out ? ' out' : '') + (steps.has(tail + '>' + head) ? ' way' : '');
+    const kind = (hop ? ' hop' : head === state.sink ? ' now' : out ? ' out' : '') + (steps.has(tail + '>' + head) ? ' way' : '') + (closed.delete(tail + '>' + head) ? ' closed' : '');
     mark(shape.g, {class: 'link' + kind, 'data-tail': tail, 'data-head': head, 'data-hop': hop ? 1 : null, visibility: null});
   }
   for (const [key, shape] of view.shapes) {
     if (!there.has(key)) mark(shape.g, {class: 'link', visibility: 'hidden', 'data-tail': null, 'data-head': null, 'data-hop': null});
+  }
+  drawAsked(view, [...closed].map(linkOf));
+}
+
+// Links of a closed walk that do not stand, since the refused line asked for them.
+function drawAsked(view, links) {
+  view.asked.replaceChildren();
+  for (const [tail, head] of links) {
+    const a = Math.min(tail, head), b = Math.max(tail, head);
+    arrow(view, view.asked, view.shapes.get(keyOf(a, b)) || {a, b, bend: bendOf(view, a, b)}, tail, head);
+  }
+}
+
+// An arrow of a closed walk that is no link of the network drawn.
+function arrow(view, group, shape, tail, head) {
+  const drawn = curve(view, shape, tail, head), g = make(group, 'g', {class: 'link closed asked', 'data-tail': tail, 'data-head': head});
+  make(g, 'path', {d: drawn.line});
+  make(g, 'path', {class: 'tip', d: drawn.tip});
+}
+
+// The closed walk of a network that is refused, where it is short: its nodes in a circle.
+function drawRing(walk) {
+  const ring = by('ring'), nodes = walk.slice(1), isDrawn = nodes.length > 0 && nodes.length <= 24, far = Math.max(46, 9 * nodes.length);
+  ring.toggleAttribute('hidden', !isDrawn);
+  ring.replaceChildren();
+  if (!isDrawn) return;
+  const wide = 2 * far + 52, turn = 2 * Math.PI / nodes.length, view = {place: {}, round: {home: null}};
+  nodes.forEach((node, at) => { view.place[node] = [wide / 2 + far * Math.sin(at * turn), wide / 2 - far * Math.cos(at * turn)]; });
+  mark(ring, {viewBox: '0 0 ' + wide + ' ' + wide, width: Math.min(wide, 300), 'aria-label': 'The closed walk ' + walk.join(' ')});
+  for (const [tail, head] of [...stepsOf(walk)].map(linkOf)) arrow(view, ring, {a: tail, b: head, bend: 0}, tail, head);
+  for (const node of nodes) {
+    const g = make(ring, 'g', {class: 'node', 'data-node': node, transform: 'translate(' + view.place[node].map(at => at.toFixed(1)).join(' ') + ')'});
+    make(g, 'circle', {r: 18, class: 'face'});
+    make(g, 'text', {y: 4}).textContent = node;
   }
 }
 
@@ -468,11 +545,12 @@ function tellStep(block, turn, state, news) {
   const refusal = block.answer.startsWith('refused ') ? meanings[block.answer.slice(8)] || 'refused' : null;
   by('say').textContent = 'Line ' + block.line + ': ' + (total ? 'turn ' + turn + ' of ' + total + (state.settled ? ', the round has ended.' : '. Node ' + state.sink + ' is a sink, and turns next.')
     : refusal ? 'refused, since ' + refusal + '.' : block.own ? (round.drawn ? 'no node turns.' : 'told by its answer alone.') : 'a question; the network stays as it was.');
+  const request = requestOf(block), walk = walkOf(block);
+  by('request').textContent = short(request);
+  mark(by('request'), {'data-request': request});
   by('answer').textContent = block.answer;
-  if (block.walk === undefined) block.walk = block.answer === 'refused 7' && block.asks ? closedWalk(block) : null;
-  const walk = block.walk;
-  by('more').textContent = refusal ? 'Refused: ' + refusal + '. Nothing has changed.' + (block.asks ? ' It asked: ' + short(block.asks) + '.' : '') + (walk ? ' The closed walk: ' + walk.join(' ') + '.' : '') : '';
-  mark(by('more'), {'data-asked': refusal && block.asks, 'data-closed': walk ? walk.join(' ') : null});
+  by('more').textContent = refusal ? 'Refused: ' + refusal + '. Nothing has changed.' + (walk.length ? ' The closed walk: ' + walk.join(' ') + '.' : '') : '';
+  mark(by('more'), {'data-closed': walk.length ? walk.join(' ') : null});
   by('changed').textContent = news.length ? 'Next hops that the round changed: ' + news.map(node => node + ' (' + round.before.hops[node] + ' to ' + round.hops[node] + ')').join(', ') + '.' : '';
   mark(by('changed'), {'data-changed': news.join(' ')});
   by('at').textContent = (now + 1) + ' / ' + steps;
@@ -508,6 +586,7 @@ function show(step, keep) {
   const turn = block.own ? now - starts[at] : drawn ? round.turns.length : 0;
   const state = drawn ? stateOf(round, turn) : null, net = by('net'), none = by('none');
   const news = drawn && block.own && state.settled ? changedHops(round) : [];
+  const walk = walkOf(block), isNetwork = walk.length > 0 && block.asks.startsWith('net ');
   net.toggleAttribute('hidden', !drawn);
   none.toggleAttribute('hidden', Boolean(drawn));
   mark(net, {'data-line': block.line, 'data-turn': block.own ? turn : 0});
@@ -516,10 +595,11 @@ function show(step, keep) {
     if (!view.built) build(view);
     if (shown !== view) { net.replaceChildren(view.group); shown = view; fit(view); keepInSight(view, round.home); }
     mark(net, {'aria-label': 'A network of ' + round.nodes + ' nodes, destination ' + round.home});
-    drawLinks(view, round, state, way);
+    drawLinks(view, round, state, way, isNetwork ? [] : walk);
     drawNodes(view, round, state, way, news);
     if (state.sink !== null) keepInSight(view, state.sink);
   } else none.textContent = !round ? 'There is no network yet.' : 'This network, or its round, is larger than what a page shows (256 nodes, 4,096 turns): it is told by the answers alone.';
+  drawRing(isNetwork ? walk : []);
   tellNode(block, round, state);
   tellStep(block, turn, state || {settled: true}, news);
   currentButton(at);
@@ -574,11 +654,10 @@ const keys = {ArrowRight: () => show(now + 1), ArrowLeft: () => show(now - 1), A
 
 function start() {
   for (const [at, block] of blocks.entries()) {
-    const item = document.createElement('li'), button = document.createElement('button'), number = document.createElement('b');
-    number.textContent = block.line;
-    button.append(number, block.answer.slice(0, 80));
+    const item = document.createElement('li'), button = document.createElement('button'), request = requestOf(block).slice(0, 80), answer = block.answer.slice(0, 80);
+    for (const [name, text] of [['b', block.line], ['code', request], ['span', answer]]) button.append(Object.assign(document.createElement(name), {textContent: text}));
     if (block.answer.startsWith('refused')) button.className = 'no';
-    button.setAttribute('aria-label', 'Line ' + block.line + ': ' + block.answer.slice(0, 80));
+    button.setAttribute('aria-label', 'Line ' + block.line + ', ' + request + ': ' + answer);
     button.addEventListener('click', () => { play(false); show(starts[at]); });
     item.append(button);
     by('list').append(item);

@@ -44,7 +44,8 @@ use std::alloc::Global;
 /// The answer goes to the front of the buffer, with no line end, and its length to `size`. `BLANK` says that the line is blank and
 /// has none, and takes no memory; `size` is then 0. `TOO_SHORT` says that `size` is the room that is wanted: the answer's length, or
 /// [`LEAST_ROOM`] for a buffer that has less, which is tested first. `NO_MEMORY` says that an allocation was refused. After each of
-/// these the session is as it was, and so are the handle's own bytes: null stays null, and owns nothing.
+/// these the session is as it was, and so are the handle's own bytes: null stays null, and owns nothing. It costs what
+/// [`Session::answer_line_telling_alone`](fr_route::Session::answer_line_telling_alone) does.
 #[unsafe(no_mangle)]
 pub extern "C" fn revroute_answer(
     alloc: Global,
@@ -84,7 +85,7 @@ pub extern "C" fn revroute_answer(
 /// front; without one, all of the piece is kept behind what has begun, and `BEGUN` says so. How many bytes were taken goes to `taken`. The
 /// answer and its length are as [`revroute_answer`]'s. `TOO_LONG` says that the line has more than 16,777,216 bytes; none of more is answered or
 /// kept. After it, `TOO_SHORT` and `NO_MEMORY` nothing was taken, and all is as it was, the handle's own bytes too: the piece can be
-/// handed in again.
+/// handed in again. `O(b)` for b bytes taken, and at a line end what [`revroute_answer`] costs.
 #[unsafe(no_mangle)]
 pub extern "C" fn revroute_take(
     alloc: Global,
@@ -125,7 +126,7 @@ pub extern "C" fn revroute_take(
     }
 }
 
-/// Ends the line that has begun, as the end of an input does, and answers it as [`revroute_answer`] does.
+/// Ends the line that has begun, as the end of an input does, and answers it as [`revroute_answer`] does, at its cost.
 #[unsafe(no_mangle)]
 pub extern "C" fn revroute_finish(
     alloc: Global,
@@ -292,7 +293,7 @@ pub extern "C" fn revroute_closed_walk_of(
     walk_of_network(alloc, nodes, links, walk, size)
 }
 
-/// Gives back all memory of the session behind the handle, which then is null again.
+/// Gives back all memory of the session behind the handle, which then is null again. `O(1)`.
 #[unsafe(no_mangle)]
 pub extern "C" fn revroute_close(alloc: Global, handle: &mut Handle)
     ensures session { handle.new.session ≡ None }
@@ -304,7 +305,7 @@ pub extern "C" fn revroute_close(alloc: Global, handle: &mut Handle)
 }
 
 /// Writes the version of the engine to the front of the buffer, and its length to `size`. `TOO_SHORT` says that the buffer is as
-/// it was, and has less room than that.
+/// it was, and has less room than that. `O(1)`.
 #[unsafe(no_mangle)]
 pub extern "C" fn revroute_version(text: &mut [u8], size: &mut usize) -> u32
     ensures written { result ≡ ANSWERED → IsWritten VERSION.now text.old text.new }
@@ -316,7 +317,7 @@ pub extern "C" fn revroute_version(text: &mut [u8], size: &mut usize) -> u32
 }
 
 /// Where a node sends on to: the node to which it does, or one of the named values, which are above all nodes. It answers for any number
-/// and any session, and takes the same few steps for each.
+/// and any session. `O(1)`.
 #[unsafe(no_mangle)]
 pub extern "C" fn revroute_next_hop(handle: &mut Handle, node: u32) -> u32
     ensures hop { TellsHop handle.old.session node result }
@@ -331,7 +332,7 @@ pub extern "C" fn revroute_next_hop(handle: &mut Handle, node: u32) -> u32
 
 /// Writes where each node sends on to, in the order of the nodes, into the front of the place, and how many there are to `size`. `TOO_SHORT`
 /// says that the place has less room, and `NO_NETWORK` that there is no network yet; `size` is then 0. After both the place is as it was.
-/// Linear in nodes.
+/// `O(n)`.
 #[unsafe(no_mangle)]
 pub extern "C" fn revroute_next_hops(handle: &mut Handle, hops: &mut [u32], size: &mut usize) -> u32
     ensures same { (handle.new.session ≡ handle.old.session) × (handle.new.rerouted ≡ handle.old.rerouted) × (handle.new.begun ≡ handle.old.begun) }
@@ -352,7 +353,7 @@ pub extern "C" fn revroute_next_hops(handle: &mut Handle, hops: &mut [u32], size
 }
 
 /// Writes the nodes that the last accepted round rerouted, in rising order, into the front of the place, and how many there are to `size`.
-/// `TOO_SHORT` says that the place is as it was, and has less room.
+/// `TOO_SHORT` says that the place is as it was, and has less room. `O(r)` for r nodes.
 #[unsafe(no_mangle)]
 pub extern "C" fn revroute_rerouted(handle: &mut Handle, nodes: &mut [u32], size: &mut usize) -> u32
     ensures same { (handle.new.session ≡ handle.old.session) × (handle.new.rerouted ≡ handle.old.rerouted) × (handle.new.begun ≡ handle.old.begun) }
@@ -368,7 +369,7 @@ pub extern "C" fn revroute_rerouted(handle: &mut Handle, nodes: &mut [u32], size
     }
 }
 
-/// Writes how often each node turned in the last round, in the order of the nodes, as [`revroute_next_hops`] does the hops.
+/// Writes how often each node turned in the last round, in the order of the nodes, as [`revroute_next_hops`] does the hops. `O(n)`.
 #[unsafe(no_mangle)]
 pub extern "C" fn revroute_counts(handle: &mut Handle, counts: &mut [u64], size: &mut usize) -> u32
     ensures same { (handle.new.session ≡ handle.old.session) × (handle.new.rerouted ≡ handle.old.rerouted) × (handle.new.begun ≡ handle.old.begun) }
@@ -391,7 +392,7 @@ pub extern "C" fn revroute_counts(handle: &mut Handle, counts: &mut [u64], size:
 /// Writes the nodes of the way from a node to the destination, hop by hop and with both ends, into the front of the place, and how many
 /// there are to `size`. `TOO_SHORT` says that the place has less room, `NO_ROUTE` that the node is cut off, or is none, `NO_NETWORK` that there
 /// is no network yet, and `NO_MEMORY` that an allocation was refused; `size` is 0 after these three. After each of the four the place is as
-/// it was. Linear in the length of the way.
+/// it was. `O(r)` for r nodes of the route.
 #[unsafe(no_mangle)]
 pub extern "C" fn revroute_route(
     alloc: Global,
@@ -419,8 +420,7 @@ pub extern "C" fn revroute_route(
 
 /// Writes tail and head of each link, in rising order of tail, then head, one link after the other, into the front of the place, and how many
 /// numbers these are to `size`: two for each link. `TOO_SHORT` says that the place has less room, `NO_NETWORK` that there is no network yet, and
-/// `NO_MEMORY` that an allocation was refused; `size` is 0 after these two. After each of the three the place is as it was. Linear in nodes and
-/// links.
+/// `NO_MEMORY` that an allocation was refused; `size` is 0 after these two. After each of the three the place is as it was. `O(n + m)`.
 #[unsafe(no_mangle)]
 pub extern "C" fn revroute_links(
     alloc: Global,
@@ -445,7 +445,7 @@ pub extern "C" fn revroute_links(
 }
 
 /// What the last round reported: how many turns it took, to `turned`, and how many nodes are cut off, to `cut_off`. `NO_NETWORK` says that there
-/// is no network yet; both are then 0. It takes the same few steps for any network.
+/// is no network yet; both are then 0. `O(1)`.
 #[unsafe(no_mangle)]
 pub extern "C" fn revroute_report(handle: &mut Handle, turned: &mut u64, cut_off: &mut u64) -> u32
     ensures same { (handle.new.session ≡ handle.old.session) × (handle.new.rerouted ≡ handle.old.rerouted) × (handle.new.begun ≡ handle.old.begun) }
@@ -463,8 +463,7 @@ pub extern "C" fn revroute_report(handle: &mut Handle, turned: &mut u64, cut_off
     }
 }
 
-/// How many nodes and links there are, to `nodes` and `links`. `NO_NETWORK` says that there is no network yet; both are then 0. It takes the
-/// same few steps for any network.
+/// How many nodes and links there are, to `nodes` and `links`. `NO_NETWORK` says that there is no network yet; both are then 0. `O(1)`.
 #[unsafe(no_mangle)]
 pub extern "C" fn revroute_size(handle: &mut Handle, nodes: &mut u32, links: &mut usize) -> u32
     ensures same { (handle.new.session ≡ handle.old.session) × (handle.new.rerouted ≡ handle.old.rerouted) × (handle.new.begun ≡ handle.old.begun) }

@@ -24,7 +24,7 @@ impl Hop {
         }
     }
 
-    /// The next hop, if there is one.
+    /// The next hop, if there is one. `O(1)`.
     pub fn node(self) -> Option<u32> {
         match self {
             Hop::To(node) => Some(node),

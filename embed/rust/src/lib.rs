@@ -37,7 +37,7 @@ pub use session::Session;
 use std::fmt;
 use std::str;
 
-/// The version of the library.
+/// The version of the library. `O(1)`.
 pub fn version() -> String {
     let mut text = vec![0; 16];
     loop {

@@ -32,7 +32,8 @@ impl From<NoMemory> for TakeFault {
 
 impl Session {
     /// Takes bytes from the front of a piece, up to and with its first line end, and answers the line that this ends, with what was
-    /// kept before; where no line ends in it, all of it is kept. `None` for a blank line, and where none has ended.
+    /// kept before; where no line ends in it, all of it is kept. `None` for a blank line, and where none has
+    /// ended. `O(b)` for b bytes taken, and at a line end what [`answer`](Session::answer) costs.
     ///
     /// ```
     /// let (mut session, mut answers) = (revroute::Session::new(), Vec::new());
@@ -78,7 +79,7 @@ impl Session {
         }
     }
 
-    /// Answers the line that the end of the input ends, if one has begun and is not blank.
+    /// Answers the line that the end of the input ends, if one has begun and is not blank, at the cost of [`answer`](Session::answer).
     ///
     /// # Errors
     ///

@@ -38,7 +38,7 @@ pub struct Session {
 }
 
 impl Session {
-    /// A session with no network yet, which holds no memory.
+    /// A session with no network yet, which holds no memory. `O(1)`.
     pub const fn new() -> Session {
         Session {
             engine: Engine::new(),
@@ -48,7 +48,7 @@ impl Session {
 
     /// The answer to a line, or `None` for a blank one, which has spaces, tabs and carriage returns alone. One line feed at its end is
     /// no part of a line, so that lines can be asked as they are read; the answer has none. A request that is refused has an answer
-    /// too:
+    /// too. `O(b)` for b bytes of line and answer, and what the call of [`Network`](crate::Network) costs:
     ///
     /// ```
     /// let mut session = revroute::Session::new();

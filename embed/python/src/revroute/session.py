@@ -110,6 +110,10 @@ class Session:
     What would wait for itself is a RuntimeError: a call from a signal handler, or from whatever else has interrupted a call on this
     session, and a call in the child of `os.fork` if another thread was in a call as the process was forked. The child can use
     every other session, and has a copy of its own.
+
+    With n nodes and m links `next_hop`, `size` and `report` are O(1), `route` and `rerouted` as long as what they answer, `next_hops` and
+    `counts` O(n), `links` O(n + m). `answer`, `take` and `finish` are O(b) for b bytes of lines and answers, and what the calls of a Network
+    cost.
     """
 
     def __init__(self) -> None:
