@@ -2,7 +2,7 @@
 
 use thiserror::Error;
 
-/// Why a run, a service, a play or a drawing stopped. Plays and drawings write at their end alone, so a fault other than `Write` has
+/// Why a run, a service, a play or a drawing stopped. Plays and drawings write only at their end, so a fault other than `Write` has
 /// written nothing.
 #[derive(Debug, Drop, Error, PartialEq, Eq)]
 pub enum RunFault {

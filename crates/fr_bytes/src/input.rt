@@ -16,8 +16,8 @@ pub const MAX_BYTES: usize = 16_777_216;
 pub const PIECE: usize = 65_536;
 
 /// All that the reader has, if that is at most [`MAX_BYTES`]; whatever the result, at most one byte more is read. `Read` where a
-/// read failed, `TooLong` where the reader has more, `Memory` where bytes that it gave found no room; never `Write` or `Start`. Linear in
-/// what is read.
+/// read failed, `TooLong` where the reader has more, `Memory` where bytes that it gave found no room; never `Write` or `Start`. `O(b)` for b
+/// bytes read.
 pub fn read_input<R: Read>(alloc: Global, reader: &mut R) -> Result<Vec<u8>, RunFault>
     ensures ok { IfOk result (λ input. ReadsInput (R.remaining reader.old) (R.remaining reader.new) input.items) }
     ensures limit { ReadsAtMostOneTooMany (R.remaining reader.old) (R.remaining reader.new) }

@@ -14,7 +14,7 @@ pub struct Lines<'a> {
 }
 
 impl<'a> Lines<'a> {
-    /// The lines of this input.
+    /// The lines of this input. `O(1)`.
     pub fn new(input: &'a [u8]) -> Lines<'a>
         ensures { lines_left result ≡ lines_of input.now }
     {
@@ -36,7 +36,7 @@ impl<'a> Iterator for Lines<'a> {
     }
 }
 
-/// The first line of a text, and what stands behind its byte 10, if it has one. Linear in the line.
+/// The first line of a text, and what stands behind its byte 10, if it has one. `O(b)` for a line of b bytes.
 pub fn first_line(text: &[u8]) -> (&[u8], Option<&[u8]>)
     ensures first { lines_of text.now ≡ result.0.now ∷ option_map_or lines_of (option_copied result.1) [] }
     ensures shorter { IfSome result.1 (λ rest. length rest.now < length text.now) }
@@ -54,7 +54,7 @@ fn line_end(text: &[u8]) -> Option<usize>
     text.iter().position(|byte| *byte == b'\n')
 }
 
-/// How many bytes of a text stand before its first byte 10, which is all of them where there is none. Linear in these.
+/// How many bytes of a text stand before its first byte 10, which is all of them where there is none. `O(b)` for b of these.
 pub fn front_size(text: &[u8]) -> usize
     ensures { result ≡ position_or_len (λ x. x == 10) text.now }
 {

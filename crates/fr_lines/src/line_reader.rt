@@ -35,13 +35,13 @@ impl Drop for LineReader {
 }
 
 impl LineReader {
-    /// A reader that has read no line yet, and holds no memory.
+    /// A reader that has read no line yet, and holds no memory. `O(1)`.
     pub fn new() -> LineReader {
         LineReader { scratch: None }
     }
 
     /// The request that a line is, as [`read_line`](crate::read_line) tells it, with the same faults; one other than `Memory` is settled
-    /// by the line alone. Linear in a line with no object.
+    /// by the line alone. `O(b)` for a line of b bytes with no object.
     pub fn read(&mut self, alloc: Global, line: &[u8]) -> Result<Request, LineFault>
         ensures ok { IfOk result (λ request. reading line.now ≡ Ok (plain request)) }
         ensures refused { IfErr result (λ fault. fault ≢ Memory → reading line.now ≡ Err fault) }

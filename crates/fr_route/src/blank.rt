@@ -3,7 +3,7 @@
 ghost use Rattle.std.specs.Prelude.{◌≡◌};
 ghost use Rattle.fr_route.specs.Blank.{is_blank as is_blank_line};
 
-/// Whether a line has nothing but tabs, carriage returns and spaces. Linear in the line.
+/// Whether a line has nothing but tabs, carriage returns and spaces. `O(b)` for b bytes.
 pub fn is_blank(line: &[u8]) -> bool
     ensures { result ≡ is_blank_line line.now }
 {

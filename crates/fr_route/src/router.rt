@@ -529,7 +529,7 @@ impl Router {
     }
 
     /// The way from node `x` to the destination, hop by hop; `x` has to be a node. The only fault is `Memory`, where no room could be had.
-    /// Linear in the length of the way.
+    /// `O(r)` for r nodes of the route.
     pub fn walk(&self, alloc: Global, x: u32) -> Result<Walked, RouteFault>
         requires { x < self.now.nodes }
         ensures walked { IfOk result (IsWalked self.now x) }

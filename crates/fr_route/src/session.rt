@@ -92,7 +92,7 @@ impl Session {
     /// then in the state after the line, which for a refused line is the state before it. `Start` says that a thread could
     /// not be started, `Memory` that memory ran out; a fault leaves the session as it was. `Start` comes only where a network or a change
     /// is accepted and a node can turn on it, and never with the budget 0 or by one worker. Networks are settled by the plan and under
-    /// the gate, on which no answer depends. Linear in the answer, what [`LineReader::read`] costs, and what the request takes of
+    /// the gate, on which no answer depends. `O(b)` for b bytes of answer, what [`LineReader::read`] costs, and what the request takes of
     /// [`Net::new`] and of the router.
     pub fn answer_line<R: Threads + Wait + Sync, G: Gate + Sync>(
         &mut self,
@@ -242,7 +242,7 @@ impl Session {
     }
 
     /// The answer to a request, as `answer_line` gives it to the line of the request, with the same faults. The text has no line end.
-    /// Linear in the answer, and what the request takes of [`Net::new`] and of the router.
+    /// `O(b)` for b bytes of answer, and what the request takes of [`Net::new`] and of the router.
     pub fn answer<R: Threads + Wait + Sync, G: Gate + Sync>(
         &mut self,
         rt: &R,

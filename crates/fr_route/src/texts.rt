@@ -48,7 +48,7 @@ fn push_cut(line: &mut String, cut: u64, buffer: &mut Buffer) -> Result<(), Allo
     line.push_str(buffer.format(cut))
 }
 
-/// `links`, and each link after a space, as `tail>head`. `AllocError` where no room could be had. Linear in the text.
+/// `links`, and each link after a space, as `tail>head`. `AllocError` where no room could be had. `O(b)` for b bytes of text.
 pub fn links_line(alloc: Global, links: &[(u32, u32)]) -> Result<String, AllocError>
     ensures { IfOk result (λ line. string_bytes line ≡ links_text links.now) }
 {
@@ -61,7 +61,7 @@ pub fn links_line(alloc: Global, links: &[(u32, u32)]) -> Result<String, AllocEr
     Ok(line)
 }
 
-/// `counts`, and each count after a space. `AllocError` where no room could be had. Linear in the text.
+/// `counts`, and each count after a space. `AllocError` where no room could be had. `O(b)` for b bytes of text.
 pub fn counts_line(alloc: Global, counts: &[u64]) -> Result<String, AllocError>
     ensures { IfOk result (λ line. string_bytes line ≡ counts_text counts.now) }
 {
