@@ -59,7 +59,8 @@ impl<J: Naming> Deque<J> {
         let dest = round.dest();
         for (neighbour, _) in round.net().row(x) {
             let neighbour = *neighbour as u32;
-            if neighbour != dest {
+            // Most stand in a deque already, and to look is cheaper than the exchange.
+            if neighbour != dest && !standing.has(neighbour) {
                 self.put(standing, neighbour);
             }
         }

@@ -32,13 +32,18 @@ impl<J: Naming> Standing<J> {
         })
     }
 
+    /// Whether a node stands in a deque.
+    pub fn has(&self, x: u32) -> bool
+        requires { x < J.setup.nodes }
+    {
+        self.flags[x as usize].load(Ordering::SeqCst)
+    }
+
     /// Notes that a node comes to stand in a deque, and says whether it stood in none.
     pub fn enters(&self, x: u32) -> bool
         requires { x < J.setup.nodes }
     {
-        let flag = &self.flags[x as usize];
-        // Most stand in one already, and a load is cheaper than the exchange.
-        !flag.load(Ordering::SeqCst) && !flag.swap(true, Ordering::SeqCst)
+        !self.flags[x as usize].swap(true, Ordering::SeqCst)
     }
 
     /// Notes that a node stands in no deque any more.
