@@ -1,4 +1,4 @@
-//! Settled counts in a way that is passed in.
+//! Settled counts as the caller says.
 
 ghost use Rattle.std.specs.Prelude.{◌≡◌, ◌≢◌, ◌≤◌, ◌↔◌, IfOk, IfErr, IfSome, replicate};
 ghost use Rattle.fr_core.specs.Settled.{AreSettled};
@@ -9,7 +9,7 @@ ghost use Rattle.fr_crew.specs.declared.fault.CrewFault.TheVariants.{Range, Star
 use crate::fault::CrewFault;
 use fr_graph::{Net, Turns};
 
-/// The settled counts of a network in a way that is passed in, as a closure over [`settled_counts`](crate::settled_counts) or
+/// The settled counts of a network as the caller says, as a closure over [`settled_counts`](crate::settled_counts) or
 /// [`settled_counts_alone`](crate::settled_counts_alone). The answer is that of the way, and so `Range` where the destination is
 /// no node, and never `Start` where no node can turn, or where the way never answers it. A closure over `settled_counts` has to state
 /// what that call requires of `from` and `turns`. It costs what the way costs.

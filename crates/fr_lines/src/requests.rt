@@ -51,9 +51,9 @@ pub enum Request {
         /// The destination.
         dest: u32,
     },
-    /// Tell the way from a node to the destination, and change nothing: `["walk", x]`.
+    /// Tell the route from a node to the destination, and change nothing: `["walk", x]`.
     Walk {
-        /// Where the way begins.
+        /// Where the route begins.
         x: u32,
     },
     /// Answer a question, and change nothing.

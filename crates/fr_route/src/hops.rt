@@ -20,7 +20,7 @@ pub enum Hop {
     CutOff,
 }
 
-/// The way from a node to the destination.
+/// The route from a node to the destination.
 #[derive(Debug, Drop, PartialEq, Eq)]
 pub enum Walked {
     /// The nodes of the route, from the first to the destination.

@@ -1,4 +1,4 @@
-//! Routing by full link reversal: a network that is settled again after each change, the way from each node to the
+//! Routing by full link reversal: a network that is settled again after each change, the route from each node to the
 //! destination, and the answers to request lines.
 //!
 //! A [`Router`] keeps a settled network, and answers next hops and walks. [`Router::change`] cuts or adds a link, joins two

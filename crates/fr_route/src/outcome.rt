@@ -32,7 +32,7 @@ pub(crate) struct Outcome {
     pub(crate) report: Report,
 }
 
-/// What a round on a network comes to, settled in a way that is passed in, and told in a table in which no node has turned yet. Each
+/// What a round on a network comes to, settled as the caller says, and told in a table in which no node has turned yet. Each
 /// node that can turn at first is among `from`.
 pub(crate) fn outcome_of<F: Fn(&Net, u32, Option<&[u32]>, Turns) -> Result<Turns, CrewFault>>(
     net: &Net,
@@ -54,7 +54,7 @@ pub(crate) fn outcome_of<F: Fn(&Net, u32, Option<&[u32]>, Turns) -> Result<Turns
     Ok(Outcome { turns, report })
 }
 
-/// The settled counts of a network in a way that is passed in, or those of no turns where no node of `from` can turn: then that look
+/// The settled counts of a network as the caller says, or those of no turns where no node of `from` can turn: then that look
 /// is all.
 fn settled_from<F: Fn(&Net, u32, Option<&[u32]>, Turns) -> Result<Turns, CrewFault>>(
     net: &Net,

@@ -50,7 +50,7 @@ impl Model for Router {
     ghost invariant = { IsSoundRouter };
 }
 
-/// The settled counts of a network, in a way that is passed in. `Range` where the destination is no node, which is tested first.
+/// The settled counts of a network, as the caller says. `Range` where the destination is no node, which is tested first.
 fn first_counts<F: Fn(&Net, u32, Option<&[u32]>, Turns) -> Result<Turns, CrewFault>>(
     alloc: Global,
     net: &Net,
@@ -126,7 +126,7 @@ impl Router {
         )
     }
 
-    /// Settles a network in a way that is passed in.
+    /// Settles a network as the caller says.
     pub(crate) fn open_by<F: Fn(&Net, u32, Option<&[u32]>, Turns) -> Result<Turns, CrewFault>>(
         alloc: Global,
         net: Net,
@@ -305,7 +305,7 @@ impl Router {
         self.change_by(alloc, change, settle, &|report| Ok(report), rerouted)
     }
 
-    /// Changes the network or its destination where it stands, settled anew in a way that is passed in, and answers what is told of
+    /// Changes the network or its destination where it stands, settled anew as the caller says, and answers what is told of
     /// the report. All that the change needs is made before anything is put in place. The list tells then which nodes it reroutes, if it
     /// has a place for each node; whoever does not ask gives one with no place.
     pub(crate) fn change_by<
@@ -528,7 +528,7 @@ impl Router {
         self.hops[x as usize]
     }
 
-    /// The way from node `x` to the destination, hop by hop; `x` has to be a node. The only fault is `Memory`, where no room could be had.
+    /// The route from node `x` to the destination, hop by hop; `x` has to be a node. The only fault is `Memory`, where no room could be had.
     /// `O(r)` for r nodes of the route.
     pub fn walk(&self, alloc: Global, x: u32) -> Result<Walked, RouteFault>
         requires { x < self.now.nodes }

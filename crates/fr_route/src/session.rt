@@ -173,7 +173,7 @@ impl Session {
         )
     }
 
-    /// The answer to a line, where networks are settled in a way that is passed in.
+    /// The answer to a line, where networks are settled as the caller says.
     fn answer_line_by<F: Fn(&Net, u32, Option<&[u32]>, Turns) -> Result<Turns, CrewFault>>(
         &mut self,
         alloc: Global,
@@ -286,7 +286,7 @@ impl Session {
         )
     }
 
-    /// The answer to a request, where networks are settled in a way that is passed in.
+    /// The answer to a request, where networks are settled as the caller says.
     fn answer_by<F: Fn(&Net, u32, Option<&[u32]>, Turns) -> Result<Turns, CrewFault>>(
         &mut self,
         alloc: Global,
@@ -544,7 +544,7 @@ fn edited<F: Fn(&Net, u32, Option<&[u32]>, Turns) -> Result<Turns, CrewFault>>(
     }
 }
 
-/// The router of a network of these links, settled in a way that is passed in.
+/// The router of a network of these links, settled as the caller says.
 fn opened<F: Fn(&Net, u32, Option<&[u32]>, Turns) -> Result<Turns, CrewFault>>(
     alloc: Global,
     nodes: u32,

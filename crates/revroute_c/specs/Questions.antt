@@ -60,6 +60,6 @@ abbrev pub ends : List (ℕ × ℕ) → List ℕ
 ends [] = []
 ends (l ∷ ls) = l.0 ∷ l.1 ∷ ends ls
 
--- there is no way from x to the destination: x is no node, or it is cut off
+-- there is no route from x to the destination: x is no node, or it is cut off
 abbrev pub HasNoRoute : State → ℕ → Type 0
 HasNoRoute s x = (s.nodes ≤ x) ⊎ IsCutOff s.dest s.links x

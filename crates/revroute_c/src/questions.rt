@@ -12,7 +12,7 @@ use std::alloc::{AllocError, Global};
 /// There is no network yet.
 pub(crate) const NO_NETWORK: u32 = 4;
 
-/// There is no way to the destination.
+/// There is no route to the destination.
 pub(crate) const NO_ROUTE: u32 = 5;
 
 /// In place of a hop: the node is the destination.
@@ -119,7 +119,7 @@ pub(crate) fn counts_in(session: &Session, counts: &mut [u64], size: &mut usize)
     }
 }
 
-/// Writes the nodes of the way from a node to the destination, if there is one. `size` has to be 0.
+/// Writes the nodes of the route from a node to the destination, if there is one. `size` has to be 0.
 pub(crate) fn route_in(
     session: &Session,
     alloc: Global,
