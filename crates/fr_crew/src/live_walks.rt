@@ -101,7 +101,7 @@ fn walk_on(round: &Round, worker: &mut Worker, nodes: &mut Vec<u32>, x: u32, lim
 ///
 /// The worker has to be one of this round. A walk from what is no node or from a node with no link is refused, by `NoNode` or `Alone`
 /// in this order; then room for `limit` and one nodes is taken, before the first look, and `Memory` answered where there is none. After
-/// a fault nothing has changed, and the worker knows what it knew. At most `limit` looks.
+/// a fault nothing has changed, and the worker knows what it knew. At most `limit` looks, `O(d²)` each.
 pub fn live_walk(
     alloc: Global,
     round: &Round,

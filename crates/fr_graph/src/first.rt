@@ -13,7 +13,7 @@ pub enum First {
 }
 
 impl First {
-    /// The direction as seen from the other end of the link.
+    /// The direction as seen from the other end of the link. `O(1)`.
     pub fn opposite(self) -> First
         ensures { result ≡ opposite self }
     {

@@ -124,8 +124,8 @@ impl Round {
     /// `Turned` where it turned the node, `Held` by a neighbour to which a link points, `Moved` where another worker has turned the node
     /// since this one saw its count, which may have been before the call, and `Cut` where the node has turned as often as there are
     /// nodes. Each reply is one that full reversal by one thread gives after a history that goes on from all that the worker knew; with
-    /// it, the history is what the worker knows now. At most d + 1 loads and an exchange, and two walks over the row of each node whose
-    /// seen count rises.
+    /// it, the history is what the worker knows now. At most d + 1 loads and an exchange, and a walk over the row of each node whose
+    /// seen count rises: `O(d²)`.
     pub fn try_turn(&self, worker: &mut Worker, x: u32) -> Result<Reply, Refusal>
         requires { IsOwn self.now worker.old }
         ensures own { IsOwn self.now worker.new }
@@ -160,7 +160,7 @@ impl Round {
     /// other look is decided: `Held` by a neighbour to which a link points, `Sink` where all links point to the node, and
     /// `Moved` where another worker turned the node between the two loads of its count. Each reply holds at one point of a history that
     /// goes on from all that the worker knew, the point of its entry; with it, the history is what the worker knows now. At most d + 2
-    /// loads, and two walks over the row of each node whose seen count rises.
+    /// loads, and a walk over the row of each node whose seen count rises: `O(d²)`.
     pub fn look(&self, worker: &mut Worker, x: u32) -> Result<Reply, Refusal>
         requires { IsOwn self.now worker.old }
         ensures own { IsOwn self.now worker.new }
