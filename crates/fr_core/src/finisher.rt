@@ -120,17 +120,3 @@ pub fn finish_soon(net: &Net, dest: u32, turns: &mut Turns, from: &[u32]) -> boo
     net.network_law();
     turn_few(net, dest, turns, from) || are_settled(net, dest, turns.counts())
 }
-
-/// Goes where [`finish_soon`] goes, for a caller that does not know where nodes can turn: they are sought among all. It wants the same
-/// counts, and answers and promises the same. `O(n + m)`.
-pub fn finish_few(net: &Net, dest: u32, turns: &mut Turns) -> bool
-    requires node { dest < net.now.nodes }
-    requires lawful { AreLawful net.now.nodes dest net.now.links turns.old }
-    ensures lawful { AreLawful net.now.nodes dest net.now.links turns.new }
-    ensures forth { (x : ℕ) → slice_index turns.old x ≤ slice_index turns.new x }
-    ensures settled { IsTrue result ↔ AreSettled net.now.nodes dest net.now.links turns.new }
-{
-    // By the law a settled network is one in which no node can turn.
-    net.network_law();
-    turn_few_of_all(net, dest, turns) || are_settled(net, dest, turns.counts())
-}

@@ -173,7 +173,6 @@ pub(crate) fn turn_few_of_all(net: &Net, dest: u32, turns: &mut Turns) -> bool
     requires node { dest < net.now.nodes }
     requires lawful { AreLawful net.now.nodes dest net.now.links turns.old }
     ensures lawful { AreLawful net.now.nodes dest net.now.links turns.new }
-    ensures forth { (x : ℕ) → slice_index turns.old x ≤ slice_index turns.new x }
     ensures none { result ≡ true → NoneCanTurn net.now.nodes dest (moment_of net.now.links turns.new) }
 {
     let mut work: Queue<ALL_NODES> = Queue::new();

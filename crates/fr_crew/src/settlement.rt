@@ -11,7 +11,7 @@ use crate::crew::run_crew;
 use crate::fault::CrewFault;
 use crate::gate::Gate;
 use crate::plan::Plan;
-use fr_core::{are_settled, finish, finish_few, finish_from, finish_soon};
+use fr_core::{are_settled, finish, finish_from, finish_soon};
 use fr_graph::{Net, Turns};
 use fr_round::{Closed, Round};
 use std::alloc::Global;
@@ -89,16 +89,16 @@ pub fn settle_alone(alloc: Global, net: Net, dest: u32) -> Result<Settled, CrewF
     Ok(finished(net, dest, turns, 0))
 }
 
-/// The settled counts of a network, which stays as it is. Where a few turns lead there, or none at all, they are made on the thread that
-/// calls, by [`finish_few`](fr_core::finish_few), and no thread is started; else by the crew of the plan on a copy of the network, and
-/// what they leave by [`finish`](fr_core::finish). Whatever the plan, the gate and the schedule, they are the counts of [`settle`]. They
-/// are made in `turns`, a table in which no node has turned yet, so that who settles a network again and again can use one table for all
-/// rounds.
+/// The settled counts of a network, which stays as it is: where a node can turn at all, by the crew of the plan on a copy of
+/// the network, and what they leave by [`finish`](fr_core::finish). Whatever the plan, the gate and the schedule, they are the
+/// counts of [`settle`]. They are made in `turns`, a table in which no node has turned yet, so that who settles a network again and again
+/// can use one table for all rounds.
 ///
 /// For a caller that knows where sinks can be, as after an edit of a settled network: all that stand in `from`, where it is
-/// given, are nodes, and each sink but the destination is among them; some may stand there twice. The few turns are made by
-/// [`finish_soon`](fr_core::finish_soon) then, which looks at no other node. Else these nodes are the workers' first candidates, in place of
-/// all, each dealt to the worker whose number is its place in `from` modulo the number of workers; and each worker makes at most as many
+/// given, are nodes, and each sink but the destination is among them; some may stand there twice. Where a few turns settle the
+/// network, or none at all, they are made on the thread that calls, by [`finish_soon`](fr_core::finish_soon): that costs a look at
+/// each of these nodes and the turns, and no thread is started. Else they are the workers' first candidates, in place of all nodes,
+/// each dealt to the worker whose number is its place in `from` modulo the number of workers; and each worker makes at most as many
 /// calls as there are nodes, since with more of them it would take longer to turn what is left than to search.
 ///
 /// `Range` where the destination is no node, which is tested first. That is the only fault with the budget 0, and where no node can
@@ -177,8 +177,8 @@ fn none_yet(alloc: Global, net: &Net, dest: u32) -> Result<Turns, CrewFault>
     Ok(Turns::none(alloc, net.nodes())?)
 }
 
-/// Turns nodes where a few turns settle the network: those of `from`, where these are given, and else all are looked at first. Whether it
-/// is settled now.
+/// Turns nodes where a few turns settle the network: none at all, or few from nodes of `from`, where these are given. Whether it is
+/// settled now.
 fn turn_few(net: &Net, dest: u32, from: Option<&[u32]>, turns: &mut Turns) -> bool
     requires node { dest < net.now.nodes }
     requires from { IfSome from (λ from. HoldsSinks net.now dest from.now) }
@@ -190,7 +190,7 @@ fn turn_few(net: &Net, dest: u32, from: Option<&[u32]>, turns: &mut Turns) -> bo
     net.network_law();
     match from {
         Some(from) => finish_soon(net, dest, turns, from),
-        None => finish_few(net, dest, turns),
+        None => are_settled(net, dest, turns.counts()),
     }
 }
 

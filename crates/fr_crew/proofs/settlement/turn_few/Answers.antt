@@ -7,7 +7,3 @@ finish_soon-requires-clause-from c = rw c.requires.none (zeros_hold c.args.net.n
 pub returns-in-Some-clause-still : goal.returns-in-Some-clause-still
 returns-in-Some-clause-still c = λ settled.
     c.finish_soon.ensures.settled.1 (still_settled c.args.net.now.nodes c.args.dest c.args.net.now.links c.finish_soon.new.turns settled c.finish_soon.ensures.lawful)
-
-pub returns-in-None-clause-still : goal.returns-in-None-clause-still
-returns-in-None-clause-still c = λ settled.
-    c.finish_few.ensures.settled.1 (still_settled c.args.net.now.nodes c.args.dest c.args.net.now.links c.finish_few.new.turns settled c.finish_few.ensures.lawful)
