@@ -7,6 +7,7 @@ ghost use Rattle.fr_lines.specs.declared.requests.LineFault.TheVariants.{Memory}
 ghost use Rattle.fr_lines.specs.Requests.{plain, reading};
 ghost use Rattle.fr_lines.specs.LineTokens.{Tells, reading_of_tokens};
 
+use crate::fronts::{behind_mark, behind_space};
 use crate::list_lines::list_request;
 use crate::read::{request_by_word, request_in};
 use crate::requests::{LineFault, Request};
@@ -58,15 +59,23 @@ impl LineReader {
         ensures ok { IfOk result (λ request. reading line.now ≡ Ok (plain request)) }
         ensures refused { IfErr result (λ fault. fault ≢ Memory → reading line.now ≡ Err fault) }
     {
+        if !opens_with_word(line) {
+            return self.read_tokens(alloc, line, false);
+        }
         match list_request(alloc, line)? {
             Some(request) => Ok(request),
-            None => self.read_tokens(alloc, line),
+            None => self.read_tokens(alloc, line, true),
         }
     }
 
-    /// The request that a line is, by its tokens.
+    /// The request that a line is, by its tokens, where it is told whether a word seems to open it.
     #[inline(never)]
-    fn read_tokens(&mut self, alloc: Global, line: &[u8]) -> Result<Request, LineFault>
+    fn read_tokens(
+        &mut self,
+        alloc: Global,
+        line: &[u8],
+        by_word: bool,
+    ) -> Result<Request, LineFault>
         ensures ok { IfOk result (λ request. reading line.now ≡ Ok (plain request)) }
         ensures refused { IfErr result (λ fault. fault ≢ Memory → reading line.now ≡ Err fault) }
     {
@@ -77,7 +86,7 @@ impl LineReader {
             Some(scratch) => scratch,
             None => new_scratch(alloc)?,
         };
-        let request = request_of_text(alloc, text, &mut scratch);
+        let request = request_of_text(alloc, text, by_word, &mut scratch);
         self.scratch = Some(scratch);
         request
     }
@@ -97,13 +106,29 @@ fn new_scratch(alloc: Global) -> Result<Box<Scratch>, LineFault>
     Ok(Box::new(alloc, Scratch::new(alloc))?)
 }
 
-/// The request that a text is. A text that is no array of a word and other items is begun again, and read as one value.
-fn request_of_text(alloc: Global, text: &str, scratch: &mut Scratch) -> Result<Request, LineFault>
+/// Whether a line seems to be an array that a word opens. Only time hangs on it.
+fn opens_with_word(line: &[u8]) -> bool {
+    match behind_mark(b'[', line) {
+        Some(items) => matches!(behind_space(items), [b'"', ..]),
+        None => false,
+    }
+}
+
+/// The request that a text is. Where it is told that a word seems to open the text, and none does, the text is begun again; it is read as
+/// one value then.
+fn request_of_text(
+    alloc: Global,
+    text: &str,
+    by_word: bool,
+    scratch: &mut Scratch,
+) -> Result<Request, LineFault>
     ensures { Tells (reading_of_tokens (tokens text.now)) result }
 {
-    let mut reader = Reader::new(text, scratch)?;
-    if let Some(word) = opening_word(&mut reader) {
-        return request_of_items(alloc, word, &mut reader);
+    if by_word {
+        let mut reader = Reader::new(text, scratch)?;
+        if let Some(word) = opening_word(&mut reader) {
+            return request_of_items(alloc, word, &mut reader);
+        }
     }
     let mut reader = Reader::new(text, scratch)?;
     request_of_value(alloc, &mut reader)
