@@ -11,8 +11,9 @@ import crates
 
 PROVED = crates.BUILT / "proved"
 FAILED = 70
-# More jobs for one crate cost more than they bring: each loads what it needs, and by four a crate takes half as many seconds again.
-MOST_JOBS = 2
+# More jobs for one crate cost more than they bring, since each loads what it needs. By two at most, a first answer took three minutes longer,
+# and one minute of one processor less.
+MOST_JOBS = 4
 
 
 def own_rlib(name):
@@ -99,8 +100,8 @@ def is_kept(name):
 
 
 def prove_each(progress, names, jobs):
-    """Proves libraries, each once those below it are proved: of those that can be, the one that most stand on by two jobs, where the others
-    leave it as many, and each other by one."""
+    """Proves libraries, each once those below it are proved: of those that can be, the one that most stand on by the jobs that the others leave
+    it, and each other by one."""
     above = {it: sum(it in crates.below(other) for other in names) for it in names}
     left, running = sorted(names, key=lambda it: -above[it]), {}
     with ThreadPoolExecutor(jobs) as pool:
