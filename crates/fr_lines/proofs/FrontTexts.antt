@@ -111,8 +111,27 @@ opens_with_word word line inside behind rest plain_word ascii opens stands follo
     (begins_more line inside behind (token Token.begin_array ∷ []) (word_lexeme word ∷ []) (mark_begins 91 line inside refl opens) (word_begins word inside behind plain_word ascii stands))
     (mark_begins 44 behind rest refl follows)
 
--- the bracket of the line, and white space
-pub closed_line : (text behind : List ℕ) → unspaced text ≡ 93 ∷ behind → unspaced behind ≡ [] → Begins text (token Token.end_array ∷ []) []
-closed_line text behind closes over =
-    let passed = space_passes behind in
-    begins_more text behind [] (token Token.end_array ∷ []) [] (mark_begins 93 text behind refl closes) (passed.0 ∙ ap (lex between) over, λ utf8. passed.1 (subst IsUtf8 (sym over) utf8))
+-- nothing but white space is left
+pub over_begins : (text : List ℕ) → unspaced text ≡ [] → Begins text [] []
+over_begins text over = let passed = space_passes text in (passed.0 ∙ ap (lex between) over, λ utf8. passed.1 (subst IsUtf8 (sym over) utf8))
+
+-- a mark, and then just white space
+pub closed_line : (mark : ℕ) (text behind : List ℕ) → is_operator mark ≡ true → unspaced text ≡ mark ∷ behind → unspaced behind ≡ [] → Begins text (operator_lexeme mark ∷ []) []
+closed_line mark text behind is closes over =
+    begins_more text behind [] (operator_lexeme mark ∷ []) [] (mark_begins mark text behind is closes) (over_begins behind over)
+
+-- a word has ended before white space that ends the text
+ends_at_end : (text : List ℕ) → unspaced text ≡ [] → ends_word text ≡ true
+ends_at_end [] over = refl
+ends_at_end (b ∷ bs) over = go (is_space b) refl over
+  where
+    go : (s : Bool) → is_space b ≡ s → (if s then unspaced bs else b ∷ bs) ≡ [] → (is_operator b || is_space b) ≡ true
+    go true e over = ap (λ s. is_operator b || s) e ∙ or_true (is_operator b)
+    go false e over = absurd (cc)
+
+-- a number, and then just white space
+pub number_ends : (n : ℕ) (text behind : List ℕ) → n < 2 ^ 64 → unspaced text ≡ decimal n ++ behind → unspaced behind ≡ [] → Begins text (number_lexeme n ∷ []) []
+number_ends n text behind small is over =
+    begins_more text behind [] (number_lexeme n ∷ []) []
+    (begins text (decimal n) behind (number_lexeme n ∷ []) is (IsUtf8-from_ascii (decimal n) (IsAscii-decimal n small)) (lex-number (decimal n) behind (IsNumber-decimal n small) (ends_at_end behind over)))
+    (over_begins behind over)

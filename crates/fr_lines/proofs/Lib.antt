@@ -6,4 +6,5 @@ pub mod ShortLineTexts
 pub mod FrontTexts
 pub mod ListLineValues
 pub mod ShortLineValues
+pub mod NumberLineValues
 pub mod HandedOn

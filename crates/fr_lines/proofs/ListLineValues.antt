@@ -86,7 +86,7 @@ pub edits_close : (text mid : List ℕ) (edits : List Edit) (last : Edit) → Be
 edits_close = list_closes edit_lexemes edit_json edit_ends edit_placed
 
 -- the request of a line whose tokens are those of a value
-reads_as : (line : List ℕ) (j : Json) (d : Data) → tokens line ≡ json_tokens j → IsUtf8 line → depth j ≤ 127 → of_json j ≡ Some d
+pub reads_as : (line : List ℕ) (j : Json) (d : Data) → tokens line ≡ json_tokens j → IsUtf8 line → depth j ≤ 127 → of_json j ≡ Some d
     → reading line ≡ ok_or (request_of d) NotRequest
 reads_as line j d told utf8 shallow is =
     let whole : value 127 (tokens line) ≡ Some (j, []) = ap (value 127) (told ∙ sym (append-nil (json_tokens j))) ∙ value-json_tokens j 127 [] shallow in

@@ -1,6 +1,5 @@
 -- A short line is the text of an array, and its request is that of the array's word and numbers.
 use Rattle.std.proofs.Common.{List, Ok, Some, [], ap, append_assoc, arith, codes, decimal, length, lt-ltb, map, ok_or, refl, sym, true, ℕ, ◌++◌, ◌-◌, ◌<◌, ◌≤◌, ◌∙◌, ◌∷◌, ◌≡◌, ◌^◌}
-use Rattle.std.specs.Prelude.{⊤}
 use Rattle.std.specs.Str.{IsUtf8}
 use Rattle.std.proofs.lemmas.Fmt.{IsAscii-decimal}
 use Rattle.std.proofs.lemmas.Str.{IsUtf8-append, IsUtf8-from_ascii}
@@ -18,6 +17,7 @@ use Rattle.serde_json.specs.Read.{converted, of_items, of_json}
 use Rattle.serde_json.specs.View.{items_of}
 use Rattle.fr_lines.specs.LineTokens.{reading_of_tokens}
 use Rattle.fr_lines.specs.Requests.{add_link, ask, cut_link, join_nodes, move_dest, reading, reading_of_value, request_of_word, walk_from}
+use Rattle.fr_lines.specs.NumberLines.{AreSmall, number_tokens}
 use Rattle.fr_lines.specs.ShortLines.{numbers_text, short_line}
 use Rattle.fr_lines.specs.declared.requests.LineFault.TheVariants.{NotRequest}
 use Rattle.fr_lines.specs.declared.requests.Question.TheVariants.{Counts, Hops, Links}
@@ -26,21 +26,12 @@ use Rattle.fr_lines.proofs.LineValues.{value_of_text}
 use Rattle.fr_lines.proofs.TokenItems.{no_item, one_item}
 use Rattle.fr_lines.proofs.WordLines.{array_of_word, reading_of_whole}
 
--- the tokens of numbers, and the bracket behind them
-abbrev number_tokens : List ℕ → List Token
-number_tokens [] = Token.end_array ∷ []
-number_tokens (n ∷ ns) = Token.number (decimal n) ∷ number_tokens ns
-
 abbrev short_tokens : List ℕ → List ℕ → List Token
 short_tokens word numbers = Token.begin_array ∷ Token.string word ∷ number_tokens numbers
 
 -- the numbers as values
 abbrev pub number_values : List ℕ → List Data
 number_values = map (λ n. number (unsigned n))
-
-abbrev pub AreSmall : List ℕ → Type 0
-AreSmall [] = ⊤
-AreSmall (n ∷ ns) = (n < 2 ^ 32) × AreSmall ns
 
 numbers_printed : (numbers : List ℕ) → print_from true (number_tokens numbers) ≡ numbers_text numbers
 unfolding print_from
@@ -75,7 +66,7 @@ line_is_text word numbers ascii small =
     (IsUtf8-append word _ (IsUtf8-are_ascii word ascii) (IsUtf8-append (codes "\"") _ (IsUtf8-are_ascii (codes "\"") refl) (numbers_are_text numbers small)))
 
 -- the tokens of numbers read as these numbers
-numbers_read : (numbers : List ℕ) (most : ℕ) → length (number_tokens numbers) ≤ most → AreSmall numbers
+pub numbers_read : (numbers : List ℕ) (most : ℕ) → length (number_tokens numbers) ≤ most → AreSmall numbers
     → converted of_items (items (value 126) most (number_tokens numbers)) ≡ Some (items_of (number_values numbers), [])
 numbers_read [] most enough small = no_item (value 126) most (number_tokens []) [] enough refl
 numbers_read (n ∷ ns) most enough small =

@@ -2,3 +2,4 @@ pub mod Requests
 pub mod LineTokens
 pub mod ShortLines
 pub mod ListLines
+pub mod NumberLines

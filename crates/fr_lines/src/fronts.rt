@@ -54,6 +54,25 @@ fn behind_spaced_mark(mark: u8, text: &[u8]) -> Option<&[u8]>
     }
 }
 
+/// Whether just white space is left.
+#[inline(always)]
+pub(crate) fn is_over(text: &[u8]) -> bool
+    ensures { result ≡ true → unspaced text.now ≡ [] }
+{
+    behind_space(text).is_empty()
+}
+
+/// Whether just this mark and white space are left.
+pub(crate) fn ends_line(mark: u8, text: &[u8]) -> bool
+    requires { is_operator mark ≡ true }
+    ensures { result ≡ true → Begins text.now (operator_lexeme mark ∷ []) [] }
+{
+    match behind_mark(mark, text) {
+        Some(behind) => is_over(behind),
+        None => false,
+    }
+}
+
 /// The number that stands next, where this mark is behind it, and what is behind the mark.
 #[inline(always)]
 pub(crate) fn number_before(mark: u8, text: &[u8]) -> Option<(u32, &[u8])>

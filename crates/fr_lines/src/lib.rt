@@ -7,6 +7,7 @@
 mod fronts;
 mod line_reader;
 mod list_lines;
+mod no_requests;
 mod read;
 mod requests;
 mod short_lines;

@@ -9,6 +9,7 @@ ghost use Rattle.fr_lines.specs.LineTokens.{Tells, reading_of_tokens};
 
 use crate::fronts::{behind_mark, behind_space};
 use crate::list_lines::list_request;
+use crate::no_requests::is_no_request;
 use crate::read::{request_by_word, request_in};
 use crate::requests::{LineFault, Request};
 use crate::short_lines::short_request;
@@ -60,7 +61,11 @@ impl LineReader {
         ensures refused { IfErr result (λ fault. fault ≢ Memory → reading line.now ≡ Err fault) }
     {
         if !opens_with_word(line) {
-            return self.read_tokens(alloc, line, false);
+            return if is_no_request(line) {
+                Err(LineFault::NotRequest)
+            } else {
+                self.read_tokens(alloc, line, false)
+            };
         }
         match list_request(alloc, line)? {
             Some(request) => Ok(request),

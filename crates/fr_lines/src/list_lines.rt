@@ -8,7 +8,7 @@ ghost use Rattle.fr_lines.specs.declared.requests.LineFault.TheVariants.{Memory}
 ghost use Rattle.fr_lines.specs.ListLines.{Begins, ClosesAs, number_lexeme, word_lexeme, link_lexemes, edit_lexemes, link_json, edit_json, link_ends, edit_ends, word_of, text_of};
 ghost use Rattle.fr_lines.specs.Requests.{plain, reading};
 
-use crate::fronts::{behind_mark, behind_space, number_before};
+use crate::fronts::{behind_mark, behind_space, ends_line, number_before};
 use crate::requests::{LineFault, Request};
 use fr_graph::Edit;
 use std::alloc::Global;
@@ -99,7 +99,7 @@ fn last_link(text: &[u8]) -> Option<(u32, u32)>
     ensures { IfSome result (λ link. Begins text.now (link_lexemes link ++ (token end_array ∷ token end_array ∷ [])) []) }
 {
     let (link, behind) = link_before(b']', text)?;
-    ends_line(behind).then_some(link)
+    ends_line(b']', behind).then_some(link)
 }
 
 /// The link that stands next, where this mark is behind it, and what is behind the mark.
@@ -135,7 +135,7 @@ fn last_edit(text: &[u8]) -> Option<Edit>
     ensures { IfSome result (λ edit. Begins text.now (edit_lexemes edit ++ (token end_array ∷ token end_array ∷ [])) []) }
 {
     let (edit, behind) = edit_before(b']', text)?;
-    ends_line(behind).then_some(edit)
+    ends_line(b']', behind).then_some(edit)
 }
 
 /// The edit that stands next, where this mark is behind it, and what is behind the mark.
@@ -191,14 +191,4 @@ fn ends_before(mark: u8, text: &[u8]) -> Option<((u32, u32), &[u8])>
     let (v, rest) = number_before(b']', rest)?;
     let behind = behind_mark(mark, rest)?;
     Some(((u, v), behind))
-}
-
-/// Whether just the bracket of the line is left.
-fn ends_line(text: &[u8]) -> bool
-    ensures { result ≡ true → Begins text.now (token end_array ∷ []) [] }
-{
-    match behind_mark(b']', text) {
-        Some(behind) => behind_space(behind).is_empty(),
-        None => false,
-    }
 }
