@@ -1,6 +1,7 @@
 //! What a worker has seen of the counts.
 
 ghost use Rattle.std.specs.Prelude.{◌≡◌, ◌≢◌, ℕ, ◌<◌, ◌≤◌, IfOk, IsTrue, not, nat_lt, ◌&&◌, ◌↔◌, length, slice_index, slice_set, replicate};
+ghost use Rattle.fr_graph.specs.RowLists.{opposite};
 ghost use Rattle.fr_core.specs.Machine.{bound_of};
 ghost use Rattle.fr_round.specs.Missing.{misses, missing_of, IsCounted};
 
@@ -15,21 +16,29 @@ pub(crate) struct Seen {
     missing: Vec<u16>,
 }
 
-/// Whether a neighbour of this count misses its bound for the count `own` of a node, from which their link was `first`.
-fn is_below(first: First, own: u64, count: u64) -> bool
-    ensures { result ≡ nat_lt count (bound_of first own) }
+/// The bound that a neighbour of a node of the count `own` has to meet, where their link was `first`.
+fn bound(first: First, own: u16) -> u32
+    ensures { result ≡ bound_of first own }
 {
     match first {
-        First::Outward => count <= own,
-        First::Inward => count < own,
+        First::Outward => u32::from(own) + 1,
+        First::Inward => u32::from(own),
     }
 }
 
-/// Whether a neighbour whose count rises from `had` to `count` begins to meet that bound.
-fn begins_to_meet(first: First, own: u64, had: u64, count: u64) -> bool
-    ensures { result ≡ (nat_lt had (bound_of first own) && not (nat_lt count (bound_of first own))) }
+/// Whether a neighbour of this count misses that bound.
+fn is_below(first: First, own: u16, count: u16) -> bool
+    ensures { result ≡ nat_lt count (bound_of first own) }
 {
-    is_below(first, own, had) && !is_below(first, own, count)
+    u32::from(count) < bound(first, own)
+}
+
+/// Whether a node whose count rises from `had` to `count` begins to meet its bound for a neighbour of the count `other`, where their link
+/// was `first` from the node: it does where the neighbour begins to miss its own.
+fn begins_to_meet(first: First, other: u16, had: u16, count: u16) -> bool
+    ensures { result ≡ (nat_lt had (bound_of (opposite first) other) && not (nat_lt count (bound_of (opposite first) other))) }
+{
+    is_below(first, count, other) && !is_below(first, had, other)
 }
 
 /// How many links of node `x` point away from it first: so many of its neighbours miss their bounds while no node has turned.
@@ -49,7 +58,7 @@ fn count_outward(net: &Net, x: u32) -> u16
 
 /// Walks over the row of node `y`, of which this count is seen now, and with the counts as they were seen before. It takes the node
 /// off the number of each neighbour for which it begins to meet its bound, and answers how many neighbours miss theirs for it.
-fn pass_row(net: &Net, counts: &[u16], missing: &mut [u16], y: u32, count: u64) -> u16
+fn pass_row(net: &Net, counts: &[u16], missing: &mut [u16], y: u32, count: u16) -> u16
     requires node { y < net.now.nodes }
     requires one_each { (length counts.now ≡ net.now.nodes) × (length missing.old ≡ net.now.nodes) }
     requires up { slice_index counts.now y ≤ count }
@@ -59,13 +68,13 @@ fn pass_row(net: &Net, counts: &[u16], missing: &mut [u16], y: u32, count: u64) 
     ensures own { result ≡ missing_of net.now.nodes net.now.links (slice_set counts.now y count) y }
 {
     net.network_law();
-    let had = u64::from(counts[y as usize]);
+    let had = counts[y as usize];
     let mut own = 0;
     for (neighbour, first) in net.row(y) {
         let at = *neighbour as usize;
-        let other = u64::from(counts[at]);
+        let other = counts[at];
         own += u16::from(is_below(*first, count, other));
-        if begins_to_meet(first.opposite(), other, had, count) {
+        if begins_to_meet(*first, other, had, count) {
             missing[at] -= 1;
         }
     }
@@ -119,11 +128,16 @@ impl Seen {
         requires { entry.0 < length self.now.counts.items }
         ensures { result ≡ misses self.now.counts.items own entry }
     {
-        is_below(entry.1, own, u64::from(self.counts[entry.0 as usize]))
+        let count = self.count(entry.0 as u32);
+        match entry.1 {
+            First::Outward => count <= own,
+            First::Inward => count < own,
+        }
     }
 
     /// Notes a count of node `y`, which is no less than what was seen of it. Where it is more, the numbers of `y` and of its
     /// neighbours are brought up to date, by a walk over the row of `y`.
+    #[inline(always)]
     pub fn raise(&mut self, net: &Net, y: u32, count: u64)
         requires node { y < net.now.nodes }
         requires up { slice_index self.old.counts.items y ≤ count }
@@ -136,8 +150,9 @@ impl Seen {
             return;
         }
         net.network_law();
+        let count = count as u16;
         let missing = pass_row(net, &self.counts, &mut self.missing, y, count);
-        self.counts[y as usize] = count as u16;
+        self.counts[y as usize] = count;
         self.missing[y as usize] = missing;
     }
 }

@@ -82,6 +82,7 @@ pub(crate) fn is_met(
 }
 
 /// The exchange of the seen count `c` of node `x` for one more, which decides the call.
+#[inline(always)]
 fn exchange(
     terms: &Terms,
     words: &RoundWords,

@@ -3,10 +3,8 @@ use Rattle.fr_graph.proofs.Neighbours.{length-row-le}
 use Rattle.fr_graph.specs.Rows.{row}
 use Rattle.fr_graph.specs.declared.first.First.{First}
 use Rattle.fr_graph.specs.declared.first.First.TheVariants.{Outward}
-use Rattle.std.specs.Prelude.{nat_lt}
-use Rattle.fr_core.specs.Machine.{bound_of}
 use Rattle.fr_round.specs.Missing.{misses}
-use Rattle.fr_round.proofs.MissingNumbers.{IsLoweredTo, all_counted, all_lowered, begins_by, begins_to_meet, counted_on, lowered_no, lowered_yes, one_at_most, other_node, room_to_lower}
+use Rattle.fr_round.proofs.MissingNumbers.{IsLoweredTo, all_counted, all_lowered, begins_to_meet, counted_on, lowered_no, lowered_yes, one_at_most, other_node, room_to_lower}
 use Rattle.fr_round.proofs.seen.pass_row.Goals as goal
 use Rattle.fr_round.proofs.seen.pass_row.Goals.{then-begins_to_meet, else-begins_to_meet}
 
@@ -28,7 +26,7 @@ overflow_sub-missing c =
     let counts = c.args.counts.now in
     let had : ℕ = slice_index counts c.args.y in
     let e = get_or c.row-neighbour-items.result.now c.loop-neighbour.neighbour-index (0, Outward) in
-    let begins : begins_to_meet counts had c.args.count e ≡ true = (λ i. begins_by (sym c.from-had.ensures i) c.args.count (sym c.from-other.ensures i) (sym c.opposite.ensures i)) ∙ (sym c.begins_to_meet.ensures ∙ c.if-begins_to_meet.true) in
+    let begins : begins_to_meet counts had c.args.count e ≡ true = sym c.begins_to_meet.ensures ∙ c.if-begins_to_meet.true in
     room_to_lower net.nodes net.links c.row-neighbour-items.result.now counts c.loop-neighbour.missing c.args.y c.args.count c.loop-neighbour.neighbour-index c.network_law.ensures.is_net c.row-neighbour-items.ensures c.requires.node c.requires.one_each.0 c.requires.up c.loop-neighbour.invariant.lowered c.loop-neighbour-test.true begins
 
 pub bounds-missing-at-then-begins_to_meet : goal.bounds-missing-at-then-begins_to_meet
@@ -48,8 +46,8 @@ loop-neighbour-preserved c =
     let had : ℕ = slice_index counts y in
     let j : ℕ = c.loop-neighbour.neighbour-index in
     let e = get_or list j (0, Outward) in
-    let tested : begins_to_meet counts had count e ≡ c.begins_to_meet.result = (λ i. begins_by (sym c.from-had.ensures i) count (sym c.from-other.ensures i) (sym c.opposite.ensures i)) ∙ sym c.begins_to_meet.ensures in
-    let missed : misses counts count e ≡ c.is_below.result = (λ i. nat_lt (sym c.from-other.ensures i) (bound_of e.1 count)) ∙ sym c.is_below.ensures in
+    let tested : begins_to_meet counts had count e ≡ c.begins_to_meet.result = sym c.begins_to_meet.ensures in
+    let missed : misses counts count e ≡ c.is_below.result = sym c.is_below.ensures in
     let passed = counted_on list counts count c.loop-neighbour.own j c.from-own.result c.is_below.result c.loop-neighbour.invariant.counted c.loop-neighbour-test.true missed c.from-own.ensures in
     elim c.if-begins_to_meet.branch [
       | then-begins_to_meet w ↦
