@@ -1,8 +1,9 @@
 -- What leaves a deque is a candidate, and so are the neighbours of a node that is tried.
-use Rattle.std.proofs.Common.{◌≡◌, ℕ, ◌<◌, All, Contains, List, [], ◌∷◌, ◌++◌, arith, inl, inr, length, subst, sym}
+use Rattle.std.proofs.Common.{◌≡◌, ℕ, ◌<◌, All, Bool, Contains, IfSome, List, None, Option, Some, [], ◌∷◌, ◌++◌, arith, false, if◌then◌else◌, inl, inr, length, subst, suc, sym, true, zero}
+use Rattle.std.specs.Option.{option_to_list}
 use lib.Seq.{take-append_seam, drop-append_seam}
-use Rattle.std.proofs.lemmas.List.Elements.{All-take, All-drop, Contains-get_or}
-use Rattle.crossbeam_deque.specs.Tasks.{Takes, Pops}
+use Rattle.std.proofs.lemmas.List.Elements.{All-append, All-take, All-drop, Contains-get_or}
+use Rattle.crossbeam_deque.specs.Tasks.{Takes, Pops, Pushes}
 use Rattle.fr_graph.proofs.Neighbours.{Points-has_link, row_entry_known, row_holds}
 use Rattle.fr_graph.specs.Links.{Joins}
 use Rattle.fr_graph.specs.Rows.{has_link, row}
@@ -26,8 +27,27 @@ module _ (P : ℕ → Type 0) where
   right : (xs ys : List ℕ) → All P (xs ++ ys) → All P ys
   right xs ys each = subst (All P) (drop-append_seam xs ys) (All-drop P (length xs) (xs ++ ys) each)
 
+  All-one : (x : ℕ) → P x → All P (x ∷ [])
+  All-one x here zero d less = here
+  All-one x here (suc k) d less = absurd (omega (arith, less))
+
+  -- one more is put at the end, or none
+  pub one_more : (put : Bool) (old new : List ℕ) (x : ℕ) → new ≡ (if put then old ++ x ∷ [] else old) → All P old → P x → All P new
+  one_more true old new x is each here = subst (All P) (sym is) (All-append P old (x ∷ []) each (All-one x here))
+  one_more false old new x is each here = subst (All P) (sym is) each
+
+  -- the first is taken, or there is none
+  pub one_less : (taken : Option ℕ) (old new : List ℕ) → old ≡ option_to_list taken ++ new → All P old → All P new × IfSome taken P
+  one_less None old new is each = (subst (All P) is each, tt)
+  one_less (Some x) old new is each =
+      let all = subst (All P) is each in
+      (right (x ∷ []) new all, left (x ∷ []) new all 0 x (omega arith))
+
   pub takes : (port : ℕ) (v : Unit {0}) (most : ℕ) → Takes Holds port v most (λ xs _. All P xs)
   takes port v most xs tasks views _ _ each _ = (tt, right xs tasks each, left xs tasks each)
+
+  pub pushes : (port : ℕ) (v : Unit {0}) (x : ℕ) → P x → Pushes Holds port v (x ∷ []) (λ _. All P (x ∷ []))
+  pushes port v x here tasks views each _ = (tt, All-append P tasks (x ∷ []) each (All-one x here), All-one x here)
 
   pub pops : (port : ℕ) (v : Unit {0}) → Pops Holds port v (λ xs _. All P xs)
   pops port v x tasks views each _ = (tt, left tasks (x ∷ []) each, right tasks (x ∷ []) each)
@@ -48,14 +68,10 @@ entry_at b x list is j =
 
 -- a neighbour of a node is a candidate, unless it is the destination
 pub neighbour_is_candidate : (b : Setup) (x : ℕ) (e : ℕ × First) → (e.0 < b.nodes) × Contains (row b.nodes b.links x) e → ¬ (e.0 ≡ b.dest) → IsCandidate b e.0
-neighbour_is_candidate b x e stands other = record {
-  inside = stands.0;
-  not_destination = other;
-  linked = (x, row_joins b.nodes b.links x e stands.1);
-}
+neighbour_is_candidate b x e stands other = (stands.0, other, λ alone. alone x (row_joins b.nodes b.links x e stands.1))
 
 -- no call on a candidate is refused
 pub candidate_not_refused : (b : Setup) (x : ℕ) (r : Refusal) → IsCandidate b x → Refuses b x r → ⊥
-candidate_not_refused b x NoNode is refused = absurd (omega (arith, is.inside, refused))
-candidate_not_refused b x Destination is refused = is.not_destination refused.1
-candidate_not_refused b x Alone is refused = refused.2 is.linked.0 is.linked.1
+candidate_not_refused b x NoNode is refused = absurd (omega (arith, is.0, refused))
+candidate_not_refused b x Destination is refused = is.1 refused.1
+candidate_not_refused b x Alone is refused = is.2 refused.2

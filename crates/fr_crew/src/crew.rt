@@ -18,6 +18,7 @@ use fr_round::{Round, Worker};
 use std::alloc::{AllocError, Global};
 use std::snapshot::Snapshot;
 use std::sync::Wait;
+use std::sync::atomic::{AtomicU64, Ordering};
 use std::thread;
 use std::thread::{Promise, PromisedHandle, Scope, Threads};
 
@@ -28,6 +29,8 @@ struct Job<J: Naming> {
     stealers: Vec<Stealer<J>>,
     standing: Standing<J>,
     budget: u64,
+    // How many workers have not ended. No proof rests on it.
+    working: AtomicU64,
     ghost some_stealer: { 0 < vec_len stealers },
 }
 
@@ -67,6 +70,7 @@ fn work<J: Naming, G: Gate>(job: &Job<J>, gate: &G, member: Member<J>) -> Worker
         stealers,
         standing,
         budget,
+        working,
     } = job;
     let Member {
         mut worker,
@@ -74,11 +78,11 @@ fn work<J: Naming, G: Gate>(job: &Job<J>, gate: &G, member: Member<J>) -> Worker
     } = member;
     let number = worker.number();
     for made in 0..*budget {
-        let Some(x) = deque.take(stealers) else {
+        deque.note_who_works(round, working);
+        // It stands in no deque before the call, so that a turn of a neighbour in the meantime makes it a candidate again.
+        let Some(x) = deque.take(standing, stealers) else {
             break;
         };
-        // Before the call, so that a turn of a neighbour in the meantime makes it a candidate again.
-        standing.leaves(x);
         gate.before(number, made + 1);
         let reply = round.try_turn(&mut worker, x);
         gate.after(number, made + 1);
@@ -93,6 +97,7 @@ fn work<J: Naming, G: Gate>(job: &Job<J>, gate: &G, member: Member<J>) -> Worker
             Ok(Reply::Sink) => unreachable!(),
         }
     }
+    working.fetch_sub(1, Ordering::SeqCst);
     worker
 }
 
@@ -261,12 +266,14 @@ pub(crate) fn run_crew<J: Naming + Send + Sync, R: Threads + Wait, G: Gate + Syn
         stealers,
     } = equip::<J>(alloc, workers, room, plan.seed())?;
     let standing = Standing::none(alloc, &round)?;
+    let working = AtomicU64::new(members.len() as u64);
     deal(&round, &standing, &mut members, from);
     let job = Job {
         round,
         stealers,
         standing,
         budget: plan.budget(),
+        working,
     };
     let workers = run_threads(rt, alloc, &job, gate, members)?;
     let Job { round, .. } = job;

@@ -5,12 +5,14 @@ ghost use Rattle.fr_crew.specs.Candidates.{IsCandidate};
 
 use crate::naming::{Candidates, Naming};
 use crate::standing::Standing;
+use crate::unshared::Unshared;
 use crossbeam_deque::{Steal, Worker};
 use fr_round::Round;
 use rand_core::SeedableRng;
 use rand_core::utils::NextWord;
 use rand_pcg::Lcg64Xsh32;
 use std::alloc::{AllocError, Global};
+use std::sync::atomic::{AtomicU64, Ordering};
 
 /// How often a steal is tried while others take from the same deque. Then that deque is passed over.
 const TRIES: u32 = 64;
@@ -18,10 +20,14 @@ const TRIES: u32 = 64;
 /// What other workers steal from a deque by.
 pub(crate) type Stealer<J> = crossbeam_deque::Stealer<u32, Global, (), Candidates<J>>;
 
-/// A worker's own deque, which gives first what was put first, and the draws that tell where the worker steals first.
+/// A worker's own deque, which gives first what was put first, and the draws that tell where the worker steals first. Once no other
+/// worker is left, what is put stands behind the rest in a queue that is not shared.
 #[derive(Drop)]
 pub(crate) struct Deque<J: Naming> {
     own: Worker<u32, Global, (), Candidates<J>>,
+    unshared: Option<Unshared<J>>,
+    is_alone: bool,
+    alloc: Global,
     number: usize,
     draws: Lcg64Xsh32,
 }
@@ -31,6 +37,9 @@ impl<J: Naming> Deque<J> {
     pub fn new(alloc: Global, room: usize, seed: u64, number: u32) -> Result<Deque<J>, AllocError> {
         Ok(Deque {
             own: Worker::fifo_as(alloc, room)?,
+            unshared: None,
+            is_alone: false,
+            alloc,
             number: number as usize,
             draws: Lcg64Xsh32::seed_from_u64(seed.wrapping_add(u64::from(number))),
         })
@@ -41,9 +50,35 @@ impl<J: Naming> Deque<J> {
         self.own.stealer()
     }
 
+    /// Shares no more of what is put, where just one worker has not ended: this one. All stays shared where there is no room for that.
+    pub fn note_who_works(&mut self, round: &Round, working: &AtomicU64)
+        requires { round.now.setup ≡ J.setup }
+    {
+        if !self.is_alone && working.load(Ordering::SeqCst) == 1 {
+            self.is_alone = true;
+            self.unshared = Unshared::new(self.alloc, round).ok();
+        }
+    }
+
     /// Puts a candidate at the end, unless it stands in a deque. One that finds no memory is dropped, and so left to the finisher or to
     /// who puts it next.
+    #[inline(always)]
     pub fn put(&mut self, standing: &Standing<J>, x: u32)
+        requires { IsCandidate J.setup x }
+    {
+        // Most stand in a deque already, and to look is cheaper than an exchange.
+        if standing.has(x) {
+            return;
+        }
+        match &mut self.unshared {
+            Some(unshared) => unshared.put(x),
+            None => self.share(standing, x),
+        }
+    }
+
+    /// Puts a candidate at the end of what is shared, unless another worker just did.
+    #[inline(never)]
+    fn share(&mut self, standing: &Standing<J>, x: u32)
         requires { IsCandidate J.setup x }
     {
         if standing.enters(x) && self.own.push_as::<Candidates<J>>(x).is_err() {
@@ -59,22 +94,38 @@ impl<J: Naming> Deque<J> {
         let dest = round.dest();
         for (neighbour, _) in round.net().row(x) {
             let neighbour = *neighbour as u32;
-            // Most stand in a deque already, and to look is cheaper than the exchange.
-            if neighbour != dest && !standing.has(neighbour) {
+            if neighbour != dest {
                 self.put(standing, neighbour);
             }
         }
     }
 
-    /// The candidate that was put first, or else one of another worker. A draw names the deque from which the worker steals
-    /// first; the others follow in the order of their numbers, round the end.
-    pub fn take(&mut self, stealers: &[Stealer<J>]) -> Option<u32>
+    /// The candidate that was put first, which stands in no deque then, or else one of another worker.
+    pub fn take(&mut self, standing: &Standing<J>, stealers: &[Stealer<J>]) -> Option<u32>
         requires { 0 < length stealers.now }
         ensures { IfSome result (IsCandidate J.setup) }
     {
         if let Some(x) = self.own.pop_as::<Candidates<J>>() {
+            standing.leaves(x);
             return Some(x);
         }
+        if let Some(unshared) = &mut self.unshared {
+            if let Some(x) = unshared.take() {
+                return Some(x);
+            }
+        }
+        let x = self.steal_from_each(stealers)?;
+        standing.leaves(x);
+        Some(x)
+    }
+
+    /// A candidate of another worker. A draw names the deque from which the worker steals first; the others follow in the order of their
+    /// numbers, round the end.
+    #[inline(never)]
+    fn steal_from_each(&mut self, stealers: &[Stealer<J>]) -> Option<u32>
+        requires { 0 < length stealers.now }
+        ensures { IfSome result (IsCandidate J.setup) }
+    {
         let mut at = self.draws.next_word() as usize % stealers.len();
         for _ in 0..stealers.len() {
             if at != self.number {

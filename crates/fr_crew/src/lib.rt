@@ -19,6 +19,7 @@ mod naming;
 mod plan;
 mod settlement;
 mod standing;
+mod unshared;
 mod ways;
 
 pub use fault::CrewFault;

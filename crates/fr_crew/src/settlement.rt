@@ -44,12 +44,12 @@ pub struct Settled {
 /// its budget is spent. No thread is started by a crew of one, nor where no node can turn at all, nor where no worker may make a call.
 /// There is no lock, and the crew waits only for its threads to end.
 ///
-/// `Range` where the destination is no node, which is tested first. The room for the whole round is taken before the first
-/// thread is started, and `Memory` answered where there is none; after that the only fault is `Start`, since a candidate for which a
-/// deque finds no more room is left to the finisher. `Start` comes where a thread could not be started, and never where none has to be.
-/// Where there is a fault, the network is given up. It waits for its threads, which end where the calls of the gate return. It costs
-/// what [`settle_alone`] does where no node can turn or no worker may make a call; else `O(m + k n + T d (d + k))` steps of k workers
-/// for T turns.
+/// `Range` where the destination is no node, which is tested first. The room for the whole round, but for that by which deques grow, is
+/// taken before the first thread is started, and `Memory` answered where there is none; after that the only fault is `Start`, since a
+/// candidate for which a deque finds no more room is left to the finisher. `Start` comes where a thread could not be started, and never
+/// where none has to be. Where there is a fault, the network is given up. It waits for its threads, which end where the calls of the gate
+/// return. It costs what [`settle_alone`] does where no node can turn or no worker may make a call; else `O(m + k n + T d (d + k))` steps
+/// of k workers for T turns.
 pub fn settle<R: Threads + Wait + Sync, G: Gate + Sync>(
     rt: &R,
     alloc: Global,

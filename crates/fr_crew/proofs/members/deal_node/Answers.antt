@@ -8,8 +8,9 @@ pub put-requires : goal.put-requires
 put-requires g c =
     let b : Setup = c.args.round.now.setup in
     let linked = row_linked c.net-net.result.now.nodes c.net-net.result.now.links c.args.x (omega (arith, c.if-degree-gt0.true, c.degree.ensures)) in
-    subst (λ (s : Setup). IsCandidate s c.args.x) c.requires.named (record {
-      inside = omega (arith, c.if-x-nodes.true, c.nodes.ensures.value, c.net-net.ensures.nodes);
-      not_destination = λ same. c.if-x-dest.true (same ∙ sym c.dest.ensures);
-      linked = rw c.net-net.ensures.links at linked;
-    })
+    let joined = rw c.net-net.ensures.links at linked in
+    subst (λ (s : Setup). IsCandidate s c.args.x) c.requires.named (
+      omega (arith, c.if-x-nodes.true, c.nodes.ensures.value, c.net-net.ensures.nodes),
+      λ same. c.if-x-dest.true (same ∙ sym c.dest.ensures),
+      λ alone. alone joined.0 joined.1,
+    )

@@ -1,0 +1,54 @@
+//! Candidates that the last worker keeps to itself.
+
+ghost use Rattle.std.specs.Prelude.{◌≡◌, All, IfSome, vec_len};
+ghost use Rattle.fr_crew.specs.Candidates.{IsCandidate};
+
+use crate::naming::Naming;
+use fr_round::Round;
+use std::alloc::{AllocError, Global};
+use std::collections::VecDeque;
+use std::marker::PhantomData;
+
+/// A queue of candidates from which nobody steals: it gives first what was put first, and none of its steps is an atomic one.
+#[derive(Drop)]
+pub(crate) struct Unshared<J: Naming> {
+    queue: VecDeque<u32>,
+    // Whether each node stands there, so that none stands there twice.
+    stands: Vec<bool>,
+    of: PhantomData<J>,
+    ghost candidates: { All (IsCandidate J.setup) queue.items },
+    ghost one_each: { vec_len stands ≡ J.setup.nodes },
+}
+
+impl<J: Naming> Unshared<J> {
+    /// An empty queue.
+    pub fn new(alloc: Global, round: &Round) -> Result<Unshared<J>, AllocError>
+        requires { round.now.setup ≡ J.setup }
+    {
+        Ok(Unshared {
+            queue: VecDeque::new(alloc),
+            stands: vec![in alloc; false; round.net().nodes() as usize]?,
+            of: PhantomData,
+        })
+    }
+
+    /// Puts a candidate at the end, unless it stands there. One that finds no memory is dropped.
+    #[inline(always)]
+    pub fn put(&mut self, x: u32)
+        requires { IsCandidate J.setup x }
+    {
+        if !self.stands[x as usize] && self.queue.push_back(x).is_ok() {
+            self.stands[x as usize] = true;
+        }
+    }
+
+    /// The candidate that was put first.
+    #[inline(always)]
+    pub fn take(&mut self) -> Option<u32>
+        ensures { IfSome result (IsCandidate J.setup) }
+    {
+        let x = self.queue.pop_front()?;
+        self.stands[x as usize] = false;
+        Some(x)
+    }
+}
