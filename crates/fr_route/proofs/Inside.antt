@@ -1,5 +1,5 @@
 -- What a router keeps once a round on a network is put in place.
-use Rattle.std.proofs.Common.{IfSome, List, Option, replicate, subst, sym, ℕ, ◌≡◌}
+use Rattle.std.proofs.Common.{List, subst, sym, ℕ, ◌≡◌}
 use Rattle.std.specs.declared.alloc.Global.{Global}
 use Rattle.std.specs.declared.vec.Vec.{Vec}
 use Rattle.fr_crew.specs.Settlements.{IsCounted}
@@ -13,22 +13,22 @@ use Rattle.fr_route.specs.States.{IsReport}
 use Rattle.fr_route.specs.declared.change.Report.{Report}
 use Rattle.fr_route.specs.declared.hops.Hop.{Hop}
 use Rattle.fr_route.specs.declared.router.Router.TheInside.{Inside}
+use Rattle.fr_route.specs.declared.spare.Spare.{Spare}
 use Rattle.fr_route.proofs.CutNodes.{after_outcome}
 
-module _ (d : ℕ) (turns : List ℕ) (spare : Option (List ℕ)) (hops : Vec Hop Global) (report : Report) where
+module _ (d : ℕ) (turns : List ℕ) (spare : Spare) (hops : Vec Hop Global) (report : Report) where
   inside : Network → Inside
   inside net = record { net = net; dest = d; turns = turns; spare = spare; hops = hops; report = report }
 
   pub sound_after : (net turned : Network) → IsNet net.nodes net.links → IsCounted net.nodes d net.links turns → IsReport (settled_state net d turns) report.turned report.cut
-      → turned ≡ net_of net.nodes (links_at net.links turns) → AreHops (settled_state net d turns) net.nodes hops.items → IfSome spare (λ turns. turns ≡ replicate net.nodes 0)
+      → turned ≡ net_of net.nodes (links_at net.links turns) → AreHops (settled_state net d turns) net.nodes hops.items
       → IsSoundRouter (record { net = turned; dest = d; turns = turns; spare = spare; hops = hops; report = report })
   unfolding inside
-  sound_after net turned is counted reported turned_is hops_are unturned =
+  sound_after net turned is counted reported turned_is hops_are =
       let there : IsSoundRouter (inside (net_of net.nodes (links_at net.links turns))) = record {
         dest = counted.destination;
         round = after_outcome net d turns is counted;
         one_each = counted.settled.one_each;
-        spare = unturned;
         hops = hops_are;
         report = reported;
       } in

@@ -1,5 +1,5 @@
 -- What a `Router` keeps.
-use Rattle.std.specs.Prelude.{◌≡◌, ◌<◌, IfSome, length, replicate}
+use Rattle.std.specs.Prelude.{◌≡◌, ◌<◌, length}
 use Rattle.fr_route.specs.States.{State, IsAfterRound, IsReport, state_with}
 use Rattle.fr_route.specs.Routes.{AreHops}
 use Rattle.fr_route.specs.declared.router.Router.TheInside.{Inside}
@@ -11,6 +11,5 @@ pub record IsSoundRouter (r : Inside) : Type 0 where
   pub dest : r.dest < r.net.nodes
   pub round : IsAfterRound (state_of r)
   pub one_each : length r.turns ≡ r.net.nodes
-  pub spare : IfSome r.spare (λ turns. turns ≡ replicate r.net.nodes 0)
   pub hops : AreHops (state_of r) r.net.nodes r.hops.items
   pub report : IsReport (state_of r) r.report.turned r.report.cut

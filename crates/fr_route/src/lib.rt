@@ -23,6 +23,7 @@ mod outcome;
 mod refusals;
 mod router;
 mod session;
+mod spare;
 mod texts;
 mod version;
 

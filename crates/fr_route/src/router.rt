@@ -17,6 +17,7 @@ use crate::hops::{Hop, Walked, hop_table, list_joined};
 use crate::outcome::{
     Outcome, alone_nodes, outcome_of, push_capped, put_in_place, report_of, touched_nodes,
 };
+use crate::spare::Spare;
 use fr_crew::{CrewFault, Gate, Plan, settled_counts, settled_counts_alone, settled_counts_by};
 use fr_graph::{Edit, MAX_EDITS, Net, NetFault, Turns};
 use std::alloc::{AllocError, Global};
@@ -32,8 +33,7 @@ pub struct Router {
     net: Net,
     dest: u32,
     turns: Turns,
-    // A table for the next round, in which no node has turned; None before the first change, and after one that failed.
-    spare: Option<Turns>,
+    spare: Spare,
     hops: Vec<Hop>,
     report: Report,
 }
@@ -71,14 +71,11 @@ fn first_counts<F: Fn(&Net, u32, Option<&[u32]>, Turns) -> Result<Turns, CrewFau
     Ok(settled_counts_by(settle, net, dest, None, turns)?)
 }
 
-/// Puts these turns in place of the last ones, whose table is cleared and kept for the next round.
-fn keep_turns(last: &mut Turns, spare: &mut Option<Turns>, turns: Turns)
-    ensures last { last.new ≡ turns }
-    ensures spare { spare.new ≡ Some (replicate (length last.old) 0) }
+/// Puts these turns in place of the last ones, whose table is kept for the next round.
+fn keep_turns(last: &mut Turns, spare: &mut Spare, turns: Turns)
+    ensures { last.new ≡ turns }
 {
-    let mut table = mem::replace(last, turns);
-    table.clear();
-    *spare = Some(table);
+    spare.keep(mem::replace(last, turns));
 }
 
 impl Router {
@@ -158,7 +155,7 @@ impl Router {
             net,
             dest,
             turns,
-            spare: None,
+            spare: Spare::none(),
             hops,
             report,
         })
@@ -383,8 +380,9 @@ impl Router {
         requires node { dest < self.old.nodes }
         ensures { IsTried (NeverStarts F.post settle.now) self.old (IsEdited self.old edits.now dest) (IsEditingFault self.old edits.now dest) (λ report told. K.post tell.now report (Ok told)) rerouted.old result self.new rerouted.new }
     {
-        let (movable, turns) = self.before_edits(alloc, edits, dest)?;
+        let movable = self.before_edits(alloc, edits, dest)?;
         let from = movable.as_slice();
+        let spare = &mut self.spare;
         let (outcome, told) = self.net.edit_if(
             alloc,
             edits,
@@ -392,13 +390,14 @@ impl Router {
                 requires settles { Settles F.pre F.post settle.now }
                 requires tells { K.IsAlwaysCallable tell.now }
                 requires from { (dest < net.now.nodes) × HoldsSinks net.now dest from.now }
-                requires none { turns ≡ replicate net.now.nodes 0 }
                 ensures outcome { IfOk result (λ made. IsOutcome net.entry.now dest made.0) }
                 ensures told { IfOk result (λ made. K.post tell.entry.now made.0.report (Ok made.1)) }
                 ensures fault { IfErr result (IsOpenFault net.entry.now.nodes dest) }
                 ensures still { IsStill net.entry.now dest → IfErr result (λ fault. fault ≢ Start) }
                 ensures no_start { NeverStarts F.post settle.entry.now → IfErr result (λ fault. fault ≢ Start) }
             {
+                net.network_law();
+                let turns = spare.take(alloc, net.nodes())?;
                 let outcome = outcome_of(net, dest, from, settle, turns)?;
                 let told = tell(outcome.report)?;
                 Ok((outcome, told))
@@ -412,38 +411,17 @@ impl Router {
         Ok(told)
     }
 
-    /// What a change needs before its edits are made: the nodes that can be sinks after it, and a table in which no node has turned.
-    /// Too many edits are refused before they take memory.
-    fn before_edits(
-        &mut self,
-        alloc: Global,
-        edits: &[Edit],
-        dest: u32,
-    ) -> Result<(Vec<u32>, Turns), RouteFault>
-        ensures same { self.new ≡ self.old }
-        ensures movable { IfOk result (λ made. made.0.items ≡ movable self.old dest edits.now) }
-        ensures none { IfOk result (λ made. made.1 ≡ replicate self.old.nodes 0) }
-        ensures fault { IfErr result (IsEditingFault self.old edits.now dest) }
+    /// The nodes that can be sinks after a change, which are listed before its edits are made. Too many edits are refused before they take
+    /// memory.
+    fn before_edits(&self, alloc: Global, edits: &[Edit], dest: u32) -> Result<Vec<u32>, RouteFault>
+        ensures movable { IfOk result (λ nodes. nodes.items ≡ movable self.now dest edits.now) }
+        ensures fault { IfErr result (IsEditingFault self.now edits.now dest) }
         ensures no_start { IfErr result (λ fault. fault ≢ Start) }
     {
         if edits.len() > MAX_EDITS {
             return Err(RouteFault::Net(NetFault::TooMany));
         }
-        let movable = self.movable(alloc, edits, dest)?;
-        let turns = self.spare_turns(alloc)?;
-        Ok((movable, turns))
-    }
-
-    /// A table in which no node has turned: the spare one, or else a new one.
-    fn spare_turns(&mut self, alloc: Global) -> Result<Turns, AllocError>
-        ensures same { self.new ≡ self.old }
-        ensures none { IfOk result (λ turns. turns ≡ replicate self.old.nodes 0) }
-    {
-        self.net.network_law();
-        match self.spare.take() {
-            Some(turns) => Ok(turns),
-            None => Turns::none(alloc, self.net.nodes()),
-        }
+        Ok(self.movable(alloc, edits, dest)?)
     }
 
     /// The nodes that can be sinks once these edits are made and the destination has moved, and whose hops can be wrong though no

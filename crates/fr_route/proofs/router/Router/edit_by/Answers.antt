@@ -1,4 +1,4 @@
-use Rattle.std.proofs.Common.{◌≡◌, ◌≢◌, ◌∙◌, ◌<◌, IfSome, List, ap, arith, length, refl, replicate, rules, subst, sym, vec_len, ℕ}
+use Rattle.std.proofs.Common.{◌≡◌, ◌≢◌, ◌∙◌, ◌<◌, List, ap, arith, length, refl, rules, subst, sym, vec_len, ℕ}
 use Rattle.std.proofs.lemmas.List.{with_items_is}
 use Rattle.std.proofs.lemmas.Result.{err_from_is_err_and}
 use Rattle.std.specs.Vec.{with_items}
@@ -23,15 +23,15 @@ use Rattle.fr_route.proofs.Moving.{made_net, movable_sinks, unmoved_hops}
 use Rattle.fr_route.proofs.Noting.{rerouted_by}
 use Rattle.fr_route.proofs.router.Router.edit_by.Given.{Over}
 use Rattle.fr_route.proofs.router.Router.edit_by.Goals as goal
-use Rattle.fr_route.proofs.router.Router.edit_by.Goals.{After-self, In_ok-outcome}
+use Rattle.fr_route.proofs.router.Router.edit_by.Goals.{After-as_slice-from, After-self, In_ok-outcome}
 
 -- the router is as it was when its network is edited
 now_is : (g : Over) (c : After-self g) → state_of c.self.inside ≡ c.args.self.now
-now_is g c = c.self.view_is ∙ c.before_edits.ensures.same
+now_is g c = c.self.view_is
 
 -- the nodes from which the round begins are those that can move
-from_movable : (g : Over) (c : After-self g) → c.as_slice-from.result.now ≡ movable (state_of c.self.inside) c.args.dest c.args.edits.now
-from_movable g c = c.as_slice-from.ensures.value ∙ subst (λ (now : State). c.in_ok-movable.movable.items ≡ movable now c.args.dest c.args.edits.now) (sym (now_is g c)) c.in_ok-movable.ensures.movable
+from_movable : (g : Over) (c : After-as_slice-from g) → c.as_slice-from.result.now ≡ movable (state_of c.self.inside) c.args.dest c.args.edits.now
+from_movable g c = c.as_slice-from.ensures.value ∙ subst (λ (now : State). c.in_ok-movable.movable.items ≡ movable now c.args.dest c.args.edits.now) (sym c.self.view_is) c.in_ok-movable.ensures.movable
 
 in_range : (g : Over) (c : After-self g) → c.args.dest < (state_of c.self.inside).nodes
 in_range g c = subst (λ (now : State). c.args.dest < now.nodes) (sym (now_is g c)) c.requires.node
@@ -51,15 +51,12 @@ edit_if-requires g c = record {
     c.requires.settles,
     (
       c.requires.tells,
-      let at = (goal.at.edit_if-requires g c).After-self in
+      let at = goal.at.edit_if-requires g c in
           let s : State = state_of c.self.inside in
-          let below = in_range g at in
+          let below = in_range g at.After-self in
           let nodes = made_nodes c.self.inside.net c.args.edits.now made.now is in (
-            (
-              omega (arith, below, nodes),
-              subst (HoldsSinks made.now c.args.dest) (sym (from_movable g at)) (movable_sinks s c.self.invariant.round c.args.edits.now made.now c.args.dest below is),
-            ),
-            c.in_ok-movable.ensures.none ∙ ap (λ (n : ℕ). replicate n 0) (ap (λ (now : State). now.nodes) (sym (now_is g at)) ∙ sym nodes),
+            omega (arith, below, nodes),
+            subst (HoldsSinks made.now c.args.dest) (sym (from_movable g at.After-as_slice-from)) (movable_sinks s c.self.invariant.round c.args.edits.now made.now c.args.dest below is),
           ),
     ),
   );
@@ -108,7 +105,7 @@ put_in_place-requires-clause-moved g c =
     let net : Network = c.edit_if.new.self in
     let counts : List ℕ = c.in_ok-outcome.outcome.turns in
     let hops : AreHops s s.nodes c.deref_mut.result.now = rw c.deref_mut.ensures.value c.self.invariant.hops in
-    subst (HoldsMoved (settled_state net c.args.dest counts) c.deref_mut.result.now) (sym (from_movable g at.After-self))
+    subst (HoldsMoved (settled_state net c.args.dest counts) c.deref_mut.result.now) (sym (from_movable g at.After-as_slice-from))
     (unmoved_hops s c.self.invariant.round c.args.edits.now net c.args.dest (in_range g at.After-self) (edits_made g at.In_ok-outcome) counts (outcome_is g at.In_ok-outcome).counts c.deref_mut.result.now hops)
 
 pub invariant_of-self-2 : goal.invariant_of-self-2
@@ -123,13 +120,11 @@ invariant_of-self-2 g c =
     let same : length c.put_in_place.new.hops ≡ vec_len c.self.inside.hops =
     omega (arith, c.put_in_place.ensures.hops.one_each, nodes, c.self.invariant.hops.one_each, c.self.inside.hops.ok.0) in
     let items : (with_items c.self.inside.hops c.put_in_place.new.hops).items ≡ c.put_in_place.new.hops = with_items_is c.self.inside.hops c.put_in_place.new.hops same in
-    let spare : IfSome c.keep_turns.new.spare (λ turns. turns ≡ replicate net.nodes 0) =
-    rw c.keep_turns.ensures.spare (ap (λ (n : ℕ). replicate n 0) (c.self.invariant.one_each ∙ sym nodes)) in
-    rw c.keep_turns.ensures.last
+    rw c.keep_turns.ensures
     (sound_after c.args.dest counts c.keep_turns.new.spare (with_items c.self.inside.hops c.put_in_place.new.hops) c.in_ok-outcome.outcome.report net c.put_in_place.new.net
     (made_net s c.args.edits.now net c.self.invariant.round made)
     outcome.counts outcome.report c.put_in_place.ensures.net
-    (subst (AreHops (settled_state net c.args.dest counts) net.nodes) (sym items) c.put_in_place.ensures.hops) spare)
+    (subst (AreHops (settled_state net c.args.dest counts) net.nodes) (sym items) c.put_in_place.ensures.hops))
 
 pub returns : goal.returns
 returns g c =
@@ -144,7 +139,7 @@ returns g c =
     let hops : AreHops after s.nodes c.put_in_place.new.hops = subst (λ (n : ℕ). AreHops after n c.put_in_place.new.hops) nodes c.put_in_place.ensures.hops in
     let as_many : s.nodes ≡ c.args.self.now.nodes = ap (λ (now : State). now.nodes) (now_is g at.After-self) in
     let here : AreMade (net_at c.args.self.now) c.args.edits.now net = subst (λ (now : State). AreMade (net_at now) c.args.edits.now net) (now_is g at.After-self) made in
-    rw (c.keep_turns.ensures.last, c.put_in_place.ensures.net) (record {
+    rw (c.keep_turns.ensures, c.put_in_place.ensures.net) (record {
       made = (c.in_ok-outcome.ensures.few, (net, (here, ended net c.args.dest c.in_ok-outcome.outcome.turns (made_net s c.args.edits.now net c.self.invariant.round made) outcome.counts)));
       told = (c.in_ok-outcome.outcome.report, outcome.report, search rules);
       rerouted = λ room.

@@ -1,0 +1,39 @@
+//! A table that a round leaves for the next one.
+
+ghost use Rattle.std.specs.Prelude.{◌≡◌, ◌≤◌, IfOk, IfSome, length, replicate};
+ghost use Rattle.std.proofs.Props.{props};
+ghost use Rattle.fr_graph.specs.Limits.{most_nodes};
+
+use fr_graph::Turns;
+use std::alloc::{AllocError, Global};
+
+/// A table for the next round, in which no node has turned; None before the first change, and after a fault in one.
+#[derive(Debug, Drop)]
+pub(crate) struct Spare {
+    table: Option<Turns>,
+    ghost clear: { IfSome table (λ turns. turns ≡ replicate (length turns) 0) } by { Prim.hlevel props },
+}
+
+impl Spare {
+    /// None yet.
+    pub fn none() -> Spare {
+        Spare { table: None }
+    }
+
+    /// A table of so many nodes, in which none has turned: the spare one, or else a new one.
+    pub fn take(&mut self, alloc: Global, nodes: u32) -> Result<Turns, AllocError>
+        requires { nodes ≤ most_nodes }
+        ensures { IfOk result (λ turns. turns ≡ replicate nodes 0) }
+    {
+        match self.table.take() {
+            Some(turns) if turns.counts().len() == nodes as usize => Ok(turns),
+            _ => Turns::none(alloc, nodes),
+        }
+    }
+
+    /// Clears a table, and keeps it.
+    pub fn keep(&mut self, mut turns: Turns) {
+        turns.clear();
+        self.table = Some(turns);
+    }
+}
