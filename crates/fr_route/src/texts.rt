@@ -26,7 +26,8 @@ fn begun(alloc: Global, word: &str, numbers: usize) -> Result<String, AllocError
     Ok(line)
 }
 
-/// A number of a list, behind this text. The buffer takes its digits, one number after the other.
+/// A number of a list, behind this text. The buffer takes its digits, one number after the other. One of one digit, as in a refusal, needs
+/// no buffer.
 fn push_number(
     line: &mut String,
     before: &str,
@@ -36,6 +37,9 @@ fn push_number(
     ensures { OnOk result (string_bytes line.new ≡ string_bytes line.old ++ (before.now ++ decimal number)) }
 {
     line.push_str(before)?;
+    if number < 10 {
+        return line.push(char::from(b'0' + number as u8));
+    }
     line.push_str(buffer.format(number))
 }
 
