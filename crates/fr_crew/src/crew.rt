@@ -3,22 +3,24 @@
 ghost use Rattle.std.specs.Prelude.{◌≡◌, ◌≢◌, ◌+◌, ◌<◌, ◌≤◌, true, IfOk, IfErr, IfSome, IsSome, vec_len, vec_capacity};
 ghost use Rattle.std.specs.List.{AllByRecursion as Each};
 ghost use Rattle.fr_round.specs.Knowledge.{IsOwn, OpenRound};
+ghost use Rattle.fr_crew.specs.Candidates.{IsCandidate};
 ghost use Rattle.fr_crew.specs.Crews.{IsSameWorker, IsOwnMember, IsOwnThread};
 ghost use Rattle.fr_crew.specs.declared.fault.CrewFault.TheVariants.{Range, Start};
 
-use crate::deques::Stealer;
+use crate::crowding::Crowding;
+use crate::deques::{Deque, Stealer};
 use crate::fault::CrewFault;
 use crate::gate::Gate;
 use crate::members::{Member, Members, deal, equip, room_for};
 use crate::naming::Naming;
 use crate::plan::Plan;
 use crate::standing::Standing;
-use fr_core::Reply;
+use crate::working::Working;
+use fr_core::{MAX_WORKERS, Reply};
 use fr_round::{Round, Worker};
 use std::alloc::{AllocError, Global};
 use std::snapshot::Snapshot;
 use std::sync::Wait;
-use std::sync::atomic::{AtomicU64, Ordering};
 use std::thread;
 use std::thread::{Promise, PromisedHandle, Scope, Threads};
 
@@ -29,8 +31,7 @@ struct Job<J: Naming> {
     stealers: Vec<Stealer<J>>,
     standing: Standing<J>,
     budget: u64,
-    // How many workers have not ended. No proof rests on it.
-    working: AtomicU64,
+    working: Working,
     ghost some_stealer: { 0 < vec_len stealers },
 }
 
@@ -59,36 +60,68 @@ struct Started {
     all: bool,
 }
 
-/// What one worker does: it takes candidates and tries to turn them, until it finds none or its budget is spent.
+/// The next candidate of a worker; where there is none, the worker has ended.
+fn next_candidate<J: Naming>(job: &Job<J>, deque: &mut Deque<J>) -> Option<u32>
+    requires { job.now.round.setup ≡ J.setup }
+    ensures { IfSome result (IsCandidate J.setup) }
+{
+    deque.note_who_works(&job.round, &job.working);
+    match deque.take(&job.standing, &job.stealers) {
+        Some(x) => Some(x),
+        None => look_again(job, deque),
+    }
+}
+
+/// The candidate of a worker that found none before, or none again: then the worker has ended. It looks once more where another worker ended
+/// while it looked, since that one may have left candidates behind.
+#[inline(never)]
+fn look_again<J: Naming>(job: &Job<J>, deque: &mut Deque<J>) -> Option<u32>
+    requires { job.now.round.setup ≡ J.setup }
+    ensures { IfSome result (IsCandidate J.setup) }
+{
+    for _ in 0..MAX_WORKERS {
+        let working = job.working.count();
+        if let Some(x) = deque.take(&job.standing, &job.stealers) {
+            return Some(x);
+        }
+        if job.working.end_of(working) {
+            return None;
+        }
+    }
+    job.working.end();
+    None
+}
+
+/// What one worker does: it takes candidates and tries to turn them, until it finds none, its budget is spent, or it is one too many.
 fn work<J: Naming, G: Gate>(job: &Job<J>, gate: &G, member: Member<J>) -> Worker
     requires named { job.now.round.setup ≡ J.setup }
     requires own { IsOwn job.now.round member.worker }
     ensures { IsSameWorker member.worker result }
 {
-    let Job {
-        round,
-        stealers,
-        standing,
-        budget,
-        working,
-    } = job;
     let Member {
         mut worker,
         mut deque,
     } = member;
     let number = worker.number();
-    for made in 0..*budget {
-        deque.note_who_works(round, working);
+    let mut crowding = Crowding::none();
+    for made in 0..job.budget {
         // It stands in no deque before the call, so that a turn of a neighbour in the meantime makes it a candidate again.
-        let Some(x) = deque.take(standing, stealers) else {
-            break;
+        let Some(x) = next_candidate(job, &mut deque) else {
+            return worker;
         };
+        let knew = deque.is_alone() || worker.sees_sink(x);
         gate.before(number, made + 1);
-        let reply = round.try_turn(&mut worker, x);
+        let reply = job.round.try_turn(&mut worker, x);
         gate.after(number, made + 1);
         match reply {
-            Ok(Reply::Turned { .. }) => deque.put_neighbours(standing, round, x),
-            Ok(Reply::Moved { .. }) => deque.put(standing, x),
+            Ok(Reply::Turned { .. }) => {
+                crowding.note(knew);
+                deque.put_neighbours(&job.standing, &job.round, x);
+            }
+            Ok(Reply::Moved { .. }) => {
+                crowding.note(false);
+                deque.put(&job.standing, x);
+            }
             // Whoever turns the neighbour that held it makes it a candidate again.
             Ok(Reply::Held { .. }) | Ok(Reply::Cut) => {}
             // No candidate is refused.
@@ -96,8 +129,12 @@ fn work<J: Naming, G: Gate>(job: &Job<J>, gate: &G, member: Member<J>) -> Worker
             // That is a look's reply.
             Ok(Reply::Sink) => unreachable!(),
         }
+        // What it leaves in its deque is for the others to steal.
+        if crowding.is_too_much() && job.working.end_but_last() {
+            return worker;
+        }
     }
-    working.fetch_sub(1, Ordering::SeqCst);
+    job.working.end();
     worker
 }
 
@@ -266,7 +303,7 @@ pub(crate) fn run_crew<J: Naming + Send + Sync, R: Threads + Wait, G: Gate + Syn
         stealers,
     } = equip::<J>(alloc, workers, room, plan.seed())?;
     let standing = Standing::none(alloc, &round)?;
-    let working = AtomicU64::new(members.len() as u64);
+    let working = Working::new(members.len());
     deal(&round, &standing, &mut members, from);
     let job = Job {
         round,

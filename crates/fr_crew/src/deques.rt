@@ -6,13 +6,13 @@ ghost use Rattle.fr_crew.specs.Candidates.{IsCandidate};
 use crate::naming::{Candidates, Naming};
 use crate::standing::Standing;
 use crate::unshared::Unshared;
+use crate::working::Working;
 use crossbeam_deque::{Steal, Worker};
 use fr_round::Round;
 use rand_core::SeedableRng;
 use rand_core::utils::NextWord;
 use rand_pcg::Lcg64Xsh32;
 use std::alloc::{AllocError, Global};
-use std::sync::atomic::{AtomicU64, Ordering};
 
 /// How often a steal is tried while others take from the same deque. Then that deque is passed over.
 const TRIES: u32 = 64;
@@ -51,13 +51,18 @@ impl<J: Naming> Deque<J> {
     }
 
     /// Shares no more of what is put, where just one worker has not ended: this one. All stays shared where there is no room for that.
-    pub fn note_who_works(&mut self, round: &Round, working: &AtomicU64)
+    pub fn note_who_works(&mut self, round: &Round, working: &Working)
         requires { round.now.setup ≡ J.setup }
     {
-        if !self.is_alone && working.load(Ordering::SeqCst) == 1 {
+        if !self.is_alone && working.count() == 1 {
             self.is_alone = true;
             self.unshared = Unshared::new(self.alloc, round).ok();
         }
+    }
+
+    /// Whether it was noted that no other worker works.
+    pub fn is_alone(&self) -> bool {
+        self.is_alone
     }
 
     /// Puts a candidate at the end, unless it stands in a deque. One that finds no memory is dropped, and so left to the finisher or to

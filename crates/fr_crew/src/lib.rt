@@ -10,6 +10,7 @@
 #![tactic(auto)]
 
 mod crew;
+mod crowding;
 mod deques;
 mod fault;
 mod gate;
@@ -21,6 +22,7 @@ mod settlement;
 mod standing;
 mod unshared;
 mod ways;
+mod working;
 
 pub use fault::CrewFault;
 pub use gate::{Gate, OpenGate};

@@ -81,6 +81,7 @@ pub fn settle_all<R: Threads + Wait + Sync + Alloc<A = Global>>(
 ) -> Result<(), Fault> {
     let it = settled(rt, asked)?;
     put_turns(text, &it);
+    text.say(", ");
     put_end(rt.alloc(), text, &it);
     Ok(())
 }
@@ -100,7 +101,6 @@ pub fn settle_to_end<R: Threads + Wait + Sync + Alloc<A = Global>>(
 pub fn put_turns(text: &mut Answer, it: &Settled) {
     text.put("by workers ", &it.by_workers);
     text.put(", by the finisher ", &it.by_finisher);
-    text.say(", ");
 }
 
 fn put_end(alloc: Global, text: &mut Answer, it: &Settled) {
@@ -118,7 +118,7 @@ pub fn long_chain(alloc: Global, nodes: u32, first: u32) -> Result<Net, Fault> {
     Ok(Net::new(alloc, nodes, &links)?)
 }
 
-/// `["long chain", nodes, first, workers, budget]`: how many turns the chain of all nodes from the first on takes.
+/// `["long chain", nodes, first, workers, budget]`: who makes how many turns of the chain of all nodes from the first on.
 pub fn settle_chain<R: Threads + Wait + Sync + Alloc<A = Global>>(
     rt: &R,
     text: &mut Answer,
@@ -129,18 +129,17 @@ pub fn settle_chain<R: Threads + Wait + Sync + Alloc<A = Global>>(
     };
     let plan = named_plan(workers, budget)?;
     let net = long_chain(rt.alloc(), small_number(nodes)?, small_number(first)?)?;
-    put_total(rt, text, net, &plan, &OpenGate)
+    settle_from_zero(rt, text, net, &plan, &OpenGate)
 }
 
-/// Settles a network whose destination is node 0, and puts how many turns it took.
-pub fn put_total<R: Threads + Wait + Sync + Alloc<A = Global>, G: Gate + Sync>(
+/// Settles a network whose destination is node 0, and puts how many turns all workers made, and how many the finisher.
+pub fn settle_from_zero<R: Threads + Wait + Sync + Alloc<A = Global>, G: Gate + Sync>(
     rt: &R,
     text: &mut Answer,
     net: Net,
     plan: &Plan,
     gate: &G,
 ) -> Result<(), Fault> {
-    let it = settle(rt, rt.alloc(), net, 0, plan, gate)?;
-    text.put("turns ", &it.by_workers.saturating_add(it.by_finisher));
+    put_turns(text, &settle(rt, rt.alloc(), net, 0, plan, gate)?);
     Ok(())
 }

@@ -2,7 +2,7 @@
 //! who is slow.
 
 use crate::answers::Answer;
-use crate::crews::{long_chain, named_plan, plan, put_total, put_turns};
+use crate::crews::{long_chain, named_plan, plan, put_turns, settle_from_zero};
 use crate::fault::Fault;
 use crate::values::{network, small_number};
 use fr_crew::{Gate, Plan, Settled, settle};
@@ -285,7 +285,7 @@ pub fn odd_held<R: Threads + Wait + Sync + Alloc<A = Global>>(
 ) -> Result<(), Fault> {
     let plan = plan(8, 1_000_000)?;
     let gate = HoldingGate::new(Held::Odd, (0, 10));
-    put_total(rt, text, long_chain(rt.alloc(), 1024, 0)?, &plan, &gate)
+    settle_from_zero(rt, text, long_chain(rt.alloc(), 1024, 0)?, &plan, &gate)
 }
 
 /// The long chain, where one of eight workers is slow.
@@ -295,7 +295,7 @@ pub fn slow<R: Threads + Wait + Sync + Alloc<A = Global>>(
 ) -> Result<(), Fault> {
     let plan = plan(8, 1_000_000)?;
     let gate = SlowGate(AtomicU64::new(0));
-    put_total(rt, text, long_chain(rt.alloc(), 1024, 0)?, &plan, &gate)
+    settle_from_zero(rt, text, long_chain(rt.alloc(), 1024, 0)?, &plan, &gate)
 }
 
 /// The chain of three nodes by two workers: the node that worker 1 finds held is made a candidate again, and turned, before worker 1
@@ -312,6 +312,6 @@ pub fn tried_again<R: Threads + Wait + Sync + Alloc<A = Global>>(
     let net = long_chain(rt.alloc(), 3, 0)?;
     let it = settle(rt, rt.alloc(), net, 0, &plan, &gate)?;
     put_turns(text, &it);
-    text.put("counts ", &it.counts);
+    text.put(", counts ", &it.counts);
     Ok(())
 }
