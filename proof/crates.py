@@ -2,6 +2,7 @@
 
 import hashlib
 import os
+import re
 import shutil
 import subprocess
 import sys
@@ -59,6 +60,11 @@ def sources(name):
     """The files from which a crate is proved."""
     for part in ("src", "specs", "proofs"):
         yield from (it for it in sorted((CRATES / name / part).rglob("*")) if it.is_file())
+
+
+def functions(name):
+    """How many functions a crate has."""
+    return sum(len(re.findall(r"^ *(?:pub(?:\(crate\))? )?(?:(?:const|unsafe|extern \"C\") )*fn ", it.read_text(), re.M)) for it in (CRATES / name / "src").rglob("*.rt"))
 
 
 @cache

@@ -11,9 +11,10 @@ import crates
 
 PROVED = crates.BUILT / "proved"
 FAILED = 70
-# More jobs for one crate cost more than they bring, since each loads what it needs. By two at most, a first answer took three minutes longer,
-# and one minute of one processor less.
+# Each job loads what it needs, so that more of them cost more than they bring: revroute, with 6 functions, takes as long by four as by one, and 20
+# seconds of one processor more. By two at most, large crates took a first answer three minutes longer.
 MOST_JOBS = 4
+FUNCTIONS_OF_A_JOB = 20
 
 
 def own_rlib(name):
@@ -34,6 +35,11 @@ def are_proved_by_the_gate(names):
 
 def is_newer(file, moment):
     return file.is_file() and file.stat().st_mtime > moment
+
+
+def useful_jobs(name):
+    """How many jobs shorten the proof of a crate."""
+    return max(1, min(MOST_JOBS, -(-crates.functions(name) // FUNCTIONS_OF_A_JOB)))
 
 
 class NotProved(Exception):
@@ -100,8 +106,8 @@ def is_kept(name):
 
 
 def prove_each(progress, names, jobs):
-    """Proves libraries, each once those below it are proved: of those that can be, the one that most stand on by the jobs that the others leave
-    it, and each other by one."""
+    """Proves libraries, each once those below it are proved: of those that can be, the one that most stand on by all jobs that it can use but
+    one, if there are others, and each other by one."""
     above = {it: sum(it in crates.below(other) for other in names) for it in names}
     left, running = sorted(names, key=lambda it: -above[it]), {}
     with ThreadPoolExecutor(jobs) as pool:
@@ -111,7 +117,7 @@ def prove_each(progress, names, jobs):
             for at, it in enumerate(ready):
                 idle = jobs - sum(given for _, given in running.values())
                 if idle > 0:
-                    given = min(MOST_JOBS, max(1, idle - (len(ready) - 1))) if at == 0 else 1
+                    given = max(1, min(useful_jobs(it), idle - (len(ready) > 1))) if at == 0 else 1
                     left.remove(it)
                     running[pool.submit(prove_library, progress, it, given)] = it, given
             for it in wait(running, return_when=FIRST_COMPLETED).done:
@@ -171,7 +177,7 @@ def build(name):
     if is_newer(left, edited):
         shutil.copy(left, made)
     else:
-        words = crates.words(name, libraries(progress, name, jobs), min(jobs, MOST_JOBS))
+        words = crates.words(name, libraries(progress, name, jobs), min(jobs, useful_jobs(name)))
         words += ["--toolchain", str(crates.kit() / "toolchain"), "--backend", "llvm", "-o", str(made)]
         try:
             prove(progress, name, words)

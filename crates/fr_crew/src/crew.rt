@@ -92,50 +92,64 @@ fn look_again<J: Naming>(job: &Job<J>, deque: &mut Deque<J>) -> Option<u32>
     None
 }
 
+/// A worker's call of this number, on a candidate, and what it makes candidates by that.
+fn try_candidate<J: Naming, G: Gate>(
+    job: &Job<J>,
+    gate: &G,
+    member: &mut Member<J>,
+    crowding: &mut Crowding,
+    call: u64,
+    x: u32,
+)
+    requires named { job.now.round.setup ≡ J.setup }
+    requires own { IsOwn job.now.round member.old.worker }
+    requires candidate { IsCandidate J.setup x }
+    ensures { IsSameWorker member.old.worker member.new.worker }
+{
+    let Member { worker, deque } = member;
+    let number = worker.number();
+    let knew = deque.is_alone() || worker.sees_sink(x);
+    gate.before(number, call);
+    let reply = job.round.try_turn(worker, x);
+    gate.after(number, call);
+    match reply {
+        Ok(Reply::Turned { .. }) => {
+            crowding.note(knew);
+            deque.put_neighbours(&job.standing, &job.round, x);
+        }
+        Ok(Reply::Moved { .. }) => {
+            crowding.note(false);
+            deque.put(&job.standing, x);
+        }
+        // Whoever turns the neighbour that held it makes it a candidate again.
+        Ok(Reply::Held { .. }) | Ok(Reply::Cut) => {}
+        // No candidate is refused.
+        Err(_) => unreachable!(),
+        // That is a look's reply.
+        Ok(Reply::Sink) => unreachable!(),
+    }
+}
+
 /// What one worker does: it takes candidates and tries to turn them, until it finds none, its budget is spent, or it is one too many.
-fn work<J: Naming, G: Gate>(job: &Job<J>, gate: &G, member: Member<J>) -> Worker
+fn work<J: Naming, G: Gate>(job: &Job<J>, gate: &G, mut member: Member<J>) -> Worker
     requires named { job.now.round.setup ≡ J.setup }
     requires own { IsOwn job.now.round member.worker }
     ensures { IsSameWorker member.worker result }
 {
-    let Member {
-        mut worker,
-        mut deque,
-    } = member;
-    let number = worker.number();
     let mut crowding = Crowding::none();
     for made in 0..job.budget {
         // It stands in no deque before the call, so that a turn of a neighbour in the meantime makes it a candidate again.
-        let Some(x) = next_candidate(job, &mut deque) else {
-            return worker;
+        let Some(x) = next_candidate(job, &mut member.deque) else {
+            return member.worker;
         };
-        let knew = deque.is_alone() || worker.sees_sink(x);
-        gate.before(number, made + 1);
-        let reply = job.round.try_turn(&mut worker, x);
-        gate.after(number, made + 1);
-        match reply {
-            Ok(Reply::Turned { .. }) => {
-                crowding.note(knew);
-                deque.put_neighbours(&job.standing, &job.round, x);
-            }
-            Ok(Reply::Moved { .. }) => {
-                crowding.note(false);
-                deque.put(&job.standing, x);
-            }
-            // Whoever turns the neighbour that held it makes it a candidate again.
-            Ok(Reply::Held { .. }) | Ok(Reply::Cut) => {}
-            // No candidate is refused.
-            Err(_) => unreachable!(),
-            // That is a look's reply.
-            Ok(Reply::Sink) => unreachable!(),
-        }
+        try_candidate(job, gate, &mut member, &mut crowding, made + 1, x);
         // What it leaves in its deque is for the others to steal.
         if crowding.is_too_much() && job.working.end_but_last() {
-            return worker;
+            return member.worker;
         }
     }
     job.working.end();
-    worker
+    member.worker
 }
 
 /// Starts a thread for each member. It stops at the first that cannot be started.

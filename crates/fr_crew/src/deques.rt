@@ -106,6 +106,7 @@ impl<J: Naming> Deque<J> {
     }
 
     /// The candidate that was put first, which stands in no deque then, or else one of another worker.
+    #[inline(always)]
     pub fn take(&mut self, standing: &Standing<J>, stealers: &[Stealer<J>]) -> Option<u32>
         requires { 0 < length stealers.now }
         ensures { IfSome result (IsCandidate J.setup) }

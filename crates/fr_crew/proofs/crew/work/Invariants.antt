@@ -2,4 +2,4 @@ use Rattle.fr_crew.specs.Crews.{IsSameWorker}
 use Rattle.fr_crew.proofs.crew.work.Given as goal
 
 abbrev pub invariant-loop-made : goal.invariant-loop-made
-invariant-loop-made g l = IsSameWorker l.fn.member.worker l.worker
+invariant-loop-made g l = IsSameWorker l.fn.member.worker l.member.worker
