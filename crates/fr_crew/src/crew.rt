@@ -60,28 +60,27 @@ struct Started {
     all: bool,
 }
 
-/// The next candidate of a worker; where there is none, the worker has ended.
+/// The next candidate of a worker: of its own, or else of another. Where there is none, the worker has ended.
 fn next_candidate<J: Naming>(job: &Job<J>, deque: &mut Deque<J>) -> Option<u32>
     requires { job.now.round.setup ≡ J.setup }
     ensures { IfSome result (IsCandidate J.setup) }
 {
     deque.note_who_works(&job.round, &job.working);
-    match deque.take(&job.standing, &job.stealers) {
+    match deque.take(&job.standing) {
         Some(x) => Some(x),
-        None => look_again(job, deque),
+        None => steal_or_end(job, deque),
     }
 }
 
-/// The candidate of a worker that found none before, or none again: then the worker has ended. It looks once more where another worker ended
-/// while it looked, since that one may have left candidates behind.
+/// A candidate of another worker, or none, and then the worker has ended. It looks once more where another ended while it looked, since
+/// that one may have left candidates behind.
 #[inline(never)]
-fn look_again<J: Naming>(job: &Job<J>, deque: &mut Deque<J>) -> Option<u32>
-    requires { job.now.round.setup ≡ J.setup }
+fn steal_or_end<J: Naming>(job: &Job<J>, deque: &mut Deque<J>) -> Option<u32>
     ensures { IfSome result (IsCandidate J.setup) }
 {
     for _ in 0..MAX_WORKERS {
         let working = job.working.count();
-        if let Some(x) = deque.take(&job.standing, &job.stealers) {
+        if let Some(x) = deque.steal(&job.standing, &job.stealers) {
             return Some(x);
         }
         if job.working.end_of(working) {

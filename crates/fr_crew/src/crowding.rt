@@ -1,17 +1,16 @@
-//! When a crew has more workers than its network can use.
+//! When a worker is one too many.
 
-/// How much of what a worker turned of late others had made ready. Where that is much, words cross the processors at each turn, and the
-/// others turn the rest sooner without it. No proof rests on it.
+/// How many of the nodes that a worker turned of late others had made sinks. Where that is many, words cross the processors at each
+/// turn, and the others turn the rest sooner without it. No proof rests on it.
 #[derive(Clone, Copy)]
 pub(crate) struct Crowding {
     score: u32,
 }
 
-/// What a turn that others made ready weighs, beside one that the worker knew of.
+/// How many turns of nodes that the worker knew to be sinks make up for one that it learned of.
 const WEIGHT: u32 = 16;
 
-/// From which score on it is too much: 64 turns that others made ready, one after the other, or as many more where they are few among the
-/// worker's own.
+/// From which score on it is too much: after 64 turns that it learned of, one after the other, or more where it knew of some between.
 const TOO_MUCH: u32 = 1024;
 
 impl Crowding {
@@ -20,7 +19,7 @@ impl Crowding {
         Crowding { score: 0 }
     }
 
-    /// Notes a turn: whether the worker knew that the node was a sink, or learned from turns of others.
+    /// Notes a turn of a node: whether the worker knew that it was a sink, or learned of turns of others.
     pub fn note(&mut self, knew: bool) {
         self.score = if knew {
             self.score.saturating_sub(1)

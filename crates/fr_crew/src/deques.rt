@@ -105,21 +105,25 @@ impl<J: Naming> Deque<J> {
         }
     }
 
-    /// The candidate that was put first, which stands in no deque then, or else one of another worker.
-    #[inline(always)]
-    pub fn take(&mut self, standing: &Standing<J>, stealers: &[Stealer<J>]) -> Option<u32>
-        requires { 0 < length stealers.now }
+    /// The candidate of its own that was put first, which stands in no deque then.
+    pub fn take(&mut self, standing: &Standing<J>) -> Option<u32>
         ensures { IfSome result (IsCandidate J.setup) }
     {
         if let Some(x) = self.own.pop_as::<Candidates<J>>() {
             standing.leaves(x);
             return Some(x);
         }
-        if let Some(unshared) = &mut self.unshared {
-            if let Some(x) = unshared.take() {
-                return Some(x);
-            }
+        match &mut self.unshared {
+            Some(unshared) => unshared.take(),
+            None => None,
         }
+    }
+
+    /// A candidate of another worker, which stands in no deque then.
+    pub fn steal(&mut self, standing: &Standing<J>, stealers: &[Stealer<J>]) -> Option<u32>
+        requires { 0 < length stealers.now }
+        ensures { IfSome result (IsCandidate J.setup) }
+    {
         let x = self.steal_from_each(stealers)?;
         standing.leaves(x);
         Some(x)
@@ -127,7 +131,6 @@ impl<J: Naming> Deque<J> {
 
     /// A candidate of another worker. A draw names the deque from which the worker steals first; the others follow in the order of their
     /// numbers, round the end.
-    #[inline(never)]
     fn steal_from_each(&mut self, stealers: &[Stealer<J>]) -> Option<u32>
         requires { 0 < length stealers.now }
         ensures { IfSome result (IsCandidate J.setup) }
