@@ -27,10 +27,10 @@ def gate_rlib(name):
 
 def are_proved_by_the_gate(names):
     """Whether rt ci has left these libraries proved from the sources as they are. What other commands of rt leave has a stamp beside it,
-    and fits only what they built below it."""
+    and fits only what they built below it. Files that rt ci kept from an earlier run are as old as that, but not their folder."""
     is_stamped = any((gate_rlib(it).parent / "stamp").exists() for it in names)
     edited = crates.newest(names)
-    return not is_stamped and all(is_newer(gate_rlib(it) / "format", edited) for it in names)
+    return not is_stamped and all(gate_rlib(it).is_dir() and gate_rlib(it).stat().st_mtime > edited for it in names)
 
 
 def is_newer(file, moment):
@@ -142,10 +142,11 @@ def libraries(progress, name, jobs):
 
 
 def libraries_beside(name, said):
-    """Waits until an rt ci that runs, whose words go to a file, has proved the libraries below a crate, and returns where each is."""
-    wanted = {f"rt: {it} proved" for it in crates.below(name)}
-    while not wanted <= (lines := set(said.read_text(errors="replace").splitlines())):
-        if any(re.fullmatch(r"\d+ passed, \d+ failed", it) for it in lines):
+    """Waits until an rt ci that runs, whose words go to a file, has proved the libraries below a crate, or kept what an earlier run on this
+    machine proved of the same files, and returns where each is."""
+    wanted = set(crates.below(name))
+    while not wanted.issubset(re.findall(r"^rt: (\w+) (?:proved$|is kept:)", words := said.read_text(errors="replace"), re.M)):
+        if re.search(r"^\d+ passed, \d+ failed$", words, re.M):
             sys.exit(f"a library below {name} is not proved")
         time.sleep(1)
     return gate_rlib
