@@ -4,11 +4,16 @@ import re
 import shutil
 import subprocess
 import sys
+import tarfile
+import tempfile
 import time
 from concurrent.futures import FIRST_COMPLETED, ThreadPoolExecutor, wait
+from functools import cache
+from pathlib import Path
 
 import crates
 
+# Proved libraries, each packed into one file. A library is a folder with sources in it, and rt ci refuses a source outside of a crate.
 PROVED = crates.BUILT / "proved"
 FAILED = 70
 # Each job loads what it needs, so that more of them cost more than they bring: revroute, with 6 functions, takes as long by four as by one, and 20
@@ -17,8 +22,37 @@ MOST_JOBS = 4
 FUNCTIONS_OF_A_JOB = 20
 
 
+@cache
+def room():
+    """A folder outside of the clone for unpacked libraries. It goes when this command ends."""
+    made = tempfile.TemporaryDirectory(prefix="revroute-proved-")
+    room.kept = made
+    return Path(made.name)
+
+
 def own_rlib(name):
-    return PROVED / f"{name}.rlib"
+    return room() / f"{name}.rlib"
+
+
+def packed(name):
+    return PROVED / f"{name}.tar"
+
+
+def pack(name):
+    """Keeps a library that was proved just now."""
+    made = packed(name).with_suffix(".new")
+    with tarfile.open(made, "w") as file:
+        file.add(own_rlib(name), name)
+    made.replace(packed(name))
+
+
+def unpack(names):
+    """Unpacks the libraries of these names that are packed, unless that was done."""
+    for it in names:
+        if packed(it).is_file() and not own_rlib(it).exists():
+            with tarfile.open(packed(it)) as file:
+                file.extractall(room())
+            (room() / it).rename(own_rlib(it))
 
 
 def gate_rlib(name):
@@ -96,13 +130,18 @@ def prove_library(progress, name, jobs):
     stamp = PROVED / f"{name}.stamp"
     stamp.unlink(missing_ok=True)
     prove(progress, name, [*crates.words(name, own_rlib, jobs), "--statements", "-o", str(own_rlib(name))])
+    pack(name)
     stamp.write_text(crates.stamp(name))
 
 
 def is_kept(name):
     """Whether a library was proved from the files as they are."""
     stamp = PROVED / f"{name}.stamp"
-    return stamp.is_file() and stamp.read_text() == crates.stamp(name)
+    return packed(name).is_file() and stamp.is_file() and stamp.read_text() == crates.stamp(name)
+
+
+def are_kept(names):
+    return all(map(is_kept, names))
 
 
 def prove_each(progress, names, jobs):
@@ -137,18 +176,25 @@ def libraries(progress, name, jobs):
         # What was built fits just the libraries over which it was.
         if not is_kept(it) or set(anew).intersection(crates.below(it)):
             anew.append(it)
+    unpack(it for it in names if it not in anew)
     prove_each(progress, anew, jobs)
     return own_rlib
 
 
 def libraries_beside(name, said):
-    """Waits until an rt ci that runs, whose words go to a file, has proved the libraries below a crate, or kept what an earlier run on this
-    machine proved of the same files, and returns where each is."""
-    wanted = set(crates.below(name))
-    while not wanted.issubset(re.findall(r"^rt: (\w+) (?:proved$|is kept:)", words := said.read_text(errors="replace"), re.M)):
-        if re.search(r"^\d+ passed, \d+ failed$", words, re.M):
-            sys.exit(f"a library below {name} is not proved")
+    """Returns where the libraries below a crate are: those that proof/build keeps, or those of an rt ci that runs. Its words go to the file
+    `said`, and it has ended once a file with the ending .ended is beside that. Until then this waits for the words that each library is proved."""
+    names, ended = crates.below(name), said.with_name(f"{said.name}.ended")
+    if are_kept(names):
+        unpack(names)
+        return own_rlib
+    while not set(names).issubset(re.findall(r"^rt: (\w+) (?:proved$|is kept:)", said.read_text(errors="replace"), re.M)):
+        if ended.exists():
+            break
         time.sleep(1)
+    missing = [it for it in names if not gate_rlib(it).is_dir()]
+    if missing:
+        sys.exit(f"{missing[0]}, a library below {name}, is not proved")
     return gate_rlib
 
 
@@ -165,8 +211,8 @@ def link(made):
     compiled.unlink()
 
 
-def build(name):
-    """Builds the crate into out, unless that was done since the last edit."""
+def build(name, beside=None):
+    """Builds the crate into out, unless that was done since the last edit. `beside` is the file of the words of an rt ci that runs."""
     progress, jobs = Progress(name), crates.jobs()
     to = crates.BUILT / (name if crates.is_program(name) else f"lib{name}.a")
     # The gate leaves a program, and no static library, where it was proved.
@@ -178,7 +224,8 @@ def build(name):
     if is_newer(left, edited):
         shutil.copy(left, made)
     else:
-        words = crates.words(name, libraries(progress, name, jobs), min(jobs, useful_jobs(name)))
+        rlib_of = libraries_beside(name, beside) if beside else libraries(progress, name, jobs)
+        words = crates.words(name, rlib_of, min(jobs, useful_jobs(name)))
         words += ["--toolchain", str(crates.kit() / "toolchain"), "--backend", "llvm", "-o", str(made)]
         try:
             prove(progress, name, words)
