@@ -100,7 +100,7 @@ fn lines_at_end(
 fn push_links(text: &mut String, alloc: Global, net: &Net) -> Result<(), AllocError>
     ensures { OnOk result (string_bytes text.new ≡ string_bytes text.old ++ line_of (links_text net.now.links)) }
 {
-    push_line(text, &links_line(alloc, &net.links(alloc)?)?)
+    push_line(text, &links_line(alloc, net.links())?)
 }
 
 /// A line, with byte 10 behind it.
