@@ -26,9 +26,9 @@ pub(crate) fn targets_of(
         ≡ replicate draw.workers (targets_for net.now.nodes dest net.now.links draw.steps)) }
 {
     let nodes = turnable_nodes(alloc, net, dest)?;
-    let mut targets = Vec::with_capacity(alloc, draw.workers() as usize)?;
-    for _worker in 0..draw.workers() {
-        targets.push(turns_of(alloc, &nodes, draw.steps() as usize)?)?;
+    let mut targets = Vec::with_capacity(alloc, draw.workers as usize)?;
+    for _worker in 0..draw.workers {
+        targets.push(turns_of(alloc, &nodes, draw.steps as usize)?)?;
     }
     Ok(targets)
 }

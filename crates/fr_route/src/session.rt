@@ -411,7 +411,7 @@ impl Session {
     {
         let text = report_line(alloc, router.report())?;
         if telling {
-            router.joined(rerouted)?;
+            *rerouted = router.joined(alloc)?;
         }
         self.put_router(router);
         Ok(text)
