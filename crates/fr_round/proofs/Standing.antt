@@ -123,7 +123,7 @@ not_begun r k workers net new =
       ruled = first.0;
       words = refl;
       calls = first.1;
-      workers = rw new (new_know_nothing r.table r.setup k);
+      knows = rw new (new_know_nothing r.table r.setup k);
     }
 
 -- no entry is of a worker whose number is below 0

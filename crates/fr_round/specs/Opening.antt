@@ -1,5 +1,5 @@
 -- What a round that was just opened says: nothing has happened yet.
-use Rattle.std.specs.Prelude.{◌≡◌, ℕ, List, [], replicate}
+use Rattle.std.specs.Prelude.{◌≡◌, List, [], replicate}
 use Rattle.std.specs.List.{AllByRecursion as Each}
 use Rattle.atomic_table.specs.Table.{State}
 use Rattle.fr_round.specs.declared.view.Setup.{Setup}
@@ -24,4 +24,4 @@ pub record HasNotBegun (r : OpenRound) (workers : List Knowledge) : Type 0 where
   -- the list of calls behind them is empty,
   pub calls : StandsBehind r.setup state []
   -- and no worker knows of any
-  pub workers : Each (KnowsNothing r.setup) workers
+  pub knows : Each (KnowsNothing r.setup) workers

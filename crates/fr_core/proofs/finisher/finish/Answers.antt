@@ -1,4 +1,4 @@
-use Rattle.std.proofs.Common.{arith, subst, sum, ◌-◌, ◌<◌, ◌^◌, ◌≡◌}
+use Rattle.std.proofs.Common.{arith, subst, sum, ◌-◌, ◌≡◌}
 use Rattle.fr_core.proofs.SettledRuns.{lawful_sum_fits, run_to_settled}
 use Rattle.fr_core.proofs.Unique.{settled_lawful}
 use Rattle.fr_core.specs.Finish.{IsFinish}
