@@ -26,9 +26,9 @@ pub(crate) fn targets_of(
         ≡ replicate draw.workers (targets_for net.now.nodes dest net.now.links draw.steps)) }
 {
     let nodes = turnable_nodes(alloc, net, dest)?;
-    let mut targets = Vec::with_capacity(alloc, draw.workers() as usize)?;
-    for _worker in 0..draw.workers() {
-        targets.push(turns_of(alloc, &nodes, draw.steps() as usize)?)?;
+    let mut targets = Vec::with_capacity(alloc, draw.workers as usize)?;
+    for _worker in 0..draw.workers {
+        targets.push(turns_of(alloc, &nodes, draw.steps as usize)?)?;
     }
     Ok(targets)
 }
@@ -100,7 +100,7 @@ fn lines_at_end(
 fn push_links(text: &mut String, alloc: Global, net: &Net) -> Result<(), AllocError>
     ensures { OnOk result (string_bytes text.new ≡ string_bytes text.old ++ line_of (links_text net.now.links)) }
 {
-    push_line(text, &links_line(alloc, &net.links(alloc)?)?)
+    push_line(text, &links_line(alloc, net.links())?)
 }
 
 /// A line, with byte 10 behind it.

@@ -47,14 +47,29 @@ fn settle(net: &Net, dest: u32, turns: &mut Turns)
     }
 }
 
-/// Goes from lawful counts to those at which turning node by node ends, and answers how many turns lie between. Few turns are
-/// made one by one; a small part that is cut off is known by them, and given the counts at which it ends; and where they would cost more, a
-/// search writes the settled counts in their place. It allocates nothing. That turning ends there is a law, the clause
-/// `leads` of [`schedule_law`](crate::laws::schedule_law): a run of turns alone leads from the old counts to the new ones,
-/// has as many turns as this answers, and leaves no node that can turn. By its clause `alike` each run that leaves no such
-/// node ends there too. The destination has to be a node, and the counts have to be lawful, as [`lawful`](crate::lawful)
-/// tests; those of no turns are. `O(n + m)`, however many turns there are.
-pub fn finish(net: &Net, dest: u32, turns: &mut Turns) -> u64
+/// Goes from lawful counts to those at which turning node by node ends, and answers how many turns lie between: a search writes the
+/// settled counts, also where a turn or none is left, since counts alone do not tell where nodes have turned. It allocates nothing. That
+/// turning ends there is a law, the clause `leads` of [`schedule_law`](crate::laws::schedule_law): a run of turns alone leads from the old
+/// counts to the new ones, has as many turns as this answers, and leaves no node that can turn. By its clause `alike` each run that leaves
+/// no such node ends there too. The destination has to be a node, and the counts have to be lawful, as [`lawful`](crate::lawful) tests; those
+/// of no turns are. `O(n + m)`, however many turns there are.
+pub fn finish(net: &Net, dest: u32, counts: &mut [u64]) -> u64
+    requires node { dest < net.now.nodes }
+    requires lawful { AreLawful net.now.nodes dest net.now.links counts.old }
+    ensures settled { AreSettled net.now.nodes dest net.now.links counts.new }
+    ensures run { IsFinish net.now.nodes dest net.now.links counts.old counts.new result }
+{
+    // By the law there are few nodes, so the totals are exact.
+    net.network_law();
+    let before = total_of(counts);
+    levels::settle(net, dest, counts);
+    total_of(counts) - before
+}
+
+/// Goes where [`finish`] goes, over [`Turns`], and answers the same. Few turns are made one by one; a small part that is cut off is known
+/// by them, and given the counts at which it ends; and where they would cost more, a search writes the settled counts in their place. It
+/// allocates nothing. The destination has to be a node, and the counts have to be lawful. `O(n + m)`, however many turns there are.
+pub fn finish_turns(net: &Net, dest: u32, turns: &mut Turns) -> u64
     requires node { dest < net.now.nodes }
     requires lawful { AreLawful net.now.nodes dest net.now.links turns.old }
     ensures settled { AreSettled net.now.nodes dest net.now.links turns.new }
@@ -68,27 +83,11 @@ pub fn finish(net: &Net, dest: u32, turns: &mut Turns) -> u64
     after - before
 }
 
-/// Goes where [`finish`] goes, over counts that are kept in no [`Turns`], and answers the same. Such counts do not tell where nodes have
-/// turned, so it always searches, also where a turn or none is left. It allocates nothing. The destination has to be a node, and the counts
-/// have to be lawful, as [`lawful`](crate::lawful) tests. `O(n + m)`.
-pub fn finish_counts(net: &Net, dest: u32, counts: &mut [u64]) -> u64
-    requires node { dest < net.now.nodes }
-    requires lawful { AreLawful net.now.nodes dest net.now.links counts.old }
-    ensures settled { AreSettled net.now.nodes dest net.now.links counts.new }
-    ensures run { IsFinish net.now.nodes dest net.now.links counts.old counts.new result }
-{
-    // By the law there are few nodes, so the totals are exact.
-    net.network_law();
-    let before = total_of(counts);
-    levels::settle(net, dest, counts);
-    total_of(counts) - before
-}
-
 /// Goes to where [`finish`] goes, and looks for nodes that can turn among `from` alone and among the neighbours of nodes that it
 /// turns: for a caller that knows where the first of them are. Where few turn, no other node costs a step. It allocates nothing. The
 /// destination has to be a node, and the counts have to be lawful. Each node that can turn has to be in `from`, and all that are there have
 /// to be nodes; they need not be able to turn, and may stand there twice. `O(d)` a node of `from`, and `O(d²)` a turn where few turn, else
-/// as [`finish`].
+/// as [`finish_turns`].
 pub fn finish_from(net: &Net, dest: u32, turns: &mut Turns, from: &[u32])
     requires node { dest < net.now.nodes }
     requires lawful { AreLawful net.now.nodes dest net.now.links turns.old }

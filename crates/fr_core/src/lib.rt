@@ -2,7 +2,7 @@
 //! finisher that goes there on one thread.
 //!
 //! [`lawful`] tests the counts of a network, [`sense`] and [`is_sink`] say what lawful counts make of its links, and
-//! [`finish`] goes to the counts at which every schedule ends, as do [`finish_counts`], over counts alone, [`finish_from`], which is told
+//! [`finish`] goes to the counts at which every schedule ends, as do [`finish_turns`], over a table of turns, [`finish_from`], which is told
 //! where to look, and [`finish_soon`], if a few turns lead there. A [`Machine`] turns nodes and looks at them by single atomic steps of its workers, in whatever order these come, [`play`]
 //! follows a schedule, and [`check_run`] checks a history, entry by entry. The laws behind them are in [`laws`].
 //!
@@ -30,7 +30,7 @@ pub use check::{CheckFault, Why, check_run};
 pub use counts::{are_settled, can_turn, is_sink, lawful, sense};
 pub use directions::Sense;
 pub use entry::{Entry, Reply};
-pub use finisher::{finish, finish_counts, finish_from, finish_soon};
+pub use finisher::{finish, finish_from, finish_soon, finish_turns};
 pub use limits::MAX_WORKERS;
 pub use machine::Machine;
 pub use play_fault::PlayFault;

@@ -11,7 +11,7 @@ use crate::crew::run_crew;
 use crate::fault::CrewFault;
 use crate::gate::Gate;
 use crate::plan::Plan;
-use fr_core::{are_settled, finish, finish_from, finish_soon};
+use fr_core::{are_settled, finish_from, finish_soon, finish_turns};
 use fr_graph::{Net, Turns};
 use fr_round::{Closed, Round};
 use std::alloc::Global;
@@ -34,7 +34,7 @@ pub struct Settled {
 
 /// Turns a network until no node can turn: full reversal (E. Gafni and D. Bertsekas, 1981) by the workers of the plan, each
 /// in a thread of its own but for the last, which works on the thread that calls, and what they leave by
-/// [`finish`](fr_core::finish) on one thread. Whatever the plan, the gate and the schedule, the answer is the same but for who
+/// [`finish_turns`](fr_core::finish_turns) on one thread. Whatever the plan, the gate and the schedule, the answer is the same but for who
 /// made how many turns.
 ///
 /// Each worker has a deque of candidates. At first these are all nodes with a link but the destination, each dealt to the worker
@@ -75,7 +75,7 @@ pub fn settle<R: Threads + Wait + Sync, G: Gate + Sync>(
     settled_by_crew(rt, alloc, net, dest, turns, plan, gate)
 }
 
-/// Turns a network until no node can turn, on the thread that calls: by [`finish`](fr_core::finish) alone. The answer is that
+/// Turns a network until no node can turn, on the thread that calls: by [`finish_turns`](fr_core::finish_turns) alone. The answer is that
 /// of [`settle`], all turns being the finisher's. It starts no thread and waits for nobody.
 ///
 /// `Range` where the destination is no node, which is tested first, or else `Memory`; never `Start`. Where there is a fault, the
@@ -91,7 +91,7 @@ pub fn settle_alone(alloc: Global, net: Net, dest: u32) -> Result<Settled, CrewF
 }
 
 /// The settled counts of a network, which stays as it is: where a node can turn at all, by the crew of the plan on a copy of
-/// the network, and what they leave by [`finish`](fr_core::finish). Whatever the plan, the gate and the schedule, they are the
+/// the network, and what they leave by [`finish_turns`](fr_core::finish_turns). Whatever the plan, the gate and the schedule, they are the
 /// counts of [`settle`]. They are made in `turns`, a table in which no node has turned yet, so that who settles a network again and again
 /// can use one table for all rounds.
 ///
@@ -135,7 +135,7 @@ pub fn settled_counts<R: Threads + Wait + Sync, G: Gate + Sync>(
     counts_by_crew(rt, alloc, net, dest, from, plan, gate, turns)
 }
 
-/// The settled counts of a network, which stays as it is, on the thread that calls: by [`finish`](fr_core::finish) alone, or
+/// The settled counts of a network, which stays as it is, on the thread that calls: by [`finish_turns`](fr_core::finish_turns) alone, or
 /// where `from` is given, by [`finish_from`](fr_core::finish_from). They are those of [`settled_counts`], and made in `turns` as there;
 /// `from` has to hold what it has to hold there. It starts no thread, waits for nobody, and takes no memory.
 ///
@@ -312,7 +312,7 @@ fn finished(mut net: Net, dest: u32, mut turns: Turns, by_workers: u64) -> Settl
     ensures by_workers { result.by_workers ≡ by_workers }
 {
     net.network_law();
-    let by_finisher = finish(&net, dest, &mut turns);
+    let by_finisher = finish_turns(&net, dest, &mut turns);
     net.turn(&turns);
     Settled {
         net,
@@ -334,7 +334,7 @@ fn finished_counts(net: &Net, dest: u32, mut turns: Turns, from: Option<&[u32]>)
     match from {
         Some(from) => finish_from(net, dest, &mut turns, from),
         None => {
-            let _turns = finish(net, dest, &mut turns);
+            let _turns = finish_turns(net, dest, &mut turns);
         }
     }
     turns

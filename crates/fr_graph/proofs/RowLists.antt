@@ -1,9 +1,11 @@
 -- The rows of all nodes, one after the other in one list.
-use Rattle.std.proofs.Common.{Contains, List, arith, inl, inr, length, length-append, subst, suc, zero, ℕ, ◌+◌, ◌<◌, ◌≡◌, ◌≤◌}
+use Rattle.std.proofs.Common.{Contains, List, ap, append_assoc, arith, inl, inr, length, length-append, subst, suc, sym, zero, ℕ, ◌++◌, ◌+◌, ◌<◌, ◌∙◌, ◌≡◌, ◌≤◌}
 use Rattle.std.proofs.lemmas.Bool.{cases_eq, cases_lt}
+use Rattle.std.proofs.lemmas.List.{append-nil}
 use Rattle.std.proofs.lemmas.List.Elements.{Contains-append_cases, Contains-append_left, Contains-append_right}
 use Rattle.fr_graph.proofs.Members.{Contains-none}
 use Rattle.fr_graph.proofs.Sorting.{IsSorted, sorted-append}
+use Rattle.fr_graph.specs.LinksLeft.{rows_from}
 use Rattle.fr_graph.specs.RowLists.{rows_below}
 
 abbrev pub length_below : {X : Type 0} → ℕ → (ℕ → List X) → ℕ
@@ -20,6 +22,11 @@ length_up x (suc k) rows le =
       | inl e ↦ rw e (omega arith)
       | inr ne ↦ omega (arith, length_more k rows, length_up x k rows (omega (arith, ne)))
     ]
+
+-- the rows below x, and then those from x on
+pub rows_go_on : {X : Type 0} (k x n : ℕ) (rows : ℕ → List X) → x + k ≡ n → rows_below x rows ++ rows_from k x rows ≡ rows_below n rows
+rows_go_on zero x n rows e = append-nil (rows_below x rows) ∙ ap (λ m. rows_below m rows) (let same : x ≡ n = omega (arith, e) in same)
+rows_go_on (suc k) x n rows e = sym (append_assoc (rows_below x rows) (rows x) (rows_from k (suc x) rows)) ∙ rows_go_on k (suc x) n rows (omega (arith, e))
 
 -- an element of the rows stands in one of them
 pub from_rows : {X : Type 0} (k : ℕ) (rows : ℕ → List X) (y : X) → Contains (rows_below k rows) y → (x : ℕ) × (x < k) × Contains (rows x) y

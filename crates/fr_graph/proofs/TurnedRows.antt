@@ -1,8 +1,8 @@
 -- The rows of links as counts turn them, and the links that rows show.
-use Rattle.std.proofs.Common.{Bool, Contains, List, None, Option, Some, [], All, ap, arith, count_by, eq-eqb, eqb, false, get_or, inl, inr, length, map, ne_eqb, option_map, option_to_list, refl, subst, suc, sym, take, true, zero, ℕ, ⊎_elim, ◌&&◌, ◌++◌, ◌+◌, ◌<◌, ◌||◌, ◌∙◌, ◌∷◌, ◌≡◌, ◌≤◌, ◌⊎◌}
+use Rattle.std.proofs.Common.{Bool, Contains, List, None, Option, Some, [], All, ap, arith, count_by, eq-eqb, eqb, false, get_or, inl, inr, length, map, ne_eqb, option_map, option_to_list, refl, subst, suc, sym, true, zero, ℕ, ⊎_elim, ◌&&◌, ◌+◌, ◌<◌, ◌||◌, ◌∙◌, ◌∷◌, ◌≡◌, ◌≤◌, ◌⊎◌}
 use Rattle.std.proofs.lemmas.Bool.{cases_Bool, cases_lt, cond-false, cond-true}
-use Rattle.std.proofs.lemmas.List.{append-nil, map-append, take_more}
-use Rattle.std.proofs.lemmas.List.Elements.{All-contains, filter_map-append}
+use Rattle.std.proofs.lemmas.List.{map-append}
+use Rattle.std.proofs.lemmas.List.Elements.{All-contains}
 use Rattle.std.proofs.lemmas.List.Sums.{sum_by-cons}
 use Rattle.fr_graph.proofs.Counting.{weigh}
 use Rattle.fr_graph.proofs.Giving.{Points-links_at_from, Points-links_at_same, Points-links_at_turned, filter_map-Contains, filter_map-from}
@@ -157,14 +157,6 @@ link_shown x (w, Outward) l q = (cc, refl)
 link_shown x (w, Inward) l q = cc
 
 -- one entry more
-pub out_link_more : (x : ℕ) (entries : List (ℕ × First)) (i : ℕ) (d : ℕ × First) → i < length entries → (get_or entries i d).1 ≡ Outward → out_links x (take (i + 1) entries) ≡ out_links x (take i entries) ++ (x, (get_or entries i d).0) ∷ []
-out_link_more x entries i d l e =
-    rw (take_more entries i d l, filter_map-append, e) refl
-
-pub in_link_more : (x : ℕ) (entries : List (ℕ × First)) (i : ℕ) (d : ℕ × First) → i < length entries → (get_or entries i d).1 ≡ Inward → out_links x (take (i + 1) entries) ≡ out_links x (take i entries)
-in_link_more x entries i d l e =
-    rw (take_more entries i d l, filter_map-append, e) (append-nil (out_links x (take i entries)))
-
 abbrev pub out_rows : ℕ → List (ℕ × ℕ) → ℕ → List (ℕ × ℕ)
 out_rows n links x = out_links x (row n links x)
 

@@ -14,6 +14,7 @@ pub mod Halves
 pub mod TurnedRows
 pub mod Tables
 pub mod KeptRows
+pub mod LinksLeft
 pub mod Heights
 pub mod CycleSearch
 pub mod PathSearch

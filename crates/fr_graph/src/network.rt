@@ -28,8 +28,9 @@ use crate::graph::Graph;
 use crate::half_links::{HalfLink, entries_of, first_twice, sorted_halves};
 use crate::heights::Heights;
 use crate::limits::{MAX_EDITS, MAX_LINKS, MAX_NODES};
+use crate::links::Links;
 use crate::row_table::RowTable;
-use crate::turned::{links_of_rows, turn_rows};
+use crate::turned::turn_rows;
 use crate::turns::Turns;
 use std::alloc::{AllocError, Global};
 use std::marker::Model;
@@ -163,18 +164,12 @@ impl Net {
         self.graph.link_count
     }
 
-    /// The links in rising order of tail, then head, none twice: a list of them, written from the rows. `AllocError` where no room could be
-    /// had. `O(n + m)`.
-    pub fn links(&self, alloc: Global) -> Result<Vec<(u32, u32)>, AllocError>
-        ensures { IfOk result (λ links. links.items ≡ self.now.links) }
+    /// The links in rising order of tail, then head, none twice: a view over the rows, which takes no memory. Who needs a list collects
+    /// it. `O(1)`, and `O(n + m)` to read them all.
+    pub fn links(&self) -> Links<'_>
+        ensures { result ≡ self.now.links }
     {
-        let Graph {
-            nodes,
-            link_count,
-            rows,
-            heights: _,
-        } = &self.graph;
-        links_of_rows(alloc, rows, *nodes, *link_count)
+        Links::of_rows(&self.graph.rows, self.graph.link_count)
     }
 
     /// The law of the order of a network's links: each is before the next one, by tail, then head. It does nothing, as

@@ -1,15 +1,11 @@
-//! Rows and links as counts turn them, each where it stands.
+//! Rows as counts turn them, each where it stands.
 
-ghost use Rattle.std.specs.Prelude.{◌≡◌, ℕ, ◌<◌, ◌++◌, Bool, false, length, slice_index, IfOk, OnOk};
+ghost use Rattle.std.specs.Prelude.{◌≡◌, ℕ, ◌<◌, Bool, false, length, slice_index};
 ghost use Rattle.fr_graph.specs.Network.{Network};
-ghost use Rattle.fr_graph.specs.KeptRows.{links_in};
-ghost use Rattle.fr_graph.specs.RowLists.{out_links};
 ghost use Rattle.fr_graph.specs.TurnedRows.{ArePartTurned, all_done, is_done, none_done, seen_too};
 
-use crate::first::First;
 use crate::row_table::RowTable;
 use crate::turns::Turns;
-use std::alloc::{AllocError, Global};
 
 /// Turns the row of `x`, which has turned, as the counts say, and its entries in the rows of neighbours that have not.
 fn turn_node(rows: &mut RowTable, x: u32, counts: &[u64])
@@ -37,37 +33,4 @@ pub(crate) fn turn_rows(rows: &mut RowTable, turns: &Turns)
     for x in turns.nodes() {
         turn_node(rows, *x, turns.counts());
     }
-}
-
-/// Puts the links of the row of `x` that point away from it behind the others.
-fn push_out_links(
-    links: &mut Vec<(u32, u32)>,
-    x: u32,
-    row: &[(u16, First)],
-) -> Result<(), AllocError>
-    ensures { OnOk result (links.new.items ≡ links.old.items ++ out_links x row.now) }
-{
-    for (w, first) in row {
-        if *first == First::Outward {
-            links.push((x, *w as u32))?;
-        }
-    }
-    Ok(())
-}
-
-/// The links that the rows show, row by row, with room for so many.
-pub(crate) fn links_of_rows(
-    alloc: Global,
-    rows: &RowTable,
-    nodes: u32,
-    count: usize,
-) -> Result<Vec<(u32, u32)>, AllocError>
-    requires { nodes ≡ length rows.now.rows }
-    ensures { IfOk result (λ links. links.items ≡ links_in nodes rows.now) }
-{
-    let mut links = Vec::with_capacity(alloc, count)?;
-    for x in 0..nodes {
-        push_out_links(&mut links, x, rows.row(x))?;
-    }
-    Ok(links)
 }

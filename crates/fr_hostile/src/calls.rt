@@ -171,19 +171,13 @@ fn put_line<R: Eprint, E: Display + Drop>(rt: &R, answer: &mut Answer, line: Res
     }
 }
 
-fn put_links<R: Alloc<A = Global> + Eprint>(rt: &R, answer: &mut Answer, links: &[(u32, u32)]) {
-    put_line(rt, answer, links_line(rt.alloc(), links));
-}
-
 fn put_counts<R: Alloc<A = Global> + Eprint>(rt: &R, answer: &mut Answer, counts: &[u64]) {
     put_line(rt, answer, counts_line(rt.alloc(), counts));
 }
 
 /// Puts the links of a network behind the answer.
 fn put_net<R: Alloc<A = Global> + Eprint>(rt: &R, answer: &mut Answer, net: &Net) {
-    if let Some(links) = answer.told(rt, net.links(rt.alloc())) {
-        put_links(rt, answer, &links);
-    }
+    put_line(rt, answer, links_line(rt.alloc(), net.links()));
 }
 
 /// The same of a network that was made.
@@ -197,17 +191,9 @@ fn put_made<R: Alloc<A = Global> + Eprint>(
     }
 }
 
-/// Whether these are the links of a network. Want of memory is told, and answers no.
-fn has_links<R: Alloc<A = Global> + Eprint>(
-    rt: &R,
-    answer: &mut Answer,
-    net: &Net,
-    links: &[(u32, u32)],
-) -> bool {
-    match answer.told(rt, net.links(rt.alloc())) {
-        Some(listed) => listed.as_slice() == links,
-        None => false,
-    }
+/// Whether these are the links of a network.
+fn has_links(net: &Net, links: &[(u32, u32)]) -> bool {
+    net.links().len() == links.len() && net.links().zip(links).all(|(shown, link)| shown == *link)
 }
 
 /// Writes to standard output what should not have come to pass.
@@ -262,7 +248,7 @@ fn edited_in_place<R: Alloc<A = Global> + Print + Eprint>(
         Ok(links) => answer.say(&links),
         Err(fault) => {
             tell_not_edited(rt, answer, fault);
-            if !has_links(rt, answer, &net, &CHAIN) {
+            if !has_links(&net, &CHAIN) {
                 say(rt, "the network has changed");
             }
         }
@@ -271,7 +257,7 @@ fn edited_in_place<R: Alloc<A = Global> + Print + Eprint>(
 
 /// The links of a network as text.
 fn links_of(alloc: Global, net: &Net) -> Result<String, AllocError> {
-    links_line(alloc, &net.links(alloc)?)
+    links_line(alloc, net.links())
 }
 
 /// Tells why a network was not edited.
@@ -293,6 +279,17 @@ fn lines_read<R: Alloc<A = Global> + Eprint>(rt: &R, answer: &mut Answer) {
     put_request(rt, answer, reader.read(rt.alloc(), NETWORK_LINE));
 }
 
+/// Puts the links of a request behind the answer.
+fn put_links(answer: &mut Answer, links: &[(u32, u32)]) {
+    answer.say("links");
+    for (tail, head) in links {
+        answer.say(" ");
+        answer.put(tail);
+        answer.say(">");
+        answer.put(head);
+    }
+}
+
 /// Puts the node of a walk or the links of a network behind the answer.
 fn put_request<R: Alloc<A = Global> + Eprint>(
     rt: &R,
@@ -304,7 +301,7 @@ fn put_request<R: Alloc<A = Global> + Eprint>(
             answer.say("walk");
             answer.put(&x);
         }
-        Some(Request::Network { links, .. }) => put_links(rt, answer, &links),
+        Some(Request::Network { links, .. }) => put_links(answer, &links),
         _ => answer.say("another request"),
     }
 }
@@ -368,7 +365,7 @@ fn opened<R: Alloc<A = Global> + Print + Eprint>(rt: &R, answer: &mut Answer, ne
             put_net(rt, answer, &closed.net);
         }
         Err(fault) => {
-            if fault.net.nodes() != 4 || !has_links(rt, answer, &fault.net, &CHAIN) {
+            if fault.net.nodes() != 4 || !has_links(&fault.net, &CHAIN) {
                 say(rt, "another network was handed back");
             }
             answer.lack(rt, fault.why);
@@ -462,7 +459,7 @@ fn look_for_change<R: Alloc<A = Global> + Print + Eprint>(
     router: &Router,
 ) {
     let home = [(1, 0), (2, 1), (3, 2)];
-    if !has_turned_home(router) || !has_links(rt, answer, router.net(), &home) {
+    if !has_turned_home(router) || !has_links(router.net(), &home) {
         say(rt, "the router has changed");
     }
 }
@@ -535,9 +532,8 @@ fn routed_alone<R: Alloc<A = Global> + Print + Eprint>(rt: &R, answer: &mut Answ
 /// The nodes that a cut reroutes. Where it finds no memory, the router has to be as it was.
 fn rerouted<R: Alloc<A = Global> + Print + Eprint>(rt: &R, answer: &mut Answer, net: Net) {
     if let Some(mut router) = answer.told(rt, Router::open_alone(rt.alloc(), net, 0)) {
-        let mut nodes = Vec::new(rt.alloc());
-        let joined = router.joined(&mut nodes);
-        if answer.told(rt, joined).is_some() {
+        let joined = router.joined(rt.alloc());
+        if let Some(mut nodes) = answer.told(rt, joined) {
             reroute(rt, answer, &mut router, &mut nodes);
         }
     }

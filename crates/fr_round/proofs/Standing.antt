@@ -1,18 +1,23 @@
 -- One history stands behind the words and behind what all workers know.
-use Rattle.std.proofs.Common.{◌≡◌, ◌≢◌, ℕ, suc, ◌+◌, ◌<◌, ◌≤◌, Bool, true, false, List, [], ◌∷◌, ◌++◌, map, replicate, refl, sym, ap, subst, arith, true≢false}
+use Rattle.std.proofs.Common.{◌≡◌, ◌≢◌, ℕ, zero, suc, ◌+◌, ◌<◌, ◌≤◌, Bool, true, false, List, [], ◌∷◌, ◌++◌, map, replicate, refl, sym, ap, subst, arith, true≢false, ◌∙◌}
 use Rattle.std.specs.Prelude.{if◌then◌else◌}
 use Rattle.std.specs.List.{AllByRecursion as Each}
 use mathlib.Core.List.{map-append}
 use mathlib.Core.Option.{some}
 use lib.ListN.{get_elem?}
+use Rattle.atomic_table.specs.Seated.{TableId}
+use Rattle.atomic_table.specs.Table.{opening}
+use Rattle.fr_graph.specs.Links.{IsNet}
 use Rattle.fr_core.proofs.Finishing.{zeros_lawful}
 use Rattle.fr_core.proofs.Runs.{run_to}
 use Rattle.fr_core.specs.declared.entry.Entry.{Entry}
 use Rattle.fr_round.specs.declared.view.Setup.{Setup}
 use Rattle.fr_round.specs.declared.view.View.{View}
-use Rattle.fr_round.specs.Histories.{AreApart}
-use Rattle.fr_round.specs.Laws.{EveryStepKeepsTheRule, KnowsPartOf, OneHistoryStandsBehindAll, RuleHoldsAtFirst, workers_at, workers_of}
-use Rattle.fr_round.specs.Rule.{IsTaken, ViewFits}
+use Rattle.fr_round.specs.Histories.{AreApart, moment}
+use Rattle.fr_round.specs.Laws.{EveryStepKeepsTheRule, KnowsPartOf, OneHistoryStandsBehindAll, NoOtherStateIsFirst, RuleHoldsAtFirst, first_state, workers_at, workers_of}
+use Rattle.fr_round.specs.Opening.{HasNotBegun, KnowsNothing}
+use Rattle.fr_round.specs.Knowledge.{Knowledge, OpenRound, new_worker, new_workers}
+use Rattle.fr_round.specs.Rule.{IsTaken, ViewFits, opening_view}
 use Rattle.fr_round.proofs.Gathering.{some_run}
 use Rattle.fr_round.proofs.Keeping.{begins_look, each_weaker, ends_look_at, exchanges_at, loads_against_at, loads_along_at, loads_own}
 use Rattle.fr_round.proofs.Seating.{each_number, enters, first_keeps, joins, splits}
@@ -102,6 +107,35 @@ first_holds b net = (
     numbered = tt;
   },
 )
+
+-- new workers know nothing
+new_know_nothing : (t : TableId) (b : Setup) (k : ℕ) → Each (KnowsNothing b) (new_workers t b k)
+new_know_nothing t b zero = tt
+new_know_nothing t b (suc k) = each_append (KnowsNothing b) (new_workers t b k) (new_worker t b k ∷ []) (new_know_nothing t b k) (record { calls = refl; seen = refl }, tt)
+
+-- so a round with its new workers has not begun
+pub not_begun : (r : OpenRound) (k : ℕ) (workers : List Knowledge) → IsNet r.setup.nodes r.setup.links → workers ≡ new_workers r.table r.setup k → HasNotBegun r workers
+not_begun r k workers net new =
+    let first = first_holds r.setup net in
+    record {
+      state = first_state r.setup;
+      first = refl;
+      ruled = first.0;
+      words = refl;
+      calls = first.1;
+      knows = rw new (new_know_nothing r.table r.setup k);
+    }
+
+-- no entry is of a worker whose number is below 0
+none_given : (h : List Entry) → Each (λ (e : Entry). e.worker < 0) h → h ≡ []
+none_given [] given = refl
+none_given (e ∷ h) given = let low = given.0 in absurd (omega arith)
+
+pub only_first : NoOtherStateIsFirst
+only_first b words r =
+    let none : r.next ≡ 0 = sym ((r.views 0 (opening_view b) refl).opening refl).counts in
+    let empty : r.history ≡ [] = none_given r.history (subst (λ (k : ℕ). Each (λ (e : Entry). e.worker < k) r.history) none r.given_out) in
+    ap (λ (ws : List ℕ). opening ws [] (opening_view b)) (r.words ∙ ap (λ (h : List Entry). (moment b h).counts) empty)
 
 pub steps_keep : EveryStepKeepsTheRule
 steps_keep b = record {

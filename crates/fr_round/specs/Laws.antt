@@ -65,6 +65,10 @@ first_state b = opening (replicate b.nodes 0) [] (opening_view b)
 abbrev pub RuleHoldsAtFirst : Type 0
 RuleHoldsAtFirst = (b : Setup) → IsNet b.nodes b.links → KeepsRule b (first_state b) × StandsBehind b (first_state b) []
 
+-- and it allows no other state in which the opening seat is the only one and has given out no number
+abbrev pub NoOtherStateIsFirst : Type 0
+NoOtherStateIsFirst = (b : Setup) (words : List ℕ) → KeepsRule b (opening {S = Unit {0}} words [] (opening_view b)) → opening words [] (opening_view b) ≡ first_state b
+
 -- each step at a seat, whatever the other threads do meanwhile, leads from states that the rule allows to such states, and tells the
 -- seat what `specs/Steps.antt` says of it:
 pub record StepsKeepTheRule (b : Setup) : Type 0 where

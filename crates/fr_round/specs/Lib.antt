@@ -10,3 +10,4 @@ pub mod WorkerInside
 pub mod RoundInside
 pub mod Seated
 pub mod Laws
+pub mod Opening

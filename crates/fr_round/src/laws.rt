@@ -1,6 +1,6 @@
 //! The laws of a round: each clause is a law of `specs/Laws.antt`, proved. The functions do nothing.
 
-ghost use Rattle.fr_round.specs.Laws.{OneHistoryStandsBehindAll, RuleHoldsAtFirst, EveryStepKeepsTheRule};
+ghost use Rattle.fr_round.specs.Laws.{OneHistoryStandsBehindAll, RuleHoldsAtFirst, NoOtherStateIsFirst, EveryStepKeepsTheRule};
 ghost use Rattle.fr_round.specs.Laws.{OwnLoadIsTheMachines, NeighbourLoadIsTheMachines, ExchangeIsTheMachines};
 ghost use Rattle.fr_round.specs.Laws.{LookBeginsAsTheMachines, LookEndsAsTheMachines};
 
@@ -9,10 +9,12 @@ ghost use Rattle.fr_round.specs.Laws.{LookBeginsAsTheMachines, LookEndsAsTheMach
 /// words give, and no loop stands among them. What each worker knows is a beginning of the list, the worker's own calls stand
 /// in it in their order, and no two workers have one number. The rule that this starts from holds when a round is opened,
 /// when the list is empty, and each step at a seat keeps it, whatever the other threads do. That an open round is in a state that the
-/// rule allows is by its table of `Rule`. `Round::close` hands out the words of a state that it allows.
+/// rule allows is by its table of `Rule`, which is made in no other: of the states in which no number was given out, the rule allows the
+/// one with all words 0 alone. `Round::close` hands out the words of a state that it allows.
 pub fn round_law()
     ensures run { OneHistoryStandsBehindAll }
     ensures first { RuleHoldsAtFirst }
+    ensures only { NoOtherStateIsFirst }
     ensures kept { EveryStepKeepsTheRule }
 {}
 

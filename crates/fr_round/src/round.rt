@@ -9,6 +9,7 @@ ghost use Rattle.fr_round.specs.Steps.{Extends};
 ghost use Rattle.fr_round.specs.Calls.{ShowsCount};
 ghost use Rattle.fr_round.specs.Knowledge.{IsOwn, IsKnowledge, IsOpenable, Refuses, RefusesLook, IsWhyNotOpened, new_workers};
 ghost use Rattle.fr_round.specs.Closing.{Closes};
+ghost use Rattle.fr_round.specs.Opening.{HasNotBegun};
 
 use crate::closing::{Closed, read_counts, take_over};
 use crate::faults::{OpenFault, OpenWhy, Refusal};
@@ -45,8 +46,8 @@ impl Model for Round {
 }
 
 impl Round {
-    /// Opens a round on a network that no node has turned yet: all counts are 0. It answers the round and its workers,
-    /// whose numbers are 0, 1 and so on.
+    /// Opens a round on a network, in which nothing has happened yet: no call stands in its list, all counts are 0, no worker knows of a
+    /// call, and none has seen a turn. It answers the round and its workers, whose numbers are 0, 1 and so on.
     ///
     /// `Range` where the destination is no node of the network, or `workers` is not 1 to [`MAX_WORKERS`], and then `Memory` where there is
     /// none; the fault hands the network back. All memory that the round needs up to its end is taken here. `O(m + k n)` for k workers.
@@ -60,6 +61,7 @@ impl Round {
         ensures setup { IfOk result
             (λ r. r.0.setup ≡ record { nodes = net.nodes; dest = dest; links = net.links; workers = workers }) }
         ensures workers { IfOk result (λ r. r.1.items ≡ new_workers r.0.table r.0.setup workers) }
+        ensures not_begun { IfOk result (λ r. HasNotBegun r.0 r.1.items) }
         ensures handed_back { IfErr result (λ fault. fault.net ≡ net) }
         ensures why { IfErr result (λ fault. IsWhyNotOpened net.nodes dest workers fault.why) }
     {

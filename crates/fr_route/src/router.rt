@@ -485,17 +485,15 @@ impl Router {
         &self.hops
     }
 
-    /// The nodes that are not cut off, in rising order, in a list of the caller's: those whose hops a caller reads first that keeps the
-    /// hops of all nodes, and begins with a table that says `CutOff` of each. `AllocError` where no room could be had, with the list as it
-    /// was. `O(n)`.
-    pub fn joined(&self, nodes: &mut Vec<u32>) -> Result<(), AllocError>
-        ensures joined { OnOk result (AreJoined self.now nodes.new.items) }
-        ensures untold { OnErr result (nodes.new.items ≡ nodes.old.items) }
+    /// The nodes that are not cut off, in rising order: those whose hops a caller reads first that keeps the hops of all nodes, and begins
+    /// with a table that says `CutOff` of each. `AllocError` where no room could be had. `O(n)`.
+    pub fn joined(&self, alloc: Global) -> Result<Vec<u32>, AllocError>
+        ensures { IfOk result (λ nodes. AreJoined self.now nodes.items) }
     {
         let count = self.net.nodes();
-        nodes.reserve((count as usize).saturating_sub(nodes.len()))?;
-        list_joined(nodes, &self.hops, count);
-        Ok(())
+        let mut nodes = Vec::with_capacity(alloc, count as usize)?;
+        list_joined(&mut nodes, &self.hops, count);
+        Ok(nodes)
     }
 
     /// Where node `x` sends on to, which has to be a node. `O(1)`.

@@ -411,7 +411,7 @@ impl Session {
     {
         let text = report_line(alloc, router.report())?;
         if telling {
-            router.joined(rerouted)?;
+            *rerouted = router.joined(alloc)?;
         }
         self.put_router(router);
         Ok(text)
@@ -444,7 +444,7 @@ impl Session {
             return refuse(alloc, Refusal::NoNetwork);
         };
         match question {
-            Question::Links => Ok(links_line(alloc, &router.net().links(alloc)?)?),
+            Question::Links => Ok(links_line(alloc, router.net().links())?),
             Question::Counts => Ok(counts_line(alloc, router.counts())?),
             Question::Hops => Ok(hops_line(alloc, router.hops())?),
         }

@@ -7,7 +7,7 @@ ghost use Rattle.fr_route.specs.Texts.{counts_text, links_text, hops_text, hop_w
 use crate::change::Report;
 use crate::hops::Hop;
 use crate::refusals::Refusal;
-use fr_graph::MAX_NODES;
+use fr_graph::{Links, MAX_NODES};
 use itoa::Buffer;
 use std::alloc::{AllocError, Global};
 
@@ -53,14 +53,14 @@ fn push_cut(line: &mut String, cut: u64, buffer: &mut Buffer) -> Result<(), Allo
 }
 
 /// `links`, and each link after a space, as `tail>head`. `AllocError` where no room could be had. `O(b)` for b bytes of text.
-pub fn links_line(alloc: Global, links: &[(u32, u32)]) -> Result<String, AllocError>
-    ensures { IfOk result (λ line. string_bytes line ≡ links_text links.now) }
+pub fn links_line(alloc: Global, links: Links<'_>) -> Result<String, AllocError>
+    ensures { IfOk result (λ line. string_bytes line ≡ links_text links.entry) }
 {
     let mut line = begun(alloc, "links", links.len().saturating_mul(2))?;
     let mut buffer = Buffer::new();
     for (tail, head) in links {
-        push_number(&mut line, " ", u64::from(*tail), &mut buffer)?;
-        push_number(&mut line, ">", u64::from(*head), &mut buffer)?;
+        push_number(&mut line, " ", u64::from(tail), &mut buffer)?;
+        push_number(&mut line, ">", u64::from(head), &mut buffer)?;
     }
     Ok(line)
 }

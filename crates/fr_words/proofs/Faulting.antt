@@ -1,15 +1,16 @@
 -- Which words of a command line are refused, and how.
 use Rattle.std.proofs.Common.{◌≡◌, List, [], Result, Ok, Err, IfOk, IfErr, true, inl, inr, subst, sym, refl}
 use Rattle.clap.specs.Faults.{fault_of, is_simple_and_free}
-use Rattle.clap.specs.Kinds.{FailsBy, HasKind}
+use Rattle.clap.specs.Kinds.{FailsBy, HasKind, IsAmong}
 use Rattle.clap.specs.Simple.{App}
 use Rattle.clap.specs.Values.{kind_of}
 use Rattle.clap.specs.Walk.{Text}
 use Rattle.clap.specs.declared.error.Error.{Error}
+use Rattle.clap.specs.declared.error.kind.ErrorKind.{ErrorKind}
 use Rattle.fr_words.specs.Commands.{command}
 use Rattle.fr_words.specs.Tasks.{IsUsageOf, IsFaultOf}
 use Rattle.fr_words.specs.declared.task.TaskFault.{TaskFault}
-use Rattle.fr_words.specs.declared.task.TaskFault.TheVariants.{Usage, Memory}
+use Rattle.fr_words.specs.declared.task.TaskFault.TheVariants.{Usage, Version, Memory}
 
 module _ {T : Type 0} where
   -- words that the command takes have no fault
@@ -24,8 +25,10 @@ module _ {T : Type 0} where
   refused_kinds app words (Err e) same kinds =
       subst (λ (a : App). HasKind (fault_of a words) e) same (kinds (subst (λ (a : App). is_simple_and_free a ≡ true) (sym same) refl))
 
--- what is said of it says whether help was asked for
+-- what is said of it says whether help or the version was asked for
 pub said_fault : (words : List Text) (e : Error) (fault : TaskFault) → HasKind (fault_of command words) e → IsUsageOf (kind_of e) fault → IsFaultOf words fault
 said_fault words e (Usage text asked) (inl none) said = absurd (said.0 none)
-said_fault words e (Usage text asked) (inr among) said = (kind_of e, among, said.1)
+said_fault words e (Usage text asked) (inr among) said = (kind_of e, among, said.1, said.2)
+said_fault words e (Version text) (inl none) said = absurd (cc (none, said))
+said_fault words e (Version text) (inr among) said = subst (λ (kind : ErrorKind). IsAmong kind (fault_of command words)) said among
 said_fault words e Memory kinds said = tt

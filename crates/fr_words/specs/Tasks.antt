@@ -1,5 +1,5 @@
 -- What a command line asks for.
-use Rattle.std.specs.Prelude.{◌≡◌, ◌≢◌, ◌≤◌, ◌↔◌, ◌⊎◌, ⊤, IsTrue, List, [], Some, codes}
+use Rattle.std.specs.Prelude.{◌≡◌, ◌≢◌, ◌≤◌, ◌↔◌, ⊤, IsTrue, List, [], Some, codes}
 use Rattle.clap.specs.Walk.{Row, Text}
 use Rattle.clap.specs.Simple.{subcommand_of}
 use Rattle.clap.specs.Faults.{fault_of}
@@ -14,7 +14,7 @@ use Rattle.fr_words.specs.declared.draws.Draw.{Draw}
 use Rattle.fr_words.specs.declared.task.Task.{Task}
 use Rattle.fr_words.specs.declared.task.Task.TheVariants.{Run, Serve, Play}
 use Rattle.fr_words.specs.declared.task.TaskFault.{TaskFault}
-use Rattle.fr_words.specs.declared.task.TaskFault.TheVariants.{Usage, Memory}
+use Rattle.fr_words.specs.declared.task.TaskFault.TheVariants.{Usage, Version, Memory}
 
 -- the plan has the numbers of these options, each in its range
 abbrev pub IsPlanIn : List Row → Plan → Type 0
@@ -43,16 +43,14 @@ IsTaskIn words task =
     (fault_of command words ≡ [])
     × ((name : Text) × (rows : List Row) × (subcommand_of command words ≡ Some (name, rows)) × IsTaskOf name rows task)
 
--- the words ask for a text: help or the version
-abbrev pub IsAsking : ErrorKind → Type 0
-IsAsking kind = (kind ≡ DisplayHelp) ⊎ (kind ≡ DisplayVersion)
-
--- what is said of an error of this kind: that a text was asked for, where it was
+-- what is said of an error of this kind: that help or the version was asked for, just where it was
 abbrev pub IsUsageOf : ErrorKind → TaskFault → Type 0
-IsUsageOf kind (Usage text asked) = (kind ≢ OutOfMemory) × (IsTrue asked ↔ IsAsking kind)
+IsUsageOf kind (Usage text asked) = (kind ≢ OutOfMemory) × (kind ≢ DisplayVersion) × (IsTrue asked ↔ (kind ≡ DisplayHelp))
+IsUsageOf kind (Version text) = kind ≡ DisplayVersion
 IsUsageOf kind Memory = ⊤
 
 -- the words are not those of the command, by one of the kinds of error that `clap` has for them; want of memory may come at all words
 abbrev pub IsFaultOf : List Text → TaskFault → Type 0
-IsFaultOf words (Usage text asked) = (kind : ErrorKind) × IsAmong kind (fault_of command words) × (IsTrue asked ↔ IsAsking kind)
+IsFaultOf words (Usage text asked) = (kind : ErrorKind) × IsAmong kind (fault_of command words) × (kind ≢ DisplayVersion) × (IsTrue asked ↔ (kind ≡ DisplayHelp))
+IsFaultOf words (Version text) = IsAmong DisplayVersion (fault_of command words)
 IsFaultOf words Memory = ⊤

@@ -13,15 +13,19 @@ use std::alloc::{AllocError, Global};
 /// The most steps of a play.
 pub const MAX_STEPS: u32 = 10_000;
 
-/// Which schedule a play draws: so many steps of so many workers, from a seed.
+/// Which schedule a play draws: so many steps of so many workers, from a seed. Whoever makes one has to show its three bounds, as the prover
+/// does by itself for numbers that stand in the code; [`Draw::new`] tests those that come from outside.
 #[derive(Clone, Copy, Debug, PartialEq, Eq)]
 pub struct Draw {
-    workers: u32,
-    seed: u64,
-    steps: u32,
-    ghost some_workers: { 1 ≤ workers },
-    ghost few_workers: { workers ≤ most_workers },
-    ghost few_steps: { steps ≤ most_steps },
+    /// How many workers there are, 1 to [`MAX_WORKERS`].
+    pub workers: u32,
+    /// The seed of the schedule.
+    pub seed: u64,
+    /// How many steps they make, at most [`MAX_STEPS`].
+    pub steps: u32,
+    pub ghost some_workers: { 1 ≤ workers },
+    pub ghost few_workers: { workers ≤ most_workers },
+    pub ghost few_steps: { steps ≤ most_steps },
 }
 
 impl Draw {
@@ -38,20 +42,6 @@ impl Draw {
             seed,
             steps,
         })
-    }
-
-    /// How many workers there are, 1 to [`MAX_WORKERS`]. `O(1)`.
-    pub fn workers(&self) -> u32
-        ensures { result ≡ self.now.workers }
-    {
-        self.workers
-    }
-
-    /// How many steps they make, at most [`MAX_STEPS`]. `O(1)`.
-    pub fn steps(&self) -> u32
-        ensures { result ≡ self.now.steps }
-    {
-        self.steps
     }
 
     /// The schedule: for each step the next word of the generator that the seed makes, modulo the number of workers. `AllocError` where no

@@ -36,10 +36,13 @@ pub enum Task {
 /// Why the words of a command line ask for no task.
 #[derive(Debug, Drop, FaultError, PartialEq, Eq)]
 pub enum TaskFault {
-    /// Help or the version was asked for (`asked`), and the text is that; or the words are not those of the command line, and the
-    /// text says what is wrong with them.
+    /// Help was asked for (`asked`), and the text is that; or the words are not those of the command line, and the text says what is wrong
+    /// with them.
     #[error("{text}")]
     Usage { text: String, asked: bool },
+    /// The version was asked for, and the text tells it.
+    #[error("{text}")]
+    Version { text: String },
     /// An allocation was refused.
     #[error("no memory")]
     Memory,
@@ -47,9 +50,9 @@ pub enum TaskFault {
 
 /// The task that the words of a command line ask for, the program's name first, where the program has this version: `run` or `serve`, with 1 to 16 workers, 4 if no
 /// number is given, any seed, or 0, and a budget of at most 1,000,000,000 calls, or 1,000,000; or `play`, with 1 to 16 workers, or
-/// 2, any seed, or 0, and at most 10,000 steps, or 100. `specs/Commands.antt` has the command line as `clap` reads it. `Usage`
-/// where `clap` does not take the words: because they ask for help or the version, or are not those of the command line; the text is what
-/// `clap` says then. `Memory` where no room could be had. `O(b)` for b bytes of words.
+/// 2, any seed, or 0, and at most 10,000 steps, or 100. `specs/Commands.antt` has the command line as `clap` reads it. `Usage` and `Version`
+/// where `clap` does not take the words: `Version` because they ask for the version, and `Usage` because they ask for help (`asked`) or are
+/// not those of the command line. `Memory` where no room could be had. `O(b)` for b bytes of words.
 pub fn task_of<'a>(alloc: Global, words: &'a [&'a str], version: &'a str) -> Result<Task, TaskFault>
     ensures ok { IfOk result (IsTaskIn (map (λ s. s.now) words.entry.now)) }
     ensures fault { IfErr result (IsFaultOf (map (λ s. s.now) words.entry.now)) }
@@ -116,14 +119,14 @@ fn seed_in(options: &ArgMatches) -> Option<u64>
 fn usage_of(alloc: Global, error: &Error) -> TaskFault
     ensures { IsUsageOf (kind_of error.now) result }
 {
-    let asked = match error.kind() {
-        ErrorKind::OutOfMemory => return TaskFault::Memory,
-        ErrorKind::DisplayHelp | ErrorKind::DisplayVersion => true,
-        _ => false,
+    let Ok(text) = text_of(alloc, error) else {
+        return TaskFault::Memory;
     };
-    match text_of(alloc, error) {
-        Ok(text) => TaskFault::Usage { text, asked },
-        Err(AllocError) => TaskFault::Memory,
+    match error.kind() {
+        ErrorKind::OutOfMemory => TaskFault::Memory,
+        ErrorKind::DisplayVersion => TaskFault::Version { text },
+        ErrorKind::DisplayHelp => TaskFault::Usage { text, asked: true },
+        _ => TaskFault::Usage { text, asked: false },
     }
 }
 
@@ -142,7 +145,7 @@ fn text_of(alloc: Global, error: &Error) -> Result<String, AllocError> {
 /// is only tested. `O(1)`.
 pub fn task_end(fault: &TaskFault) -> (u8, &str) {
     match fault {
-        TaskFault::Usage { text, asked: true } => (0, text.as_str()),
+        TaskFault::Usage { text, asked: true } | TaskFault::Version { text } => (0, text.as_str()),
         TaskFault::Usage { text, asked: false } => (2, text.as_str()),
         TaskFault::Memory => (1, "revroute: no memory"),
     }

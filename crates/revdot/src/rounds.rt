@@ -62,7 +62,7 @@ fn push_beginning(story: &mut String, alloc: Global, router: &Router) -> Result<
 {
     let net = router.net();
     net.network_law();
-    let settled = net.links(alloc)?;
+    let settled: Vec<(u32, u32)> = net.links().collect(alloc)?;
     let first = first_links(alloc, &settled, router.counts())?;
     push_first(story, &first)?;
     let turns = turns_of(alloc, router, first)?;

@@ -64,13 +64,12 @@ fn settled_links(alloc: Global, router: &Router, hops: &[Hop]) -> Result<Vec<Dra
 {
     let net = router.net();
     net.network_law();
-    let settled = net.links(alloc)?;
     let mut links = Vec::new(alloc);
-    for (tail, head) in &settled {
+    for (tail, head) in net.links() {
         links.push(DrawnLink {
-            tail: *tail,
-            head: *head,
-            look: look_of_link(hops[*tail as usize], *head),
+            tail,
+            head,
+            look: look_of_link(hops[tail as usize], head),
             back: false,
         })?;
     }

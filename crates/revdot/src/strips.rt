@@ -29,7 +29,7 @@ fn push_turns(text: &mut String, alloc: Global, router: &Router) -> Result<(), A
     let net = router.net();
     net.network_law();
     let nodes = net.nodes();
-    let settled = net.links(alloc)?;
+    let settled: Vec<(u32, u32)> = net.links().collect(alloc)?;
     let mut links = first_links(alloc, &settled, router.counts())?;
     let mut counts = vec![in alloc; 0u64; nodes as usize]?;
     for turn in 0..MAX_TURNS {

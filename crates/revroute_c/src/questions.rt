@@ -205,17 +205,11 @@ pub(crate) fn links_in(session: &Session, alloc: Global, place: &mut [u32], size
 fn ends_in(router: &Router, alloc: Global) -> Result<Vec<u32>, AllocError>
     ensures { IfOk result (λ found. found.items ≡ ends router.now.links) }
 {
-    let links = router.net().links(alloc)?;
-    ends_of(alloc, &links)
-}
-
-fn ends_of(alloc: Global, links: &[(u32, u32)]) -> Result<Vec<u32>, AllocError>
-    ensures { IfOk result (λ found. found.items ≡ ends links.now) }
-{
-    let mut found = Vec::new(alloc);
-    for link in links {
-        found.push(link.0)?;
-        found.push(link.1)?;
+    let links = router.net().links();
+    let mut found = Vec::with_capacity(alloc, links.len().saturating_mul(2))?;
+    for (tail, head) in links {
+        found.push(tail)?;
+        found.push(head)?;
     }
     Ok(found)
 }

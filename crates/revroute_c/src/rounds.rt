@@ -124,10 +124,11 @@ pub(crate) fn open_in(
             return REFUSED;
         }
     };
-    let Ok(()) = router.joined(&mut engine.rerouted) else {
+    let Ok(rerouted) = router.joined(alloc) else {
         return NO_MEMORY;
     };
     *round = round_of(router.report());
+    engine.rerouted = rerouted;
     engine.session.put_router(router);
     ANSWERED
 }

@@ -1,4 +1,4 @@
-//! Counts: which are lawful, where `finish`, `finish_counts`, `finish_from` and `finish_soon` end, which nodes are sinks, and where a link points.
+//! Counts: which are lawful, where `finish`, `finish_turns`, `finish_from` and `finish_soon` end, which nodes are sinks, and where a link points.
 
 ghost use Rattle.std.specs.Prelude.{◌≡◌, ℕ, ◌<◌, IsTrue, All, false};
 ghost use Rattle.std.specs.List.{Contains};
@@ -11,7 +11,7 @@ use crate::answers::Answer;
 use crate::cases::{count, counts, items, number, numbers, word};
 use crate::tables::none;
 use fr_core::{
-    are_settled, can_turn, finish, finish_counts, finish_from, finish_soon, is_sink, lawful, sense,
+    are_settled, can_turn, finish, finish_from, finish_soon, finish_turns, is_sink, lawful, sense,
 };
 use fr_net::{First, Net, Turns};
 use serde_json::Value;
@@ -28,9 +28,9 @@ pub fn answer(answer: &mut Answer, asked: &str, given: &[Value]) -> bool {
 /// Answers what is asked of the counts of a network. Whether it is that. The destination is node 0, but where steps name another.
 pub fn answer_of(answer: &mut Answer, net: &Net, asked: &str, given: &[Value]) -> bool {
     match (asked, given) {
-        ("finish", []) => finished(answer, net, true),
+        ("finish_turns", []) => finished(answer, net, true),
         ("turn_count", []) => finished(answer, net, false),
-        ("finish_counts", [counts]) => finished_counts(answer, net, counts),
+        ("finish", [counts]) => finished_counts(answer, net, counts),
         ("finishes", [steps]) => finishes(answer, net, steps),
         ("lawful", [counts]) => tell_lawful(answer, net, counts),
         ("sinks", [counts]) => sinks(answer, net, counts),
@@ -64,11 +64,11 @@ fn tell_lawful(answer: &mut Answer, net: &Net, given: &Value) {
     answer.put(&is_lawful(net, 0, &counts));
 }
 
-/// How many turns `finish` makes from the counts 0, and the counts, if they are asked for.
+/// How many turns `finish_turns` makes from the counts 0, and the counts, if they are asked for.
 fn finished(answer: &mut Answer, net: &Net, with_counts: bool) {
     match none(answer, net.nodes()) {
         Some(mut turns) if is_lawful(net, 0, turns.counts()) => {
-            answer.put(&finish(net, 0, &mut turns));
+            answer.put(&finish_turns(net, 0, &mut turns));
             if with_counts {
                 answer.say(" ");
                 answer.put(&turns.counts());
@@ -78,13 +78,13 @@ fn finished(answer: &mut Answer, net: &Net, with_counts: bool) {
     }
 }
 
-/// How many turns `finish_counts` makes from these counts, and where it ends.
+/// How many turns `finish` makes from these counts, and where it ends.
 fn finished_counts(answer: &mut Answer, net: &Net, given: &Value) {
     let mut counts = counts(answer, given);
     if !is_lawful(net, 0, &counts) {
         return answer.refuse();
     }
-    answer.put(&finish_counts(net, 0, &mut counts));
+    answer.put(&finish(net, 0, &mut counts));
     answer.say(" ");
     answer.put(&counts);
 }

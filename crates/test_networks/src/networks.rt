@@ -1,6 +1,6 @@
 //! Networks, told as text: made of links, copied, and turned by counts.
 
-ghost use Rattle.std.specs.Prelude.{◌≡◌, ◌<◌, All, IsTrue, length};
+ghost use Rattle.std.specs.Prelude.{◌≡◌, ◌<◌, All, IfOk, IsTrue, length};
 ghost use Rattle.fr_graph.specs.Counts.{IsKept};
 
 use crate::answers::Answer;
@@ -8,6 +8,7 @@ use crate::cases::{counts, links, number};
 use fr_net::laws::rows_law;
 use fr_net::{Net, NetFault, Turns};
 use serde_json::Value;
+use std::alloc::{AllocError, Global};
 
 /// Answers what is asked of links that may be those of a network. Whether it is that.
 pub fn answer(answer: &mut Answer, asked: &str, given: &[Value]) -> bool {
@@ -45,9 +46,16 @@ pub fn tell(answer: &mut Answer, made: Result<Net, NetFault>) {
     }
 }
 
+/// A list of the links of a network.
+fn listed(alloc: Global, net: &Net) -> Result<Vec<(u32, u32)>, AllocError>
+    ensures { IfOk result (λ listed. listed.items ≡ net.now.links) }
+{
+    net.links().collect(alloc)
+}
+
 /// Tells the links of a network.
 pub fn tell_links(answer: &mut Answer, net: &Net) {
-    match net.links(answer.alloc) {
+    match listed(answer.alloc, net) {
         Ok(links) => answer.put(&links),
         Err(fault) => answer.put(&fault),
     }
@@ -85,10 +93,8 @@ fn counted(answer: &mut Answer, nodes: &Value, given: &Value) {
 /// Tells how many links a network has, and whether it lists these.
 fn tell_count(answer: &mut Answer, net: &Net, links: &[(u32, u32)]) {
     answer.put(&net.link_count());
-    let same = match net.links(answer.alloc) {
-        Ok(listed) => listed.as_slice() == links,
-        Err(_) => false,
-    };
+    let shown = net.links();
+    let same = shown.len() == links.len() && shown.zip(links).all(|(shown, link)| shown == *link);
     answer.say(if same {
         " in the network, the same"
     } else {
@@ -146,7 +152,7 @@ pub fn tell_anew(answer: &mut Answer, net: &Net) {
 }
 
 fn anew(answer: &Answer, net: &Net) -> Result<Net, NetFault> {
-    let links = net.links(answer.alloc)?;
+    let links = listed(answer.alloc, net)?;
     Net::new(answer.alloc, net.nodes(), &links)
 }
 
@@ -173,7 +179,7 @@ fn turned(answer: &mut Answer, given: &Value, given_counts: &Value) {
 
 /// Tells the links that counts give, if each link stays or is reversed at them.
 fn turned_if_kept(answer: &mut Answer, net: Net, counts: Vec<u64>) {
-    match net.links(answer.alloc) {
+    match listed(answer.alloc, &net) {
         Ok(listed) if counts.len() == net.nodes() as usize && are_kept(&listed, &counts) => {
             tell_turned(answer, net, counts)
         }

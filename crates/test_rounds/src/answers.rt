@@ -1,7 +1,7 @@
 //! What came of a case, as text.
 
 use fr_net::Net;
-use std::alloc::Global;
+use std::alloc::{AllocError, Global};
 use std::fmt::{Debug, Write};
 
 /// A text that grows piece by piece. Where a piece finds no memory, the whole text says so, and no caller has to.
@@ -46,7 +46,8 @@ impl Answer {
 
     /// Puts the links of a network behind it.
     pub fn put_links(&mut self, alloc: Global, net: &Net) {
-        match net.links(alloc) {
+        let links: Result<Vec<(u32, u32)>, AllocError> = net.links().collect(alloc);
+        match links {
             Ok(links) => self.put("links ", &links),
             Err(_) => self.is_whole = false,
         }

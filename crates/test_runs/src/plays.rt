@@ -64,8 +64,8 @@ fn entries_on(alloc: Global, draw: Draw, seed: u64, net: &Net) -> Option<Vec<Ent
 fn schedule(alloc: Global, draw: Draw, seed: u64) -> Vec<u32> {
     let mut generator = Lcg64Xsh32::seed_from_u64(seed);
     let mut schedule = Vec::new(alloc);
-    for _step in 0..draw.steps() {
-        let _ = schedule.push(generator.next_word() % draw.workers());
+    for _step in 0..draw.steps {
+        let _ = schedule.push(generator.next_word() % draw.workers);
     }
     schedule
 }
@@ -73,8 +73,8 @@ fn schedule(alloc: Global, draw: Draw, seed: u64) -> Vec<u32> {
 /// The targets of the workers.
 fn targets(alloc: Global, draw: Draw, nodes: u32) -> Vec<Vec<Target>> {
     let mut targets = Vec::new(alloc);
-    for _worker in 0..draw.workers() {
-        let _ = targets.push(turns(alloc, draw.steps(), nodes));
+    for _worker in 0..draw.workers {
+        let _ = targets.push(turns(alloc, draw.steps, nodes));
     }
     targets
 }

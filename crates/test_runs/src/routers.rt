@@ -4,7 +4,7 @@ use crate::telling::{echo, put, put_word, tell, tell_value};
 use fr_crew::{OpenGate, Plan};
 use fr_net::{Net, Request, read_line};
 use fr_route::{Change, RouteFault, Router};
-use std::alloc::Global;
+use std::alloc::{AllocError, Global};
 use std::sync::Wait;
 use std::thread::Threads;
 
@@ -109,7 +109,8 @@ pub fn state_text(alloc: Global, router: &Router) -> String {
 }
 
 fn put_links(text: &mut String, alloc: Global, net: &Net) {
-    match net.links(alloc) {
+    let links: Result<Vec<(u32, u32)>, AllocError> = net.links().collect(alloc);
+    match links {
         Ok(links) => put(text, &links),
         Err(_) => put_word(text, " no memory"),
     }

@@ -8,8 +8,8 @@ use serde_json::Value;
 use std::alloc::Global;
 use std::fmt::Display;
 
-/// `["words", [word, ..]]`: the task that the words ask for, or the status and the text. `["words", [word, ..], begin, middle, end]`: the
-/// status, and whether the text begins, goes on and ends so.
+/// `["words", [word, ..]]`: the task that the words ask for, or the status, what was asked for, and the text.
+/// `["words", [word, ..], begin, middle, end]`: the same, but whether the text begins, goes on and ends so.
 pub fn tell_words<R: AllocGlobal + Print>(rt: &R, case: &Case<'_>) -> Option<()> {
     let words = texts_of(rt.alloc(), case.value(1)?.as_array()?);
     match task_of(rt.alloc(), &words) {
@@ -32,6 +32,11 @@ fn texts_of(alloc: Global, list: &[Value]) -> Vec<&str> {
 fn tell_end<R: Print>(rt: &R, fault: &TaskFault, case: &Case<'_>) {
     let (status, text) = task_end(fault);
     tell_value(rt, &status);
+    match fault {
+        TaskFault::Usage { asked: true, .. } => tell(rt, "help was asked for"),
+        TaskFault::Version { .. } => tell(rt, "the version was asked for"),
+        _ => {}
+    }
     let text = text.trim_end();
     match (case.text(2), case.text(3), case.text(4)) {
         (Some(begin), Some(middle), Some(end)) => {

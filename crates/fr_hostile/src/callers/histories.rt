@@ -5,7 +5,7 @@ ghost use Rattle.fr_core.specs.Runs.{IsRunTo};
 ghost use Rattle.fr_core.specs.Settled.{AreSettled};
 
 use fr_core::{CheckFault, Entry, check_run, finish};
-use fr_net::{Net, Turns};
+use fr_net::Net;
 use std::alloc::Global;
 
 /// The counts at which a history ends if whoever wrote it goes on: the settled ones, if each of its entries is legal.
@@ -19,7 +19,7 @@ pub fn goes_on_to(
 {
     // By the law there are few enough nodes.
     net.network_law();
-    let mut turns = Turns::of(alloc, check_run(alloc, net, dest, history)?)?;
-    let _made = finish(net, dest, &mut turns);
-    Ok(turns.into_counts())
+    let mut counts = check_run(alloc, net, dest, history)?;
+    let _made = finish(net, dest, &mut counts);
+    Ok(counts)
 }

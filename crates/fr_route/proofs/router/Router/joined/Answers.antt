@@ -7,8 +7,8 @@ use Rattle.fr_route.specs.States.{State}
 use Rattle.fr_route.proofs.Joining.{joined_by}
 use Rattle.fr_route.proofs.router.Router.joined.Goals as goal
 
-pub returns-clause-joined : goal.returns-clause-joined
-returns-clause-joined c =
+pub returns : goal.returns
+returns c =
     let s : State = state_of c.self.inside in
     let nodes = c.list_joined.new.nodes.items in
     let hops : AreHops s s.nodes c.deref.result.now = rw c.deref.ensures.value c.self.invariant.hops in
