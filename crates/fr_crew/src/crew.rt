@@ -7,7 +7,6 @@ ghost use Rattle.fr_crew.specs.Candidates.{IsCandidate};
 ghost use Rattle.fr_crew.specs.Crews.{IsSameWorker, IsOwnMember, IsOwnThread};
 ghost use Rattle.fr_crew.specs.declared.fault.CrewFault.TheVariants.{Range, Start};
 
-use crate::crowding::Crowding;
 use crate::deques::{Deque, Stealer};
 use crate::fault::CrewFault;
 use crate::gate::Gate;
@@ -15,8 +14,7 @@ use crate::members::{Member, Members, deal, equip, room_for};
 use crate::naming::Naming;
 use crate::plan::Plan;
 use crate::standing::Standing;
-use crate::working::Working;
-use fr_core::{MAX_WORKERS, Reply};
+use fr_core::Reply;
 use fr_round::{Round, Worker};
 use std::alloc::{AllocError, Global};
 use std::snapshot::Snapshot;
@@ -31,7 +29,6 @@ struct Job<J: Naming> {
     stealers: Vec<Stealer<J>>,
     standing: Standing<J>,
     budget: u64,
-    working: Working,
     ghost some_stealer: { 0 < vec_len stealers },
 }
 
@@ -60,35 +57,14 @@ struct Started {
     all: bool,
 }
 
-/// The next candidate of a worker: of its own, or else of another. Where there is none, the worker has ended.
+/// The next candidate of a worker: of its own, or else of another worker.
 fn next_candidate<J: Naming>(job: &Job<J>, deque: &mut Deque<J>) -> Option<u32>
-    requires { job.now.round.setup ≡ J.setup }
     ensures { IfSome result (IsCandidate J.setup) }
 {
-    deque.note_who_works(&job.round, &job.working);
     match deque.take(&job.standing) {
         Some(x) => Some(x),
-        None => steal_or_end(job, deque),
+        None => deque.steal(&job.standing, &job.stealers),
     }
-}
-
-/// A candidate of another worker, or none, and then the worker has ended. It looks once more where another ended while it looked, since
-/// that one may have left candidates behind.
-#[inline(never)]
-fn steal_or_end<J: Naming>(job: &Job<J>, deque: &mut Deque<J>) -> Option<u32>
-    ensures { IfSome result (IsCandidate J.setup) }
-{
-    for _ in 0..MAX_WORKERS {
-        let working = job.working.count();
-        if let Some(x) = deque.steal(&job.standing, &job.stealers) {
-            return Some(x);
-        }
-        if job.working.end_of(working) {
-            return None;
-        }
-    }
-    job.working.end();
-    None
 }
 
 /// A worker's call of this number, on a candidate, and what it makes candidates by that.
@@ -96,7 +72,6 @@ fn try_candidate<J: Naming, G: Gate>(
     job: &Job<J>,
     gate: &G,
     member: &mut Member<J>,
-    crowding: &mut Crowding,
     call: u64,
     x: u32,
 )
@@ -107,19 +82,12 @@ fn try_candidate<J: Naming, G: Gate>(
 {
     let Member { worker, deque } = member;
     let number = worker.number();
-    let knew = deque.is_alone() || worker.sees_sink(x);
     gate.before(number, call);
     let reply = job.round.try_turn(worker, x);
     gate.after(number, call);
     match reply {
-        Ok(Reply::Turned { .. }) => {
-            crowding.note(knew);
-            deque.put_neighbours(&job.standing, &job.round, x);
-        }
-        Ok(Reply::Moved { .. }) => {
-            crowding.note(false);
-            deque.put(&job.standing, x);
-        }
+        Ok(Reply::Turned { .. }) => deque.put_neighbours(&job.standing, &job.round, x),
+        Ok(Reply::Moved { .. }) => deque.put(&job.standing, x),
         // Whoever turns the neighbour that held it makes it a candidate again.
         Ok(Reply::Held { .. }) | Ok(Reply::Cut) => {}
         // No candidate is refused.
@@ -129,25 +97,19 @@ fn try_candidate<J: Naming, G: Gate>(
     }
 }
 
-/// What one worker does: it takes candidates and tries to turn them, until it finds none, its budget is spent, or it is one too many.
+/// What one worker does: it takes candidates and tries to turn them, until it finds none or its budget is spent.
 fn work<J: Naming, G: Gate>(job: &Job<J>, gate: &G, mut member: Member<J>) -> Worker
     requires named { job.now.round.setup ≡ J.setup }
     requires own { IsOwn job.now.round member.worker }
     ensures { IsSameWorker member.worker result }
 {
-    let mut crowding = Crowding::none();
     for made in 0..job.budget {
         // It stands in no deque before the call, so that a turn of a neighbour in the meantime makes it a candidate again.
         let Some(x) = next_candidate(job, &mut member.deque) else {
-            return member.worker;
+            break;
         };
-        try_candidate(job, gate, &mut member, &mut crowding, made + 1, x);
-        // What it leaves in its deque is for the others to steal.
-        if crowding.is_too_much() && job.working.end_but_last() {
-            return member.worker;
-        }
+        try_candidate(job, gate, &mut member, made + 1, x);
     }
-    job.working.end();
     member.worker
 }
 
@@ -314,16 +276,14 @@ pub(crate) fn run_crew<J: Naming + Send + Sync, R: Threads + Wait, G: Gate + Syn
     let Members {
         mut members,
         stealers,
-    } = equip::<J>(alloc, workers, room, plan.seed())?;
+    } = equip::<J>(alloc, &round, workers, room, plan.seed())?;
     let standing = Standing::none(alloc, &round)?;
-    let working = Working::new(members.len());
     deal(&round, &standing, &mut members, from);
     let job = Job {
         round,
         stealers,
         standing,
         budget: plan.budget(),
-        working,
     };
     let workers = run_threads(rt, alloc, &job, gate, members)?;
     let Job { round, .. } = job;

@@ -6,7 +6,6 @@ ghost use Rattle.fr_crew.specs.Candidates.{IsCandidate};
 use crate::naming::{Candidates, Naming};
 use crate::standing::Standing;
 use crate::unshared::Unshared;
-use crate::working::Working;
 use crossbeam_deque::{Steal, Worker};
 use fr_round::Round;
 use rand_core::SeedableRng;
@@ -20,14 +19,12 @@ const TRIES: u32 = 64;
 /// What other workers steal from a deque by.
 pub(crate) type Stealer<J> = crossbeam_deque::Stealer<u32, Global, (), Candidates<J>>;
 
-/// A worker's own deque, which gives first what was put first, and the draws that tell where the worker steals first. Once no other
-/// worker is left, what is put stands behind the rest in a queue that is not shared.
+/// A worker's own deque, which gives first what was put first, and the draws that name the deque from which the worker steals first.
+/// In a crew of one, a queue that is not shared takes its place.
 #[derive(Drop)]
 pub(crate) struct Deque<J: Naming> {
     own: Worker<u32, Global, (), Candidates<J>>,
     unshared: Option<Unshared<J>>,
-    is_alone: bool,
-    alloc: Global,
     number: usize,
     draws: Lcg64Xsh32,
 }
@@ -38,8 +35,6 @@ impl<J: Naming> Deque<J> {
         Ok(Deque {
             own: Worker::fifo_as(alloc, room)?,
             unshared: None,
-            is_alone: false,
-            alloc,
             number: number as usize,
             draws: Lcg64Xsh32::seed_from_u64(seed.wrapping_add(u64::from(number))),
         })
@@ -50,34 +45,25 @@ impl<J: Naming> Deque<J> {
         self.own.stealer()
     }
 
-    /// Shares no more of what is put, where just one worker has not ended: this one. All stays shared where there is no room for that.
-    pub fn note_who_works(&mut self, round: &Round, working: &Working)
+    /// From now on it shares nothing: for the only worker of a crew, before any candidate is put.
+    pub fn unshare(&mut self, alloc: Global, round: &Round) -> Result<(), AllocError>
         requires { round.now.setup ≡ J.setup }
     {
-        if !self.is_alone && working.count() == 1 {
-            self.is_alone = true;
-            self.unshared = Unshared::new(self.alloc, round).ok();
-        }
-    }
-
-    /// Whether it was noted that no other worker works.
-    pub fn is_alone(&self) -> bool {
-        self.is_alone
+        self.unshared = Some(Unshared::new(alloc, round)?);
+        Ok(())
     }
 
     /// Puts a candidate at the end, unless it stands in a deque. One that finds no memory is dropped, and so left to the finisher or to
-    /// who puts it next.
+    /// the worker that puts it next.
     #[inline(always)]
     pub fn put(&mut self, standing: &Standing<J>, x: u32)
         requires { IsCandidate J.setup x }
     {
-        // Most stand in a deque already, and to look is cheaper than an exchange.
-        if standing.has(x) {
-            return;
-        }
-        match &mut self.unshared {
-            Some(unshared) => unshared.put(x),
-            None => self.share(standing, x),
+        if let Some(unshared) = &mut self.unshared {
+            unshared.put(x);
+        } else if !standing.has(x) {
+            // Most stand in a deque already, and to look is cheaper than an exchange.
+            self.share(standing, x);
         }
     }
 
@@ -109,14 +95,12 @@ impl<J: Naming> Deque<J> {
     pub fn take(&mut self, standing: &Standing<J>) -> Option<u32>
         ensures { IfSome result (IsCandidate J.setup) }
     {
-        if let Some(x) = self.own.pop_as::<Candidates<J>>() {
-            standing.leaves(x);
-            return Some(x);
+        if let Some(unshared) = &mut self.unshared {
+            return unshared.take();
         }
-        match &mut self.unshared {
-            Some(unshared) => unshared.take(),
-            None => None,
-        }
+        let x = self.own.pop_as::<Candidates<J>>()?;
+        standing.leaves(x);
+        Some(x)
     }
 
     /// A candidate of another worker, which stands in no deque then.

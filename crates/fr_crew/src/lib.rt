@@ -10,7 +10,6 @@
 #![tactic(auto)]
 
 mod crew;
-mod crowding;
 mod deques;
 mod fault;
 mod gate;
@@ -22,7 +21,6 @@ mod settlement;
 mod standing;
 mod unshared;
 mod ways;
-mod working;
 
 pub use fault::CrewFault;
 pub use gate::{Gate, OpenGate};

@@ -25,22 +25,28 @@ pub(crate) struct Members<J: Naming> {
     pub stealers: Vec<Stealer<J>>,
 }
 
-/// Gives each worker a deque of its own, with room for so many candidates at first.
+/// Gives each worker a deque of its own, with room for so many candidates at first. The only worker of a crew shares nothing.
 pub(crate) fn equip<J: Naming>(
     alloc: Global,
+    round: &Round,
     workers: Vec<Worker>,
     room: usize,
     seed: u64,
 ) -> Result<Members<J>, AllocError>
+    requires named { round.now.setup ≡ J.setup }
     ensures own { IfOk result (λ all. (round : OpenRound) → Each (IsOwn round) workers.items → Each (IsOwnMember round) all.members.items) }
     ensures members { IfOk result (λ all. vec_len all.members ≡ vec_len workers) }
     ensures stealers { IfOk result (λ all. vec_len all.stealers ≡ vec_len workers) }
 {
+    let is_one = workers.len() == 1;
     let mut members = Vec::with_capacity(alloc, workers.len())?;
     let mut stealers = Vec::with_capacity(alloc, workers.len())?;
     for worker in workers {
-        let deque = Deque::new(alloc, room, seed, worker.number())?;
+        let mut deque = Deque::new(alloc, room, seed, worker.number())?;
         stealers.push(deque.stealer()?)?;
+        if is_one {
+            deque.unshare(alloc, round)?;
+        }
         members.push(Member { worker, deque })?;
     }
     Ok(Members { members, stealers })

@@ -1,4 +1,4 @@
-//! Candidates that the last worker keeps to itself.
+//! The candidates of a crew of one, which are shared with nobody.
 
 ghost use Rattle.std.specs.Prelude.{◌≡◌, All, IfSome, vec_len};
 ghost use Rattle.fr_crew.specs.Candidates.{IsCandidate};
@@ -21,18 +21,19 @@ pub(crate) struct Unshared<J: Naming> {
 }
 
 impl<J: Naming> Unshared<J> {
-    /// An empty queue.
+    /// An empty queue, with room for all nodes, so that it never grows.
     pub fn new(alloc: Global, round: &Round) -> Result<Unshared<J>, AllocError>
         requires { round.now.setup ≡ J.setup }
     {
+        let nodes = round.net().nodes() as usize;
         Ok(Unshared {
-            queue: VecDeque::new(alloc),
-            stands: vec![in alloc; false; round.net().nodes() as usize]?,
+            queue: VecDeque::with_capacity(alloc, nodes)?,
+            stands: vec![in alloc; false; nodes]?,
             of: PhantomData,
         })
     }
 
-    /// Puts a candidate at the end, unless it stands there. One that finds no memory is dropped.
+    /// Puts a candidate at the end, unless it stands there.
     #[inline(always)]
     pub fn put(&mut self, x: u32)
         requires { IsCandidate J.setup x }

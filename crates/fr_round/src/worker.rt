@@ -1,13 +1,13 @@
 //! The workers of a round.
 
-ghost use Rattle.std.specs.Prelude.{◌≡◌, ◌<◌, ◌≤◌, ◌↔◌, ℕ, [], IsTrue, true, slice_index};
+ghost use Rattle.std.specs.Prelude.{◌≡◌, ◌<◌, ◌≤◌, ℕ, [], true, slice_index};
 ghost use Rattle.fr_core.specs.History.{part, turn_count};
 ghost use Rattle.fr_core.specs.Replies.{IsReplyToTurn, IsReplyToLook};
 ghost use Rattle.fr_core.specs.Targets.{IsTurnable, IsLookable};
 ghost use Rattle.fr_round.specs.Setups.{setup_of};
 ghost use Rattle.fr_round.specs.Histories.{entry};
 ghost use Rattle.fr_round.specs.Steps.{Extends};
-ghost use Rattle.fr_round.specs.Missing.{missing_of, IsCounted};
+ghost use Rattle.fr_round.specs.Missing.{IsCounted};
 ghost use Rattle.fr_round.specs.Calls.{ShowsCount, IsNewView};
 ghost use Rattle.fr_round.specs.Knowledge.{IsKnowledge, new_worker};
 ghost use Rattle.fr_round.specs.Closing.{number_and_known};
@@ -91,15 +91,6 @@ impl Worker {
         ensures known { IsKnowledge self.now }
     {
         self.seen.count(x)
-    }
-
-    /// Whether node `x`, which has to be one, is a sink by the counts that the worker has seen: none of its neighbours misses its bound.
-    /// Then a call to turn it begins with the exchange. It takes no step. `O(1)`.
-    pub fn sees_sink(&self, x: u32) -> bool
-        requires { x < self.now.setup.nodes }
-        ensures { IsTrue result ↔ (missing_of self.now.setup.nodes self.now.setup.links self.now.seen x ≡ 0) }
-    {
-        self.seen.all_meet(x)
     }
 
     /// One call to turn node `x`, on the words of its own round.

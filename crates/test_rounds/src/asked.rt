@@ -9,7 +9,7 @@ use std::alloc::Global;
 use std::sync::Wait;
 use std::thread::Threads;
 
-/// What a case can ask for. The last seven are threads and gates, which are no data.
+/// What a case can ask for. The last nine are threads and gates, which are no data.
 #[derive(Clone, Copy)]
 enum Asked {
     Open,
@@ -27,13 +27,15 @@ enum Asked {
     WalksBesideTwoThreads,
     Told,
     Held,
+    ChainHeld,
+    InTurn,
     OddHeld,
     Slow,
     TriedAgain,
 }
 
 /// The words that ask.
-const WORDS: [(&str, Asked); 18] = [
+const WORDS: [(&str, Asked); 20] = [
     ("open", Asked::Open),
     ("calls", Asked::Calls),
     ("walk", Asked::Walk),
@@ -49,6 +51,8 @@ const WORDS: [(&str, Asked); 18] = [
     ("walks beside two threads", Asked::WalksBesideTwoThreads),
     ("told", Asked::Told),
     ("held", Asked::Held),
+    ("chain held", Asked::ChainHeld),
+    ("in turn", Asked::InTurn),
     ("odd held", Asked::OddHeld),
     ("slow", Asked::Slow),
     ("tried again", Asked::TriedAgain),
@@ -91,6 +95,8 @@ fn put_answer<R: Threads + Wait + Sync + Alloc<A = Global>>(
         Asked::WalksBesideTwoThreads => threads::walk_beside_two(rt, text),
         Asked::Told => gates::told(rt, text, case),
         Asked::Held => gates::one_held(rt, text, case),
+        Asked::ChainHeld => gates::chain_held(rt, text, case),
+        Asked::InTurn => gates::in_turn(rt, text, case),
         Asked::OddHeld => gates::odd_held(rt, text),
         Asked::Slow => gates::slow(rt, text),
         Asked::TriedAgain => gates::tried_again(rt, text),

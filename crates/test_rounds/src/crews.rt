@@ -118,6 +118,17 @@ pub fn long_chain(alloc: Global, nodes: u32, first: u32) -> Result<Net, Fault> {
     Ok(Net::new(alloc, nodes, &links)?)
 }
 
+/// A chain of so many nodes that is settled but for its first link, which points away from node 0. Each node turns once, as soon as the
+/// one before it has turned.
+pub fn wave(alloc: Global, nodes: u32) -> Result<Net, Fault> {
+    let mut links = Vec::new(alloc);
+    links.push((0, 1))?;
+    for x in 1..nodes.saturating_sub(1) {
+        links.push((x + 1, x))?;
+    }
+    Ok(Net::new(alloc, nodes, &links)?)
+}
+
 /// `["long chain", nodes, first, workers, budget]`: who makes how many turns of the chain of all nodes from the first on.
 pub fn settle_chain<R: Threads + Wait + Sync + Alloc<A = Global>>(
     rt: &R,

@@ -2,9 +2,9 @@
 //! who is slow.
 
 use crate::answers::Answer;
-use crate::crews::{long_chain, named_plan, plan, put_turns, settle_from_zero};
+use crate::crews::{long_chain, named_plan, plan, put_turns, settle_from_zero, wave};
 use crate::fault::Fault;
-use crate::values::{network, small_number};
+use crate::values::{network, number, small_number};
 use fr_crew::{Gate, Plan, Settled, settle};
 use fr_net::Net;
 use serde_json::Value;
@@ -19,10 +19,10 @@ const LIMIT: u64 = 1_000_000_000;
 /// Two ways from node 0 to node 3.
 const SQUARE: [(u32, u32); 4] = [(0, 1), (0, 2), (1, 3), (2, 3)];
 
-/// Waits until this is counted once, and says whether that came before the limit.
-fn comes(counted: &AtomicU64) -> bool {
+/// Waits until so many are counted, and says whether that came before the limit.
+fn reaches(counted: &AtomicU64, count: u64) -> bool {
     for _ in 0..LIMIT {
-        if counted.load(Ordering::SeqCst) > 0 {
+        if counted.load(Ordering::SeqCst) >= count {
             return true;
         }
     }
@@ -68,7 +68,7 @@ impl HoldingGate {
     }
 
     fn wait(&self) {
-        if !comes(&self.answered) {
+        if !reaches(&self.answered, 1) {
             self.reached.fetch_add(1, Ordering::SeqCst);
         }
     }
@@ -125,7 +125,7 @@ impl Gate for CrossingGate {
     fn before(&self, worker: u32, call: u64) {
         match (worker, call) {
             (0, 1) => {
-                comes(&self.answered);
+                reaches(&self.answered, 1);
             }
             (0, 2) => {
                 self.came.fetch_add(1, Ordering::SeqCst);
@@ -137,7 +137,63 @@ impl Gate for CrossingGate {
     fn after(&self, worker: u32, call: u64) {
         if (worker, call) == (1, 1) {
             self.answered.fetch_add(1, Ordering::SeqCst);
-            comes(&self.came);
+            reaches(&self.came, 1);
+        }
+    }
+}
+
+/// A gate by which so many workers make their first calls in turn, worker 1 first and worker 0 last, and so many calls each. It lets all
+/// later calls pass. Once a worker has waited to the limit, nobody waits any more.
+#[derive(Drop)]
+struct TakingTurnsGate {
+    workers: u64,
+    calls: u64,
+    answered: AtomicU64,
+    reached: AtomicU64,
+}
+
+impl TakingTurnsGate {
+    fn new(workers: u32, calls: u64) -> TakingTurnsGate {
+        TakingTurnsGate {
+            workers: u64::from(workers),
+            calls,
+            answered: AtomicU64::new(0),
+            reached: AtomicU64::new(0),
+        }
+    }
+
+    /// How many calls come before this one, if it is one of those that are made in turn.
+    fn calls_before(&self, worker: u32, call: u64) -> Option<u64> {
+        if call > self.calls {
+            return None;
+        }
+        let of_others = match u64::from(worker).checked_sub(1) {
+            Some(before) => before,
+            None => self.workers.checked_sub(1)?,
+        };
+        call.checked_sub(1)?
+            .checked_mul(self.workers)?
+            .checked_add(of_others)
+    }
+
+    /// Whether no worker waited to the limit.
+    fn was_kept(&self) -> bool {
+        self.reached.load(Ordering::SeqCst) == 0
+    }
+}
+
+impl Gate for TakingTurnsGate {
+    fn before(&self, worker: u32, call: u64) {
+        if let Some(calls) = self.calls_before(worker, call) {
+            if self.was_kept() && !reaches(&self.answered, calls) {
+                self.reached.fetch_add(1, Ordering::SeqCst);
+            }
+        }
+    }
+
+    fn after(&self, worker: u32, call: u64) {
+        if self.calls_before(worker, call).is_some() {
+            self.answered.fetch_add(1, Ordering::SeqCst);
         }
     }
 }
@@ -275,6 +331,41 @@ pub fn one_held<R: Threads + Wait + Sync + Alloc<A = Global>>(
     let it = settled_square(rt, &gate)?;
     text.put("counts ", &it.counts);
     text.put(", passed ", &gate.was_passed());
+    Ok(())
+}
+
+/// `["chain held", workers, worker, other, call]`: the long chain, where one worker is held until this call of the other is answered. Who made
+/// how many turns, and whether the gate was passed.
+pub fn chain_held<R: Threads + Wait + Sync + Alloc<A = Global>>(
+    rt: &R,
+    text: &mut Answer,
+    asked: &[Value],
+) -> Result<(), Fault> {
+    let [workers, held, until, call] = asked else {
+        return Err(Fault::NoCase);
+    };
+    let plan = plan(small_number(workers)?, 1_000_000)?;
+    let until = (small_number(until)?, number(call)?);
+    let gate = HoldingGate::new(Held::One(small_number(held)?), until);
+    settle_from_zero(rt, text, long_chain(rt.alloc(), 1024, 0)?, &plan, &gate)?;
+    text.put(", passed ", &gate.was_passed());
+    Ok(())
+}
+
+/// `["in turn", workers, calls]`: the wave through 1,024 nodes, where the workers make so many calls each in turn. Who made how many turns, and
+/// whether no worker had to wait for one that made fewer calls.
+pub fn in_turn<R: Threads + Wait + Sync + Alloc<A = Global>>(
+    rt: &R,
+    text: &mut Answer,
+    asked: &[Value],
+) -> Result<(), Fault> {
+    let [workers, calls] = asked else {
+        return Err(Fault::NoCase);
+    };
+    let plan = plan(small_number(workers)?, 1_000_000)?;
+    let gate = TakingTurnsGate::new(plan.workers(), number(calls)?);
+    settle_from_zero(rt, text, wave(rt.alloc(), 1024)?, &plan, &gate)?;
+    text.put(", in turn ", &gate.was_kept());
     Ok(())
 }
 

@@ -1,4 +1,3 @@
-use Rattle.std.proofs.Common.{arith}
 use Rattle.fr_crew.specs.Candidates.{IsCandidate}
 use Rattle.fr_crew.proofs.Candidates.{takes, pops}
 use Rattle.fr_crew.proofs.deques.Deque.take.Goals as goal
@@ -8,6 +7,3 @@ pop_as-requires-clause-fifo g c = λ _. takes (IsCandidate g.J.Naming.setup) _ t
 
 pub pop_as-requires-clause-lifo : goal.pop_as-requires-clause-lifo
 pop_as-requires-clause-lifo g c = λ _. pops (IsCandidate g.J.Naming.setup) _ tt
-
-pub returns-in-Some : goal.returns-in-Some
-returns-in-Some g c = c.in-Some.ensures.rule 0 c.in-Some.x (omega arith)
