@@ -1,12 +1,9 @@
-//! Networks for link reversal: nodes and directed links among which no closed walk stands, and the lines of JSON that
-//! ask for them.
+//! Networks for link reversal: nodes, and directed links that contain no cycle.
 //!
-//! A [`Net`] is made by [`Net::new`], which names the first fault of links that make no network. Layers above
-//! read it by `nodes`, `links`, `degree`, `neighbour` and `row`, make one network of another by `copied`, `with_cut`, `with_link`,
-//! `with_join`, `with_edits` and `turned_by`, and change one where it stands by `edit_if` and `turn`, the latter by [`Turns`], a table of
-//! how often each node has turned. What its rows show is the law
-//! [`rows_law`](laws::rows_law), and which way a link can point the law [`join_law`](laws::join_law). [`read_line`] reads a request,
-//! and a [`LineReader`] line after line.
+//! [`Net::new`] makes a [`Net`], or names the first fault of the links. Layers above read a network by `nodes`, `links`, `degree`, `neighbour`
+//! and `row`. They make one network from another by `copied`, `with_cut`, `with_link`, `with_join`, `with_edits` and `turned_by`, and change one in
+//! place by `edit_if` and `turn`; `turn` takes [`Turns`], a table of how often each node has turned. The law
+//! [`rows_law`](laws::rows_law) says what the rows of a network show, and [`join_law`](laws::join_law) which way a link can point.
 //!
 //! Costs are told for n nodes, m links, and d links at a node, as read off the code.
 #![tactic(auto)]

@@ -115,7 +115,7 @@ fn seed_in(options: &ArgMatches) -> Option<u64>
     options.get_one::<u64>("seed")
 }
 
-/// What `clap` says of the words that it does not take.
+/// The fault for words that `clap` does not take, with a text made from the text of `clap`. No clause says what the text is.
 fn usage_of(alloc: Global, error: &Error) -> TaskFault
     ensures { IsUsageOf (kind_of error.now) result }
 {
