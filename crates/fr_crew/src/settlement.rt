@@ -40,10 +40,10 @@ pub struct Settled {
 /// Each worker has a deque of candidates. At first these are all nodes with a link but the destination, each dealt to the worker
 /// whose number is the node's modulo the number of workers. A worker takes a candidate of its own, or else steals one from another
 /// worker, and tries to turn it. It makes candidates of its own of all neighbours but the destination where it did, and of the node
-/// itself where another worker was faster; but none that stands in a deque is put again. It ends as soon as it finds no candidate, or
-/// its budget is spent, or too many of the nodes that it turns were made sinks by others; but not the last, which takes what they
-/// leave. No thread is started by a crew of one, nor where no node can turn at all, nor where no worker may make a call. There is no
-/// lock, and the crew waits only for its threads to end.
+/// itself where another worker was faster; but none that stands in a deque is put again. It ends when it finds no
+/// candidate, or when its budget is spent. Only in the second case does it leave candidates in its deque. No thread is started by a crew of
+/// one, nor where no node can turn at all, nor where no worker may make a call. There is no lock, and the crew waits only for its threads
+/// to end.
 ///
 /// `Range` where the destination is no node, which is tested first. The room for the whole round, but for that by which deques grow, is
 /// taken before the first thread is started, and `Memory` answered where there is none; after that the only fault is `Start`, since a
