@@ -14,6 +14,7 @@ use std::thread::Threads;
 enum Asked {
     Open,
     Calls,
+    OneWorker,
     Walk,
     Plan,
     SamePlans,
@@ -33,9 +34,10 @@ enum Asked {
 }
 
 /// The words that ask.
-const WORDS: [(&str, Asked); 18] = [
+const WORDS: [(&str, Asked); 19] = [
     ("open", Asked::Open),
     ("calls", Asked::Calls),
+    ("one worker", Asked::OneWorker),
     ("walk", Asked::Walk),
     ("plan", Asked::Plan),
     ("same plans", Asked::SamePlans),
@@ -78,6 +80,7 @@ fn put_answer<R: Threads + Wait + Sync + Alloc<A = Global>>(
     match named(word(first)?, &WORDS)? {
         Asked::Open => rounds::open(rt.alloc(), text, case),
         Asked::Calls => rounds::calls(rt.alloc(), text, case),
+        Asked::OneWorker => rounds::one_worker(rt.alloc(), text, case),
         Asked::Walk => live_walks::walk(rt.alloc(), text, case),
         Asked::Plan => crews::plan_of(text, case),
         Asked::SamePlans => crews::same_plans(text, case),
