@@ -89,11 +89,11 @@ module _ (first mid : Talk) (piece : List ℕ) (done : ℕ) (u v : Option (List 
   }
 
   -- or it stops there
-  pub stops_later : (Holds : List ℕ → Type 0) (new : Talk) (w : Option (List ℕ)) → new ≡ mid → Keeps v w → Holds (carried mid (drop done piece)) → StopsInPiece Holds first piece new u w
+  pub stops_later : (Holds : List ℕ → List ℕ → Type 0) (new : Talk) (w : Option (List ℕ)) → new ≡ mid → Keeps v w → Holds (carried mid (drop done piece)) (drop done piece) → StopsInPiece Holds first piece new u w
   stops_later Holds new w same kept holds = record {
     count = done;
     says = subst (λ (t : Talk). Says first (take done piece) t u w) (sym same) (says_kept first mid (take done piece) u v w h kept);
-    holds = subst (λ (t : Talk). Holds (carried t (drop done piece))) (sym same) holds;
+    holds = subst (λ (t : Talk). Holds (carried t (drop done piece)) (drop done piece)) (sym same) holds;
   }
 
 -- a line that is not blank has a byte
@@ -180,9 +180,10 @@ module _ (bytes : List ℕ) (talk : Talk) (u v : Option (List ℕ)) (h : Says si
           writes = Appends-trans u v w h.text k.out h.writes k.writes;
         }
 
-    module _ (Holds : List ℕ → Type 0) (new : Talk) (k : StopsInPiece Holds talk piece new v w) where
-      -- or it stops at a line
-      pub piece_stopped : (line : List ℕ) × AnswersBefore (bytes ++ piece) line u w × Holds line
+    module _ (Holds : List ℕ → List ℕ → Type 0) (new : Talk) (k : StopsInPiece Holds talk piece new v w) where
+      -- or it stops at a line, behind which there is none where what is left of the piece does not end it
+      pub piece_stopped : (line : List ℕ) × (stop : AnswersBefore (bytes ++ piece) line u w) × Holds line (drop k.count piece)
+          × (lines_of (drop k.count piece) ≡ drop k.count piece ∷ [] → stop.behind ≡ [])
       piece_stopped =
           let front = take k.count piece in
           let rest = drop k.count piece in
@@ -201,7 +202,7 @@ module _ (bytes : List ℕ) (talk : Talk) (u v : Option (List ℕ)) (h : Says si
             are_answers = said.takes.are_answers;
             writes = said.writes;
           } in
-          (carried new rest, answers, k.holds)
+          (carried new rest, answers, k.holds, λ one. ap (λ (ls : List (List ℕ)). drop 1 ls) (sym first.1 ∙ one))
 
       -- which is all that the bytes have behind the last end, where these were few
       pub stopped_at_last : length talk.begun + length piece ≤ most_bytes + 1 → most_bytes < length (carried new (drop k.count piece))

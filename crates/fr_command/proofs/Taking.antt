@@ -1,6 +1,7 @@
 -- What a conversation has taken, and the text that it has answered.
-use Rattle.std.proofs.Common.{◌≡◌, ◌∙◌, ℕ, List, [], ◌∷◌, ◌++◌, append_assoc, refl, sym, ap, subst, Option, None}
+use Rattle.std.proofs.Common.{◌≡◌, ◌∙◌, ℕ, List, [], ◌∷◌, ◌++◌, append_assoc, refl, sym, ap, subst, true, Option, None}
 use Rattle.std.proofs.lemmas.List.{same_from_push}
+use Rattle.fr_route.specs.Blank.{is_blank}
 use Rattle.fr_route.specs.States.{State}
 use Rattle.fr_bytes.specs.Lines.{lines_of}
 use Rattle.fr_route.specs.Answers.{AreAnswers}
@@ -67,3 +68,7 @@ takes_line old held new bytes front text alone ended begun state end = record {
   cut = line_goes_on old.begun bytes front ([] ∷ []) alone ended ∙ (λ i. sym begun i ∷ sym end.1 i ∷ []);
   are_answers = subst (λ (s : Option State). AreAnswers s (held.begun ∷ []) text new.state) state end.0;
 }
+
+-- a blank line that ends has no answer
+pub blank_ends : (held new : Talk) → is_blank held.begun ≡ true → new.state ≡ held.state → new.begun ≡ [] → Ends held [] new
+blank_ends held new blank state begun = (rw blank (refl, state), begun)

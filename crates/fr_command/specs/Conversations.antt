@@ -1,8 +1,9 @@
 -- What a conversation holds between the pieces of an input, and what it answers to them.
-use Rattle.std.specs.Prelude.{◌≡◌, ◌==◌, ℕ, ◌+◌, List, [], ◌∷◌, ◌++◌, length, min, Option, None, String, string_bytes}
+use Rattle.std.specs.Prelude.{◌≡◌, ◌≢◌, ◌==◌, ℕ, ◌+◌, true, List, [], ◌∷◌, ◌++◌, length, min, Option, None, String, string_bytes}
 use Rattle.std.specs.List.{before_first, position_or_len}
 use Rattle.std.specs.Option.{option_map_or}
 use Rattle.std.specs.Io.KnownBytes.{Appends}
+use Rattle.fr_route.specs.Blank.{is_blank}
 use Rattle.fr_route.specs.States.{State}
 use Rattle.fr_bytes.specs.Lines.{lines_of}
 use Rattle.fr_route.specs.Answers.{AreAnswers}
@@ -29,6 +30,10 @@ Ends old text new = AreAnswers old.state (old.begun ∷ []) text new.state × (n
 -- the line that has begun, as far as this piece carries it on
 abbrev pub carried : Talk → List ℕ → List ℕ
 carried talk piece = talk.begun ++ before_first (λ x. x == 10) piece
+
+-- memory may be wanted for a line in whose front or end these bytes stand: it has a byte, and if it is blank, it does not end in them
+abbrev pub MayWantMemory : List ℕ → List ℕ → Type 0
+MayWantMemory line bytes = (line ≢ []) × (is_blank line ≡ true → lines_of bytes ≡ bytes ∷ [])
 
 -- how many bytes of a piece are in its first line, with the byte 10 that ends it
 abbrev pub line_size : List ℕ → ℕ

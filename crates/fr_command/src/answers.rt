@@ -8,6 +8,7 @@ ghost use Rattle.fr_route.specs.Answers.{AreAnswers};
 ghost use Rattle.fr_bytes.specs.Bytes.{IsBeginning};
 ghost use Rattle.fr_command.specs.Outputs.{WritesOutput, WritesBeginning, StopsAtLine};
 
+use crate::fault::run_fault;
 use fr_bytes::{Lines, RunFault, write_whole};
 use fr_crew::{Gate, Plan};
 use fr_route::{AnswerFault, Session};
@@ -92,8 +93,7 @@ fn answer_one<T: Threads + Wait + Sync, W: Write, G: Gate + Sync>(
             Ok(1)
         }
         Ok(None) => Ok(0),
-        Err(AnswerFault::Start) => Err(RunFault::Start),
-        Err(AnswerFault::Memory) => Err(RunFault::Memory),
+        Err(fault) => Err(run_fault(fault)),
     }
 }
 

@@ -1,14 +1,15 @@
 //! A conversation: the bytes of an input come in pieces that are cut anywhere, and each line is answered once its end has come.
 
-ghost use Rattle.std.specs.Prelude.{◌≡◌, ◌≢◌, ◌<◌, ◌≤◌, ◌+◌, ◌++◌, ◌∷◌, [], length, take, false, IfOk, OnOk, OnErr};
-ghost use Rattle.fr_route.specs.Blank.{is_blank};
+ghost use Rattle.std.specs.Prelude.{◌≡◌, ◌≢◌, ◌<◌, ◌≤◌, ◌+◌, ◌++◌, ◌↔◌, ◌∷◌, [], length, take, false, true, IfOk, OnOk, OnErr};
+ghost use Rattle.fr_route.specs.Blank.{is_blank as is_blank_line};
 ghost use Rattle.fr_bytes.specs.Lines.{lines_of};
 ghost use Rattle.fr_bytes.specs.Bytes.{most_bytes};
-ghost use Rattle.fr_command.specs.Conversations.{Takes, Ends, silence, carried, line_size, text_of};
+ghost use Rattle.fr_command.specs.Conversations.{Takes, Ends, MayWantMemory, silence, carried, line_size, text_of};
 
+use crate::fault::run_fault;
 use fr_bytes::{MAX_BYTES, RunFault, front_size};
 use fr_crew::{Gate, Plan};
-use fr_route::{AnswerFault, Session};
+use fr_route::{Session, is_blank};
 use std::alloc::Global;
 use std::marker::Model;
 use std::sync::Wait;
@@ -88,14 +89,22 @@ impl Conversation {
         ensures within { OnOk result (length (carried self.old piece.now) ≤ most_bytes) }
         ensures unchanged { OnErr result (self.new ≡ self.old) }
         ensures too_long { result ≡ Err RunFault.TooLong → most_bytes < length (carried self.old piece.now) }
-        ensures start { result ≡ Err RunFault.Start → is_blank (carried self.old piece.now) ≡ false }
-        ensures memory { result ≡ Err RunFault.Memory → carried self.old piece.now ≢ [] }
+        ensures start { result ≡ Err RunFault.Start → is_blank_line (carried self.old piece.now) ≡ false }
+        ensures memory { result ≡ Err RunFault.Memory → MayWantMemory (carried self.old piece.now) piece.now }
         ensures no_start { plan.now.budget ≡ 0 → result ≢ Err RunFault.Start }
         ensures no_read { result ≢ Err RunFault.Read }
         ensures no_write { result ≢ Err RunFault.Write }
     {
         let kept = self.begun.len();
         let end = front_size(piece);
+        // Before the line is held, so that a blank one takes no memory.
+        if self.ends_blank(piece, end) {
+            self.begun.clear();
+            return Ok(Taken {
+                count: end + 1,
+                answer: None,
+            });
+        }
         self.hold(&piece[..end])?;
         if end == piece.len() {
             return Ok(Taken {
@@ -125,7 +134,7 @@ impl Conversation {
         gate: &G,
     ) -> Result<Option<String>, RunFault>
         ensures ends { IfOk result (λ answer. Ends self.old (text_of answer) self.new) }
-        ensures unchanged { OnErr result ((is_blank self.old.begun ≡ false) × (self.new ≡ self.old)) }
+        ensures unchanged { OnErr result ((is_blank_line self.old.begun ≡ false) × (self.new ≡ self.old)) }
         ensures no_start { plan.now.budget ≡ 0 → result ≢ Err RunFault.Start }
         ensures no_read { result ≢ Err RunFault.Read }
         ensures no_write { result ≢ Err RunFault.Write }
@@ -136,9 +145,20 @@ impl Conversation {
                 self.begun.clear();
                 Ok(answer)
             }
-            Err(AnswerFault::Start) => Err(RunFault::Start),
-            Err(AnswerFault::Memory) => Err(RunFault::Memory),
+            Err(fault) => Err(run_fault(fault)),
         }
+    }
+
+    /// Whether the line that has begun goes on with this front of a piece, ends there, is blank, and is no longer than may be.
+    fn ends_blank(&self, piece: &[u8], front: usize) -> bool
+        requires { front ≤ length piece.now }
+        ensures { (result ≡ true) ↔ ((front < length piece.now) × (is_blank_line (self.now.begun ++ take front piece.now) ≡ true)
+            × (length (self.now.begun ++ take front piece.now) ≤ most_bytes)) }
+    {
+        front < piece.len()
+            && front <= MAX_BYTES - self.begun.len()
+            && is_blank(&self.begun)
+            && is_blank(&piece[..front])
     }
 
     /// Holds bytes without a line end behind those of the line that has begun.
@@ -148,7 +168,7 @@ impl Conversation {
         ensures within { OnOk result (length self.old.begun + length bytes.now ≤ most_bytes) }
         ensures unchanged { OnErr result (self.new ≡ self.old) }
         ensures too_long { result ≡ Err RunFault.TooLong → most_bytes < length self.old.begun + length bytes.now }
-        ensures memory { result ≡ Err RunFault.Memory → bytes.now ≢ [] }
+        ensures memory { result ≡ Err RunFault.Memory → (bytes.now ≢ []) × (length self.old.begun + length bytes.now ≤ most_bytes) }
         ensures no_read { result ≢ Err RunFault.Read }
         ensures no_write { result ≢ Err RunFault.Write }
         ensures no_start { result ≢ Err RunFault.Start }

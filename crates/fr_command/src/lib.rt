@@ -11,6 +11,7 @@
 mod answers;
 mod conversation;
 mod entries;
+mod fault;
 pub mod laws;
 mod play;
 mod runs;

@@ -1,12 +1,12 @@
 //! Serving: each line of an input is answered before more is read.
 
-ghost use Rattle.std.specs.Prelude.{◌≡◌, ◌≢◌, ◌<◌, ◌≤◌, ◌+◌, ◌++◌, ◌∷◌, [], ℕ, List, length, take, false, IfOk, OnOk, OnErr, IfErr};
+ghost use Rattle.std.specs.Prelude.{◌≡◌, ◌≢◌, ◌<◌, ◌≤◌, ◌+◌, ◌++◌, ◌∷◌, [], ℕ, List, length, take, false, true, IfOk, OnOk, OnErr, IfErr};
 ghost use Rattle.std.specs.Io.KnownBytes.{Appends, Consumes, IsAtEnd, Keeps};
 ghost use Rattle.fr_route.specs.Blank.{is_blank};
 ghost use Rattle.fr_command.specs.Outputs.{asking_count, WritesOutput, WritesBeginning};
 ghost use Rattle.fr_bytes.specs.Lines.{lines_of};
 ghost use Rattle.fr_bytes.specs.Bytes.{most_bytes, IsBeginning};
-ghost use Rattle.fr_command.specs.Conversations.{Talk, Takes, Ends, Says, AnswersBefore, silence, carried, line_size, text_of};
+ghost use Rattle.fr_command.specs.Conversations.{Talk, Takes, Ends, Says, AnswersBefore, MayWantMemory, silence, carried, line_size, text_of};
 ghost use Rattle.fr_command.specs.InPieces.{StopsInPiece, BeginsInPiece};
 
 use crate::conversation::Conversation;
@@ -56,8 +56,8 @@ pub fn serve<T: Threads + Wait + Sync, R: Read, W: Write, G: Gate + Sync>(
     ensures no_start { plan.now.budget ≡ 0 → result ≢ Err RunFault.Start }
     ensures memory { result ≡ Err RunFault.Memory → (bytes : List ℕ) × (line : List ℕ)
         × Consumes (R.remaining reader.old) (R.remaining reader.new) bytes
-        × AnswersBefore bytes line (W.contents writer.old) (W.contents writer.new)
-        × (line ≢ []) }
+        × (stop : AnswersBefore bytes line (W.contents writer.old) (W.contents writer.new))
+        × (line ≢ []) × (is_blank line ≡ true → stop.behind ≡ []) }
 {
     let mut conversation = Conversation::new(alloc);
     converse(rt, alloc, &mut conversation, reader, writer, plan, gate)
@@ -94,8 +94,8 @@ fn converse<T: Threads + Wait + Sync, R: Read, W: Write, G: Gate + Sync>(
     ensures no_start { plan.now.budget ≡ 0 → result ≢ Err RunFault.Start }
     ensures memory { result ≡ Err RunFault.Memory → (bytes : List ℕ) × (line : List ℕ)
         × Consumes (R.remaining reader.old) (R.remaining reader.new) bytes
-        × AnswersBefore bytes line (W.contents writer.old) (W.contents writer.new)
-        × (line ≢ []) }
+        × (stop : AnswersBefore bytes line (W.contents writer.old) (W.contents writer.new))
+        × (line ≢ []) × (is_blank line ≡ true → stop.behind ≡ []) }
 {
     let mut piece = [0u8; PIECE];
     'reads: for _ in rt.forever() {
@@ -123,11 +123,11 @@ fn answer_piece<T: Threads + Wait + Sync, W: Write, G: Gate + Sync>(
     ensures ok { OnOk result (Says conversation.old piece.now conversation.new (W.contents writer.old) (W.contents writer.new)) }
     ensures write { result ≡ Err RunFault.Write → BeginsInPiece conversation.old piece.now (W.contents writer.old) (W.contents writer.new) }
     ensures too_long { result ≡ Err RunFault.TooLong →
-        StopsInPiece (λ line. most_bytes < length line) conversation.old piece.now conversation.new (W.contents writer.old) (W.contents writer.new) }
+        StopsInPiece (λ line _. most_bytes < length line) conversation.old piece.now conversation.new (W.contents writer.old) (W.contents writer.new) }
     ensures start { result ≡ Err RunFault.Start →
-        StopsInPiece (λ line. is_blank line ≡ false) conversation.old piece.now conversation.new (W.contents writer.old) (W.contents writer.new) }
+        StopsInPiece (λ line _. is_blank line ≡ false) conversation.old piece.now conversation.new (W.contents writer.old) (W.contents writer.new) }
     ensures memory { result ≡ Err RunFault.Memory →
-        StopsInPiece (λ line. line ≢ []) conversation.old piece.now conversation.new (W.contents writer.old) (W.contents writer.new) }
+        StopsInPiece MayWantMemory conversation.old piece.now conversation.new (W.contents writer.old) (W.contents writer.new) }
     ensures no_start { plan.now.budget ≡ 0 → result ≢ Err RunFault.Start }
     ensures no_read { result ≢ Err RunFault.Read }
 {
@@ -157,7 +157,7 @@ fn answer_front<T: Threads + Wait + Sync, W: Write, G: Gate + Sync>(
     ensures start { result ≡ Err RunFault.Start → (conversation.new ≡ conversation.old)
         × Keeps (W.contents writer.old) (W.contents writer.new) × (is_blank (carried conversation.old piece.now) ≡ false) }
     ensures memory { result ≡ Err RunFault.Memory → (conversation.new ≡ conversation.old)
-        × Keeps (W.contents writer.old) (W.contents writer.new) × (carried conversation.old piece.now ≢ []) }
+        × Keeps (W.contents writer.old) (W.contents writer.new) × MayWantMemory (carried conversation.old piece.now) piece.now }
     ensures no_start { plan.now.budget ≡ 0 → result ≢ Err RunFault.Start }
     ensures no_read { result ≢ Err RunFault.Read }
 {

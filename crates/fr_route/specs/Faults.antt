@@ -1,10 +1,13 @@
--- Which fault of a router stands for a fault of the layers below.
+-- Which fault of a router stands for a fault of the layers below, and which fault of a session for one of a router.
+use Rattle.std.specs.Prelude.{Option, Some, None}
 use Rattle.fr_graph.specs.declared.fault.NetFault.{NetFault}
 use Rattle.fr_graph.specs.declared.fault.NetFault.TheVariants as net
 use Rattle.fr_graph.specs.declared.fault.NotEdited.{NotEdited}
 use Rattle.fr_graph.specs.declared.fault.NotEdited.TheVariants.{Refused, Fault}
 use Rattle.fr_crew.specs.declared.fault.CrewFault.{CrewFault}
 use Rattle.fr_crew.specs.declared.fault.CrewFault.TheVariants as crew
+use Rattle.fr_route.specs.declared.fault.AnswerFault.{AnswerFault}
+use Rattle.fr_route.specs.declared.fault.AnswerFault.TheVariants as answer
 use Rattle.fr_route.specs.declared.fault.RouteFault.{RouteFault}
 use Rattle.fr_route.specs.declared.fault.RouteFault.TheVariants.{Net, Range, Start, Memory}
 
@@ -21,3 +24,11 @@ of_crew_fault crew.Memory = Memory
 abbrev pub of_not_edited : NotEdited RouteFault → RouteFault
 of_not_edited (Refused refused) = of_net_fault refused.fault
 of_not_edited (Fault fault) = fault
+
+-- a thread or memory that was missing is handed on; any other fault is a refusal, and none of a session's
+abbrev pub of_route_fault : RouteFault → Option AnswerFault
+of_route_fault (Net net.Memory) = Some answer.Memory
+of_route_fault (Net fault) = None
+of_route_fault Range = None
+of_route_fault Start = Some answer.Start
+of_route_fault Memory = Some answer.Memory

@@ -11,6 +11,7 @@ ghost use Rattle.fr_route.specs.Sessions.{IsAnswered};
 ghost use Rattle.fr_route.specs.Told.{IsLineTold};
 ghost use Rattle.fr_route.specs.Reroutes.{AreJoined};
 ghost use Rattle.fr_route.specs.Texts.{longest_report, refusal_text};
+ghost use Rattle.fr_route.specs.Faults.{of_route_fault};
 ghost use Rattle.fr_route.specs.Refusals.{number_of, request_of_change, IsNewFault, IsRefusalOf};
 ghost use Rattle.fr_route.specs.declared.fault.AnswerFault.TheVariants.{Start, Memory};
 ghost use Rattle.fr_route.specs.declared.fault.RouteFault.TheVariants.{Start as RouteStart};
@@ -481,8 +482,8 @@ fn refusal(alloc: Global, fault: RouteFault) -> Result<String, AnswerFault>
 /// The refusal for this fault, if it is one.
 fn refusal_for(fault: &RouteFault) -> Result<Refusal, AnswerFault>
     ensures refusal { IfOk result (λ refusal. IsRefusalOf fault.now (refusal_text (number_of refusal))) }
-    ensures start { IfErr result (λ why. (why ≡ Start) ↔ (fault.now ≡ RouteStart)) }
-    ensures no_start { OnOk result (fault.now ≢ RouteStart) }
+    ensures refused { OnOk result (of_route_fault fault.now ≡ None) }
+    ensures missing { IfErr result (λ why. of_route_fault fault.now ≡ Some why) }
 {
     match fault {
         RouteFault::Net(fault) => Refusal::of(fault).ok_or(AnswerFault::Memory),

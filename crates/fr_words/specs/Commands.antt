@@ -2,8 +2,8 @@
 --     revroute run [--workers N] [--seed S] [--budget B]
 --     revroute serve [--workers N] [--seed S] [--budget B]
 --     revroute play [--workers N] [--seed S] [--steps M]
-use Rattle.std.specs.Prelude.{ℕ, List, [], ◌∷◌, Option, Some, true, pos, codes, option_map}
-use Rattle.std.specs.Str.Parse.{digits_value, without_leading_plus}
+use Rattle.std.specs.Prelude.{ℕ, ◌≤◌, List, [], ◌∷◌, Option, Some, true, pos, codes, option_map}
+use Rattle.std.specs.Str.Parse.{digits_value, without_leading_plus, IsNumeral}
 use Rattle.clap.specs.Walk.{Row, Rule, Text, one_of}
 use Rattle.clap.specs.Simple.{App, Shape, new_app, new_rule, on_top, with_rule, with_subcommand}
 use Rattle.clap.specs.declared.builder.value_parser.ValueParser.{ValueParser}
@@ -55,6 +55,10 @@ program s = record s { has_version = true; subcommand_required = true }
 abbrev pub command : App
 command =
     with_subcommand (with_subcommand (with_subcommand (on_top program (new_app (codes "revroute"))) run_command.top) serve_command.top) play_command.top
+
+-- the text is a number of at most this
+abbrev pub IsNumberUpTo : ℕ → Text → Type 0
+IsNumberUpTo most text = IsNumeral 10 (without_leading_plus text) × (digits_value 10 (without_leading_plus text) ≤ most)
 
 -- the number that an option of the words has
 abbrev pub number_of : Text → List Row → Option ℕ

@@ -1,9 +1,10 @@
 //! What the words of a command line ask for.
 
-ghost use Rattle.std.specs.Prelude.{◌≡◌, ◌≤◌, Some, IfOk, IfErr, IfSome, map, codes};
+ghost use Rattle.std.specs.Prelude.{◌≡◌, ◌≤◌, ℕ, List, Some, IfOk, IfErr, IfSome, IsNone, map, codes};
 ghost use Rattle.clap.specs.Values.{kind_of};
 ghost use Rattle.clap.specs.Words.{found_of, rows_of};
-ghost use Rattle.fr_words.specs.Commands.{number_of};
+ghost use Rattle.clap.specs.Walk.{one_of};
+ghost use Rattle.fr_words.specs.Commands.{number_of, IsNumberUpTo};
 ghost use Rattle.fr_words.specs.Tasks.{IsPlanIn, IsDrawIn, IsTaskIn, IsTaskOf, IsUsageOf, IsFaultOf};
 
 use crate::command::{MAX_BUDGET, matches_of};
@@ -100,7 +101,8 @@ fn draw_in(options: &ArgMatches) -> Option<Draw>
 
 /// The number of an option, where it is at most `most`.
 fn number_in(options: &ArgMatches, name: &str, most: u32) -> Option<u32>
-    ensures { IfSome result (λ n. (number_of name.now (rows_of (found_of options.now)) ≡ Some n) × (n ≤ most)) }
+    ensures number { IfSome result (λ n. (number_of name.now (rows_of (found_of options.now)) ≡ Some n) × (n ≤ most)) }
+    ensures none { IsNone result → (text : List ℕ) → one_of name.now (rows_of (found_of options.now)) ≡ Some text → ¬ IsNumberUpTo most text }
 {
     match options.get_one::<u32>(name) {
         Some(number) if number <= most => Some(number),

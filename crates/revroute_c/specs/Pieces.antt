@@ -1,5 +1,6 @@
 -- Lines whose bytes come in pieces.
-use Rattle.std.specs.Prelude.{◌≡◌, ◌==◌, ℕ, ◌+◌, ◌<◌, ◌≤◌, ◌⊎◌, ◌++◌, List, length, take, position, Some, Option}
+use Rattle.std.specs.Prelude.{◌≡◌, ◌==◌, ℕ, ◌+◌, ◌<◌, ◌≤◌, ◌⊎◌, ◌++◌, List, length, take, position, Some, Option, true}
+use Rattle.fr_route.specs.Blank.{is_blank}
 use Rattle.fr_route.specs.States.{State}
 use Rattle.revroute_c.specs.Replies.{least_room, IsAnswerLength}
 
@@ -15,6 +16,10 @@ pub record EndsLine (begun piece line : List ℕ) (count : ℕ) : Type 0 where
   pub line_is : line ≡ begun ++ take end piece
   pub short : length line ≤ longest_line
   pub count_is : count ≡ end + 1
+
+-- the line that has begun ends in this piece, and is blank then
+abbrev pub EndsBlank : List ℕ → List ℕ → Type 0
+EndsBlank begun piece = (line : List ℕ) × (count : ℕ) × EndsLine begun piece line count × (is_blank line ≡ true)
 
 -- a line ends in the piece, and has an answer of this length, which leaves the session as it was
 pub record EndsWithAnswer (old : Option State) (begun piece : List ℕ) (size : ℕ) : Type 0 where

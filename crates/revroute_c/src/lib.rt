@@ -11,7 +11,9 @@ ghost use Rattle.fr_route.specs.Blank.{is_blank as is_blank_line};
 ghost use Rattle.fr_route.specs.States.{IsReport};
 ghost use Rattle.fr_route.specs.Told.{IsLineTold};
 ghost use Rattle.revroute_c.specs.Replies.{least_room, IsAnswered, IsWanted, IsWritten};
-ghost use Rattle.revroute_c.specs.Pieces.{longest_line, EndsLine, IsTooLong, IsWantedAtEnd};
+ghost use Rattle.revroute_c.specs.Statuses.{REVROUTE_ANSWERED, REVROUTE_BLANK, REVROUTE_TOO_SHORT, REVROUTE_NO_MEMORY, REVROUTE_NO_NETWORK};
+ghost use Rattle.revroute_c.specs.Statuses.{REVROUTE_NO_ROUTE, REVROUTE_REFUSED, REVROUTE_NO_WALK, REVROUTE_BEGUN, REVROUTE_TOO_LONG};
+ghost use Rattle.revroute_c.specs.Pieces.{longest_line, EndsBlank, EndsLine, IsTooLong, IsWantedAtEnd};
 ghost use Rattle.revroute_c.specs.ClosedWalks.{HasNoWalkOfChange, HasNoWalkOfNetwork, IsGiven, IsLength, IsWalkOfChange, IsWalkOfNetwork};
 ghost use Rattle.revroute_c.specs.Records.{AreKnown, edit_of, link_of};
 ghost use Rattle.revroute_c.specs.Rounds.{IsChangeRefused, IsMoveRefused, IsNewRefused, IsNewRound};
@@ -27,16 +29,16 @@ mod records;
 mod replies;
 mod rounds;
 
-use closed_walks::{NO_WALK, walk_of_change, walk_of_network};
+use closed_walks::{walk_of_change, walk_of_network};
 use fr_route::{VERSION, is_blank};
 use handle::Handle;
-use pieces::{BEGUN, TOO_LONG, finish_line, take_anew, take_front};
+use pieces::{finish_line, take_anew, take_front};
 use questions::{
-    HOP_OF_NO_NETWORK, NO_NETWORK, NO_ROUTE, counts_in, hop_in, hops_in, links_in, report_in,
-    route_in, size_in,
+    HOP_OF_NO_NETWORK, NO_NETWORK, counts_in, hop_in, hops_in, links_in, report_in, route_in,
+    size_in,
 };
 use records::{Link, LinkEdit, Refusal, Round, first_unknown, unknown_at};
-use replies::{ANSWERED, BLANK, LEAST_ROOM, NO_MEMORY, TOO_SHORT, hand_out, reply, reply_anew};
+use replies::{BLANK, LEAST_ROOM, TOO_SHORT, hand_out, reply, reply_anew};
 use rounds::{REFUSED, change_in, move_in, open_anew, open_in};
 use std::alloc::Global;
 
@@ -54,18 +56,18 @@ pub extern "C" fn revroute_answer(
     answer: &mut [u8],
     size: &mut usize,
 ) -> u32
-    ensures answered { result ≡ ANSWERED → IsAnswered handle.old.session line.now handle.new.session answer.old answer.new size.new }
-    ensures told { result ≡ ANSWERED → IsLineTold handle.old.session (reading line.now) handle.new.session handle.old.rerouted handle.new.rerouted }
-    ensures blank { result ≡ BLANK → (is_blank_line line.now ≡ true) × (size.new ≡ 0) }
-    ensures blank_line { is_blank_line line.now ≡ true → least_room ≤ length answer.old → result ≡ BLANK }
-    ensures too_short { result ≡ TOO_SHORT → (length answer.old < size.new) × IsWanted handle.old.session line.now (length answer.old) size.new }
-    ensures no_memory { result ≡ NO_MEMORY → size.new ≡ 0 }
-    ensures unchanged { ¬ (result ≡ ANSWERED) → (handle.new.session ≡ handle.old.session) × (answer.new ≡ answer.old) }
-    ensures untold { ¬ (result ≡ ANSWERED) → handle.new.rerouted ≡ handle.old.rerouted }
+    ensures answered { result ≡ REVROUTE_ANSWERED → IsAnswered handle.old.session line.now handle.new.session answer.old answer.new size.new }
+    ensures told { result ≡ REVROUTE_ANSWERED → IsLineTold handle.old.session (reading line.now) handle.new.session handle.old.rerouted handle.new.rerouted }
+    ensures blank { result ≡ REVROUTE_BLANK → (is_blank_line line.now ≡ true) × (size.new ≡ 0) }
+    ensures blank_line { is_blank_line line.now ≡ true → least_room ≤ length answer.old → result ≡ REVROUTE_BLANK }
+    ensures too_short { result ≡ REVROUTE_TOO_SHORT → (length answer.old < size.new) × IsWanted handle.old.session line.now (length answer.old) size.new }
+    ensures no_memory { result ≡ REVROUTE_NO_MEMORY → size.new ≡ 0 }
+    ensures unchanged { ¬ (result ≡ REVROUTE_ANSWERED) → (handle.new.session ≡ handle.old.session) × (answer.new ≡ answer.old) }
+    ensures untold { ¬ (result ≡ REVROUTE_ANSWERED) → handle.new.rerouted ≡ handle.old.rerouted }
     ensures begun { handle.new.begun ≡ handle.old.begun }
-    ensures kept { ¬ (result ≡ ANSWERED) → handle.new.at ≡ handle.old.at }
-    ensures room { length answer.old < least_room → result ≡ TOO_SHORT }
-    ensures status { result ≤ NO_MEMORY }
+    ensures kept { ¬ (result ≡ REVROUTE_ANSWERED) → handle.new.at ≡ handle.old.at }
+    ensures room { length answer.old < least_room → result ≡ REVROUTE_TOO_SHORT }
+    ensures status { result ≤ REVROUTE_NO_MEMORY }
 {
     *size = 0;
     if answer.len() < LEAST_ROOM {
@@ -95,24 +97,25 @@ pub extern "C" fn revroute_take(
     size: &mut usize,
     taken: &mut usize,
 ) -> u32
-    ensures answered { result ≡ ANSWERED → (line : List ℕ) × EndsLine handle.old.begun piece.now line taken.new
+    ensures answered { result ≡ REVROUTE_ANSWERED → (line : List ℕ) × EndsLine handle.old.begun piece.now line taken.new
         × IsAnswered handle.old.session line handle.new.session answer.old answer.new size.new
         × IsLineTold handle.old.session (reading line) handle.new.session handle.old.rerouted handle.new.rerouted }
-    ensures blank { result ≡ BLANK → (line : List ℕ) × EndsLine handle.old.begun piece.now line taken.new
+    ensures blank { result ≡ REVROUTE_BLANK → (line : List ℕ) × EndsLine handle.old.begun piece.now line taken.new
         × (is_blank_line line ≡ true) × (size.new ≡ 0) }
-    ensures ended { result ≤ BLANK → handle.new.begun ≡ [] }
-    ensures kept { result ≡ BEGUN → (position (λ x. x == 10) piece.now ≡ None) × (handle.new.begun ≡ handle.old.begun ++ piece.now)
+    ensures blank_line { EndsBlank handle.old.begun piece.now → least_room ≤ length answer.old → result ≡ REVROUTE_BLANK }
+    ensures ended { result ≤ REVROUTE_BLANK → handle.new.begun ≡ [] }
+    ensures kept { result ≡ REVROUTE_BEGUN → (position (λ x. x == 10) piece.now ≡ None) × (handle.new.begun ≡ handle.old.begun ++ piece.now)
         × (taken.new ≡ length piece.now) × (size.new ≡ 0) }
-    ensures too_short { result ≡ TOO_SHORT → (length answer.old < size.new)
+    ensures too_short { result ≡ REVROUTE_TOO_SHORT → (length answer.old < size.new)
         × IsWantedAtEnd handle.old.session handle.old.begun piece.now (length answer.old) size.new }
-    ensures within { result ≡ BEGUN → length handle.new.begun ≤ longest_line }
-    ensures no_memory { result ≡ NO_MEMORY → size.new ≡ 0 }
-    ensures too_long { result ≡ TOO_LONG → IsTooLong handle.old.begun piece.now × (size.new ≡ 0) }
-    ensures unchanged { ¬ (result ≡ ANSWERED) → (handle.new.session ≡ handle.old.session) × (handle.new.rerouted ≡ handle.old.rerouted) × (answer.new ≡ answer.old) }
-    ensures untaken { BLANK < result → result ≢ BEGUN → (handle.new.begun ≡ handle.old.begun) × (taken.new ≡ 0) }
-    ensures same_handle { result ≢ ANSWERED → result ≢ BEGUN → handle.new.at ≡ handle.old.at }
-    ensures room { length answer.old < least_room → result ≡ TOO_SHORT }
-    ensures status { (result ≤ NO_MEMORY) ⊎ (result ≡ BEGUN) ⊎ (result ≡ TOO_LONG) }
+    ensures within { result ≡ REVROUTE_BEGUN → length handle.new.begun ≤ longest_line }
+    ensures no_memory { result ≡ REVROUTE_NO_MEMORY → size.new ≡ 0 }
+    ensures too_long { result ≡ REVROUTE_TOO_LONG → IsTooLong handle.old.begun piece.now × (size.new ≡ 0) }
+    ensures unchanged { ¬ (result ≡ REVROUTE_ANSWERED) → (handle.new.session ≡ handle.old.session) × (handle.new.rerouted ≡ handle.old.rerouted) × (answer.new ≡ answer.old) }
+    ensures untaken { REVROUTE_BLANK < result → result ≢ REVROUTE_BEGUN → (handle.new.begun ≡ handle.old.begun) × (taken.new ≡ 0) }
+    ensures same_handle { result ≢ REVROUTE_ANSWERED → result ≢ REVROUTE_BEGUN → handle.new.at ≡ handle.old.at }
+    ensures room { length answer.old < least_room → result ≡ REVROUTE_TOO_SHORT }
+    ensures status { (result ≤ REVROUTE_NO_MEMORY) ⊎ (result ≡ REVROUTE_BEGUN) ⊎ (result ≡ REVROUTE_TOO_LONG) }
 {
     *size = 0;
     *taken = 0;
@@ -134,17 +137,18 @@ pub extern "C" fn revroute_finish(
     answer: &mut [u8],
     size: &mut usize,
 ) -> u32
-    ensures answered { result ≡ ANSWERED → IsAnswered handle.old.session handle.old.begun handle.new.session answer.old answer.new size.new
+    ensures answered { result ≡ REVROUTE_ANSWERED → IsAnswered handle.old.session handle.old.begun handle.new.session answer.old answer.new size.new
         × IsLineTold handle.old.session (reading handle.old.begun) handle.new.session handle.old.rerouted handle.new.rerouted }
-    ensures blank { result ≡ BLANK → (is_blank_line handle.old.begun ≡ true) × (size.new ≡ 0) }
-    ensures ended { result ≤ BLANK → handle.new.begun ≡ [] }
-    ensures too_short { result ≡ TOO_SHORT → (length answer.old < size.new) × IsWanted handle.old.session handle.old.begun (length answer.old) size.new }
-    ensures no_memory { result ≡ NO_MEMORY → size.new ≡ 0 }
-    ensures unchanged { ¬ (result ≡ ANSWERED) → (handle.new.session ≡ handle.old.session) × (handle.new.rerouted ≡ handle.old.rerouted) × (answer.new ≡ answer.old) }
-    ensures still { BLANK < result → handle.new.begun ≡ handle.old.begun }
+    ensures blank { result ≡ REVROUTE_BLANK → (is_blank_line handle.old.begun ≡ true) × (size.new ≡ 0) }
+    ensures blank_line { is_blank_line handle.old.begun ≡ true → least_room ≤ length answer.old → result ≡ REVROUTE_BLANK }
+    ensures ended { result ≤ REVROUTE_BLANK → handle.new.begun ≡ [] }
+    ensures too_short { result ≡ REVROUTE_TOO_SHORT → (length answer.old < size.new) × IsWanted handle.old.session handle.old.begun (length answer.old) size.new }
+    ensures no_memory { result ≡ REVROUTE_NO_MEMORY → size.new ≡ 0 }
+    ensures unchanged { ¬ (result ≡ REVROUTE_ANSWERED) → (handle.new.session ≡ handle.old.session) × (handle.new.rerouted ≡ handle.old.rerouted) × (answer.new ≡ answer.old) }
+    ensures still { REVROUTE_BLANK < result → handle.new.begun ≡ handle.old.begun }
     ensures same_handle { handle.new.at ≡ handle.old.at }
-    ensures room { length answer.old < least_room → result ≡ TOO_SHORT }
-    ensures status { result ≤ NO_MEMORY }
+    ensures room { length answer.old < least_room → result ≡ REVROUTE_TOO_SHORT }
+    ensures status { result ≤ REVROUTE_NO_MEMORY }
 {
     *size = 0;
     if answer.len() < LEAST_ROOM {
@@ -172,13 +176,13 @@ pub extern "C" fn revroute_open(
     round: &mut Round,
     refusal: &mut Refusal,
 ) -> u32
-    ensures answered { result ≡ ANSWERED → IsNewRound handle.old.session (new_network nodes dest (map link_of links.now)) handle.new.session handle.old.rerouted handle.new.rerouted round.new }
-    ensures refused { result ≡ REFUSED → IsNewRefused nodes dest (map link_of links.now) refusal.new }
-    ensures unchanged { ¬ (result ≡ ANSWERED) → (handle.new.session ≡ handle.old.session) × (handle.new.rerouted ≡ handle.old.rerouted) × (round.new ≡ round.old) }
-    ensures unrefused { ¬ (result ≡ REFUSED) → refusal.new ≡ refusal.old }
+    ensures answered { result ≡ REVROUTE_ANSWERED → IsNewRound handle.old.session (new_network nodes dest (map link_of links.now)) handle.new.session handle.old.rerouted handle.new.rerouted round.new }
+    ensures refused { result ≡ REVROUTE_REFUSED → IsNewRefused nodes dest (map link_of links.now) refusal.new }
+    ensures unchanged { ¬ (result ≡ REVROUTE_ANSWERED) → (handle.new.session ≡ handle.old.session) × (handle.new.rerouted ≡ handle.old.rerouted) × (round.new ≡ round.old) }
+    ensures unrefused { ¬ (result ≡ REVROUTE_REFUSED) → refusal.new ≡ refusal.old }
     ensures begun { handle.new.begun ≡ handle.old.begun }
-    ensures kept { ¬ (result ≡ ANSWERED) → handle.new.at ≡ handle.old.at }
-    ensures status { (result ≡ ANSWERED) ⊎ (result ≡ NO_MEMORY) ⊎ (result ≡ REFUSED) }
+    ensures kept { ¬ (result ≡ REVROUTE_ANSWERED) → handle.new.at ≡ handle.old.at }
+    ensures status { (result ≡ REVROUTE_ANSWERED) ⊎ (result ≡ REVROUTE_NO_MEMORY) ⊎ (result ≡ REVROUTE_REFUSED) }
 {
     match handle.engine_mut() {
         Some(engine) => open_in(engine, alloc, nodes, dest, links, round, refusal),
@@ -199,16 +203,16 @@ pub extern "C" fn revroute_change(
     round: &mut Round,
     refusal: &mut Refusal,
 ) -> u32
-    ensures known { result ≡ ANSWERED → AreKnown edits.now }
-    ensures answered { result ≡ ANSWERED → IsNewRound handle.old.session (make_edits (map edit_of edits.now)) handle.new.session handle.old.rerouted handle.new.rerouted round.new }
-    ensures refused { result ≡ REFUSED → IsChangeRefused handle.old.session edits.now refusal.new }
-    ensures unknown { ¬ AreKnown edits.now → result ≡ REFUSED }
-    ensures no_network { (result ≡ NO_NETWORK) ↔ (AreKnown edits.now × (handle.old.session ≡ None)) }
-    ensures unchanged { ¬ (result ≡ ANSWERED) → (handle.new.session ≡ handle.old.session) × (handle.new.rerouted ≡ handle.old.rerouted) × (round.new ≡ round.old) }
-    ensures unrefused { ¬ (result ≡ REFUSED) → refusal.new ≡ refusal.old }
+    ensures known { result ≡ REVROUTE_ANSWERED → AreKnown edits.now }
+    ensures answered { result ≡ REVROUTE_ANSWERED → IsNewRound handle.old.session (make_edits (map edit_of edits.now)) handle.new.session handle.old.rerouted handle.new.rerouted round.new }
+    ensures refused { result ≡ REVROUTE_REFUSED → IsChangeRefused handle.old.session edits.now refusal.new }
+    ensures unknown { ¬ AreKnown edits.now → result ≡ REVROUTE_REFUSED }
+    ensures no_network { (result ≡ REVROUTE_NO_NETWORK) ↔ (AreKnown edits.now × (handle.old.session ≡ None)) }
+    ensures unchanged { ¬ (result ≡ REVROUTE_ANSWERED) → (handle.new.session ≡ handle.old.session) × (handle.new.rerouted ≡ handle.old.rerouted) × (round.new ≡ round.old) }
+    ensures unrefused { ¬ (result ≡ REVROUTE_REFUSED) → refusal.new ≡ refusal.old }
     ensures begun { handle.new.begun ≡ handle.old.begun }
     ensures kept { handle.new.at ≡ handle.old.at }
-    ensures status { (result ≡ ANSWERED) ⊎ (result ≡ NO_MEMORY) ⊎ (result ≡ NO_NETWORK) ⊎ (result ≡ REFUSED) }
+    ensures status { (result ≡ REVROUTE_ANSWERED) ⊎ (result ≡ REVROUTE_NO_MEMORY) ⊎ (result ≡ REVROUTE_NO_NETWORK) ⊎ (result ≡ REVROUTE_REFUSED) }
 {
     if let Some(at) = first_unknown(edits) {
         *refusal = unknown_at(at);
@@ -230,14 +234,14 @@ pub extern "C" fn revroute_move(
     round: &mut Round,
     refusal: &mut Refusal,
 ) -> u32
-    ensures answered { result ≡ ANSWERED → IsNewRound handle.old.session (move_dest dest) handle.new.session handle.old.rerouted handle.new.rerouted round.new }
-    ensures refused { result ≡ REFUSED → IsMoveRefused handle.old.session dest refusal.new }
-    ensures no_network { (result ≡ NO_NETWORK) ↔ (handle.old.session ≡ None) }
-    ensures unchanged { ¬ (result ≡ ANSWERED) → (handle.new.session ≡ handle.old.session) × (handle.new.rerouted ≡ handle.old.rerouted) × (round.new ≡ round.old) }
-    ensures unrefused { ¬ (result ≡ REFUSED) → refusal.new ≡ refusal.old }
+    ensures answered { result ≡ REVROUTE_ANSWERED → IsNewRound handle.old.session (move_dest dest) handle.new.session handle.old.rerouted handle.new.rerouted round.new }
+    ensures refused { result ≡ REVROUTE_REFUSED → IsMoveRefused handle.old.session dest refusal.new }
+    ensures no_network { (result ≡ REVROUTE_NO_NETWORK) ↔ (handle.old.session ≡ None) }
+    ensures unchanged { ¬ (result ≡ REVROUTE_ANSWERED) → (handle.new.session ≡ handle.old.session) × (handle.new.rerouted ≡ handle.old.rerouted) × (round.new ≡ round.old) }
+    ensures unrefused { ¬ (result ≡ REVROUTE_REFUSED) → refusal.new ≡ refusal.old }
     ensures begun { handle.new.begun ≡ handle.old.begun }
     ensures kept { handle.new.at ≡ handle.old.at }
-    ensures status { (result ≡ ANSWERED) ⊎ (result ≡ NO_MEMORY) ⊎ (result ≡ NO_NETWORK) ⊎ (result ≡ REFUSED) }
+    ensures status { (result ≡ REVROUTE_ANSWERED) ⊎ (result ≡ REVROUTE_NO_MEMORY) ⊎ (result ≡ REVROUTE_NO_NETWORK) ⊎ (result ≡ REVROUTE_REFUSED) }
 {
     match handle.engine_mut() {
         Some(engine) => move_in(engine, alloc, dest, round, refusal),
@@ -258,13 +262,13 @@ pub extern "C" fn revroute_closed_walk(
 ) -> u32
     ensures same { (handle.new.session ≡ handle.old.session) × (handle.new.rerouted ≡ handle.old.rerouted) × (handle.new.begun ≡ handle.old.begun) }
     ensures kept { handle.new.at ≡ handle.old.at }
-    ensures written { result ≡ ANSWERED → IsGiven (IsWalkOfChange handle.old.session edits.now) nodes.old nodes.new size.new }
-    ensures too_short { result ≡ TOO_SHORT → (length nodes.old < size.new) × IsLength (IsWalkOfChange handle.old.session edits.now) size.new }
-    ensures no_network { (result ≡ NO_NETWORK) ↔ (handle.old.session ≡ None) }
-    ensures no_walk { result ≡ NO_WALK → HasNoWalkOfChange handle.old.session edits.now }
-    ensures unchanged { ¬ (result ≡ ANSWERED) → nodes.new ≡ nodes.old }
-    ensures none { TOO_SHORT < result → size.new ≡ 0 }
-    ensures status { (result ≡ ANSWERED) ⊎ ((TOO_SHORT ≤ result) × (result ≤ NO_NETWORK)) ⊎ (result ≡ NO_WALK) }
+    ensures written { result ≡ REVROUTE_ANSWERED → IsGiven (IsWalkOfChange handle.old.session edits.now) nodes.old nodes.new size.new }
+    ensures too_short { result ≡ REVROUTE_TOO_SHORT → (length nodes.old < size.new) × IsLength (IsWalkOfChange handle.old.session edits.now) size.new }
+    ensures no_network { (result ≡ REVROUTE_NO_NETWORK) ↔ (handle.old.session ≡ None) }
+    ensures no_walk { result ≡ REVROUTE_NO_WALK → HasNoWalkOfChange handle.old.session edits.now }
+    ensures unchanged { ¬ (result ≡ REVROUTE_ANSWERED) → nodes.new ≡ nodes.old }
+    ensures none { REVROUTE_TOO_SHORT < result → size.new ≡ 0 }
+    ensures status { (result ≡ REVROUTE_ANSWERED) ⊎ ((REVROUTE_TOO_SHORT ≤ result) × (result ≤ REVROUTE_NO_NETWORK)) ⊎ (result ≡ REVROUTE_NO_WALK) }
 {
     *size = 0;
     match handle.engine_mut() {
@@ -282,12 +286,12 @@ pub extern "C" fn revroute_closed_walk_of(
     walk: &mut [u32],
     size: &mut usize,
 ) -> u32
-    ensures written { result ≡ ANSWERED → IsGiven (IsWalkOfNetwork nodes (map link_of links.now)) walk.old walk.new size.new }
-    ensures too_short { result ≡ TOO_SHORT → (length walk.old < size.new) × IsLength (IsWalkOfNetwork nodes (map link_of links.now)) size.new }
-    ensures no_walk { result ≡ NO_WALK → HasNoWalkOfNetwork nodes (map link_of links.now) }
-    ensures unchanged { ¬ (result ≡ ANSWERED) → walk.new ≡ walk.old }
-    ensures none { TOO_SHORT < result → size.new ≡ 0 }
-    ensures status { (result ≡ ANSWERED) ⊎ (result ≡ TOO_SHORT) ⊎ (result ≡ NO_MEMORY) ⊎ (result ≡ NO_WALK) }
+    ensures written { result ≡ REVROUTE_ANSWERED → IsGiven (IsWalkOfNetwork nodes (map link_of links.now)) walk.old walk.new size.new }
+    ensures too_short { result ≡ REVROUTE_TOO_SHORT → (length walk.old < size.new) × IsLength (IsWalkOfNetwork nodes (map link_of links.now)) size.new }
+    ensures no_walk { result ≡ REVROUTE_NO_WALK → HasNoWalkOfNetwork nodes (map link_of links.now) }
+    ensures unchanged { ¬ (result ≡ REVROUTE_ANSWERED) → walk.new ≡ walk.old }
+    ensures none { REVROUTE_TOO_SHORT < result → size.new ≡ 0 }
+    ensures status { (result ≡ REVROUTE_ANSWERED) ⊎ (result ≡ REVROUTE_TOO_SHORT) ⊎ (result ≡ REVROUTE_NO_MEMORY) ⊎ (result ≡ REVROUTE_NO_WALK) }
 {
     *size = 0;
     walk_of_network(alloc, nodes, links, walk, size)
@@ -308,10 +312,10 @@ pub extern "C" fn revroute_close(alloc: Global, handle: &mut Handle)
 /// it was, and has less room than that. `O(1)`.
 #[unsafe(no_mangle)]
 pub extern "C" fn revroute_version(text: &mut [u8], size: &mut usize) -> u32
-    ensures written { result ≡ ANSWERED → IsWritten VERSION.now text.old text.new }
-    ensures too_short { result ≡ TOO_SHORT → (length text.old < length VERSION.now) × (text.new ≡ text.old) }
+    ensures written { result ≡ REVROUTE_ANSWERED → IsWritten VERSION.now text.old text.new }
+    ensures too_short { result ≡ REVROUTE_TOO_SHORT → (length text.old < length VERSION.now) × (text.new ≡ text.old) }
     ensures size { size.new ≡ length VERSION.now }
-    ensures status { (result ≡ ANSWERED) ⊎ (result ≡ TOO_SHORT) }
+    ensures status { (result ≡ REVROUTE_ANSWERED) ⊎ (result ≡ REVROUTE_TOO_SHORT) }
 {
     hand_out(VERSION.as_bytes(), text, size)
 }
@@ -337,13 +341,13 @@ pub extern "C" fn revroute_next_hop(handle: &mut Handle, node: u32) -> u32
 pub extern "C" fn revroute_next_hops(handle: &mut Handle, hops: &mut [u32], size: &mut usize) -> u32
     ensures same { (handle.new.session ≡ handle.old.session) × (handle.new.rerouted ≡ handle.old.rerouted) × (handle.new.begun ≡ handle.old.begun) }
     ensures kept { handle.new.at ≡ handle.old.at }
-    ensures written { result ≡ ANSWERED → IfSome handle.old.session (λ s. AreHopsWritten s hops.old hops.new) }
-    ensures too_short { result ≡ TOO_SHORT → length hops.old < size.new }
+    ensures written { result ≡ REVROUTE_ANSWERED → IfSome handle.old.session (λ s. AreHopsWritten s hops.old hops.new) }
+    ensures too_short { result ≡ REVROUTE_TOO_SHORT → length hops.old < size.new }
     ensures size { IfSome handle.old.session (λ s. size.new ≡ s.nodes) }
-    ensures no_network { (result ≡ NO_NETWORK) ↔ (handle.old.session ≡ None) }
-    ensures unchanged { ¬ (result ≡ ANSWERED) → hops.new ≡ hops.old }
-    ensures none { result ≡ NO_NETWORK → size.new ≡ 0 }
-    ensures status { (result ≡ ANSWERED) ⊎ (result ≡ TOO_SHORT) ⊎ (result ≡ NO_NETWORK) }
+    ensures no_network { (result ≡ REVROUTE_NO_NETWORK) ↔ (handle.old.session ≡ None) }
+    ensures unchanged { ¬ (result ≡ REVROUTE_ANSWERED) → hops.new ≡ hops.old }
+    ensures none { result ≡ REVROUTE_NO_NETWORK → size.new ≡ 0 }
+    ensures status { (result ≡ REVROUTE_ANSWERED) ⊎ (result ≡ REVROUTE_TOO_SHORT) ⊎ (result ≡ REVROUTE_NO_NETWORK) }
 {
     *size = 0;
     match handle.engine_mut() {
@@ -358,10 +362,10 @@ pub extern "C" fn revroute_next_hops(handle: &mut Handle, hops: &mut [u32], size
 pub extern "C" fn revroute_rerouted(handle: &mut Handle, nodes: &mut [u32], size: &mut usize) -> u32
     ensures same { (handle.new.session ≡ handle.old.session) × (handle.new.rerouted ≡ handle.old.rerouted) × (handle.new.begun ≡ handle.old.begun) }
     ensures kept { handle.new.at ≡ handle.old.at }
-    ensures written { result ≡ ANSWERED → IsWritten handle.old.rerouted nodes.old nodes.new }
-    ensures too_short { result ≡ TOO_SHORT → (length nodes.old < size.new) × (nodes.new ≡ nodes.old) }
+    ensures written { result ≡ REVROUTE_ANSWERED → IsWritten handle.old.rerouted nodes.old nodes.new }
+    ensures too_short { result ≡ REVROUTE_TOO_SHORT → (length nodes.old < size.new) × (nodes.new ≡ nodes.old) }
     ensures size { size.new ≡ length handle.old.rerouted }
-    ensures status { (result ≡ ANSWERED) ⊎ (result ≡ TOO_SHORT) }
+    ensures status { (result ≡ REVROUTE_ANSWERED) ⊎ (result ≡ REVROUTE_TOO_SHORT) }
 {
     match handle.engine_mut() {
         Some(engine) => hand_out(&engine.rerouted, nodes, size),
@@ -374,13 +378,13 @@ pub extern "C" fn revroute_rerouted(handle: &mut Handle, nodes: &mut [u32], size
 pub extern "C" fn revroute_counts(handle: &mut Handle, counts: &mut [u64], size: &mut usize) -> u32
     ensures same { (handle.new.session ≡ handle.old.session) × (handle.new.rerouted ≡ handle.old.rerouted) × (handle.new.begun ≡ handle.old.begun) }
     ensures kept { handle.new.at ≡ handle.old.at }
-    ensures written { result ≡ ANSWERED → IfSome handle.old.session (λ s. IsWritten s.counts counts.old counts.new) }
-    ensures too_short { result ≡ TOO_SHORT → length counts.old < size.new }
+    ensures written { result ≡ REVROUTE_ANSWERED → IfSome handle.old.session (λ s. IsWritten s.counts counts.old counts.new) }
+    ensures too_short { result ≡ REVROUTE_TOO_SHORT → length counts.old < size.new }
     ensures size { IfSome handle.old.session (λ s. size.new ≡ length s.counts) }
-    ensures no_network { (result ≡ NO_NETWORK) ↔ (handle.old.session ≡ None) }
-    ensures unchanged { ¬ (result ≡ ANSWERED) → counts.new ≡ counts.old }
-    ensures none { result ≡ NO_NETWORK → size.new ≡ 0 }
-    ensures status { (result ≡ ANSWERED) ⊎ (result ≡ TOO_SHORT) ⊎ (result ≡ NO_NETWORK) }
+    ensures no_network { (result ≡ REVROUTE_NO_NETWORK) ↔ (handle.old.session ≡ None) }
+    ensures unchanged { ¬ (result ≡ REVROUTE_ANSWERED) → counts.new ≡ counts.old }
+    ensures none { result ≡ REVROUTE_NO_NETWORK → size.new ≡ 0 }
+    ensures status { (result ≡ REVROUTE_ANSWERED) ⊎ (result ≡ REVROUTE_TOO_SHORT) ⊎ (result ≡ REVROUTE_NO_NETWORK) }
 {
     *size = 0;
     match handle.engine_mut() {
@@ -403,13 +407,13 @@ pub extern "C" fn revroute_route(
 ) -> u32
     ensures same { (handle.new.session ≡ handle.old.session) × (handle.new.rerouted ≡ handle.old.rerouted) × (handle.new.begun ≡ handle.old.begun) }
     ensures kept { handle.new.at ≡ handle.old.at }
-    ensures written { result ≡ ANSWERED → IfSome handle.old.session (λ s. IsRouteWritten s node nodes.old nodes.new size.new) }
-    ensures too_short { result ≡ TOO_SHORT → (length nodes.old < size.new) × IfSome handle.old.session (λ s. IsRouteLength s node size.new) }
-    ensures no_network { (result ≡ NO_NETWORK) ↔ (handle.old.session ≡ None) }
-    ensures no_route { result ≡ NO_ROUTE → IfSome handle.old.session (λ s. HasNoRoute s node) }
-    ensures unchanged { ¬ (result ≡ ANSWERED) → nodes.new ≡ nodes.old }
-    ensures none { TOO_SHORT < result → size.new ≡ 0 }
-    ensures status { (result ≡ ANSWERED) ⊎ ((TOO_SHORT ≤ result) × (result ≤ NO_ROUTE)) }
+    ensures written { result ≡ REVROUTE_ANSWERED → IfSome handle.old.session (λ s. IsRouteWritten s node nodes.old nodes.new size.new) }
+    ensures too_short { result ≡ REVROUTE_TOO_SHORT → (length nodes.old < size.new) × IfSome handle.old.session (λ s. IsRouteLength s node size.new) }
+    ensures no_network { (result ≡ REVROUTE_NO_NETWORK) ↔ (handle.old.session ≡ None) }
+    ensures no_route { result ≡ REVROUTE_NO_ROUTE → IfSome handle.old.session (λ s. HasNoRoute s node) }
+    ensures unchanged { ¬ (result ≡ REVROUTE_ANSWERED) → nodes.new ≡ nodes.old }
+    ensures none { REVROUTE_TOO_SHORT < result → size.new ≡ 0 }
+    ensures status { (result ≡ REVROUTE_ANSWERED) ⊎ ((REVROUTE_TOO_SHORT ≤ result) × (result ≤ REVROUTE_NO_ROUTE)) }
 {
     *size = 0;
     match handle.engine_mut() {
@@ -430,12 +434,12 @@ pub extern "C" fn revroute_links(
 ) -> u32
     ensures same { (handle.new.session ≡ handle.old.session) × (handle.new.rerouted ≡ handle.old.rerouted) × (handle.new.begun ≡ handle.old.begun) }
     ensures kept { handle.new.at ≡ handle.old.at }
-    ensures written { result ≡ ANSWERED → IfSome handle.old.session (λ s. IsWritten (ends s.links) place.old place.new × (size.new ≡ length (ends s.links))) }
-    ensures too_short { result ≡ TOO_SHORT → (length place.old < size.new) × IfSome handle.old.session (λ s. size.new ≡ length (ends s.links)) }
-    ensures no_network { (result ≡ NO_NETWORK) ↔ (handle.old.session ≡ None) }
-    ensures unchanged { ¬ (result ≡ ANSWERED) → place.new ≡ place.old }
-    ensures none { TOO_SHORT < result → size.new ≡ 0 }
-    ensures status { (result ≡ ANSWERED) ⊎ ((TOO_SHORT ≤ result) × (result ≤ NO_NETWORK)) }
+    ensures written { result ≡ REVROUTE_ANSWERED → IfSome handle.old.session (λ s. IsWritten (ends s.links) place.old place.new × (size.new ≡ length (ends s.links))) }
+    ensures too_short { result ≡ REVROUTE_TOO_SHORT → (length place.old < size.new) × IfSome handle.old.session (λ s. size.new ≡ length (ends s.links)) }
+    ensures no_network { (result ≡ REVROUTE_NO_NETWORK) ↔ (handle.old.session ≡ None) }
+    ensures unchanged { ¬ (result ≡ REVROUTE_ANSWERED) → place.new ≡ place.old }
+    ensures none { REVROUTE_TOO_SHORT < result → size.new ≡ 0 }
+    ensures status { (result ≡ REVROUTE_ANSWERED) ⊎ ((REVROUTE_TOO_SHORT ≤ result) × (result ≤ REVROUTE_NO_NETWORK)) }
 {
     *size = 0;
     match handle.engine_mut() {
@@ -450,10 +454,10 @@ pub extern "C" fn revroute_links(
 pub extern "C" fn revroute_report(handle: &mut Handle, turned: &mut u64, cut_off: &mut u64) -> u32
     ensures same { (handle.new.session ≡ handle.old.session) × (handle.new.rerouted ≡ handle.old.rerouted) × (handle.new.begun ≡ handle.old.begun) }
     ensures kept { handle.new.at ≡ handle.old.at }
-    ensures report { result ≡ ANSWERED → IfSome handle.old.session (λ s. IsReport s turned.new cut_off.new) }
-    ensures no_network { (result ≡ NO_NETWORK) ↔ (handle.old.session ≡ None) }
-    ensures none { result ≡ NO_NETWORK → (turned.new ≡ 0) × (cut_off.new ≡ 0) }
-    ensures status { (result ≡ ANSWERED) ⊎ (result ≡ NO_NETWORK) }
+    ensures report { result ≡ REVROUTE_ANSWERED → IfSome handle.old.session (λ s. IsReport s turned.new cut_off.new) }
+    ensures no_network { (result ≡ REVROUTE_NO_NETWORK) ↔ (handle.old.session ≡ None) }
+    ensures none { result ≡ REVROUTE_NO_NETWORK → (turned.new ≡ 0) × (cut_off.new ≡ 0) }
+    ensures status { (result ≡ REVROUTE_ANSWERED) ⊎ (result ≡ REVROUTE_NO_NETWORK) }
 {
     *turned = 0;
     *cut_off = 0;
@@ -468,10 +472,10 @@ pub extern "C" fn revroute_report(handle: &mut Handle, turned: &mut u64, cut_off
 pub extern "C" fn revroute_size(handle: &mut Handle, nodes: &mut u32, links: &mut usize) -> u32
     ensures same { (handle.new.session ≡ handle.old.session) × (handle.new.rerouted ≡ handle.old.rerouted) × (handle.new.begun ≡ handle.old.begun) }
     ensures kept { handle.new.at ≡ handle.old.at }
-    ensures size { result ≡ ANSWERED → IfSome handle.old.session (λ s. (nodes.new ≡ s.nodes) × (links.new ≡ length s.links)) }
-    ensures no_network { (result ≡ NO_NETWORK) ↔ (handle.old.session ≡ None) }
-    ensures none { result ≡ NO_NETWORK → (nodes.new ≡ 0) × (links.new ≡ 0) }
-    ensures status { (result ≡ ANSWERED) ⊎ (result ≡ NO_NETWORK) }
+    ensures size { result ≡ REVROUTE_ANSWERED → IfSome handle.old.session (λ s. (nodes.new ≡ s.nodes) × (links.new ≡ length s.links)) }
+    ensures no_network { (result ≡ REVROUTE_NO_NETWORK) ↔ (handle.old.session ≡ None) }
+    ensures none { result ≡ REVROUTE_NO_NETWORK → (nodes.new ≡ 0) × (links.new ≡ 0) }
+    ensures status { (result ≡ REVROUTE_ANSWERED) ⊎ (result ≡ REVROUTE_NO_NETWORK) }
 {
     *nodes = 0;
     *links = 0;

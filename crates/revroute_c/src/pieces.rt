@@ -1,13 +1,13 @@
 //! Lines whose bytes come in pieces that are cut anywhere.
 
-ghost use Rattle.std.specs.Prelude.{◌≡◌, ◌≢◌, ◌==◌, ◌≤◌, ◌<◌, ◌+◌, ◌++◌, ◌⊎◌, [], ℕ, List, true, false, None, length, position};
+ghost use Rattle.std.specs.Prelude.{◌≡◌, ◌≢◌, ◌==◌, ◌≤◌, ◌<◌, ◌+◌, ◌++◌, ◌⊎◌, ◌↔◌, [], ℕ, List, true, false, None, length, position};
 ghost use Rattle.fr_route.specs.Blank.{is_blank as is_blank_line};
 ghost use Rattle.fr_lines.specs.Requests.{reading};
 ghost use Rattle.fr_route.specs.Told.{IsLineTold};
 ghost use denote.RawPtr.{null_ptr};
 ghost use Rattle.revroute_c.specs.Engines.{no_engine};
 ghost use Rattle.revroute_c.specs.Lending.{held_by};
-ghost use Rattle.revroute_c.specs.Pieces.{longest_line, EndsLine, EndsWithAnswer, IsTooLong};
+ghost use Rattle.revroute_c.specs.Pieces.{longest_line, EndsBlank, EndsLine, EndsWithAnswer, IsTooLong};
 ghost use Rattle.revroute_c.specs.Replies.{least_room, IsAnswered, IsAnswerLength};
 
 use crate::engine::Engine;
@@ -44,6 +44,7 @@ pub(crate) fn take_front(
         × IsLineTold engine.old.session (reading line) engine.new.session engine.old.rerouted engine.new.rerouted }
     ensures blank { result ≡ BLANK → (line : List ℕ) × EndsLine engine.old.begun piece.now line taken.new
         × (is_blank_line line ≡ true) × (size.new ≡ 0) }
+    ensures blank_line { EndsBlank engine.old.begun piece.now → result ≡ BLANK }
     ensures ended { result ≤ BLANK → engine.new.begun ≡ [] }
     ensures kept { result ≡ BEGUN → (position (λ x. x == 10) piece.now ≡ None) × (engine.new.begun ≡ engine.old.begun ++ piece.now)
         × (taken.new ≡ length piece.now) × (size.new ≡ 0) }
@@ -63,6 +64,12 @@ pub(crate) fn take_front(
         }
         return status;
     };
+    // Before the line is held, so that a blank one takes no memory.
+    if is_blank_with(&engine.begun, &piece[..end]) {
+        engine.begun.clear();
+        *taken = end + 1;
+        return BLANK;
+    }
     let held = hold(&mut engine.begun, &piece[..end]);
     if held != BEGUN {
         return held;
@@ -95,6 +102,7 @@ pub(crate) fn take_anew(
         × IsLineTold handle.old.session (reading line) handle.new.session handle.old.rerouted handle.new.rerouted }
     ensures blank { result ≡ BLANK → (line : List ℕ) × EndsLine handle.old.begun piece.now line taken.new
         × (is_blank_line line ≡ true) × (size.new ≡ 0) }
+    ensures blank_line { EndsBlank handle.old.begun piece.now → result ≡ BLANK }
     ensures ended { result ≤ BLANK → handle.new.begun ≡ [] }
     ensures kept { result ≡ BEGUN → (position (λ x. x == 10) piece.now ≡ None) × (handle.new.begun ≡ handle.old.begun ++ piece.now)
         × (taken.new ≡ length piece.now) × (size.new ≡ 0) }
@@ -107,6 +115,12 @@ pub(crate) fn take_anew(
     ensures same_handle { result ≢ ANSWERED → result ≢ BEGUN → handle.new.at ≡ handle.old.at }
     ensures status { (result ≤ NO_MEMORY) ⊎ (result ≡ BEGUN) ⊎ (result ≡ TOO_LONG) }
 {
+    if let Some(end) = line_end(piece) {
+        if is_blank_with(&[], &piece[..end]) {
+            *taken = end + 1;
+            return BLANK;
+        }
+    }
     let Ok(mut engine) = Box::new(alloc, Engine::new(alloc)) else {
         return NO_MEMORY;
     };
@@ -147,6 +161,14 @@ pub(crate) fn finish_line(
         engine.begun = line;
     }
     status
+}
+
+/// Whether what has begun and this end of it make a blank line, which is no longer than may be.
+fn is_blank_with(begun: &[u8], end: &[u8]) -> bool
+    ensures { (result ≡ true) ↔ ((is_blank_line (begun.now ++ end.now) ≡ true) × (length (begun.now ++ end.now) ≤ longest_line)) }
+{
+    let fits = begun.len() <= LONGEST_LINE && end.len() <= LONGEST_LINE - begun.len();
+    fits && is_blank(begun) && is_blank(end)
 }
 
 /// Keeps bytes without a line end behind what has begun.

@@ -14,6 +14,7 @@ use std::thread::Threads;
 enum Asked {
     Open,
     Calls,
+    OneWorker,
     Walk,
     Plan,
     SamePlans,
@@ -35,9 +36,10 @@ enum Asked {
 }
 
 /// The words that ask.
-const WORDS: [(&str, Asked); 20] = [
+const WORDS: [(&str, Asked); 21] = [
     ("open", Asked::Open),
     ("calls", Asked::Calls),
+    ("one worker", Asked::OneWorker),
     ("walk", Asked::Walk),
     ("plan", Asked::Plan),
     ("same plans", Asked::SamePlans),
@@ -82,6 +84,7 @@ fn put_answer<R: Threads + Wait + Sync + Alloc<A = Global>>(
     match named(word(first)?, &WORDS)? {
         Asked::Open => rounds::open(rt.alloc(), text, case),
         Asked::Calls => rounds::calls(rt.alloc(), text, case),
+        Asked::OneWorker => rounds::one_worker(rt.alloc(), text, case),
         Asked::Walk => live_walks::walk(rt.alloc(), text, case),
         Asked::Plan => crews::plan_of(text, case),
         Asked::SamePlans => crews::same_plans(text, case),

@@ -149,7 +149,14 @@ fn who_comes(value: &Value) -> Result<Back, Fault> {
     named(word(value)?, &table)
 }
 
-/// `["calls", nodes, links, [[worker, "turn" or "look", node], ..], back]`: the replies, and what the round closes with.
+/// What a worker does: it makes a call, or says which count of a node it has seen.
+#[derive(Clone, Copy)]
+enum Deed {
+    Call(Target),
+    Seen(u32),
+}
+
+/// `["calls", nodes, links, [[worker, "turn", "look" or "seen", node], ..], back]`: the replies, and what the round closes with.
 pub fn calls(alloc: Global, text: &mut Answer, asked: &[Value]) -> Result<(), Fault> {
     let [nodes, links, calls, handed] = asked else {
         return Err(Fault::NoCase);
@@ -162,8 +169,22 @@ pub fn calls(alloc: Global, text: &mut Answer, asked: &[Value]) -> Result<(), Fa
     Ok(())
 }
 
+/// `["one worker", nodes, links, ["turn", "look" or "seen", node], ..]`: the replies to the one worker of a round, and what that closes with.
+pub fn one_worker(alloc: Global, text: &mut Answer, asked: &[Value]) -> Result<(), Fault> {
+    let [nodes, links, calls @ ..] = asked else {
+        return Err(Fault::NoCase);
+    };
+    let (round, mut workers) = opened(alloc, network(alloc, nodes, links)?, 0, 1)?;
+    let mut worker = last_of(&round, &mut workers)?;
+    for call in calls {
+        put_deed(text, &round, &mut worker, deed_in(items(call)?)?);
+    }
+    put_closed(text, &round.close(vec![in alloc; worker]?));
+    Ok(())
+}
+
 /// The calls of a list, each with its worker.
-fn calls_in(alloc: Global, value: &Value) -> Result<Vec<(u64, Target)>, Fault> {
+fn calls_in(alloc: Global, value: &Value) -> Result<Vec<(u64, Deed)>, Fault> {
     let mut calls = Vec::new(alloc);
     for value in items(value)? {
         calls.push(call(value)?)?;
@@ -177,34 +198,62 @@ fn put_replies(
     round: &Round,
     a: &mut Worker,
     b: &mut Worker,
-    calls: &[(u64, Target)],
+    calls: &[(u64, Deed)],
 )
     requires { IsOwn round.now a.old × IsOwn round.now b.old }
     ensures { IsOwn round.now a.new × IsOwn round.now b.new }
 {
-    for (worker, target) in calls {
-        let replied = if *worker == 0 {
-            reply(round, a, *target)
+    for (worker, deed) in calls {
+        if *worker == 0 {
+            put_deed(text, round, a, *deed);
         } else {
-            reply(round, b, *target)
-        };
-        put_reply(text, replied);
+            put_deed(text, round, b, *deed);
+        }
     }
 }
 
-/// The worker and the target of a call.
-fn call(value: &Value) -> Result<(u64, Target), Fault> {
+/// The worker of a call, and what it does.
+fn call(value: &Value) -> Result<(u64, Deed), Fault> {
     match items(value)? {
-        [worker, way, node] => Ok((number(worker)?, target(word(way)?, small_number(node)?)?)),
+        [worker, deed @ ..] => Ok((number(worker)?, deed_in(deed)?)),
         _ => Err(Fault::NoCase),
     }
 }
 
-fn target(way: &str, node: u32) -> Result<Target, Fault> {
+fn deed_in(given: &[Value]) -> Result<Deed, Fault> {
+    let [way, node] = given else {
+        return Err(Fault::NoCase);
+    };
+    let node = small_number(node)?;
     named(
-        way,
-        &[("turn", Target::Turn(node)), ("look", Target::Look(node))],
+        word(way)?,
+        &[
+            ("turn", Deed::Call(Target::Turn(node))),
+            ("look", Deed::Call(Target::Look(node))),
+            ("seen", Deed::Seen(node)),
+        ],
     )
+}
+
+/// Has a worker do that, and puts what comes of it.
+fn put_deed(text: &mut Answer, round: &Round, worker: &mut Worker, deed: Deed)
+    requires { IsOwn round.now worker.old }
+    ensures { IsOwn round.now worker.new }
+{
+    match deed {
+        Deed::Call(target) => put_reply(text, reply(round, worker, target)),
+        Deed::Seen(x) => put_seen(text, round, worker, x),
+    }
+}
+
+/// Puts the count of a node that a worker has seen.
+fn put_seen(text: &mut Answer, round: &Round, worker: &Worker, x: u32)
+    requires { IsOwn round.now worker.now }
+{
+    if x < round.net().nodes() {
+        text.put("seen ", &worker.seen(x));
+    }
+    text.say("; ");
 }
 
 fn reply(round: &Round, worker: &mut Worker, target: Target) -> Result<Reply, Refusal>

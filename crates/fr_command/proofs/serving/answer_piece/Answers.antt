@@ -2,7 +2,7 @@ use Rattle.std.proofs.Common.{◌≡◌, ◌-◌, ◌≢◌, ◌<◌, [], Err, L
 use Rattle.std.proofs.Math.Seq.{take-add}
 use Rattle.std.proofs.lemmas.List.{take_all}
 use Rattle.fr_route.specs.Blank.{is_blank}
-use Rattle.fr_command.specs.Conversations.{Says, line_size}
+use Rattle.fr_command.specs.Conversations.{MayWantMemory, Says, line_size}
 use Rattle.fr_bytes.specs.Bytes.{most_bytes}
 use Rattle.fr_command.proofs.Served.{says_nothing, says_on, says_kept, says_begins, begins_later, stops_later, on_ok}
 use Rattle.fr_command.proofs.serving.answer_piece.Goals as goal
@@ -44,21 +44,21 @@ returns-in_err-count-clause-too_long g c e =
     let same = rw e at c.from_residual.ensures in
     let part = rw (rest_is c.args.piece.now c.loop-done.done) at c.in_err-count.ensures.too_long (ap Err (sym same.1)) in
     stops_later c.args.conversation.now c.loop-done.conversation c.args.piece.now c.loop-done.done (g.W.Write.contents c.args.writer.now) (g.W.Write.contents c.loop-done.writer)
-    c.loop-done.invariant.says (λ (line : List ℕ). most_bytes < length line) c.answer_front.new.conversation (g.W.Write.contents c.answer_front.new.writer) part.0 part.1 part.2
+    c.loop-done.invariant.says (λ (line rest : List ℕ). most_bytes < length line) c.answer_front.new.conversation (g.W.Write.contents c.answer_front.new.writer) part.0 part.1 part.2
 
 pub returns-in_err-count-clause-start : goal.returns-in_err-count-clause-start
 returns-in_err-count-clause-start g c e =
     let same = rw e at c.from_residual.ensures in
     let part = rw (rest_is c.args.piece.now c.loop-done.done) at c.in_err-count.ensures.start (ap Err (sym same.1)) in
     stops_later c.args.conversation.now c.loop-done.conversation c.args.piece.now c.loop-done.done (g.W.Write.contents c.args.writer.now) (g.W.Write.contents c.loop-done.writer)
-    c.loop-done.invariant.says (λ (line : List ℕ). is_blank line ≡ false) c.answer_front.new.conversation (g.W.Write.contents c.answer_front.new.writer) part.0 part.1 part.2
+    c.loop-done.invariant.says (λ (line rest : List ℕ). is_blank line ≡ false) c.answer_front.new.conversation (g.W.Write.contents c.answer_front.new.writer) part.0 part.1 part.2
 
 pub returns-in_err-count-clause-memory : goal.returns-in_err-count-clause-memory
 returns-in_err-count-clause-memory g c e =
     let same = rw e at c.from_residual.ensures in
     let part = rw (rest_is c.args.piece.now c.loop-done.done) at c.in_err-count.ensures.memory (ap Err (sym same.1)) in
     stops_later c.args.conversation.now c.loop-done.conversation c.args.piece.now c.loop-done.done (g.W.Write.contents c.args.writer.now) (g.W.Write.contents c.loop-done.writer)
-    c.loop-done.invariant.says (λ (line : List ℕ). line ≢ []) c.answer_front.new.conversation (g.W.Write.contents c.answer_front.new.writer) part.0 part.1 part.2
+    c.loop-done.invariant.says MayWantMemory c.answer_front.new.conversation (g.W.Write.contents c.answer_front.new.writer) part.0 part.1 part.2
 
 pub returns-clause-ok : goal.returns-clause-ok
 returns-clause-ok g c =

@@ -2,7 +2,7 @@ use Rattle.std.proofs.Common.{◌≡◌, ◌≢◌, ◌<◌, ◌≤◌, ◌+◌,
 use Rattle.std.proofs.lemmas.Result.{on_ok_weaker}
 use Rattle.std.specs.Io.KnownBytes.{Appends}
 use Rattle.fr_route.specs.Blank.{is_blank}
-use Rattle.fr_command.specs.Conversations.{Ends, silence}
+use Rattle.fr_command.specs.Conversations.{Ends, MayWantMemory, silence}
 use Rattle.fr_bytes.specs.Bytes.{most_bytes}
 use Rattle.fr_command.proofs.Served.{HasServed, nothing_served, read_nothing, read_on, before_begun, output_written, output_begun, piece_begun, piece_stopped, stopped_at_last, says_on, blank_or_some}
 use Rattle.fr_command.proofs.serving.converse.Goals as goal
@@ -57,6 +57,7 @@ returns-then-count-eq0-clause-memory g c e =
       reads,
       before_begun h.bytes c.reads.conversation (g.W.Write.contents c.args.writer.now) (g.W.Write.contents c.reads.writer) h.says (g.W.Write.contents c.answer_end.new.writer) part.1,
       blank_or_some c.reads.conversation.begun part.0,
+      λ _. refl,
     )
 
 pub reads-preserved : goal.reads-preserved
@@ -88,7 +89,7 @@ returns-in_err-answer_piece-clause-too_long g c e =
     let part = c.in_err-answer_piece.ensures.too_long (ap Err (sym same.1)) in
     let short : length c.reads.conversation.begun + length piece ≤ most_bytes + 1 =
     omega (arith, c.in_ok-count.ensures.bound, c.min-room.ensures, c.begun.ensures.within, ap length c.begun.ensures.line, length-take c.in_ok-count.count (c.read_piece.new.piece ++ room), length-take c.min-room.result c.reads.piece) in
-    let last = stopped_at_last h.bytes c.reads.conversation (g.W.Write.contents c.args.writer.now) (g.W.Write.contents c.reads.writer) h.says piece (g.W.Write.contents c.answer_piece.new.writer) (λ (line : List ℕ). most_bytes < length line) c.answer_piece.new.conversation part short part.holds in
+    let last = stopped_at_last h.bytes c.reads.conversation (g.W.Write.contents c.args.writer.now) (g.W.Write.contents c.reads.writer) h.says piece (g.W.Write.contents c.answer_piece.new.writer) (λ (line rest : List ℕ). most_bytes < length line) c.answer_piece.new.conversation part short part.holds in
     (h.bytes ++ piece, last.0, reads, last.1, last.2)
 
 pub returns-in_err-answer_piece-clause-write : goal.returns-in_err-answer_piece-clause-write
@@ -111,7 +112,7 @@ returns-in_err-answer_piece-clause-start g c e =
     let reads = read_on (g.R.Read.remaining c.args.reader.now) (g.R.Read.remaining c.reads.reader) (g.R.Read.remaining c.read_piece.new.reader) h.bytes c.read_piece.new.piece room c.in_ok-count.count few h.reads c.in_ok-count.ensures.bytes in
     let same = rw e at c.from_residual-in_err-answer_piece.ensures in
     let part = c.in_err-answer_piece.ensures.start (ap Err (sym same.1)) in
-    let stopped = piece_stopped h.bytes c.reads.conversation (g.W.Write.contents c.args.writer.now) (g.W.Write.contents c.reads.writer) h.says piece (g.W.Write.contents c.answer_piece.new.writer) (λ (line : List ℕ). is_blank line ≡ false) c.answer_piece.new.conversation part in
+    let stopped = piece_stopped h.bytes c.reads.conversation (g.W.Write.contents c.args.writer.now) (g.W.Write.contents c.reads.writer) h.says piece (g.W.Write.contents c.answer_piece.new.writer) (λ (line rest : List ℕ). is_blank line ≡ false) c.answer_piece.new.conversation part in
     (h.bytes ++ piece, stopped.0, reads, stopped.1, stopped.2)
 
 pub returns-in_err-answer_piece-clause-memory : goal.returns-in_err-answer_piece-clause-memory
@@ -123,5 +124,5 @@ returns-in_err-answer_piece-clause-memory g c e =
     let reads = read_on (g.R.Read.remaining c.args.reader.now) (g.R.Read.remaining c.reads.reader) (g.R.Read.remaining c.read_piece.new.reader) h.bytes c.read_piece.new.piece room c.in_ok-count.count few h.reads c.in_ok-count.ensures.bytes in
     let same = rw e at c.from_residual-in_err-answer_piece.ensures in
     let part = c.in_err-answer_piece.ensures.memory (ap Err (sym same.1)) in
-    let stopped = piece_stopped h.bytes c.reads.conversation (g.W.Write.contents c.args.writer.now) (g.W.Write.contents c.reads.writer) h.says piece (g.W.Write.contents c.answer_piece.new.writer) (λ (line : List ℕ). line ≢ []) c.answer_piece.new.conversation part in
-    (h.bytes ++ piece, stopped.0, reads, stopped.1, stopped.2)
+    let stopped = piece_stopped h.bytes c.reads.conversation (g.W.Write.contents c.args.writer.now) (g.W.Write.contents c.reads.writer) h.says piece (g.W.Write.contents c.answer_piece.new.writer) MayWantMemory c.answer_piece.new.conversation part in
+    (h.bytes ++ piece, stopped.0, reads, stopped.1, stopped.2.0, λ blank. stopped.3 (stopped.2.1 blank))

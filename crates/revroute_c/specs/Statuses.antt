@@ -1,0 +1,42 @@
+-- The statuses by which the calls say how they ended, as the header names them.
+use Rattle.std.specs.Prelude.{ℕ}
+
+-- what was asked for is written
+abbrev pub REVROUTE_ANSWERED : ℕ
+REVROUTE_ANSWERED = 0
+
+-- the line is blank
+abbrev pub REVROUTE_BLANK : ℕ
+REVROUTE_BLANK = 1
+
+-- the place has too little room
+abbrev pub REVROUTE_TOO_SHORT : ℕ
+REVROUTE_TOO_SHORT = 2
+
+-- an allocation was refused
+abbrev pub REVROUTE_NO_MEMORY : ℕ
+REVROUTE_NO_MEMORY = 3
+
+-- there is no network yet
+abbrev pub REVROUTE_NO_NETWORK : ℕ
+REVROUTE_NO_NETWORK = 4
+
+-- there is no route to the destination
+abbrev pub REVROUTE_NO_ROUTE : ℕ
+REVROUTE_NO_ROUTE = 5
+
+-- the call is refused
+abbrev pub REVROUTE_REFUSED : ℕ
+REVROUTE_REFUSED = 6
+
+-- no closed walk refuses that
+abbrev pub REVROUTE_NO_WALK : ℕ
+REVROUTE_NO_WALK = 7
+
+-- no line has ended
+abbrev pub REVROUTE_BEGUN : ℕ
+REVROUTE_BEGUN = 8
+
+-- the line is too long
+abbrev pub REVROUTE_TOO_LONG : ℕ
+REVROUTE_TOO_LONG = 9
