@@ -1,0 +1,5 @@
+pub mod Members
+pub mod Walks
+pub mod Counts
+pub mod Pushing
+pub mod Orders
