@@ -67,11 +67,11 @@ module _ (old new : List Hop) (nodes : List ℕ) (table : List Hop) (pushed : Is
 come_more : (z x : ℕ) (xs : List ℕ) → count_by (eqb z) (x ∷ xs) ≡ cond (eqb z x) 1 0 + count_by (eqb z) xs
 come_more z x xs = sum_by-cons (λ (y : ℕ). cond (eqb z y) 1 0) x xs
 
-one_more : (z x : ℕ) → eqb z x ≡ true → cond (eqb z x) 1 0 ≡ 1
-one_more z x t = ap (λ (b : Bool). cond b 1 0) t
+one_more : (z x : ℕ) → eqb z x ≡ true → (cond {A = ℕ} (eqb z x) 1 0) ≡ 1
+one_more z x t = ap (λ (b : Bool). cond {A = ℕ} b 1 0) t
 
-none_more : (z x : ℕ) → eqb z x ≡ false → cond (eqb z x) 1 0 ≡ 0
-none_more z x f = ap (λ (b : Bool). cond b 1 0) f
+none_more : (z x : ℕ) → eqb z x ≡ false → (cond {A = ℕ} (eqb z x) 1 0) ≡ 0
+none_more z x f = ap (λ (b : Bool). cond {A = ℕ} b 1 0) f
 
 come_never : (z : ℕ) (xs : List ℕ) → ¬ Contains xs z → count_by (eqb z) xs ≡ 0
 come_never z [] out = refl

@@ -1,6 +1,6 @@
 //! The order in which changed hops are pushed.
 
-ghost use Rattle.std.specs.Prelude.{◌≡◌, ◌<◌, ◌^◌, length, IfOk, IfErr};
+ghost use Rattle.std.specs.Prelude.{◌≡◌, ℕ, ◌<◌, ◌^◌, length, IfOk, IfErr};
 ghost use Rattle.fr_tables.specs.Faults.{IsOrdered, IsFaultOf};
 ghost use Rattle.fr_tables.specs.Inside.{AreKeys, AreAllKnown};
 

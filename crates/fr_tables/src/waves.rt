@@ -1,7 +1,7 @@
 //! The wave of each node: how many differing nodes its walk in the new table has. Each walk is followed up to a node whose wave is
 //! known, and its nodes get their waves on the way back, so each hop is read once.
 
-ghost use Rattle.std.specs.Prelude.{◌≡◌, ◌≢◌, ℕ, ◌<◌, ◌≤◌, ◌^◌, ◌↔◌, ◌⊎◌, ◌++◌, ◌∷◌, [], Contains, length, drop, slice_index, IfOk, OnOk, IsTrue};
+ghost use Rattle.std.specs.Prelude.{◌≡◌, ◌≢◌, ℕ, ◌<◌, ◌≤◌, ◌+◌, ◌^◌, ◌↔◌, ◌⊎◌, ◌++◌, ◌∷◌, [], Contains, length, drop, slice_index, IfOk, OnOk, IsTrue};
 ghost use Rattle.fr_tables.specs.Tables.{IsInRange, IsLoop};
 ghost use Rattle.fr_tables.specs.Inside.{AreKnown, AreWalks, IsKept, IsMet, IsStacked, IsStop, mark_of};
 
@@ -94,25 +94,32 @@ fn follow(
 }
 
 /// Gives the nodes of a walk their waves, from the last to the first.
-fn give_waves(old: &[Hop], new: &[Hop], marks: &mut [Mark], walk: &mut Vec<u32>, wave: u32)
+fn give_waves(old: &[Hop], new: &[Hop], marks: &mut [Mark], walk: &mut Vec<u32>, below: u32)
     requires one_length { length old.now ≡ length new.now }
     requires few { length new.now < 2 ^ 32 }
     requires range { IsInRange new.now }
     requires stacked { IsStacked new.now marks.old walk.old.items }
     requires known { AreKnown old.now new.now marks.old }
-    requires stop { IsStop new.now marks.old walk.old.items (Stop.Known wave) }
+    requires stop { IsStop new.now marks.old walk.old.items (Stop.Known below) }
     ensures stacked { IsStacked new.now marks.new walk.new.items }
     ensures empty { walk.new.items ≡ [] }
     ensures known { AreKnown old.now new.now marks.new }
     ensures met { (x : ℕ) → IsMet marks.old walk.old.items x → IsMet marks.new walk.new.items x }
 {
-    let mut wave = wave;
+    let mut wave = below;
     while let Some(x) = walk.pop() {
-        if differ(old[x as usize], new[x as usize]) {
-            wave += 1;
-        }
+        wave = wave_after(old[x as usize], new[x as usize], wave);
         marks[x as usize] = Mark::Wave(wave);
     }
+}
+
+/// The wave of a node with these hops, by that of the node to which it sends on.
+fn wave_after(old: Hop, new: Hop, below: u32) -> u32
+    requires { old ≢ new → below + 1 < 2 ^ 32 }
+    ensures differ { old ≢ new → result ≡ below + 1 }
+    ensures same { old ≡ new → result ≡ below }
+{
+    if differ(old, new) { below + 1 } else { below }
 }
 
 /// The nodes of a walk from this one of them on.
