@@ -6,6 +6,7 @@ use Rattle.std.specs.Cmp.{nat_eq_equiv}
 use Rattle.std.proofs.lemmas.Bool.{cases_Bool, eqb-true, false≢true}
 use Rattle.std.proofs.lemmas.List.Sums.{count_by-le-length, sum_by-cons}
 use Rattle.std.proofs.lemmas.List.{get_or_default}
+use Rattle.std.proofs.lemmas.Option.{get_or_from_slice_get, slice_get-get_or}
 use Rattle.std.proofs.lemmas.Map.Keys.{IsDistinct-from_apart}
 use Rattle.std.proofs.lemmas.Map.Steps.{length-le_from_distinct_below}
 use Rattle.std.proofs.lemmas.Map.Views.{Contains-from_any}
@@ -136,3 +137,13 @@ wave_low old new x k range low w =
         (walk_below new x w.walk q range w.whole.goes)
         (Contains-cases q x w.walk (Contains-from_any {eq = eqb} eqb-true q (x ∷ w.walk) any)) in
     omega (arith, w.number, count_by-le-length (differ_at old new) (x ∷ w.walk), length-le_from_distinct_below (x ∷ w.walk) (length new) (whole_distinct new x w.walk w.whole) below)
+
+-- what a comparison of two hops says
+pub step_read : (old new : List Hop) (x w k : ℕ) → x < length old → x < length new → (¬ (get_or old x Here ≡ get_or new x Here) → w ≡ k + 1) → (get_or old x Here ≡ get_or new x Here → w ≡ k) → w ≡ k + step old new x
+step_read old new x w k low_old low_new differs same =
+    let in_old = slice_get-get_or old x Here low_old in
+    let in_new = slice_get-get_or new x Here low_new in
+    elim (cases_differ old new x) [
+      | inl e ↦ omega (arith, step_same old new x e, same (get_or_from_slice_get old x (get_or new x Here) Here (e ∙ in_new)))
+      | inr apart ↦ omega (arith, step_differs old new x apart, differs (λ e. apart (in_old ∙ (ap Some e ∙ sym in_new))))
+    ]

@@ -1,9 +1,9 @@
 -- The marks of nodes while a walk is followed, and while its nodes get their waves.
-use Rattle.std.proofs.Common.{Contains, List, [], arith, eqb, get_or, inl, inr, length, length-append, length-set, refl, set, slice_get, subst, sym, ℕ, ⊎_elim, ◌++◌, ◌+◌, ◌<◌, ◌∙◌, ◌∷◌, ◌≡◌, ◌≤◌, ◌⊎◌}
+use Rattle.std.proofs.Common.{Contains, List, [], arith, eqb, get_or, inl, inr, length, length-append, length-set, refl, replicate, set, slice_get, subst, sym, ℕ, ⊎_elim, ◌++◌, ◌+◌, ◌<◌, ◌∙◌, ◌∷◌, ◌≡◌, ◌≤◌, ◌⊎◌}
 use Rattle.std.specs.List.{IsDistinct, list_any}
 use Rattle.std.specs.Cmp.{nat_eq_equiv}
 use Rattle.std.proofs.lemmas.Bool.{cases_eq, cases_lt, eqb-true}
-use Rattle.std.proofs.lemmas.List.{get_or-set_other, get_or-set_same, get_or_past}
+use Rattle.std.proofs.lemmas.List.{get_or-replicate, get_or-set_other, get_or-set_same, get_or_past, length-replicate}
 use Rattle.std.proofs.lemmas.List.Elements.{Contains-append_left, Contains-push, Contains-push_cases}
 use Rattle.std.proofs.lemmas.Map.Keys.{IsDistinct-push}
 use Rattle.std.proofs.lemmas.Map.Steps.{length-le_from_distinct_below}
@@ -16,7 +16,7 @@ use Rattle.fr_tables.specs.declared.waves.Mark.{Mark}
 use Rattle.fr_tables.specs.declared.waves.Mark.TheVariants.{OnWalk, Unmet, Wave}
 use Rattle.fr_tables.specs.declared.waves.Stop.TheVariants.{Known}
 use Rattle.fr_tables.proofs.Counts.{step, wave_before, wave_of_last}
-use Rattle.fr_tables.proofs.Members.{not_any}
+use Rattle.fr_tables.proofs.Members.{Contains-none, not_any}
 use Rattle.fr_tables.proofs.Trails.{distinct_front, distinct_last, trail_front, trail_last}
 
 mark_here : (marks : List Mark) (x : ℕ) (m : Mark) → x < length marks → mark_of (set marks x m) x ≡ m
@@ -72,6 +72,11 @@ stacked_short new marks walk stacked = length-le_from_distinct_below walk (lengt
     let on = (stacked.these q).0 (Contains-from_any {eq = eqb} eqb-true q walk any) in
     omega (arith, marked_low marks q (λ e. let is : OnWalk ≡ Unmet = sym on ∙ e in cc), stacked.one_each))
 
+pub popped_low : (new : List Hop) (marks : List Mark) (walk rest : List ℕ) (x : ℕ) → IsStacked new marks walk → walk ≡ rest ++ x ∷ [] → x < length new
+popped_low new marks walk rest x stacked is =
+    let on = (stacked.these x).0 (subst (λ (ws : List ℕ). Contains ws x) (sym is) (Contains-push rest x)) in
+    omega (arith, marked_low marks x (λ e. let same : OnWalk ≡ Unmet = sym on ∙ e in cc), stacked.one_each)
+
 -- the wave of the last node of a walk, by that to which it leads
 wave_of_top : (old new : List Hop) (marks : List Mark) (x k : ℕ) → AreKnown old new marks → LeadsToWave new marks x k → IsWave old new x (k + step old new x)
 wave_of_top old new marks x k known (inl (y, sends, is)) = wave_before old new x y k sends (known y k is)
@@ -122,3 +127,23 @@ module _ (old new : List Hop) (marks : List Mark) (rest : List ℕ) (x k : ℕ) 
       once = distinct_front rest x stacked.once;
       trail = trail_front new rest x stacked.trail;
     }
+
+-- before anything is met
+
+none_marked : (n x : ℕ) (m : Mark) → mark_of (replicate n Unmet) x ≡ m → m ≡ Unmet
+none_marked n x m is = elim (cases_lt x n) [
+  | inl low ↦ sym is ∙ get_or-replicate n x Unmet Unmet low
+  | inr out ↦ sym is ∙ get_or_past (replicate n Unmet) x Unmet (omega (arith, out, length-replicate n Unmet))
+]
+
+pub none_stacked : (new : List Hop) → IsStacked new (replicate (length new) Unmet) []
+unfolding IsDistinct
+none_stacked new = record {
+  one_each = length-replicate (length new) Unmet;
+  these = λ x. (λ found. absurd (Contains-none x found), λ on. let e = none_marked (length new) x OnWalk on in cc);
+  once = tt;
+  trail = tt;
+}
+
+pub none_known : (old new : List Hop) (n : ℕ) → AreKnown old new (replicate n Unmet)
+none_known old new n x k is = let e = none_marked n x (Wave k) is in cc

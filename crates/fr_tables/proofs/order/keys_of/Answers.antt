@@ -1,0 +1,2 @@
+use Rattle.fr_tables.proofs.order.keys_of.Goals as goal
+
