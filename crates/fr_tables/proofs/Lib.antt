@@ -6,3 +6,4 @@ pub mod Orders
 pub mod Trails
 pub mod Marks
 pub mod Ranks
+pub mod Answering

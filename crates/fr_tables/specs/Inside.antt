@@ -1,7 +1,6 @@
--- How far the walks of the new table are followed. For `all_waves` and `push_order` alone.
+-- How far the walks of the new table are followed. For `mark_waves` and `push_order` alone.
 use Rattle.std.specs.Prelude.{◌≡◌, ℕ, ◌<◌, ◌↔◌, ◌⊎◌, ◌++◌, List, [], ◌∷◌, Contains, length, slice_get, slice_index, slice_index_or, nat_eq}
 use Rattle.std.specs.List.{IsDistinct}
-use Rattle.fr_tables.specs.Faults.{IsOnceRound}
 use Rattle.fr_tables.specs.Pushes.{DifferAt, IsWave}
 use Rattle.fr_tables.specs.Tables.{IsWalk, SendsOn}
 use Rattle.fr_tables.specs.declared.hop.Hop.{Hop}
@@ -9,8 +8,6 @@ use Rattle.fr_tables.specs.declared.waves.Mark.{Mark}
 use Rattle.fr_tables.specs.declared.waves.Mark.TheVariants.{Unmet, OnWalk, Wave}
 use Rattle.fr_tables.specs.declared.waves.Stop.{Stop}
 use Rattle.fr_tables.specs.declared.waves.Stop.TheVariants.{Known, Loop as StopLoop}
-use Rattle.fr_tables.specs.declared.waves.Walks.{Walks}
-use Rattle.fr_tables.specs.declared.waves.Walks.TheVariants.{End, Loop as WalksLoop}
 
 abbrev pub mark_of : List Mark → ℕ → Mark
 mark_of marks x = slice_index_or marks x Unmet
@@ -53,11 +50,6 @@ pub record AreAllKnown (old new : List Hop) (marks : List Mark) : Type 0 where
   pub one_each : length marks ≡ length new
   pub known : AreKnown old new marks
   pub all : (x : ℕ) → x < length new → (k : ℕ) × (mark_of marks x ≡ Wave k)
-
--- the waves of all nodes, or a loop
-abbrev pub AreWalks : List Hop → List Hop → Walks → Type 0
-AreWalks old new (End marks) = AreAllKnown old new marks.items
-AreWalks old new (WalksLoop nodes) = IsOnceRound new nodes.items
 
 -- the waves of the nodes at which the tables differ, and 0 for the others
 pub record AreKeys (old new : List Hop) (keys : List ℕ) : Type 0 where

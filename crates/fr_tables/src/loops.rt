@@ -1,12 +1,12 @@
 //! A loop in a table.
 
-ghost use Rattle.std.specs.Prelude.{◌≡◌, ◌<◌, ◌^◌, length, IfOk, IfErr, IfSome, IfNone, nat_eq};
+ghost use Rattle.std.specs.Prelude.{IfOk, IfErr};
 ghost use Rattle.fr_tables.specs.Faults.{IsFound, IsFaultOfTable};
 
 use crate::fault::TableFault;
 use crate::hop::Hop;
 use crate::range::first_outside;
-use crate::waves::{Walks, all_waves};
+use crate::waves::{Mark, mark_waves};
 use std::alloc::Global;
 
 /// Finds a loop of a table: nodes of which each sends on to the next, and the last to the first. No node is listed twice. `None`: the
@@ -26,8 +26,6 @@ pub fn find_loop(alloc: Global, table: &[Hop]) -> Result<Option<Vec<u32>>, Table
     if let Some(x) = first_outside(table) {
         return Err(TableFault::Range(x));
     }
-    match all_waves(alloc, table, table)? {
-        Walks::End(_) => Ok(None),
-        Walks::Loop(nodes) => Ok(Some(nodes)),
-    }
+    let mut marks = vec![in alloc; Mark::Unmet; table.len()]?;
+    Ok(mark_waves(alloc, table, table, &mut marks)?)
 }

@@ -1,6 +1,6 @@
 //! The order in which changed hops are pushed.
 
-ghost use Rattle.std.specs.Prelude.{◌≡◌, ℕ, ◌<◌, ◌^◌, length, IfOk, IfErr};
+ghost use Rattle.std.specs.Prelude.{◌≡◌, ℕ, length, IfOk, IfErr};
 ghost use Rattle.fr_tables.specs.Faults.{IsOrdered, IsFaultOf};
 ghost use Rattle.fr_tables.specs.Inside.{AreKeys, AreAllKnown};
 
@@ -8,7 +8,7 @@ use crate::fault::TableFault;
 use crate::hop::Hop;
 use crate::range::first_outside;
 use crate::sorting::by_key;
-use crate::waves::{Mark, Walks, all_waves, differ};
+use crate::waves::{Mark, differ, mark_waves};
 use std::alloc::{AllocError, Global};
 
 /// The nodes at which two tables differ, in the order in which their new hops are pushed: by wave, and within a wave by number. The wave
@@ -35,13 +35,12 @@ pub fn push_order(alloc: Global, old: &[Hop], new: &[Hop]) -> Result<Vec<u32>, T
     if let Some(x) = first_outside(new) {
         return Err(TableFault::Range(x));
     }
-    match all_waves(alloc, old, new)? {
-        Walks::End(marks) => {
-            let keys = keys_of(alloc, old, new, &marks)?;
-            Ok(by_key(alloc, &keys)?)
-        }
-        Walks::Loop(nodes) => Err(TableFault::Loop(nodes)),
+    let mut marks = vec![in alloc; Mark::Unmet; new.len()]?;
+    if let Some(nodes) = mark_waves(alloc, old, new, &mut marks)? {
+        return Err(TableFault::Loop(nodes));
     }
+    let keys = keys_of(alloc, old, new, &marks)?;
+    Ok(by_key(alloc, &keys)?)
 }
 
 /// The wave of each node at which the tables differ, and 0 for each other node.

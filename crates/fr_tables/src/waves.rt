@@ -1,9 +1,10 @@
 //! The wave of each node: how many differing nodes its walk in the new table has. Each walk is followed up to a node whose wave is
 //! known, and its nodes get their waves on the way back, so each hop is read once.
 
-ghost use Rattle.std.specs.Prelude.{◌≡◌, ◌≢◌, ℕ, ◌<◌, ◌≤◌, ◌+◌, ◌^◌, ◌↔◌, ◌⊎◌, ◌++◌, ◌∷◌, [], Contains, length, drop, slice_index, IfOk, OnOk, IsTrue};
-ghost use Rattle.fr_tables.specs.Tables.{IsInRange, IsLoop};
-ghost use Rattle.fr_tables.specs.Inside.{AreKnown, AreWalks, IsKept, IsMet, IsStacked, IsStop, mark_of};
+ghost use Rattle.std.specs.Prelude.{◌≡◌, ◌≢◌, ℕ, ◌<◌, ◌≤◌, ◌+◌, ◌^◌, ◌↔◌, ◌⊎◌, ◌++◌, ◌∷◌, [], Contains, length, drop, replicate, slice_index, IfOk, MatchOption, OnOk, IsTrue};
+ghost use Rattle.fr_tables.specs.Faults.{IsOnceRound};
+ghost use Rattle.fr_tables.specs.Tables.{IsInRange};
+ghost use Rattle.fr_tables.specs.Inside.{AreAllKnown, AreKnown, IsKept, IsMet, IsStacked, IsStop, mark_of};
 
 use crate::hop::Hop;
 use std::alloc::{AllocError, Global};
@@ -17,15 +18,6 @@ pub(crate) enum Mark {
     OnWalk,
     /// Its wave.
     Wave(u32),
-}
-
-/// Where the walk of each node of a table goes.
-#[derive(Drop)]
-pub(crate) enum Walks {
-    /// Each walk ends: the waves of all nodes.
-    End(Vec<Mark>),
-    /// A walk does not end, since it comes to this loop.
-    Loop(Vec<u32>),
 }
 
 /// Why a walk is followed no further.
@@ -43,22 +35,27 @@ pub(crate) fn differ(old: Hop, new: Hop) -> bool
     old != new
 }
 
-/// The wave of each node, or a loop of the new table.
-pub(crate) fn all_waves(alloc: Global, old: &[Hop], new: &[Hop]) -> Result<Walks, AllocError>
+/// Marks each node with its wave, or answers a loop of the new table.
+pub(crate) fn mark_waves(
+    alloc: Global,
+    old: &[Hop],
+    new: &[Hop],
+    marks: &mut [Mark],
+) -> Result<Option<Vec<u32>>, AllocError>
     requires one_length { length old.now ≡ length new.now }
     requires few { length new.now < 2 ^ 32 }
     requires range { IsInRange new.now }
-    ensures { IfOk result (AreWalks old.now new.now) }
+    requires unmet { marks.old ≡ replicate (length new.now) Mark.Unmet }
+    ensures { IfOk result (λ found. MatchOption found (AreAllKnown old.now new.now marks.new) (λ nodes. IsOnceRound new.now nodes.items)) }
 {
-    let mut marks = vec![in alloc; Mark::Unmet; new.len()]?;
     let mut walk = Vec::with_capacity(alloc, new.len())?;
     for x in 0..new.len() as u32 {
-        match follow(new, &mut marks, &mut walk, x)? {
-            Stop::Known(wave) => give_waves(old, new, &mut marks, &mut walk, wave),
-            Stop::Loop(node) => return Ok(Walks::Loop(from_node(alloc, &walk, node)?)),
+        match follow(new, marks, &mut walk, x)? {
+            Stop::Known(wave) => give_waves(old, new, marks, &mut walk, wave),
+            Stop::Loop(node) => return Ok(Some(from_node(alloc, &walk, node)?)),
         }
     }
-    Ok(Walks::End(marks))
+    Ok(None)
 }
 
 /// Follows the walk from node `x` until a node that was met before, or its end, and lists its nodes up to there.
