@@ -1,5 +1,5 @@
 -- The wave of a node, by that of the node to which it sends on; how waves fall downstream, and that none is above the length of the table.
-use Rattle.std.proofs.Common.{Bool, Contains, List, None, Option, Some, [], ap, arith, cond, eqb, false, get_or, inl, inr, length, ne_eqb, refl, slice_get, subst, suc, sym, true, zero, ℕ, ⊎_elim, ◌++◌, ◌+◌, ◌<◌, ◌∙◌, ◌∷◌, ◌≡◌, ◌≤◌, ◌⊎◌}
+use Rattle.std.proofs.Common.{Bool, List, None, Option, Some, [], ap, arith, cond, eqb, get_or, inl, inr, length, ne_eqb, refl, slice_get, subst, suc, sym, true, zero, ℕ, ⊎_elim, ◌+◌, ◌<◌, ◌∙◌, ◌∷◌, ◌≡◌, ◌≤◌, ◌⊎◌}
 use Rattle.std.specs.Prelude.{not}
 use Rattle.std.specs.List.{IsDistinct, count_by, list_any}
 use Rattle.std.specs.Cmp.{nat_eq_equiv}
@@ -14,7 +14,7 @@ use Rattle.fr_tables.specs.Pushes.{DifferAt, IsWave, differ_at, is_same, is_same
 use Rattle.fr_tables.specs.Tables.{IsDownstream, IsInRange, IsWalk, IsWholeWalk, SendsOn, end_of}
 use Rattle.fr_tables.specs.declared.hop.Hop.{Hop}
 use Rattle.fr_tables.specs.declared.hop.Hop.TheVariants.{CutOff, Here, To}
-use Rattle.fr_tables.proofs.Members.{Contains-cases, Contains-head, Contains-tail}
+use Rattle.fr_tables.proofs.Members.{Contains-cases}
 use Rattle.fr_tables.proofs.Walks.{sends_one, walk_below, whole_once, whole_unique}
 
 -- the test whether hops are the same
@@ -133,9 +133,9 @@ whole_distinct new x ys whole = IsDistinct-from_apart eqb (x ∷ ys) (λ i j d l
 pub wave_low : (old new : List Hop) (x k : ℕ) → IsInRange new → x < length new → IsWave old new x k → k ≤ length new
 wave_low old new x k range low w =
     let below : (q : ℕ) → list_any (eqb q) (x ∷ w.walk) ≡ true → q < length new = λ q any. ⊎_elim
-        (λ e. subst (λ (z : ℕ). z < length new) e low)
-        (walk_below new x w.walk q range w.whole.goes)
-        (Contains-cases q x w.walk (Contains-from_any {eq = eqb} eqb-true q (x ∷ w.walk) any)) in
+    (λ e. subst (λ (z : ℕ). z < length new) e low)
+    (walk_below new x w.walk q range w.whole.goes)
+    (Contains-cases q x w.walk (Contains-from_any {eq = eqb} eqb-true q (x ∷ w.walk) any)) in
     omega (arith, w.number, count_by-le-length (differ_at old new) (x ∷ w.walk), length-le_from_distinct_below (x ∷ w.walk) (length new) (whole_distinct new x w.walk w.whole) below)
 
 -- what a comparison of two hops says

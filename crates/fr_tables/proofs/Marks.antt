@@ -1,6 +1,6 @@
 -- The marks of nodes while a walk is followed, and while its nodes get their waves.
-use Rattle.std.proofs.Common.{Contains, List, [], arith, eqb, get_or, inl, inr, length, length-append, length-set, refl, replicate, set, slice_get, subst, sym, ℕ, ⊎_elim, ◌++◌, ◌+◌, ◌<◌, ◌∙◌, ◌∷◌, ◌≡◌, ◌≤◌, ◌⊎◌}
-use Rattle.std.specs.List.{IsDistinct, list_any}
+use Rattle.std.proofs.Common.{Contains, List, [], arith, eqb, inl, inr, length, length-set, refl, replicate, set, subst, sym, ℕ, ⊎_elim, ◌++◌, ◌+◌, ◌<◌, ◌∙◌, ◌∷◌, ◌≡◌, ◌≤◌}
+use Rattle.std.specs.List.{IsDistinct}
 use Rattle.std.specs.Cmp.{nat_eq_equiv}
 use Rattle.std.proofs.lemmas.Bool.{cases_eq, cases_lt, eqb-true}
 use Rattle.std.proofs.lemmas.List.{get_or-replicate, get_or-set_other, get_or-set_same, get_or_past, length-replicate}
@@ -10,7 +10,6 @@ use Rattle.std.proofs.lemmas.Map.Steps.{length-le_from_distinct_below}
 use Rattle.std.proofs.lemmas.Map.Views.{Contains-from_any}
 use Rattle.fr_tables.specs.Inside.{AreKnown, IsKept, IsMet, IsStacked, IsStop, IsTrail, LeadsToWave, mark_of}
 use Rattle.fr_tables.specs.Pushes.{IsWave}
-use Rattle.fr_tables.specs.Tables.{SendsOn}
 use Rattle.fr_tables.specs.declared.hop.Hop.{Hop}
 use Rattle.fr_tables.specs.declared.waves.Mark.{Mark}
 use Rattle.fr_tables.specs.declared.waves.Mark.TheVariants.{OnWalk, Unmet, Wave}
@@ -104,9 +103,9 @@ module _ (old new : List Hop) (marks : List Mark) (rest : List ℕ) (x k : ℕ) 
     given_met y met = ⊎_elim
         (λ e. inr (l, subst (λ (z : ℕ). mark_of (set marks x (Wave l)) z ≡ Wave l) (sym e) (mark_here marks x (Wave l) top_low)))
         (λ apart. ⊎_elim
-            (λ found. ⊎_elim (λ was. inl was) (λ e. absurd (apart (sym e))) (Contains-push_cases rest x y found))
-            (λ (m, was). inr (m, mark_there marks x y (Wave l) apart ∙ was))
-            met)
+        (λ found. ⊎_elim (λ was. inl was) (λ e. absurd (apart (sym e))) (Contains-push_cases rest x y found))
+        (λ (m, was). inr (m, mark_there marks x y (Wave l) apart ∙ was))
+        met)
         (cases_eq y x)
 
     pub given_stop : IsStop new (set marks x (Wave l)) rest (Known l)

@@ -1,5 +1,5 @@
 -- Membership in a list, by cases on the list, and its decision for numbers.
-use Rattle.std.proofs.Common.{Bool, Contains, List, [], arith, eqb, false, inl, inr, le_of_suc-le-suc, refl, subst, suc, suc-le-suc, true, zero, ℕ, ⊎_elim, ◌++◌, ◌∷◌, ◌≡◌, ◌⊎◌}
+use Rattle.std.proofs.Common.{Contains, List, [], arith, eqb, false, inl, inr, le_of_suc-le-suc, refl, subst, suc, suc-le-suc, zero, ℕ, ⊎_elim, ◌∷◌, ◌≡◌, ◌⊎◌}
 use Rattle.std.specs.List.{list_any}
 use Rattle.std.proofs.lemmas.Bool.{cases_Bool, cases_eq, eqb-true}
 use Rattle.std.proofs.lemmas.Map.Views.{Contains-from_any}
@@ -22,9 +22,9 @@ cases_member [] x = inr (λ h. Contains-none x h)
 cases_member (y ∷ ys) x = ⊎_elim
     (λ e. inl (subst (Contains (y ∷ ys)) e (Contains-head y ys)))
     (λ apart. ⊎_elim
-        (λ found. inl (Contains-tail x y ys found))
-        (λ out. inr (λ h. ⊎_elim apart out (Contains-cases x y ys h)))
-        (cases_member ys x))
+    (λ found. inl (Contains-tail x y ys found))
+    (λ out. inr (λ h. ⊎_elim apart out (Contains-cases x y ys h)))
+    (cases_member ys x))
     (cases_eq y x)
 
 pub not_any : (x : ℕ) (xs : List ℕ) → ¬ Contains xs x → list_any (eqb x) xs ≡ false

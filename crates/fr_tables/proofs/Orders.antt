@@ -1,10 +1,9 @@
 -- Push orders: their beginnings and whole waves are closed downstream, they end with the new table, and the tables determine them.
-use Rattle.std.proofs.Common.{Contains, List, [], arith, get_or, inl, inr, length, length-append, refl, slice_get, subst, suc, sym, zero, ℕ, ⊎_elim, ◌++◌, ◌+◌, ◌<◌, ◌∙◌, ◌∷◌, ◌≡◌, ◌≤◌, ◌⊎◌, ap}
-use Rattle.std.proofs.lemmas.Bool.{cases_eq, cases_lt}
+use Rattle.std.proofs.Common.{Contains, List, [], arith, get_or, inl, inr, length, length-append, refl, slice_get, subst, suc, sym, ℕ, ⊎_elim, ◌++◌, ◌<◌, ◌∙◌, ◌∷◌, ◌≡◌, ap}
+use Rattle.std.proofs.lemmas.Bool.{cases_lt}
 use Rattle.std.proofs.lemmas.List.{ext_get_or, get_or_append_left, get_or_default}
 use Rattle.std.proofs.lemmas.Option.{get_or_from_slice_get, slice_get-get_or}
-use Rattle.fr_tables.specs.Pushes.{DifferAt, IsBefore, IsClosedDownstream, IsPushOrder, IsPushed, IsUpToWave, IsWave}
-use Rattle.fr_tables.specs.Tables.{IsDownstream}
+use Rattle.fr_tables.specs.Pushes.{DifferAt, IsBefore, IsClosedDownstream, IsPushOrder, IsPushed, IsUpToWave}
 use Rattle.fr_tables.specs.declared.hop.Hop.{Hop}
 use Rattle.fr_tables.specs.declared.hop.Hop.TheVariants.{Here}
 use Rattle.fr_tables.proofs.Counts.{cases_differ, wave_falls, wave_unique}
@@ -65,11 +64,11 @@ sorted_unique R one [] (y ∷ ys) s t to from = absurd (Contains-none y (from y 
 sorted_unique R one (x ∷ xs) [] s t to from = absurd (Contains-none x (to x (Contains-head x xs)))
 sorted_unique R one (x ∷ xs) (y ∷ ys) s t to from =
     let same : x ≡ y = ⊎_elim (λ e. sym e)
-        (λ in_ys. ⊎_elim (λ e. e) (λ in_xs. absurd (one x y (s.0 y in_xs) (t.0 x in_ys))) (Contains-cases y x xs (from y (Contains-head y ys))))
-        (Contains-cases x y ys (to x (Contains-head x xs))) in
+    (λ in_ys. ⊎_elim (λ e. e) (λ in_xs. absurd (one x y (s.0 y in_xs) (t.0 x in_ys))) (Contains-cases y x xs (from y (Contains-head y ys))))
+    (Contains-cases x y ys (to x (Contains-head x xs))) in
     let tails : xs ≡ ys = sorted_unique R one xs ys s.1 t.1
-        (λ z in_xs. ⊎_elim (λ e. absurd (let r : R x z = s.0 z in_xs in let q : R x x = subst (R x) (sym (same ∙ e)) r in one x x q q)) (λ h. h) (Contains-cases z y ys (to z (Contains-tail z x xs in_xs))))
-        (λ z in_ys. ⊎_elim (λ e. absurd (let r : R y z = t.0 z in_ys in let q : R y y = subst (R y) (sym (sym same ∙ e)) r in one y y q q)) (λ h. h) (Contains-cases z x xs (from z (Contains-tail z y ys in_ys)))) in
+    (λ z in_xs. ⊎_elim (λ e. absurd (let r : R x z = s.0 z in_xs in let q : R x x = subst (R x) (sym (same ∙ e)) r in one x x q q)) (λ h. h) (Contains-cases z y ys (to z (Contains-tail z x xs in_xs))))
+    (λ z in_ys. ⊎_elim (λ e. absurd (let r : R y z = t.0 z in_ys in let q : R y y = subst (R y) (sym (sym same ∙ e)) r in one y y q q)) (λ h. h) (Contains-cases z x xs (from z (Contains-tail z y ys in_ys)))) in
     ap (λ (w : ℕ). w ∷ xs) same ∙ ap (λ (ws : List ℕ). y ∷ ws) tails
 
 one_before : (old new : List Hop) (x y : ℕ) → IsBefore old new x y → ¬ IsBefore old new y x

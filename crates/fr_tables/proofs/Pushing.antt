@@ -1,13 +1,13 @@
 -- Hops of a set that is closed downstream are pushed: which loops stand, and where a packet comes.
-use Rattle.std.proofs.Common.{Bool, Contains, List, [], Option, Some, ap, arith, cond, eqb, false, get_or, inl, inr, length, refl, slice_get, subst, suc, sym, true, ℕ, ⊎_elim, ◌++◌, ◌+◌, ◌<◌, ◌∙◌, ◌∷◌, ◌≡◌, ◌≤◌, ◌↔◌, ◌⊎◌}
+use Rattle.std.proofs.Common.{Bool, Contains, List, [], ap, arith, cond, eqb, false, inl, inr, refl, slice_get, subst, sym, true, ℕ, ⊎_elim, ◌++◌, ◌+◌, ◌∙◌, ◌∷◌, ◌≡◌, ◌≤◌, ◌↔◌, ◌⊎◌}
 use Rattle.std.specs.List.{count_by}
 use Rattle.std.proofs.lemmas.Bool.{cases_Bool, eqb-true}
 use Rattle.std.proofs.lemmas.List.Sums.{sum_by-append, sum_by-cons}
-use Rattle.fr_tables.specs.Pushes.{DifferAt, Grows, IsClosedDownstream, IsPushed, Moves, SendsOnPushed}
+use Rattle.fr_tables.specs.Pushes.{DifferAt, Grows, IsClosedDownstream, IsPushed, Moves}
 use Rattle.fr_tables.specs.Tables.{IsDownstream, IsLoop, IsLoopFree, IsWalk, SendsOn, end_of}
 use Rattle.fr_tables.specs.declared.hop.Hop.{Hop}
 use Rattle.fr_tables.proofs.Counts.{cases_differ}
-use Rattle.fr_tables.proofs.Members.{Contains-cases, Contains-head, Contains-none, Contains-tail, cases_member}
+use Rattle.fr_tables.proofs.Members.{Contains-head, Contains-tail, cases_member}
 use Rattle.fr_tables.proofs.Walks.{end_append, free_once}
 
 -- the walk of x in the new table has no node left to push
@@ -22,9 +22,9 @@ module _ (old new : List Hop) (nodes : List ℕ) (table : List Hop) (pushed : Is
   clean_here : (x : ℕ) → IsClean old new nodes x → slice_get table x ≡ slice_get new x
   clean_here x clean = ⊎_elim (pushed.these x)
       (λ out. ⊎_elim
-          (λ same. pushed.others x out ∙ same)
-          (λ differs. absurd (out (clean x (record { by = []; goes = tt; ends = refl }) differs)))
-          (cases_differ old new x))
+      (λ same. pushed.others x out ∙ same)
+      (λ differs. absurd (out (clean x (record { by = []; goes = tt; ends = refl }) differs)))
+      (cases_differ old new x))
       (cases_member nodes x)
 
   -- so its walk is that of the new table
@@ -97,13 +97,15 @@ moves_clean : (old new : List Hop) (pushed : ℕ → List ℕ) (x : ℕ) (ys : L
 moves_clean old new pushed x [] grows clean moves = tt
 moves_clean old new pushed x (y ∷ ys) grows clean moves =
     let sends : SendsOn new x y = ⊎_elim moves.0.pushed
-        (λ out. ⊎_elim
-            (λ same. sym same ∙ moves.0.other out)
-            (λ differs. absurd (out (clean x (record { by = []; goes = tt; ends = refl }) differs)))
-            (cases_differ old new x))
-        (cases_member (pushed 0) x) in
-    (sends, moves_clean old new (λ k. pushed (k + 1)) y ys (λ k. grows (k + 1))
-      (λ z down differs. grows 0 z (clean_next old new (pushed 0) x y clean sends z down differs)) moves.1)
+    (λ out. ⊎_elim
+    (λ same. sym same ∙ moves.0.other out)
+    (λ differs. absurd (out (clean x (record { by = []; goes = tt; ends = refl }) differs)))
+    (cases_differ old new x))
+    (cases_member (pushed 0) x) in (
+      sends,
+      moves_clean old new (λ k. pushed (k + 1)) y ys (λ k. grows (k + 1))
+          (λ z down differs. grows 0 z (clean_next old new (pushed 0) x y clean sends z down differs)) moves.1,
+    )
 
 -- and before it was at one, along the old table
 moves_split : (old new : List Hop) (pushed : ℕ → List ℕ) (x : ℕ) (ys : List ℕ) → ((k : ℕ) → IsClosedDownstream old new (pushed k)) → Grows pushed → Moves old new pushed x ys

@@ -1,9 +1,9 @@
 -- Walks along a table: where they lead, that a walk that ends is the only one, and that it comes to no node twice.
-use Rattle.std.proofs.Common.{Contains, List, [], Option, Some, ap, arith, get_or, inl, inr, length, length-append, refl, slice_get, subst, sym, ℕ, ⊎_elim, ◌++◌, ◌+◌, ◌<◌, ◌∙◌, ◌∷◌, ◌≡◌, ◌⊎◌}
+use Rattle.std.proofs.Common.{Contains, List, [], Some, ap, arith, get_or, inl, inr, length, length-append, refl, subst, sym, ℕ, ⊎_elim, ◌++◌, ◌<◌, ◌∙◌, ◌∷◌, ◌≡◌, ◌⊎◌}
 use Rattle.std.proofs.lemmas.Bool.{cases_lt}
 use Rattle.std.proofs.lemmas.List.{append-nil, get_or_past}
 use Rattle.std.proofs.lemmas.Option.{get_or_from_slice_get, slice_get-get_or}
-use Rattle.fr_tables.specs.Tables.{IsDownstream, IsInRange, IsLoop, IsLoopFree, IsWalk, IsWholeWalk, SendsOn, end_of}
+use Rattle.fr_tables.specs.Tables.{IsInRange, IsLoopFree, IsWalk, IsWholeWalk, SendsOn, end_of}
 use Rattle.fr_tables.specs.declared.hop.Hop.{Hop}
 use Rattle.fr_tables.specs.declared.hop.Hop.TheVariants.{CutOff, Here, To}
 use Rattle.fr_tables.proofs.Members.{Contains-cases, Contains-none}

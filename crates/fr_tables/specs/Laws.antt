@@ -1,6 +1,6 @@
 -- The laws of push orders. Each is a clause of a function of src/laws.rt.
 use Rattle.std.specs.Prelude.{◌≡◌, ℕ, ◌≤◌, ◌++◌, ◌↔◌, List, ◌∷◌, Contains, length, nat_eq, count_by}
-use Rattle.fr_tables.specs.Tables.{IsInRange, IsLoop, IsLoopFree, IsWalk}
+use Rattle.fr_tables.specs.Tables.{IsLoop, IsLoopFree, IsWalk}
 use Rattle.fr_tables.specs.Pushes.{Grows, IsClosedDownstream, IsPushOrder, IsPushed, IsUpToWave, Moves}
 use Rattle.fr_tables.specs.declared.hop.Hop.{Hop}
 

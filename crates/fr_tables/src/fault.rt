@@ -26,7 +26,7 @@ pub enum TableFault {
 
 /// Tells how long a loop is.
 fn tell_loop<W: fmt::Write>(nodes: &Vec<u32>, f: &mut fmt::Formatter<W>) -> fmt::Result {
-    write!(f, "the new table has a loop of {} nodes", nodes.len())
+    write!(f, "the new table has a loop of length {}", nodes.len())
 }
 
 // By hand, since clauses say which fault a `?` gives.

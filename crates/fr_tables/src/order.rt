@@ -44,12 +44,7 @@ pub fn push_order(alloc: Global, old: &[Hop], new: &[Hop]) -> Result<Vec<u32>, T
 }
 
 /// The wave of each node at which the tables differ, and 0 for each other node.
-fn keys_of(
-    alloc: Global,
-    old: &[Hop],
-    new: &[Hop],
-    marks: &[Mark],
-) -> Result<Vec<u32>, AllocError>
+fn keys_of(alloc: Global, old: &[Hop], new: &[Hop], marks: &[Mark]) -> Result<Vec<u32>, AllocError>
     requires one_length { length old.now ≡ length new.now }
     requires known { AreAllKnown old.now new.now marks.now }
     ensures { IfOk result (λ keys. AreKeys old.now new.now keys.items) }
@@ -62,7 +57,7 @@ fn keys_of(
 }
 
 /// The wave of a node whose hops differ, or else 0.
-fn key_of(old: Hop, new: Hop, mark: Mark) -> u32 
+fn key_of(old: Hop, new: Hop, mark: Mark) -> u32
     ensures differ { ¬ (old ≡ new) → (k : ℕ) → mark ≡ Mark.Wave k → result ≡ k }
     ensures same { old ≡ new → result ≡ 0 }
 {

@@ -59,12 +59,7 @@ pub(crate) fn mark_waves(
 }
 
 /// Follows the walk from node `x` until a node that was met before, or its end, and lists its nodes up to there.
-fn follow(
-    new: &[Hop],
-    marks: &mut [Mark],
-    walk: &mut Vec<u32>,
-    x: u32,
-) -> Result<Stop, AllocError>
+fn follow(new: &[Hop], marks: &mut [Mark], walk: &mut Vec<u32>, x: u32) -> Result<Stop, AllocError>
     requires range { IsInRange new.now }
     requires node { x < length new.now }
     requires empty { walk.old.items ≡ [] }

@@ -1,8 +1,8 @@
-use Rattle.std.proofs.Common.{Some, [], ap, arith, get_or, inl, inr, length, subst, sym, ℕ, ◌++◌, ◌+◌, ◌<◌, ◌∙◌, ◌∷◌, ◌≡◌}
+use Rattle.std.proofs.Common.{Some, [], ap, arith, get_or, inl, inr, length, subst, sym, ℕ, ◌++◌, ◌<◌, ◌∙◌, ◌∷◌, ◌≡◌}
 use Rattle.std.proofs.lemmas.Bool.{cases_eq}
 use Rattle.std.proofs.lemmas.List.{get_or_append_left, get_or_push, length_push}
 use Rattle.std.proofs.lemmas.Option.{get_or_from_slice_get, slice_get-get_or}
-use Rattle.fr_tables.specs.Pushes.{DifferAt, IsWave}
+use Rattle.fr_tables.specs.Pushes.{DifferAt}
 use Rattle.fr_tables.specs.declared.hop.Hop.TheVariants.{Here}
 use Rattle.fr_tables.proofs.order.keys_of.Goals as goal
 

@@ -1,5 +1,4 @@
-use Rattle.std.proofs.Common.{All, List, MatchOption, None, arith, length, subst, sym, ℕ, ◌≡◌, ◌≤◌}
-use Rattle.fr_tables.specs.Faults.{IsOnceRound}
+use Rattle.std.proofs.Common.{All, List, arith, length, subst, sym, ℕ, ◌≡◌, ◌≤◌}
 use Rattle.fr_tables.specs.Inside.{AreAllKnown}
 use Rattle.fr_tables.specs.Sorting.{IsByKey}
 use Rattle.fr_tables.proofs.Answering.{keys_low, known_free, order_from_keys}

@@ -1,4 +1,4 @@
-use Rattle.std.proofs.Common.{[], ap, arith, inl, inr, length, refl, set, subst, sym, ℕ, List, ⊎_elim, ◌++◌, ◌<◌, ◌∙◌, ◌∷◌, ◌≡◌, Contains}
+use Rattle.std.proofs.Common.{[], ap, arith, inl, inr, length, refl, set, subst, ℕ, List, ⊎_elim, ◌++◌, ◌∷◌, ◌≡◌, Contains}
 use Rattle.std.proofs.lemmas.List.{length_push}
 use Rattle.std.proofs.lemmas.List.Elements.{Contains-append_left, Contains-push}
 use Rattle.fr_tables.specs.Inside.{IsTrail}

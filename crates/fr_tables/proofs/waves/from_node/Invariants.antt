@@ -1,4 +1,4 @@
-use Rattle.std.proofs.Common.{get_or, length, ℕ, ◌-◌, ◌<◌, ◌≡◌, ◌≤◌}
+use Rattle.std.proofs.Common.{get_or, length, ℕ, ◌-◌, ◌<◌, ◌≡◌}
 use Rattle.fr_tables.proofs.waves.from_node.Given as goal
 
 abbrev pub invariant-loop-start : goal.invariant-loop-start

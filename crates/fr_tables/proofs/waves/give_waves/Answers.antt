@@ -1,6 +1,6 @@
-use Rattle.std.proofs.Common.{List, [], arith, get_or, length, refl, subst, ℕ, ⊎_elim, ◌++◌, ◌+◌, ◌<◌, ◌∙◌, ◌∷◌, ◌≡◌, ◌≤◌}
+use Rattle.std.proofs.Common.{List, [], arith, length, refl, subst, ℕ, ◌++◌, ◌+◌, ◌<◌, ◌∙◌, ◌∷◌, ◌≡◌}
 use Rattle.std.proofs.lemmas.List.{append-nil}
-use Rattle.fr_tables.specs.Inside.{AreKnown, IsMet, IsStacked, IsStop}
+use Rattle.fr_tables.specs.Inside.{IsMet, IsStacked, IsStop}
 use Rattle.fr_tables.specs.declared.waves.Stop.TheVariants.{Known}
 use Rattle.fr_tables.specs.Pushes.{IsWave}
 use Rattle.fr_tables.proofs.Counts.{step, step_read, wave_low}
@@ -28,7 +28,7 @@ wave_after-wave-requires c = λ apart.
     let items : c.loop-x.walk.items ≡ rest ++ x ∷ [] = c.in-Some.ensures.items in
     let low : x < length new = popped_low new c.loop-x.marks c.loop-x.walk.items rest x before.stacked items in
     let wave : IsWave old new x (k + step old new x) = top_wave old new c.loop-x.marks rest x k (subst (IsStacked new c.loop-x.marks) items before.stacked) before.known
-        (subst (λ (walk : List ℕ). IsStop new c.loop-x.marks walk (Known k)) items before.stop) in
+    (subst (λ (walk : List ℕ). IsStop new c.loop-x.marks walk (Known k)) items before.stop) in
     let is : k + 1 ≡ k + step old new x = step_read old new x (k + 1) k (omega (arith, low, c.requires.one_length)) low (λ _. refl) (λ e. absurd (apart e)) in
     omega (arith, is, wave_low old new x (k + step old new x) c.requires.range low wave, c.requires.few)
 
@@ -47,7 +47,7 @@ loop-x-preserved c =
     let stop : IsStop new marks (rest ++ x ∷ []) (Known k) = subst (λ (walk : List ℕ). IsStop new marks walk (Known k)) items before.stop in
     let low : x < length new = popped_low new marks c.loop-x.walk.items rest x before.stacked items in
     let is : l ≡ k + step old new x = step_read old new x l k (omega (arith, low, c.requires.one_length)) low
-        c.wave_after-wave.ensures.differ c.wave_after-wave.ensures.same in
+    c.wave_after-wave.ensures.differ c.wave_after-wave.ensures.same in
     record {
       stacked = given_stacked old new marks rest x k stacked before.known stop l is;
       known = given_known old new marks rest x k stacked before.known stop l is;

@@ -1,4 +1,4 @@
-use Rattle.std.proofs.Common.{Contains, List, [], ap, arith, drop, get_or, inl, inr, length, refl, replicate, subst, sym, ℕ, ⊎_elim, ◌++◌, ◌<◌, ◌∙◌, ◌∷◌, ◌≡◌}
+use Rattle.std.proofs.Common.{Contains, List, [], arith, drop, get_or, inl, inr, length, subst, sym, ℕ, ⊎_elim, ◌<◌, ◌≡◌}
 use Rattle.std.proofs.lemmas.Bool.{cases_eq}
 use Rattle.fr_tables.specs.Inside.{IsMet, IsStop, mark_of}
 use Rattle.fr_tables.specs.declared.waves.Mark.TheVariants.{Wave}
@@ -42,9 +42,9 @@ loop-x-preserved c =
     let walk = c.follow.new.walk.items in
     let empty : c.give_waves.new.walk.items ≡ [] = c.give_waves.ensures.empty in
     let known : (y : ℕ) → IsMet was walk y → (k : ℕ) × (mark_of marks y ≡ Wave k) = λ y met. ⊎_elim
-        (λ found. absurd (Contains-none y (subst (λ (ws : List ℕ). Contains ws y) empty found)))
-        (λ is. is)
-        (c.give_waves.ensures.met y met) in
+    (λ found. absurd (Contains-none y (subst (λ (ws : List ℕ). Contains ws y) empty found)))
+    (λ is. is)
+    (c.give_waves.ensures.met y met) in
     record {
       stacked = c.give_waves.ensures.stacked;
       empty = empty;
