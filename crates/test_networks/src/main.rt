@@ -1,5 +1,5 @@
-//! Tests of networks, request lines, the finisher, the machine and its checker (fr_net, fr_core), by public calls alone. Each line
-//! of standard input is a case: an array of JSON whose first item is a word that says what is asked. The program writes the
+//! Tests of networks, request lines, the finisher, the machine and its checker (fr_net, fr_core), and of tables of hops (fr_tables), by
+//! public calls alone. Each line of standard input is a case: an array of JSON whose first item is a word that says what is asked. The program writes the
 //! line as it stood, and below it, indented, what came of it; a line that begins with `#` is a title. The cases stand in the
 //! file `stdin`, and in `stdout` with the answers that are wanted, which come from outside.
 #![tactic(auto)]
@@ -12,6 +12,7 @@ mod finishing;
 mod histories;
 mod machines;
 mod networks;
+mod push_orders;
 mod request_lines;
 mod tables;
 
@@ -66,6 +67,7 @@ fn answer_case(answer: &mut Answer, reader: &mut LineReader, case: &Value) {
 fn answer_word(answer: &mut Answer, reader: &mut LineReader, asked: &str, given: &[Value]) {
     let is_known = networks::answer(answer, asked, given)
         || tables::answer(answer, asked, given)
+        || push_orders::answer(answer, asked, given)
         || finishing::answer(answer, asked, given)
         || request_lines::answer(answer, reader, asked, given)
         || faults::answer(answer, asked, given);

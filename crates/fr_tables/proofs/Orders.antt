@@ -1,0 +1,83 @@
+-- Push orders: their beginnings and whole waves are closed downstream, they end with the new table, and the tables determine them.
+use Rattle.std.proofs.Common.{Contains, List, [], arith, get_or, inl, inr, length, length-append, refl, slice_get, subst, suc, sym, ℕ, ⊎_elim, ◌++◌, ◌<◌, ◌∙◌, ◌∷◌, ◌≡◌, ap}
+use Rattle.std.proofs.lemmas.Bool.{cases_lt}
+use Rattle.std.proofs.lemmas.List.{ext_get_or, get_or_append_left, get_or_default}
+use Rattle.std.proofs.lemmas.Option.{get_or_from_slice_get, slice_get-get_or}
+use Rattle.fr_tables.specs.Pushes.{DifferAt, IsBefore, IsClosedDownstream, IsPushOrder, IsPushed, IsUpToWave}
+use Rattle.fr_tables.specs.declared.hop.Hop.{Hop}
+use Rattle.fr_tables.specs.declared.hop.Hop.TheVariants.{Here}
+use Rattle.fr_tables.proofs.Counts.{cases_differ, wave_falls, wave_unique}
+use Rattle.fr_tables.proofs.Members.{Contains-cases, Contains-head, Contains-none, Contains-tail, cases_member}
+
+pub waves_closed : (old new : List Hop) (nodes : List ℕ) (wave : ℕ) → IsUpToWave old new nodes wave → IsClosedDownstream old new nodes
+waves_closed old new nodes wave up x y inside down differs =
+    let (k, of_x, low) = up.others x inside in
+    elim (wave_falls old new x y k (up.differ x inside) down of_x) [
+      | inl e ↦ subst (Contains nodes) e inside
+      | inr (l, of_y, falls) ↦ up.before y l differs of_y (omega (arith, falls, low))
+    ]
+
+pub beginning_closed : (old new : List Hop) (done left : List ℕ) → IsPushOrder old new (done ++ left) → IsClosedDownstream old new done
+beginning_closed old new done left order x y (i, low, here) down differs =
+    let (j, inside, there) = (order.these y).1 differs in
+    let whole = length-append done left in
+    let at_i : get_or (done ++ left) i 0 ≡ x = get_or_append_left done left 0 i low ∙ (get_or_default done i 0 x low ∙ here) in
+    let at_j : get_or (done ++ left) j 0 ≡ y = get_or_default (done ++ left) j 0 y inside ∙ there in
+    let x_differs : DifferAt old new x = (order.these x).0 (i, omega (arith, whole, low), get_or_default (done ++ left) i x 0 (omega (arith, whole, low)) ∙ at_i) in
+    elim (cases_lt j (length done)) [
+      | inl lt ↦ (j, lt, sym (get_or_append_left done left y j lt) ∙ there)
+      | inr ge ↦
+          let before : IsBefore old new x y = rw (at_i, at_j) at (order.sorted i j (omega (arith, ge, low)) inside) in
+          elim (wave_falls old new x y before.wave_x x_differs down before.of_x) [
+            | inl e ↦ subst (Contains done) e (i, low, here)
+            | inr (l, of_y, falls) ↦ absurd (omega (arith, falls, before.earlier, wave_unique old new y l before.wave_y of_y before.of_y))
+          ]
+    ]
+
+-- two tables with the same hops are one
+same_table : (some other : List Hop) → length some ≡ length other → ((x : ℕ) → slice_get some x ≡ slice_get other x) → some ≡ other
+same_table some other same at = ext_get_or Here some other same (λ x low. get_or_from_slice_get some x (get_or other x Here) Here (at x ∙ slice_get-get_or other x Here (omega arith)))
+
+pub ends_as_new : (old new : List Hop) (order : List ℕ) (table : List Hop) → length old ≡ length new → IsPushOrder old new order → IsPushed old new order table → table ≡ new
+ends_as_new old new order table same is pushed = same_table table new (pushed.one_length ∙ same) (λ x. ⊎_elim (pushed.these x)
+    (λ out. ⊎_elim (λ kept. pushed.others x out ∙ kept) (λ differs. absurd (out ((is.these x).1 differs))) (cases_differ old new x))
+    (cases_member order x))
+
+-- lists that are sorted by a relation in one direction alone, and have the same elements, are one
+
+IsSorted : (ℕ → ℕ → Type 0) → List ℕ → Type 0
+IsSorted R [] = Unit {0}
+IsSorted R (x ∷ xs) = ((y : ℕ) → Contains xs y → R x y) × IsSorted R xs
+
+sorted_from : (R : ℕ → ℕ → Type 0) (xs : List ℕ) → ((i j : ℕ) → i < j → j < length xs → R (get_or xs i 0) (get_or xs j 0)) → IsSorted R xs
+unfolding IsSorted
+sorted_from R [] at = tt
+sorted_from R (x ∷ xs) at = (
+  λ y (k, low, is). subst (R x) (get_or_default xs k 0 y low ∙ is) (at 0 (suc k) (omega arith) (omega arith)),
+  sorted_from R xs (λ i j lt low. at (suc i) (suc j) (omega arith) (omega arith)),
+)
+
+sorted_unique : (R : ℕ → ℕ → Type 0) → ((x y : ℕ) → R x y → ¬ R y x) → (xs ys : List ℕ) → IsSorted R xs → IsSorted R ys → ((z : ℕ) → Contains xs z → Contains ys z) → ((z : ℕ) → Contains ys z → Contains xs z) → xs ≡ ys
+unfolding IsSorted
+sorted_unique R one [] [] s t to from = refl
+sorted_unique R one [] (y ∷ ys) s t to from = absurd (Contains-none y (from y (Contains-head y ys)))
+sorted_unique R one (x ∷ xs) [] s t to from = absurd (Contains-none x (to x (Contains-head x xs)))
+sorted_unique R one (x ∷ xs) (y ∷ ys) s t to from =
+    let same : x ≡ y = ⊎_elim (λ e. sym e)
+    (λ in_ys. ⊎_elim (λ e. e) (λ in_xs. absurd (one x y (s.0 y in_xs) (t.0 x in_ys))) (Contains-cases y x xs (from y (Contains-head y ys))))
+    (Contains-cases x y ys (to x (Contains-head x xs))) in
+    let tails : xs ≡ ys = sorted_unique R one xs ys s.1 t.1
+    (λ z in_xs. ⊎_elim (λ e. absurd (let r : R x z = s.0 z in_xs in let q : R x x = subst (R x) (sym (same ∙ e)) r in one x x q q)) (λ h. h) (Contains-cases z y ys (to z (Contains-tail z x xs in_xs))))
+    (λ z in_ys. ⊎_elim (λ e. absurd (let r : R y z = t.0 z in_ys in let q : R y y = subst (R y) (sym (sym same ∙ e)) r in one y y q q)) (λ h. h) (Contains-cases z x xs (from z (Contains-tail z y ys in_ys)))) in
+    ap (λ (w : ℕ). w ∷ xs) same ∙ ap (λ (ws : List ℕ). y ∷ ws) tails
+
+one_before : (old new : List Hop) (x y : ℕ) → IsBefore old new x y → ¬ IsBefore old new y x
+one_before old new x y a b =
+    let on_x = wave_unique old new x a.wave_x b.wave_y a.of_x b.of_y in
+    let on_y = wave_unique old new y a.wave_y b.wave_x a.of_y b.of_x in
+    omega (arith, a.lower (omega (arith, on_x, on_y, a.earlier, b.earlier)), b.lower (omega (arith, on_x, on_y, a.earlier, b.earlier)))
+
+pub order_unique : (old new : List Hop) (order other : List ℕ) → IsPushOrder old new order → IsPushOrder old new other → order ≡ other
+order_unique old new order other a b = sorted_unique (IsBefore old new) (one_before old new) order other
+    (sorted_from (IsBefore old new) order a.sorted) (sorted_from (IsBefore old new) other b.sorted)
+    (λ z found. (b.these z).1 ((a.these z).0 found)) (λ z found. (a.these z).1 ((b.these z).0 found))

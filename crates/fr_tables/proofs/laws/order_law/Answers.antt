@@ -1,0 +1,14 @@
+use Rattle.fr_tables.proofs.Orders.{beginning_closed, ends_as_new, order_unique, waves_closed}
+use Rattle.fr_tables.proofs.laws.order_law.Goals as goal
+
+pub returns-clause-beginnings : goal.returns-clause-beginnings
+returns-clause-beginnings c = beginning_closed
+
+pub returns-clause-waves : goal.returns-clause-waves
+returns-clause-waves c = waves_closed
+
+pub returns-clause-whole : goal.returns-clause-whole
+returns-clause-whole c = ends_as_new
+
+pub returns-clause-unique : goal.returns-clause-unique
+returns-clause-unique c = order_unique

@@ -1,0 +1,50 @@
+-- Forwarding tables, by next hops: a walk follows them from node to node, and a loop is a walk that comes back. Next hops and
+-- forwarding loops are those of RFC 6976 (ordered updates of forwarding tables); downstream is towards the destination.
+use Rattle.std.specs.Prelude.{◌≡◌, ℕ, ◌<◌, ◌≤◌, ◌++◌, List, [], ◌∷◌, length, slice_get, Some}
+use Rattle.fr_tables.specs.declared.hop.Hop.{Hop}
+use Rattle.fr_tables.specs.declared.hop.Hop.TheVariants.{To}
+
+-- node x sends on to node y
+abbrev pub SendsOn : List Hop → ℕ → ℕ → Type 0
+SendsOn table x y = slice_get table x ≡ Some (To y)
+
+-- from x by these nodes, each the next hop of the one before
+abbrev pub IsWalk : List Hop → ℕ → List ℕ → Type 0
+IsWalk table x [] = Unit {0}
+IsWalk table x (y ∷ ys) = SendsOn table x y × IsWalk table y ys
+
+-- the node at which the walk from x by these nodes ends
+abbrev pub end_of : ℕ → List ℕ → ℕ
+end_of x [] = x
+end_of x (y ∷ ys) = end_of y ys
+
+-- and this node sends on to none
+pub record IsWholeWalk (table : List Hop) (x : ℕ) (ys : List ℕ) : Type 0 where
+  pub goes : IsWalk table x ys
+  pub ends : (y : ℕ) → ¬ SendsOn table (end_of x ys) y
+
+-- a loop: each of these nodes sends on to the next, and the last to the first
+abbrev pub IsLoop : List Hop → List ℕ → Type 0
+IsLoop table [] = ⊥
+IsLoop table (x ∷ xs) = IsWalk table x (xs ++ x ∷ [])
+
+-- the table has no loop
+abbrev pub IsLoopFree : List Hop → Type 0
+IsLoopFree table = (nodes : List ℕ) → ¬ IsLoop table nodes
+
+-- y lies downstream of x: the walk from x comes to it. Each node lies downstream of itself
+pub record IsDownstream (table : List Hop) (x y : ℕ) : Type 0 where
+  pub by : List ℕ
+  pub goes : IsWalk table x by
+  pub ends : end_of x by ≡ y
+
+-- each hop names a node of the table
+abbrev pub IsInRange : List Hop → Type 0
+IsInRange table = (x y : ℕ) → SendsOn table x y → y < length table
+
+-- the first hop that does not names y
+pub record IsFirstOutside (table : List Hop) (y : ℕ) : Type 0 where
+  pub at : ℕ
+  pub sends : SendsOn table at y
+  pub outside : length table ≤ y
+  pub first : (x z : ℕ) → x < at → SendsOn table x z → z < length table
