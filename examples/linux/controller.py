@@ -1,4 +1,4 @@
-"""A controller for Linux routers: it follows links that fail and come back, and pushes each changed hop to its router by `ip route`.
+"""A controller for Linux routers: it follows links that fail and come back, and pushes each changed hop by `ip route`.
 
 Each router is a network namespace, and its link to the router r2 is a device called r2.
 """
@@ -12,13 +12,13 @@ from revroute import NoHop
 class Controller:
     """The routes of all routers to one gateway.
 
-    After each call of `down`, `up` or `retire`, go through `pushing()`. If the next event comes in the middle, stop there, report the
-    event, and begin a new `pushing()`: nothing has to be undone. Take a retired link down only once its `pushing()` has ended; if it
-    fails before, call `forget`.
+    After each call of `down`, `up` or `retire`, go through `pushing()`. If the next event comes in the middle, stop there, report
+    it, and begin a new `pushing()`: nothing has to be undone. Take a retired link down only once its `pushing()` has ended; if
+    it fails before, call `forget`.
     """
 
     def __init__(self, addresses, gateway, links, target):
-        """`addresses` has the address of each router by its name; the routes are for `target`, an address behind the gateway."""
+        """`addresses` has each router's address by its name. The routes are for `target`, an address behind the gateway."""
         self.addresses, self.target = addresses, target
         self.network = revroute.Network(len(addresses), gateway, links, names=[*addresses])
         # what each router's kernel has; a router that is missing here has no route
@@ -44,16 +44,16 @@ class Controller:
                 del self.table[router]
 
     def pushing(self):
-        """Pushes what the kernels do not have yet, one hop at a time, and yields each router once it has confirmed its hop."""
+        """Pushes what the kernels do not have yet, hop by hop, and yields each router once it has confirmed its hop."""
         for router, hop in self.pushes():
             self.push(router, hop)
             self.table[router] = hop
             yield router
 
     def pushes(self):
-        """All routers whose hop in the table differs from the settled one, each after the differing routers on its new route."""
-        settled = dict(zip(self.addresses, self.network.hops()))
-        differing = {router: hop for router, hop in settled.items() if hop != self.table.get(router, NoHop.CUT_OFF)}
+        """All routers whose hop in the table is not the settled one, each after the differing routers on its new route."""
+        settled = zip(self.addresses, self.network.hops())
+        differing = {router: hop for router, hop in settled if hop != self.table.get(router, NoHop.CUT_OFF)}
         waves = {router: len(differing.keys() & (self.network.walk(router) or [router])) for router in differing}
         return sorted(differing.items(), key=lambda it: waves[it[0]])
 
