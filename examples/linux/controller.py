@@ -52,6 +52,7 @@ class Controller:
 
     def pushes(self):
         """All routers whose hop in the table is not the settled one, each after the differing routers on its new route."""
+        # engine: in its place, return self.network.pushes(self.table), once the engine has it
         settled = zip(self.addresses, self.network.hops())
         differing = {router: hop for router, hop in settled if hop != self.table.get(router, NoHop.CUT_OFF)}
         waves = {router: len(differing.keys() & (self.network.walk(router) or [router])) for router in differing}

@@ -1,6 +1,6 @@
 """Routers as network namespaces of this machine, with what can be seen of them: the kernels' tables and counters, and probes.
 
-Whoever makes a lab is in namespaces of its own, as the program `lab` is, so that all of it ends with that process.
+Make a lab only in a network and with mounts of your own, as the program `lab` does: all of it then ends with your process.
 """
 
 import contextlib
@@ -14,8 +14,7 @@ import subprocess
 import time
 from pathlib import Path
 
-# An address behind the gateway, and a port of it. In one update a probe visits no router more than twice, if hops are pushed in
-# push order: a TTL of twice the number of routers is enough.
+# An address behind the gateway, and a port of it.
 TARGET, PORT = "10.255.255.1", 7
 # The bridge, in a namespace of its own, by which the errors of probes find their way back to the sender.
 HUB = "hub"
@@ -121,7 +120,10 @@ class Router:
 
 
 class Lab:
-    """Routers with their links, and the probes that they have sent. The first router is the gateway."""
+    """Routers with their links, and the probes that they have sent. The first router is the gateway.
+
+    A probe's TTL is twice the number of routers. In push order that is enough, even if hops are pushed while it is under way.
+    """
 
     def __init__(self, addresses, links):
         self.addresses, self.gateway = addresses, next(iter(addresses))
