@@ -1,0 +1,223 @@
+"""Routers as network namespaces of this machine, with what can be seen of them: the kernels' tables and counters, and probes.
+
+Make a lab only in a network and with mounts of your own, as the program `lab` does: all of it then ends with your process.
+"""
+
+import contextlib
+import ctypes
+import errno
+import fcntl
+import os
+import socket
+import struct
+import subprocess
+import time
+from pathlib import Path
+
+# An address behind the gateway, and a port of it.
+TARGET, PORT = "10.255.255.1", 7
+# The bridge, in a namespace of its own, by which the errors of probes find their way back to the sender.
+HUB = "hub"
+SECONDS_TO_SETTLE, SECONDS_TO_RUN = 5, 60
+THREAD, RUN = "/proc/thread-self", os.path.realpath("/var/run")
+SYSCTLS = {
+    "ip_forward": 1,
+    # each error counts: none may be held back
+    "icmp_ratemask": 0,
+    "icmp_ratelimit": 0,
+    # a probe that comes back to its sender goes on, as in any loop
+    "conf/all/accept_local": 1,
+}
+OFF = "rp_filter", "send_redirects", "accept_redirects"
+SYSCTLS |= {f"conf/{devices}/{name}": 0 for devices in ("all", "default") for name in OFF}
+CLONE_NEWNET, SIOCGIFFLAGS, IFF_RUNNING = 0x40000000, 0x8913, 0x40
+libc = ctypes.CDLL(None, use_errno=True)
+
+
+class Wrong(Exception):
+    """A run has to end, and why."""
+
+
+def run(*words, given=None):
+    """Runs a command, which has to end with status 0."""
+    pipes = {"stdout": subprocess.PIPE, "stderr": subprocess.STDOUT}
+    ran = subprocess.run(words, input=given, text=True, timeout=SECONDS_TO_RUN, **pipes)
+    if ran.returncode:
+        raise OSError(f"{' '.join(words)}: {ran.stdout.strip() or ran.returncode}")
+
+
+def ip(*lines, inside=None):
+    """Has `ip` do what the lines say, in a router's namespace or in that of the lab."""
+    run("ip", *(["-n", inside] if inside else []), "-batch", "-", given="\n".join(lines) + "\n")
+
+
+@contextlib.contextmanager
+def entered(router):
+    """Within a router's namespace: what this thread opens there stays there."""
+    with open(f"{THREAD}/ns/net") as home, open(f"{RUN}/netns/{router}") as there:
+        enter(there)
+        try:
+            yield
+        finally:
+            enter(home)
+
+
+def enter(space):
+    if libc.setns(space.fileno(), CLONE_NEWNET):
+        raise OSError(ctypes.get_errno(), "setns")
+
+
+def set_sysctls(router):
+    with entered(router):
+        for name, value in SYSCTLS.items():
+            Path("/proc/sys/net/ipv4", name).write_text(str(value))
+
+
+class Router:
+    """What can be seen of a router, and the socket that its probes leave by."""
+
+    def __init__(self, name, address, ttl):
+        with entered(name):
+            self.files = {it: os.open(f"{THREAD}/net/{it}", os.O_RDONLY) for it in ("route", "snmp", "netstat")}
+            self.socket = socket.socket(socket.AF_INET, socket.SOCK_DGRAM)
+        self.socket.bind((address, 0))
+        self.socket.setsockopt(socket.IPPROTO_IP, socket.IP_TTL, ttl)
+
+    def close(self):
+        self.socket.close()
+        for file in self.files.values():
+            os.close(file)
+
+    def read(self, name):
+        return os.pread(self.files[name], 1 << 20, 0).decode().splitlines()
+
+    def count(self, file, group, name):
+        """A counter of the kernel's."""
+        names, values = (line.split() for line in self.read(file) if line.startswith(f"{group}: "))
+        return int(values[names.index(name)])
+
+    def route(self):
+        """The device and the address of the next hop to the target, or None."""
+        for line in self.read("route")[1:]:
+            device, target, hop, *_ = line.split()
+            if target == hex_of(TARGET):
+                return device, hop
+        return None
+
+    def is_running(self, device):
+        asked = struct.pack("16sH14x", device.encode(), 0)
+        return bool(struct.unpack("16sH14x", fcntl.ioctl(self.socket, SIOCGIFFLAGS, asked))[1] & IFF_RUNNING)
+
+    def probe(self):
+        """Sends a probe, and returns whether the router had a route."""
+        try:
+            self.socket.sendto(b"", (TARGET, PORT))
+        except OSError as error:
+            if error.errno != errno.ENETUNREACH:
+                raise
+            return False
+        return True
+
+
+class Lab:
+    """Routers with their links, and the probes that they have sent. The first router is the gateway.
+
+    A probe's TTL is twice the number of routers. In push order that is enough, even if hops are pushed while it is under way.
+    """
+
+    def __init__(self, addresses, links):
+        self.addresses, self.gateway = addresses, next(iter(addresses))
+        self.sent, self.delivered, self.lost, self.reached = 0, 0, 0, set()
+        build(addresses, links)
+        self.routers = {name: Router(name, address, 2 * len(addresses)) for name, address in addresses.items()}
+        with entered(self.gateway):
+            self.sink = socket.socket(socket.AF_INET, socket.SOCK_DGRAM)
+        self.sink.bind((TARGET, PORT))
+        self.sink.setblocking(False)
+        for u, v in links:
+            self.wait_for_link(u, v)
+
+    def close(self):
+        self.sink.close()
+        for router in self.routers.values():
+            router.close()
+        ip(*(f"netns del {name}" for name in (*self.addresses, HUB)))
+
+    def set_link(self, u, v, state):
+        for router, device in ((u, v), (v, u)):
+            ip(f"link set dev {device} {state}", inside=router)
+        if state == "up":
+            self.wait_for_link(u, v)
+
+    def wait_for_link(self, u, v):
+        if not wait(lambda: self.routers[u].is_running(v) and self.routers[v].is_running(u)):
+            raise Wrong(f"the link of {u} and {v} does not come up")
+
+    def tables(self):
+        """The next hop of each router that has a route, as its kernel has it."""
+        routes = {name: router.route() for name, router in self.routers.items()}
+        hops = {hex_of(address): name for name, address in self.addresses.items()}
+        # a route over another device than that to its next hop is told as it is, which is no hop of any table
+        return {name: it[0] if it[0] == hops.get(it[1]) else it for name, it in routes.items() if it}
+
+    def probe(self):
+        """Sends a probe from each router but the gateway, and takes those that have arrived."""
+        self.sent += sum(router.probe() for name, router in self.routers.items() if name != self.gateway)
+        self.receive()
+
+    def receive(self):
+        with contextlib.suppress(BlockingIOError):
+            while True:
+                self.reached.add(self.sink.recvfrom(1)[1][0])
+                self.delivered += 1
+
+    def expired(self):
+        return sum(router.count("snmp", "Icmp", "OutTimeExcds") for router in self.routers.values())
+
+    def count_lost(self):
+        """How many probes have ended on the way: by their TTL, or at a router with no route."""
+        return self.expired() + sum(router.count("netstat", "IpExt", "InNoRoutes") for router in self.routers.values())
+
+    def under_way(self):
+        """How many probes have neither arrived nor been lost. The counters are read only if they can have changed."""
+        self.receive()
+        if self.sent - self.delivered - self.lost:
+            self.lost = self.count_lost()
+        return self.sent - self.delivered - self.lost
+
+    def settle(self):
+        """Waits until no probe is under way."""
+        if not wait(lambda: not self.under_way()):
+            raise Wrong(f"{self.under_way()} probes have neither arrived nor been counted as lost")
+
+
+def wait(is_so):
+    """Waits until something is so, and returns whether it came to that in time."""
+    end = time.monotonic() + SECONDS_TO_SETTLE
+    while not is_so():
+        if time.monotonic() > end:
+            return False
+        time.sleep(0.0005)
+    return True
+
+
+def build(addresses, links):
+    """Makes the namespaces, and their links by veth, each end with the name of the router at the other."""
+    ip(*(f"netns add {name}" for name in (*addresses, HUB)))
+    for name in addresses:
+        set_sysctls(name)
+    bridged = [f"link add name {name} up master bridge type veth peer name mgmt netns {name}" for name in addresses]
+    # Linux takes up to a second to see that a link is up if its two ends have the same index.
+    ends = {name: f"name {name} index {100 + at}" for at, name in enumerate(addresses)}
+    linked = [f"link add {ends[v]} netns {u} type veth peer {ends[u]} netns {v}" for u, v in links]
+    ip("link add name bridge up type bridge", *bridged, inside=HUB)
+    ip(*linked)
+    for name, address in addresses.items():
+        devices = ["lo", "mgmt", *(v if u == name else u for u, v in links if name in (u, v))]
+        ip(f"address add {address}/24 dev mgmt", *(f"link set dev {it} up" for it in devices), inside=name)
+    ip(f"address add {TARGET}/32 dev lo", inside=next(iter(addresses)))
+
+
+def hex_of(address):
+    """An address as /proc/net/route has it."""
+    return f"{struct.unpack('=I', socket.inet_aton(address))[0]:08X}"
