@@ -4,6 +4,7 @@
 #![tactic(auto)]
 
 pub use fr_graph::{
-    Edit, EditFault, First, Links, MAX_EDITS, MAX_LINKS, MAX_NODES, Net, NetFault, NotEdited, Turns, laws,
+    Edit, EditFault, First, Links, MAX_EDITS, MAX_LINKS, MAX_NODES, Net, NetFault, NotEdited,
+    Turns, laws,
 };
 pub use fr_lines::{LineFault, LineReader, Question, Request, read_line};

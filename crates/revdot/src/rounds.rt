@@ -8,7 +8,7 @@ ghost use Rattle.revdot.specs.Strips.{AreAllTurns, beginning};
 ghost use Rattle.fr_route.specs.Texts.{spaced, spaced_links};
 ghost use Rattle.revdot.specs.Stories.{IsRoundStory, AreSettledLines, IsAnswerLine, beginning_text, first_text, is_short, most_told_turns, net_text, turns_line};
 
-use crate::turns::{first_links, next_to_turn, turn_node};
+use crate::turns::{first_links, links_of, next_to_turn, turn_node};
 use fr_lines::{Question, Request};
 use fr_route::{Router, Session};
 use std::alloc::{AllocError, Global};
@@ -62,7 +62,7 @@ fn push_beginning(story: &mut String, alloc: Global, router: &Router) -> Result<
 {
     let net = router.net();
     net.network_law();
-    let settled: Vec<(u32, u32)> = net.links().collect(alloc)?;
+    let settled = links_of(alloc, net)?;
     let first = first_links(alloc, &settled, router.counts())?;
     push_first(story, &first)?;
     let turns = turns_of(alloc, router, first)?;

@@ -6,7 +6,7 @@ ghost use Rattle.revdot.specs.Strips.{IsStripOf, AreAllTurns, most_turns, moment
 
 use crate::graphs::{DrawnLink, DrawnNode, LinkLook, NodeLook, Title, push_graph};
 use crate::settled::push_settled;
-use crate::turns::{first_links, next_to_turn, turn_node};
+use crate::turns::{first_links, links_of, next_to_turn, turn_node};
 use fr_route::Router;
 use std::alloc::{AllocError, Global};
 
@@ -29,7 +29,7 @@ fn push_turns(text: &mut String, alloc: Global, router: &Router) -> Result<(), A
     let net = router.net();
     net.network_law();
     let nodes = net.nodes();
-    let settled: Vec<(u32, u32)> = net.links().collect(alloc)?;
+    let settled = links_of(alloc, net)?;
     let mut links = first_links(alloc, &settled, router.counts())?;
     let mut counts = vec![in alloc; 0u64; nodes as usize]?;
     for turn in 0..MAX_TURNS {

@@ -7,7 +7,15 @@ ghost use Rattle.fr_core.specs.Legal.{NoneCanTurn};
 ghost use Rattle.revdot.specs.Strips.{first_link as first_link_of, moment, IsNext};
 ghost use Rattle.revdot.specs.Ends.{HaveEnds};
 
+use fr_graph::Net;
 use std::alloc::{AllocError, Global};
+
+/// A list of the links of a network.
+pub fn links_of(alloc: Global, net: &Net) -> Result<Vec<(u32, u32)>, AllocError>
+    ensures { IfOk result (λ links. links.items ≡ net.now.links) }
+{
+    net.links().collect(alloc)
+}
 
 /// How the settled links pointed when the round began.
 pub fn first_links(
