@@ -18,9 +18,9 @@ nothing_behind (x ∷ xs) ys nothing = cc
 blank_goes_on : (begun piece : List ℕ) (end : ℕ) (found : Bool) → end ≡ position_or_len ends_line piece → found ≡ false
     → ((end < length piece) × (is_blank (begun ++ take end piece) ≡ true) × (length (begun ++ take end piece) ≤ most_bytes) → found ≡ true)
     → length begun + length (take end piece) ≤ most_bytes → is_blank (begun ++ before_first ends_line piece) ≡ true → lines_of piece ≡ piece ∷ []
-blank_goes_on begun piece end found is no all short blank = ⊎_elim
+blank_goes_on begun piece end found is missed all short blank = ⊎_elim
     (λ some. let yes = all (some, subst (λ (n : ℕ). is_blank (begun ++ take n piece) ≡ true) (sym is) blank, omega (arith, short, length-append begun (take end piece))) in
-        let bad : false ≡ true = sym no ∙ yes in cc)
+        let bad : false ≡ true = sym missed ∙ yes in cc)
     (λ none. one_line piece (omega (arith, is, none)))
     (cases_lt end (length piece))
 
