@@ -1,4 +1,4 @@
-use Rattle.std.proofs.Common.{true, ◌∙◌, ◌≡◌, ◌≢◌, ◌<◌, ◌≤◌, ◌+◌, ◌++◌, [], Err, ℕ, List, length, length-append, length-drop, length-take, take, drop, false, ap, refl, sym, arith}
+use Rattle.std.proofs.Common.{true, ◌∙◌, ◌≡◌, ◌<◌, ◌≤◌, ◌+◌, ◌++◌, Err, ℕ, List, length, length-append, length-drop, length-take, take, drop, false, ap, refl, sym, arith}
 use Rattle.std.proofs.lemmas.Result.{on_ok_weaker}
 use Rattle.std.specs.Io.KnownBytes.{Appends}
 use Rattle.fr_route.specs.Blank.{is_blank}
