@@ -9,7 +9,7 @@
  * memory takes nothing and changes nothing, and the same piece has its answer then. Questions are asked before each call, which leave
  * what has begun. Printed are how many allocations were refused, and how many calls said so.
  *
- * With --longest a line is as long as it may be, and then longer. Each piece and each buffer ends where no memory is behind it.
+ * With --longest a line is as long as it may be, and then longer, and blank lines come to a new session. Each piece and each buffer ends where no memory is behind it.
  */
 #define _DEFAULT_SOURCE
 #include "fence.h"
@@ -232,6 +232,22 @@ static void close_begun(void) {
     end_input(&it, hand_short);
 }
 
+/* What is blank has no answer, and a new session takes no memory for it: each room but too small a one does, where each allocation
+ * is refused too. */
+static void end_blank(void) {
+    static const size_t rooms[] = {REVROUTE_LEAST_ROOM, REVROUTE_LEAST_ROOM + 1, 1000, ROOM};
+    static const char *const blanks[] = {"\n", " \t\r\n"};
+    for (size_t at = 0; at < 4; at++) {
+        talk it = {REVROUTE_NEW, {NULL, 0}, 1};
+        if (call(&it, (line){NULL, 0}, rooms[at]).status != REVROUTE_BLANK) stop("an empty input is not blank");
+        for (size_t blank = 0; blank < 2; blank++) {
+            line piece = {(const uint8_t *)blanks[blank], strlen(blanks[blank])};
+            if (call(&it, piece, rooms[at]).status != REVROUTE_BLANK) stop("a blank line is not blank");
+        }
+        if (it.session.at || it.left != 1) stop("a blank line takes memory");
+    }
+}
+
 int main(int count, char **words) {
     if (count != 2) stop("usage: pieces ANSWERS | --longest");
     piece_end = fence(PIECE_SPACE);
@@ -239,6 +255,7 @@ int main(int count, char **words) {
     if (!strcmp(words[1], "--longest")) {
         ask_longest();
         close_begun();
+        end_blank();
         return 0;
     }
     FILE *file = fopen(words[1], "rb");

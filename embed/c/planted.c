@@ -31,6 +31,8 @@ enum {
     no_memory_that_loses_the_session,
     a_blank_line_without_memory,
     a_session_for_a_blank_line,
+    an_empty_input_without_memory,
+    a_blank_piece_without_memory,
     close_that_keeps_the_memory,
     another_version,
     a_byte_lost_between_two_pieces,
@@ -119,6 +121,10 @@ uint32_t revroute_take(revroute *session, const uint8_t *piece, size_t piece_len
         *length = *taken = 0;
         return REVROUTE_TOO_LONG;
     }
+    if (FAULT == a_blank_piece_without_memory && room >= REVROUTE_LEAST_ROOM && !session->at && piece_length == 1 && *piece == '\n') {
+        *length = *taken = 0;
+        return REVROUTE_NO_MEMORY;
+    }
     size_t lost = FAULT == a_byte_lost_between_two_pieces && is_kept && piece_length > 1;
     uint32_t status = engine_take(session, piece, piece_length - lost, answer, room, length, taken);
     if (status == REVROUTE_BEGUN) *taken += lost;
@@ -133,6 +139,10 @@ uint32_t revroute_take(revroute *session, const uint8_t *piece, size_t piece_len
 }
 
 uint32_t revroute_finish(revroute *session, uint8_t *answer, size_t room, size_t *length) {
+    if (FAULT == an_empty_input_without_memory && room > REVROUTE_LEAST_ROOM && !session->at) {
+        *length = 0;
+        return REVROUTE_NO_MEMORY;
+    }
     uint32_t status = engine_finish(session, answer, room, length);
     if (FAULT != a_last_line_without_an_answer || status != REVROUTE_ANSWERED) return status;
     *length = 0;

@@ -74,8 +74,8 @@ impl Conversation {
     /// Takes the front of a piece, up to its first byte 10 and with it, and answers the line that ends there; without one, all of the
     /// piece goes to the line that has begun. Whatever the fault, nothing was taken, and the piece can be handed in again: `TooLong`
     /// where the line has more than [`MAX_BYTES`] bytes, `Start` where a thread could not be started, which with the budget 0
-    /// never comes, and `Memory` where the line or its answer found no room; never `Read` or `Write`. `O(b)` for b bytes taken, and at a
-    /// line end what [`Session::answer_line`] costs.
+    /// never comes, and `Memory` where the line or its answer found no room, which a blank line wants only where it does not end in the
+    /// piece; never `Read` or `Write`. `O(b)` for b bytes taken, and at a line end what [`Session::answer_line`] costs.
     pub fn take<T: Threads + Wait + Sync, G: Gate + Sync>(
         &mut self,
         rt: &T,

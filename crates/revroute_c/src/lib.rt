@@ -84,10 +84,11 @@ pub extern "C" fn revroute_answer(
 }
 
 /// Takes the front of a piece, up to its first byte 10 and with it, and answers the line that ends there, of what had begun and this
-/// front; without one, all of the piece is kept behind what has begun, and `BEGUN` says so. How many bytes were taken goes to `taken`. The
-/// answer and its length are as [`revroute_answer`]'s. `TOO_LONG` says that the line has more than 16,777,216 bytes; none of more is answered or
-/// kept. After it, `TOO_SHORT` and `NO_MEMORY` nothing was taken, and all is as it was, the handle's own bytes too: the piece can be
-/// handed in again. `O(b)` for b bytes taken, and at a line end what [`revroute_answer`] costs.
+/// front; without one, all of the piece is kept behind what has begun, and `BEGUN` says so. How many bytes were taken goes to `taken`.
+/// The answer and its length are as [`revroute_answer`]'s, and a blank line that ends takes no memory. `TOO_LONG` says that the line has
+/// more than 16,777,216 bytes; none of more is answered or kept. After it, `TOO_SHORT` and `NO_MEMORY` nothing was taken, and all is as it
+/// was, the handle's own bytes too: the piece can be handed in again. `O(b)` for b bytes taken, and at a line end what
+/// [`revroute_answer`] costs.
 #[unsafe(no_mangle)]
 pub extern "C" fn revroute_take(
     alloc: Global,

@@ -68,6 +68,7 @@ struct NarrowWriter {
     fails: bool,
     failed: bool,
     flushed: bool,
+    flush_failed: bool,
 }
 
 impl NarrowWriter {
@@ -78,12 +79,17 @@ impl NarrowWriter {
             fails,
             failed: false,
             flushed: false,
+            flush_failed: false,
         }
     }
 
-    /// Whether all was written and then flushed where all went well, and else a beginning, with no flush after the failure.
-    fn fits(&self, end: &Result<u64, RunFault>, whole: &Outcome) -> bool {
+    /// Whether all was written and then flushed where all went well, and else a beginning, with no flush after the failure. Where a flush
+    /// failed that is made once, at the end, the beginning is all of it.
+    fn fits(&self, end: &Result<u64, RunFault>, whole: &Outcome, flushes_once: bool) -> bool {
         match end {
+            Err(RunFault::Write) if self.flush_failed && flushes_once => {
+                !self.flushed && self.out == whole.out
+            }
             Err(RunFault::Write) => {
                 self.failed && !self.flushed && whole.out.starts_with(&self.out)
             }
@@ -114,6 +120,7 @@ impl Write for NarrowWriter {
         self.flushed = self.good > 0;
         if self.good == 0 {
             self.failed = true;
+            self.flush_failed = true;
             return Err(io::Error::from(io::ErrorKind::Interrupted));
         }
         Ok(())
@@ -149,7 +156,8 @@ impl<'a> Undisturbed<'a> {
         done: bool,
     ) -> bool {
         let end = perform(rt, self.task, &mut self.input.as_bytes(), &mut writer);
-        writer.fits(&end, &self.outcome) && (!done || end.is_ok())
+        let flushes_once = !matches!(self.task, Task::Serve(_));
+        writer.fits(&end, &self.outcome, flushes_once) && (!done || end.is_ok())
     }
 }
 

@@ -1,4 +1,4 @@
-use Rattle.std.proofs.Common.{◌≡◌, ◌-◌, ◌≢◌, ◌<◌, [], Err, List, ℕ, length, length-drop, take, drop, ap, sym, subst, false, arith}
+use Rattle.std.proofs.Common.{◌≡◌, ◌-◌, ◌<◌, Err, List, ℕ, length, length-drop, take, drop, ap, sym, subst, false, arith}
 use Rattle.std.proofs.Math.Seq.{take-add}
 use Rattle.std.proofs.lemmas.List.{take_all}
 use Rattle.fr_route.specs.Blank.{is_blank}

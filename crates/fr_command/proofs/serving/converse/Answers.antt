@@ -1,4 +1,4 @@
-use Rattle.std.proofs.Common.{◌≡◌, ◌≢◌, ◌<◌, ◌≤◌, ◌+◌, ◌++◌, [], Err, ℕ, List, length, length-append, length-drop, length-take, take, drop, false, ap, refl, sym, arith}
+use Rattle.std.proofs.Common.{true, ◌∙◌, ◌≡◌, ◌<◌, ◌≤◌, ◌+◌, ◌++◌, Err, ℕ, List, length, length-append, length-drop, length-take, take, drop, false, ap, refl, sym, arith}
 use Rattle.std.proofs.lemmas.Result.{on_ok_weaker}
 use Rattle.std.specs.Io.KnownBytes.{Appends}
 use Rattle.fr_route.specs.Blank.{is_blank}
@@ -57,7 +57,7 @@ returns-then-count-eq0-clause-memory g c e =
       reads,
       before_begun h.bytes c.reads.conversation (g.W.Write.contents c.args.writer.now) (g.W.Write.contents c.reads.writer) h.says (g.W.Write.contents c.answer_end.new.writer) part.1,
       blank_or_some c.reads.conversation.begun part.0,
-      λ _. refl,
+      λ blank. let bad : true ≡ false = sym blank ∙ part.0 in cc,
     )
 
 pub reads-preserved : goal.reads-preserved

@@ -18,9 +18,9 @@ nothing_behind (x ∷ xs) ys nothing = cc
 blank_goes_on : (begun piece : List ℕ) (end : ℕ) (found : Bool) → end ≡ position_or_len ends_line piece → found ≡ false
     → ((end < length piece) × (is_blank (begun ++ take end piece) ≡ true) × (length (begun ++ take end piece) ≤ most_bytes) → found ≡ true)
     → length begun + length (take end piece) ≤ most_bytes → is_blank (begun ++ before_first ends_line piece) ≡ true → lines_of piece ≡ piece ∷ []
-blank_goes_on begun piece end found is no all short blank = ⊎_elim
+blank_goes_on begun piece end found is missed all short blank = ⊎_elim
     (λ some. let yes = all (some, subst (λ (n : ℕ). is_blank (begun ++ take n piece) ≡ true) (sym is) blank, omega (arith, short, length-append begun (take end piece))) in
-        let bad : false ≡ true = sym no ∙ yes in cc)
+    let bad : false ≡ true = sym missed ∙ yes in cc)
     (λ none. one_line piece (omega (arith, is, none)))
     (cases_lt end (length piece))
 
@@ -41,15 +41,16 @@ returns-then-ends_blank-clause-takes g c =
     let alone = subst (λ (t : Talk). lines_of t.begun ≡ t.begun ∷ []) c.self.view_is c.self.invariant.0 in
     let ended = subst (λ (n : ℕ). lines_of (take (n + 1) piece) ≡ take n piece ∷ [] ∷ []) (sym c.front_size-end.ensures) (first_line_ends piece (omega (arith, blank.0, c.front_size-end.ensures))) in
     takes_line old held new (take (end + 1) piece) (take end piece) [] alone ended refl refl
-        (blank_ends held new blank.1 (ap (λ (t : Talk). t.state) c.self.view_is) c.clear.ensures.items)
+    (blank_ends held new blank.1 (ap (λ (t : Talk). t.state) c.self.view_is) c.clear.ensures.items)
 
 pub returns-in_err-hold-clause-memory : goal.returns-in_err-hold-clause-memory
 returns-in_err-hold-clause-memory g c e =
     let same = rw e at c.from_residual.ensures in
     let some = c.in_err-hold.ensures.memory (ap Err (sym same.1)) in
-    let piece : List ℕ = c.args.piece.now in
-    (λ nothing. some.0 (ap (λ (n : ℕ). take n piece) c.front_size-end.ensures ∙ nothing_behind c.args.self.now.begun (before_first ends_line piece) nothing),
-    blank_goes_on c.args.self.now.begun piece c.front_size-end.result c.ends_blank.result c.front_size-end.ensures c.if-ends_blank.false c.ends_blank.ensures.1 some.1)
+    let piece : List ℕ = c.args.piece.now in (
+      λ nothing. some.0 (ap (λ (n : ℕ). take n piece) c.front_size-end.ensures ∙ nothing_behind c.args.self.now.begun (before_first ends_line piece) nothing),
+      blank_goes_on c.args.self.now.begun piece c.front_size-end.result c.ends_blank.result c.front_size-end.ensures c.if-ends_blank.false c.ends_blank.ensures.1 some.1,
+    )
 
 pub returns-then-end-piece-clause-takes : goal.returns-then-end-piece-clause-takes
 returns-then-end-piece-clause-takes g c =
