@@ -7,3 +7,4 @@ pub mod Trails
 pub mod Marks
 pub mod Ranks
 pub mod Answering
+pub mod Existing
