@@ -1,7 +1,8 @@
 //! A loop in a table.
 
-ghost use Rattle.std.specs.Prelude.{◌≡◌, ℕ, ◌<◌, Contains, IfErr, IfOk, drop, length, slice_index};
+ghost use Rattle.std.specs.Prelude.{◌≡◌, ℕ, ◌<◌, [], Contains, IfErr, IfOk, MatchOption, drop, length, slice_index};
 ghost use Rattle.fr_tables.specs.Faults.{IsFound, IsFaultOfTable};
+ghost use Rattle.fr_tables.specs.Inside.{AreAllKnown, IsBack, IsSound, changed_at};
 
 use crate::fault::TableFault;
 use crate::hop::Hop;
@@ -29,12 +30,24 @@ pub fn find_loop(alloc: Global, table: &[Hop]) -> Result<Option<Vec<u32>>, Table
     let differ = vec![in alloc; false; table.len()]?;
     let mut marks = vec![in alloc; Mark::Unmet; table.len()]?;
     let mut walk = Vec::with_capacity(alloc, table.len())?;
+    match node_on_loop(&differ, table, &mut marks, &mut walk) {
+        Some(node) => Ok(Some(from_node(alloc, &walk, node)?)),
+        None => Ok(None),
+    }
+}
+
+/// A node to which its own walk comes back. The list is left as a walk that comes back to it.
+fn node_on_loop(differ: &[bool], table: &[Hop], marks: &mut [Mark], walk: &mut Vec<u32>) -> Option<u32>
+    requires sound { IsSound differ.now table.now marks.old walk.old }
+    requires empty { walk.old.items ≡ [] }
+    ensures { MatchOption result (AreAllKnown (changed_at differ.now table.now) table.now marks.new) (IsBack table.now walk.new.items) }
+{
     for x in 0..table.len() as u32 {
-        if let Some(node) = mark_wave(&differ, table, &mut marks, &mut walk, x) {
-            return Ok(Some(from_node(alloc, &walk, node)?));
+        if let Some(node) = mark_wave(differ, table, marks, walk, x) {
+            return Some(node);
         }
     }
-    Ok(None)
+    None
 }
 
 /// The nodes of a walk from this one of them on.

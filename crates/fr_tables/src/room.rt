@@ -1,6 +1,6 @@
 //! Putting nodes in push order without memory: the room is taken ahead.
 
-ghost use Rattle.std.specs.Prelude.{◌≡◌, ◌≢◌, ℕ, ◌<◌, ◌+◌, ◌↔◌, All, Contains, IfOk, List, length, nat_eq, replicate, slice_index, slice_index_or, false, true};
+ghost use Rattle.std.specs.Prelude.{◌≡◌, ℕ, ◌<◌, ◌+◌, ◌^◌, ◌↔◌, All, Contains, IfOk, List, length, nat_eq, replicate, slice_index, slice_index_or, false, true};
 ghost use Rattle.std.specs.List.{IsDistinct};
 ghost use Rattle.fr_tables.specs.Inside.{AreListed, AreNoted, HasWaveUpTo};
 ghost use Rattle.fr_tables.specs.Pushes.{DifferAt, IsPushOrder};
