@@ -138,9 +138,9 @@ simple_short : (new : List Hop) (x : ℕ) (ys : List ℕ) → IsInRange new → 
 simple_short new x ys range low goes simple = length-le_from_distinct_below (x ∷ ys) (length new)
     (IsDistinct-from_apart eqb (x ∷ ys) (λ i j d lt inside. ne_eqb (get_or (x ∷ ys) i d) (get_or (x ∷ ys) j d) (simple_apart x ys simple i j d lt inside)))
     (λ q any. ⊎_elim
-        (λ e. subst (λ (z : ℕ). z < length new) e low)
-        (walk_below new x ys q range goes)
-        (Contains-cases q x ys (Contains-from_any {eq = eqb} eqb-true q (x ∷ ys) any)))
+    (λ e. subst (λ (z : ℕ). z < length new) e low)
+    (walk_below new x ys q range goes)
+    (Contains-cases q x ys (Contains-from_any {eq = eqb} eqb-true q (x ∷ ys) any)))
 
 whole_simple : (new : List Hop) (x : ℕ) (ys : List ℕ) → IsWholeWalk new x ys → IsSimple x ys
 unfolding IsSimple
