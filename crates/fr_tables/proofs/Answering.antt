@@ -1,5 +1,5 @@
 -- From the waves of all nodes to the answers.
-use Rattle.std.proofs.Common.{All, Bool, Contains, List, [], arith, eqb, false, get_or, inl, inr, length, slice_get, subst, sym, true, ℕ, ⊎_elim, ◌++◌, ◌+◌, ◌<◌, ◌∙◌, ◌∷◌, ◌≡◌, ◌≤◌, ◌↔◌}
+use Rattle.std.proofs.Common.{All, Bool, Contains, List, [], arith, eqb, false, get_or, inl, inr, length, slice_get, subst, sym, ℕ, ⊎_elim, ◌++◌, ◌+◌, ◌<◌, ◌∙◌, ◌∷◌, ◌≡◌, ◌≤◌, ◌↔◌}
 use Rattle.std.specs.List.{IsDistinct}
 use Rattle.std.specs.Cmp.{nat_eq_equiv}
 use Rattle.std.proofs.lemmas.Bool.{cases_Bool, cases_eq, cases_lt}

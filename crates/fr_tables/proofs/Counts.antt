@@ -1,7 +1,7 @@
 -- The wave of a node, by that of the node to which it sends on; how waves fall downstream, and that none is above the length of the table.
 use Rattle.std.proofs.Common.{Bool, List, None, Option, Some, [], ap, arith, cond, eqb, get_or, inl, inr, length, ne_eqb, refl, slice_get, subst, suc, sym, true, zero, ℕ, ⊎_elim, ◌+◌, ◌<◌, ◌∙◌, ◌∷◌, ◌≡◌, ◌≤◌, ◌⊎◌, Contains}
 use Rattle.std.specs.Prelude.{not}
-use Rattle.std.specs.List.{IsDistinct, count_by, list_any}
+use Rattle.std.specs.List.{count_by}
 use Rattle.std.specs.Cmp.{nat_eq_equiv}
 use Rattle.std.proofs.lemmas.Bool.{cases_Bool, eqb-true, false≢true}
 use Rattle.std.proofs.lemmas.List.Sums.{count_by-le-length, sum_by-cons}

@@ -1,5 +1,5 @@
 -- Nodes are noted as changed, and listed with their keys, one after the other.
-use Rattle.std.proofs.Common.{Bool, Contains, List, [], ap, arith, cond, eqb, false, get_or, inl, inr, length, length-set, length-take, refl, replicate, set, subst, sym, take, true, ℕ, ⊎_elim, ◌*◌, ◌++◌, ◌+◌, ◌<◌, ◌∙◌, ◌∷◌, ◌≡◌, ◌≤◌}
+use Rattle.std.proofs.Common.{Bool, Contains, List, [], ap, arith, eqb, false, get_or, inl, inr, length, length-set, length-take, refl, replicate, set, subst, sym, take, true, ℕ, ⊎_elim, ◌*◌, ◌++◌, ◌+◌, ◌<◌, ◌∙◌, ◌∷◌, ◌≡◌, ◌≤◌}
 use Rattle.std.specs.List.{IsDistinct, count_by}
 use Rattle.std.specs.Cmp.{nat_eq_equiv}
 use Rattle.std.proofs.lemmas.Bool.{cases_eq, cases_lt, false≢true}
@@ -36,8 +36,7 @@ pub noted_more : (done : List ℕ) (differ : List Bool) (x : ℕ) → x < length
 noted_more done differ x low before y = elim (cases_eq y x) [
   | inl e ↦ rw e (λ _. get_or-set_same differ x true false low, λ _. Contains-push done x)
   | inr apart ↦
-      let there = get_or-set_other differ x y true false apart in
-      (
+      let there = get_or-set_other differ x y true false apart in (
         λ found. there ∙ (before y).0 (⊎_elim (λ was. was) (λ e. absurd (apart (sym e))) (Contains-push_cases done x y found)),
         λ is. Contains-append_left done (x ∷ []) y ((before y).1 (sym there ∙ is)),
       )

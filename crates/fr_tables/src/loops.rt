@@ -37,7 +37,12 @@ pub fn find_loop(alloc: Global, table: &[Hop]) -> Result<Option<Vec<u32>>, Table
 }
 
 /// A node to which its own walk comes back. The list is left as a walk that comes back to it.
-fn node_on_loop(differ: &[bool], table: &[Hop], marks: &mut [Mark], walk: &mut Vec<u32>) -> Option<u32>
+fn node_on_loop(
+    differ: &[bool],
+    table: &[Hop],
+    marks: &mut [Mark],
+    walk: &mut Vec<u32>,
+) -> Option<u32>
     requires sound { IsSound differ.now table.now marks.old walk.old }
     requires empty { walk.old.items ≡ [] }
     ensures { MatchOption result (AreAllKnown (changed_at differ.now table.now) table.now marks.new) (IsBack table.now walk.new.items) }

@@ -27,7 +27,13 @@ enum Stop {
 }
 
 /// Marks each of these nodes with its wave, in a table without loops.
-pub(crate) fn mark_waves(differ: &[bool], new: &[Hop], marks: &mut [Mark], walk: &mut Vec<u32>, nodes: &[u32])
+pub(crate) fn mark_waves(
+    differ: &[bool],
+    new: &[Hop],
+    marks: &mut [Mark],
+    walk: &mut Vec<u32>,
+    nodes: &[u32],
+)
     requires sound { IsSound differ.now new.now marks.old walk.old }
     requires empty { walk.old.items ≡ [] }
     requires nodes { All (λ (x : ℕ). x < length new.now) nodes.now }

@@ -16,16 +16,14 @@ returns-in-Some-node_on_loop-clause-found c =
     let node : ℕ = c.in-Some-node_on_loop.node in
     let nodes = c.in_ok-from_node-in-Some-node_on_loop.field-0.items in
     let part : (k : ℕ) × (k < length walk) × (get_or walk k 0 ≡ node) × (nodes ≡ drop k walk) =
-    subst (λ (ws : List ℕ). (k : ℕ) × (k < length ws) × (get_or ws k 0 ≡ node) × (nodes ≡ drop k ws)) c.deref-in-Some-node_on_loop.ensures.value c.in_ok-from_node-in-Some-node_on_loop.ensures in
-    (
+    subst (λ (ws : List ℕ). (k : ℕ) × (k < length ws) × (get_or ws k 0 ≡ node) × (nodes ≡ drop k ws)) c.deref-in-Some-node_on_loop.ensures.value c.in_ok-from_node-in-Some-node_on_loop.ensures in (
       record { one_length = record { same = refl; few = omega (arith, c.if-table.false) }; old_range = range; new_range = range },
       rw part.3 (back_loop c.args.table.now walk node part.0 c.in-Some-node_on_loop.ensures part.1 part.2),
     )
 
 pub returns-clause-found : goal.returns-clause-found
 returns-clause-found c =
-    let range = c.in_default.ensures in
-    (
+    let range = c.in_default.ensures in (
       record { one_length = record { same = refl; few = omega (arith, c.if-table.false) }; old_range = range; new_range = range },
       known_free (changed_at c.deref.result.now c.args.table.now) c.args.table.now c.node_on_loop.new.marks c.in-None.ensures,
     )

@@ -1,4 +1,4 @@
-use Rattle.std.proofs.Common.{[], arith, get_or, length, slice_get, subst, sym, ℕ, ⊎_elim, ◌++◌, ◌+◌, ◌<◌, ◌∙◌, ◌∷◌, ◌≡◌}
+use Rattle.std.proofs.Common.{[], arith, length, slice_get, subst, sym, ℕ, ⊎_elim, ◌++◌, ◌+◌, ◌<◌, ◌∙◌, ◌∷◌, ◌≡◌}
 use Rattle.std.proofs.lemmas.Bool.{false≢true}
 use Rattle.fr_tables.specs.Pushes.{DifferAt}
 use Rattle.fr_tables.proofs.Answering.{AreChangedBelow, changed_none, changed_one, changed_skip, differs_inside}

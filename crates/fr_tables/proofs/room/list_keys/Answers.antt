@@ -1,6 +1,6 @@
-use Rattle.std.proofs.Common.{ap, List, arith, get_or, length, length-set, refl, set, subst, sym, take, ℕ, ◌+◌, ◌<◌, ◌∙◌, ◌≡◌, ◌≤◌, Contains}
+use Rattle.std.proofs.Common.{ap, List, arith, get_or, length, length-set, refl, set, subst, sym, take, ℕ, ◌+◌, ◌<◌, ◌∙◌, ◌≡◌, Contains}
 use Rattle.std.proofs.lemmas.List.{take_more}
-use Rattle.fr_tables.specs.Inside.{AreListed, mark_of}
+use Rattle.fr_tables.specs.Inside.{AreListed}
 use Rattle.fr_tables.specs.declared.waves.Mark.TheVariants.{Wave}
 use Rattle.fr_tables.proofs.Listing.{fresh, listed_few, listed_more, listed_none}
 use Rattle.fr_tables.proofs.room.list_keys.Goals as goal
@@ -42,5 +42,5 @@ loop-x-preserved c =
     record {
       one_each = length-set keys x k ∙ before.one_each;
       listed = subst (λ (xs : List ℕ). AreListed c.args.marks.now xs (set keys x k) (set places (k + 1) (get_or places (k + 1) 0 + 1))) (sym (take_more changed i 0 c.loop-x-test.true))
-      (listed_more c.args.marks.now (take i changed) keys places x k before.listed low out (omega (arith, some, is)) (omega (arith, few, is, before.one_each)) (marked ∙ ap Wave (sym is)));
+          (listed_more c.args.marks.now (take i changed) keys places x k before.listed low out (omega (arith, some, is)) (omega (arith, few, is, before.one_each)) (marked ∙ ap Wave (sym is)));
     }

@@ -1,4 +1,4 @@
-use Rattle.std.proofs.Common.{List, Bool, [], arith, false, get_or, length, refl, subst, true, ℕ, ◌++◌, ◌+◌, ◌<◌, ◌∙◌, ◌∷◌, ◌≡◌}
+use Rattle.std.proofs.Common.{List, [], arith, length, subst, ℕ, ◌++◌, ◌+◌, ◌<◌, ◌∙◌, ◌∷◌, ◌≡◌}
 use Rattle.std.proofs.lemmas.List.{append-nil}
 use Rattle.fr_tables.specs.Inside.{IsMet, IsStacked, IsStop, changed_at}
 use Rattle.fr_tables.specs.declared.waves.Stop.TheVariants.{Known}

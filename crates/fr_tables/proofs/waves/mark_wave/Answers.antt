@@ -1,4 +1,4 @@
-use Rattle.std.proofs.Common.{inr, ℕ}
+use Rattle.std.proofs.Common.{inr}
 use Rattle.fr_tables.proofs.Marks.{wave_from_met}
 use Rattle.fr_tables.proofs.waves.mark_wave.Goals as goal
 

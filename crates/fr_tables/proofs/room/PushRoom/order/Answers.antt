@@ -1,7 +1,7 @@
 use Rattle.std.proofs.Common.{All, List, arith, get_or, length, rules, subst, sym, ℕ, ◌∙◌, ◌≡◌, ◌≤◌}
 use Rattle.std.proofs.lemmas.List.{take_at}
 use Rattle.std.proofs.lemmas.List.Elements.{Contains-get_or}
-use Rattle.fr_tables.specs.Inside.{AreKnown, AreNoted, HasWave, HasWaveUpTo, changed_at}
+use Rattle.fr_tables.specs.Inside.{AreKnown, AreNoted, HasWave, changed_at}
 use Rattle.fr_tables.specs.Sorting.{IsByKey}
 use Rattle.fr_tables.specs.declared.waves.Mark.{Mark}
 use Rattle.fr_tables.proofs.Answering.{listed_low, order_from_listed, waves_up_to}
