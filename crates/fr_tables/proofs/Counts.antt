@@ -1,7 +1,7 @@
 -- The wave of a node, by that of the node to which it sends on; how waves fall downstream, and that none is above the length of the table.
 use Rattle.std.proofs.Common.{Bool, List, None, Option, Some, [], ap, arith, cond, eqb, get_or, inl, inr, length, ne_eqb, refl, slice_get, subst, suc, sym, true, zero, ℕ, ⊎_elim, ◌+◌, ◌<◌, ◌∙◌, ◌∷◌, ◌≡◌, ◌≤◌, ◌⊎◌, Contains}
 use Rattle.std.specs.Prelude.{not}
-use Rattle.std.specs.List.{IsDistinct, count_by, list_any}
+use Rattle.std.specs.List.{count_by}
 use Rattle.std.specs.Cmp.{nat_eq_equiv}
 use Rattle.std.proofs.lemmas.Bool.{cases_Bool, eqb-true, false≢true}
 use Rattle.std.proofs.lemmas.List.Sums.{count_by-le-length, sum_by-cons}
@@ -64,7 +64,7 @@ step_differs old new x differs = ⊎_elim
 pub step_same : (old new : List Hop) (x : ℕ) → slice_get old x ≡ slice_get new x → step old new x ≡ 0
 step_same old new x same = ap (λ (b : Bool). cond (not b) 1 0) (subst (λ (b : Option Hop). is_same (slice_get old x) b ≡ true) same (same-refl (slice_get old x)))
 
-count_more : (old new : List Hop) (x : ℕ) (xs : List ℕ) → count_by (differ_at old new) (x ∷ xs) ≡ step old new x + count_by (differ_at old new) xs
+pub count_more : (old new : List Hop) (x : ℕ) (xs : List ℕ) → count_by (differ_at old new) (x ∷ xs) ≡ step old new x + count_by (differ_at old new) xs
 count_more old new x xs = sum_by-cons (λ (y : ℕ). cond (differ_at old new y) 1 0) x xs
 
 -- the wave of a node by that of its next one
@@ -175,11 +175,9 @@ free_wave old new x range free low = elim (walk_some new (length new) x) [
 ]
 
 -- what a comparison of two hops says
-pub step_read : (old new : List Hop) (x w k : ℕ) → x < length old → x < length new → (¬ (get_or old x Here ≡ get_or new x Here) → w ≡ k + 1) → (get_or old x Here ≡ get_or new x Here → w ≡ k) → w ≡ k + step old new x
-step_read old new x w k low_old low_new differs same =
-    let in_old = slice_get-get_or old x Here low_old in
-    let in_new = slice_get-get_or new x Here low_new in
-    elim (cases_differ old new x) [
-      | inl e ↦ omega (arith, step_same old new x e, same (get_or_from_slice_get old x (get_or new x Here) Here (e ∙ in_new)))
-      | inr apart ↦ omega (arith, step_differs old new x apart, differs (λ e. apart (in_old ∙ (ap Some e ∙ sym in_new))))
-    ]
+
+pub differ_read : (old new : List Hop) (x : ℕ) → x < length new → ¬ (get_or old x Here ≡ get_or new x Here) → DifferAt old new x
+differ_read old new x low apart = λ same. apart (get_or_from_slice_get old x (get_or new x Here) Here (same ∙ slice_get-get_or new x Here low))
+
+pub same_read : (old new : List Hop) (x : ℕ) → x < length old → x < length new → get_or old x Here ≡ get_or new x Here → slice_get old x ≡ slice_get new x
+same_read old new x low_old low e = slice_get-get_or old x Here low_old ∙ (ap Some e ∙ sym (slice_get-get_or new x Here low))
