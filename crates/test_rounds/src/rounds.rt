@@ -174,13 +174,31 @@ pub fn one_worker(alloc: Global, text: &mut Answer, asked: &[Value]) -> Result<(
     let [nodes, links, calls @ ..] = asked else {
         return Err(Fault::NoCase);
     };
+    let deeds = deeds_in(alloc, calls)?;
     let (round, mut workers) = opened(alloc, network(alloc, nodes, links)?, 0, 1)?;
     let mut worker = last_of(&round, &mut workers)?;
-    for call in calls {
-        put_deed(text, &round, &mut worker, deed_in(items(call)?)?);
-    }
+    put_deeds(text, &round, &mut worker, &deeds);
     put_closed(text, &round.close(vec![in alloc; worker]?));
     Ok(())
+}
+
+/// What the one worker does.
+fn deeds_in(alloc: Global, given: &[Value]) -> Result<Vec<Deed>, Fault> {
+    let mut deeds = Vec::new(alloc);
+    for value in given {
+        deeds.push(deed_in(items(value)?)?)?;
+    }
+    Ok(deeds)
+}
+
+/// Has a worker do these, and puts what comes of each.
+fn put_deeds(text: &mut Answer, round: &Round, worker: &mut Worker, deeds: &[Deed])
+    requires { IsOwn round.now worker.old }
+    ensures { IsOwn round.now worker.new }
+{
+    for deed in deeds {
+        put_deed(text, round, worker, *deed);
+    }
 }
 
 /// The calls of a list, each with its worker.
