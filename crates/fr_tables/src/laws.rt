@@ -3,8 +3,9 @@
 ghost use Rattle.fr_tables.specs.Laws.{StartsAsOld, PushIsOneMore, NoLoopIsNew, NeverLoops, PushedIsRight, ComesTwiceAtMost};
 ghost use Rattle.fr_tables.specs.Laws.{BeginningIsClosed, WavesAreClosed, EndsAsNew, OrderExists, OrderIsUnique};
 
-/// While hops are pushed, no loop appears that was not in the old table, whatever the order, as long as the nodes that have been pushed
-/// are closed downstream. A packet that moves meanwhile comes to no node more than twice, if the old table had no loop.
+/// Where the new table has no loop, pushes make none, in whatever order, as long as the nodes that have been pushed are closed
+/// downstream: each loop of the mixed table was in the old table. A packet that moves meanwhile comes to no node more than twice, if
+/// the old table had no loop either.
 pub fn push_law()
     ensures start { StartsAsOld }
     ensures step { PushIsOneMore }
