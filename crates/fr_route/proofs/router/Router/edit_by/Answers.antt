@@ -16,11 +16,11 @@ use Rattle.fr_route.specs.RouterInside.{state_of}
 use Rattle.fr_route.specs.States.{State, net_at}
 use Rattle.fr_route.specs.declared.fault.RouteFault.{RouteFault}
 use Rattle.fr_route.specs.declared.fault.RouteFault.TheVariants.{Start}
-use Rattle.fr_route.proofs.CutNodes.{ended}
+use Rattle.fr_route.proofs.CutNodes.{after_outcome, ended}
 use Rattle.fr_route.proofs.Changing.{made_nodes, refused_fault, round_fault}
 use Rattle.fr_route.proofs.Inside.{sound_after}
 use Rattle.fr_route.proofs.Moving.{made_net, movable_sinks, unmoved_hops}
-use Rattle.fr_route.proofs.Noting.{rerouted_by}
+use Rattle.fr_route.proofs.SettledHops.{settled_in_range, settled_loop_free}
 use Rattle.fr_route.proofs.router.Router.edit_by.Given.{Over}
 use Rattle.fr_route.proofs.router.Router.edit_by.Goals as goal
 use Rattle.fr_route.proofs.router.Router.edit_by.Goals.{After-as_slice-from, After-self, In_ok-outcome}
@@ -108,6 +108,9 @@ put_in_place-requires-clause-moved g c =
     subst (HoldsMoved (settled_state net c.args.dest counts) c.deref_mut.result.now) (sym (from_movable g at.After-as_slice-from))
     (unmoved_hops s c.self.invariant.round c.args.edits.now net c.args.dest (in_range g at.After-self) (edits_made g at.In_ok-outcome) counts (outcome_is g at.In_ok-outcome).counts c.deref_mut.result.now hops)
 
+pub put_in_order-requires-clause-table : goal.put_in_order-requires-clause-table
+put_in_order-requires-clause-table g c = ?
+
 pub invariant_of-self-2 : goal.invariant_of-self-2
 invariant_of-self-2 g c =
     let at = goal.at.invariant_of-self-2 g c in
@@ -121,10 +124,11 @@ invariant_of-self-2 g c =
     omega (arith, c.put_in_place.ensures.hops.one_each, nodes, c.self.invariant.hops.one_each, c.self.inside.hops.ok.0) in
     let items : (with_items c.self.inside.hops c.put_in_place.new.hops).items ≡ c.put_in_place.new.hops = with_items_is c.self.inside.hops c.put_in_place.new.hops same in
     rw c.keep_turns.ensures
-    (sound_after c.args.dest counts c.keep_turns.new.spare (with_items c.self.inside.hops c.put_in_place.new.hops) c.in_ok-outcome.outcome.report net c.put_in_place.new.net
+    (sound_after c.args.dest counts c.keep_turns.new.spare (with_items c.self.inside.hops c.put_in_place.new.hops) c.put_in_order.new.room c.in_ok-outcome.outcome.report net c.put_in_place.new.net
     (made_net s c.args.edits.now net c.self.invariant.round made)
     outcome.counts outcome.report c.put_in_place.ensures.net
-    (subst (AreHops (settled_state net c.args.dest counts) net.nodes) (sym items) c.put_in_place.ensures.hops))
+    (subst (AreHops (settled_state net c.args.dest counts) net.nodes) (sym items) c.put_in_place.ensures.hops)
+    (c.put_in_order.ensures.kept ∙ (c.self.invariant.room ∙ sym nodes)))
 
 pub returns : goal.returns
 returns g c =
@@ -143,9 +147,8 @@ returns g c =
       made = (c.in_ok-outcome.ensures.few, (net, (here, ended net c.args.dest c.in_ok-outcome.outcome.turns (made_net s c.args.edits.now net c.self.invariant.round made) outcome.counts)));
       told = (c.in_ok-outcome.outcome.report, outcome.report, search rules);
       rerouted = λ room.
-          let others = c.put_in_place.ensures.rerouted (omega (arith, room, nodes, as_many)) in
-          subst (λ (now : State). AreRerouted now after c.put_in_place.new.rerouted.items) (now_is g at.After-self)
-          (rerouted_by s after s.nodes c.deref_mut.result.now c.put_in_place.new.hops c.put_in_place.new.rerouted.items before hops nodes others);
+          let list : s.nodes ≤ vec_capacity c.args.rerouted.now = omega (arith, room, as_many) in
+          ?;
       fault = tt;
       unchanged = tt;
       untold = tt;
