@@ -6,3 +6,4 @@ pub mod histories;
 pub mod networks;
 pub mod rounds;
 pub mod routes;
+pub mod tables;

@@ -12,6 +12,7 @@ use fr_net::{
 };
 use fr_round::Round;
 use fr_route::{Change, Report, Router, Session, counts_line, fault_number, links_line};
+use fr_tables::{Hop, find_loop, push_order};
 use std::alloc::{AllocError, Global};
 use std::fmt::Display;
 use std::sync::Wait;
@@ -72,10 +73,11 @@ pub enum Call {
     Counted,
     CountedAlone,
     Rerouted,
+    Pushed,
 }
 
 /// The calls in the order in which they are made.
-pub const CALLS: [Call; 23] = [
+pub const CALLS: [Call; 24] = [
     Call::Network,
     Call::CutNetwork,
     Call::LinkedNetwork,
@@ -99,6 +101,7 @@ pub const CALLS: [Call; 23] = [
     Call::Counted,
     Call::CountedAlone,
     Call::Rerouted,
+    Call::Pushed,
 ];
 
 /// Makes a call, and puts what it came to behind the answer.
@@ -114,6 +117,7 @@ pub fn make<R: Threads + Wait + Sync + Alloc<A = Global> + Print + Eprint>(
         Call::WalkedLive => walked_live(rt, answer),
         Call::AnsweredAlone => answered_alone(rt, answer),
         Call::LinesRead => lines_read(rt, answer),
+        Call::Pushed => pushed(rt, answer),
         _ => {
             if let Some(net) = answer.told(rt, Net::new(rt.alloc(), 4, &CHAIN)) {
                 make_on(rt, answer, net, call);
@@ -581,5 +585,18 @@ fn walked_live<R: Alloc<A = Global> + Eprint>(rt: &R, answer: &mut Answer) {
             answer.put(&walk.nodes);
             answer.put(&walk.end);
         }
+    }
+}
+
+/// The order in which hops are pushed once node 1 sends on to 2, and the loop that stands if node 1 is first.
+fn pushed<R: Alloc<A = Global> + Eprint>(rt: &R, answer: &mut Answer) {
+    let old = [Hop::Here, Hop::To(0), Hop::To(1), Hop::To(0)];
+    let new = [Hop::Here, Hop::To(2), Hop::To(3), Hop::To(0)];
+    if let Some(order) = answer.told(rt, push_order(rt.alloc(), &old, &new)) {
+        answer.put(&order);
+    }
+    let between = [Hop::Here, Hop::To(2), Hop::To(1), Hop::To(0)];
+    if let Some(found) = answer.told(rt, find_loop(rt.alloc(), &between)) {
+        answer.put(&found);
     }
 }

@@ -1,5 +1,5 @@
 -- The wave of a node, by that of the node to which it sends on; how waves fall downstream, and that none is above the length of the table.
-use Rattle.std.proofs.Common.{Bool, List, None, Option, Some, [], ap, arith, cond, eqb, get_or, inl, inr, length, ne_eqb, refl, slice_get, subst, suc, sym, true, zero, ℕ, ⊎_elim, ◌+◌, ◌<◌, ◌∙◌, ◌∷◌, ◌≡◌, ◌≤◌, ◌⊎◌}
+use Rattle.std.proofs.Common.{Bool, List, None, Option, Some, [], ap, arith, cond, eqb, get_or, inl, inr, length, ne_eqb, refl, slice_get, subst, suc, sym, true, zero, ℕ, ⊎_elim, ◌+◌, ◌<◌, ◌∙◌, ◌∷◌, ◌≡◌, ◌≤◌, ◌⊎◌, Contains}
 use Rattle.std.specs.Prelude.{not}
 use Rattle.std.specs.List.{IsDistinct, count_by, list_any}
 use Rattle.std.specs.Cmp.{nat_eq_equiv}
@@ -11,11 +11,11 @@ use Rattle.std.proofs.lemmas.Map.Keys.{IsDistinct-from_apart}
 use Rattle.std.proofs.lemmas.Map.Steps.{length-le_from_distinct_below}
 use Rattle.std.proofs.lemmas.Map.Views.{Contains-from_any}
 use Rattle.fr_tables.specs.Pushes.{DifferAt, IsWave, differ_at, is_same, is_same_hop}
-use Rattle.fr_tables.specs.Tables.{IsDownstream, IsInRange, IsWalk, IsWholeWalk, SendsOn, end_of}
+use Rattle.fr_tables.specs.Tables.{IsDownstream, IsInRange, IsLoopFree, IsWalk, IsWholeWalk, SendsOn, end_of}
 use Rattle.fr_tables.specs.declared.hop.Hop.{Hop}
 use Rattle.fr_tables.specs.declared.hop.Hop.TheVariants.{CutOff, Here, To}
 use Rattle.fr_tables.proofs.Members.{Contains-cases}
-use Rattle.fr_tables.proofs.Walks.{sends_one, walk_below, whole_once, whole_unique}
+use Rattle.fr_tables.proofs.Walks.{cases_sends, free_once, sends_one, walk_below, whole_once, whole_unique}
 
 -- the test whether hops are the same
 
@@ -64,7 +64,7 @@ step_differs old new x differs = ⊎_elim
 pub step_same : (old new : List Hop) (x : ℕ) → slice_get old x ≡ slice_get new x → step old new x ≡ 0
 step_same old new x same = ap (λ (b : Bool). cond (not b) 1 0) (subst (λ (b : Option Hop). is_same (slice_get old x) b ≡ true) same (same-refl (slice_get old x)))
 
-count_more : (old new : List Hop) (x : ℕ) (xs : List ℕ) → count_by (differ_at old new) (x ∷ xs) ≡ step old new x + count_by (differ_at old new) xs
+pub count_more : (old new : List Hop) (x : ℕ) (xs : List ℕ) → count_by (differ_at old new) (x ∷ xs) ≡ step old new x + count_by (differ_at old new) xs
 count_more old new x xs = sum_by-cons (λ (y : ℕ). cond (differ_at old new y) 1 0) x xs
 
 -- the wave of a node by that of its next one
@@ -121,29 +121,63 @@ wave_falls old new x y k differs down w = subst (λ (z : ℕ). (x ≡ z) ⊎ ((l
 
 -- nodes of a walk that ends are apart, so there are no more than the table has
 
-whole_apart : (new : List Hop) (x : ℕ) (ys : List ℕ) → IsWholeWalk new x ys → (i j d : ℕ) → i < j → j < length (x ∷ ys) → ¬ (get_or (x ∷ ys) i d ≡ get_or (x ∷ ys) j d)
-whole_apart new x ys whole i zero d lt low same = omega (arith, lt)
-whole_apart new x [] whole i (suc j) d lt low same = omega (arith, low)
-whole_apart new x (y ∷ ys) whole zero (suc j) d lt low same = whole_once new x (y ∷ ys) whole (j, omega (arith, low), get_or_default (y ∷ ys) j x d (omega (arith, low)) ∙ sym same)
-whole_apart new x (y ∷ ys) whole (suc i) (suc j) d lt low same = whole_apart new y ys (record { goes = whole.goes.1; ends = whole.ends }) i j d (omega (arith, lt)) (omega (arith, low)) same
+-- a walk that never comes back to a node
+IsSimple : ℕ → List ℕ → Type 0
+IsSimple x [] = Unit {0}
+IsSimple x (y ∷ ys) = ¬ Contains (y ∷ ys) x × IsSimple y ys
 
-pub whole_distinct : (new : List Hop) (x : ℕ) (ys : List ℕ) → IsWholeWalk new x ys → IsDistinct eqb (x ∷ ys)
-whole_distinct new x ys whole = IsDistinct-from_apart eqb (x ∷ ys) (λ i j d lt low. ne_eqb (get_or (x ∷ ys) i d) (get_or (x ∷ ys) j d) (whole_apart new x ys whole i j d lt low))
+simple_apart : (x : ℕ) (ys : List ℕ) → IsSimple x ys → (i j d : ℕ) → i < j → j < length (x ∷ ys) → ¬ (get_or (x ∷ ys) i d ≡ get_or (x ∷ ys) j d)
+unfolding IsSimple
+simple_apart x ys simple i zero d lt low same = omega (arith, lt)
+simple_apart x [] simple i (suc j) d lt low same = omega (arith, low)
+simple_apart x (y ∷ ys) simple zero (suc j) d lt low same = simple.0 (j, omega (arith, low), get_or_default (y ∷ ys) j x d (omega (arith, low)) ∙ sym same)
+simple_apart x (y ∷ ys) simple (suc i) (suc j) d lt low same = simple_apart y ys simple.1 i j d (omega (arith, lt)) (omega (arith, low)) same
+
+-- such a walk is no longer than the table
+simple_short : (new : List Hop) (x : ℕ) (ys : List ℕ) → IsInRange new → x < length new → IsWalk new x ys → IsSimple x ys → length (x ∷ ys) ≤ length new
+simple_short new x ys range low goes simple = length-le_from_distinct_below (x ∷ ys) (length new)
+    (IsDistinct-from_apart eqb (x ∷ ys) (λ i j d lt inside. ne_eqb (get_or (x ∷ ys) i d) (get_or (x ∷ ys) j d) (simple_apart x ys simple i j d lt inside)))
+    (λ q any. ⊎_elim
+    (λ e. subst (λ (z : ℕ). z < length new) e low)
+    (walk_below new x ys q range goes)
+    (Contains-cases q x ys (Contains-from_any {eq = eqb} eqb-true q (x ∷ ys) any)))
+
+whole_simple : (new : List Hop) (x : ℕ) (ys : List ℕ) → IsWholeWalk new x ys → IsSimple x ys
+unfolding IsSimple
+whole_simple new x [] whole = tt
+whole_simple new x (y ∷ ys) whole = (whole_once new x (y ∷ ys) whole, whole_simple new y ys (record { goes = whole.goes.1; ends = whole.ends }))
+
+free_simple : (new : List Hop) (x : ℕ) (ys : List ℕ) → IsLoopFree new → IsWalk new x ys → IsSimple x ys
+unfolding IsSimple
+free_simple new x [] free goes = tt
+free_simple new x (y ∷ ys) free goes = (free_once new x (y ∷ ys) free goes, free_simple new y ys free goes.1)
 
 pub wave_low : (old new : List Hop) (x k : ℕ) → IsInRange new → x < length new → IsWave old new x k → k ≤ length new
 wave_low old new x k range low w =
-    let below : (q : ℕ) → list_any (eqb q) (x ∷ w.walk) ≡ true → q < length new = λ q any. ⊎_elim
-    (λ e. subst (λ (z : ℕ). z < length new) e low)
-    (walk_below new x w.walk q range w.whole.goes)
-    (Contains-cases q x w.walk (Contains-from_any {eq = eqb} eqb-true q (x ∷ w.walk) any)) in
-    omega (arith, w.number, count_by-le-length (differ_at old new) (x ∷ w.walk), length-le_from_distinct_below (x ∷ w.walk) (length new) (whole_distinct new x w.walk w.whole) below)
+    omega (arith, w.number, count_by-le-length (differ_at old new) (x ∷ w.walk), simple_short new x w.walk range low w.whole.goes (whole_simple new x w.walk w.whole))
+
+-- a walk of so many steps, or one that ends before
+walk_some : (new : List Hop) (n x : ℕ) → ((ys : List ℕ) × IsWholeWalk new x ys) ⊎ ((ys : List ℕ) × IsWalk new x ys × (length ys ≡ n))
+walk_some new zero x = inr ([], tt, refl)
+walk_some new (suc n) x = elim (cases_sends new x) [
+  | inr none ↦ inl ([], record { goes = tt; ends = none })
+  | inl (y, sends) ↦ elim (walk_some new n y) [
+    | inl (ys, whole) ↦ inl (y ∷ ys, record { goes = (sends, whole.goes); ends = whole.ends })
+    | inr (ys, goes, long) ↦ inr (y ∷ ys, (sends, goes), omega (arith, long))
+  ]
+]
+
+-- where no loop stands, each node has a wave
+pub free_wave : (old new : List Hop) (x : ℕ) → IsInRange new → IsLoopFree new → x < length new → (k : ℕ) × IsWave old new x k
+free_wave old new x range free low = elim (walk_some new (length new) x) [
+  | inl (ys, whole) ↦ (count_by (differ_at old new) (x ∷ ys), record { walk = ys; whole = whole; number = refl })
+  | inr (ys, goes, long) ↦ absurd (omega (arith, long, simple_short new x ys range low goes (free_simple new x ys free goes)))
+]
 
 -- what a comparison of two hops says
-pub step_read : (old new : List Hop) (x w k : ℕ) → x < length old → x < length new → (¬ (get_or old x Here ≡ get_or new x Here) → w ≡ k + 1) → (get_or old x Here ≡ get_or new x Here → w ≡ k) → w ≡ k + step old new x
-step_read old new x w k low_old low_new differs same =
-    let in_old = slice_get-get_or old x Here low_old in
-    let in_new = slice_get-get_or new x Here low_new in
-    elim (cases_differ old new x) [
-      | inl e ↦ omega (arith, step_same old new x e, same (get_or_from_slice_get old x (get_or new x Here) Here (e ∙ in_new)))
-      | inr apart ↦ omega (arith, step_differs old new x apart, differs (λ e. apart (in_old ∙ (ap Some e ∙ sym in_new))))
-    ]
+
+pub differ_read : (old new : List Hop) (x : ℕ) → x < length new → ¬ (get_or old x Here ≡ get_or new x Here) → DifferAt old new x
+differ_read old new x low apart = λ same. apart (get_or_from_slice_get old x (get_or new x Here) Here (same ∙ slice_get-get_or new x Here low))
+
+pub same_read : (old new : List Hop) (x : ℕ) → x < length old → x < length new → get_or old x Here ≡ get_or new x Here → slice_get old x ≡ slice_get new x
+same_read old new x low_old low e = slice_get-get_or old x Here low_old ∙ (ap Some e ∙ sym (slice_get-get_or new x Here low))

@@ -6,4 +6,7 @@ pub mod Orders
 pub mod Trails
 pub mod Marks
 pub mod Ranks
+pub mod Changes
+pub mod Listing
 pub mod Answering
+pub mod Existing

@@ -1,5 +1,7 @@
 -- The marks of nodes while a walk is followed, and while its nodes get their waves.
-use Rattle.std.proofs.Common.{Contains, List, [], arith, eqb, inl, inr, length, length-set, refl, replicate, set, subst, sym, ℕ, ⊎_elim, ◌++◌, ◌+◌, ◌<◌, ◌∙◌, ◌∷◌, ◌≡◌, ◌≤◌}
+use Rattle.std.specs.declared.alloc.Global.{Global}
+use Rattle.std.specs.declared.vec.Vec.{Vec}
+use Rattle.std.proofs.Common.{Bool, vec_capacity, ◌^◌, Contains, List, [], arith, eqb, inl, inr, length, length-set, refl, replicate, set, subst, sym, ℕ, ⊎_elim, ◌++◌, ◌+◌, ◌<◌, ◌∙◌, ◌∷◌, ◌≡◌, ◌≤◌}
 use Rattle.std.specs.List.{IsDistinct}
 use Rattle.std.specs.Cmp.{nat_eq_equiv}
 use Rattle.std.proofs.lemmas.Bool.{cases_eq, cases_lt, eqb-true}
@@ -8,8 +10,9 @@ use Rattle.std.proofs.lemmas.List.Elements.{Contains-append_left, Contains-push,
 use Rattle.std.proofs.lemmas.Map.Keys.{IsDistinct-push}
 use Rattle.std.proofs.lemmas.Map.Steps.{length-le_from_distinct_below}
 use Rattle.std.proofs.lemmas.Map.Views.{Contains-from_any}
-use Rattle.fr_tables.specs.Inside.{AreKnown, IsKept, IsMet, IsStacked, IsStop, IsTrail, LeadsToWave, mark_of}
+use Rattle.fr_tables.specs.Inside.{AreKnown, HasWave, IsKept, IsMet, IsSound, IsStacked, changed_at, IsStop, IsTrail, LeadsToWave, mark_of}
 use Rattle.fr_tables.specs.Pushes.{IsWave}
+use Rattle.fr_tables.specs.Tables.{IsInRange}
 use Rattle.fr_tables.specs.declared.hop.Hop.{Hop}
 use Rattle.fr_tables.specs.declared.waves.Mark.{Mark}
 use Rattle.fr_tables.specs.declared.waves.Mark.TheVariants.{OnWalk, Unmet, Wave}
@@ -135,7 +138,7 @@ none_marked n x m is = elim (cases_lt x n) [
   | inr out ↦ sym is ∙ get_or_past (replicate n Unmet) x Unmet (omega (arith, out, length-replicate n Unmet))
 ]
 
-pub none_stacked : (new : List Hop) → IsStacked new (replicate (length new) Unmet) []
+none_stacked : (new : List Hop) → IsStacked new (replicate (length new) Unmet) []
 unfolding IsDistinct
 none_stacked new = record {
   one_each = length-replicate (length new) Unmet;
@@ -144,5 +147,18 @@ none_stacked new = record {
   trail = tt;
 }
 
-pub none_known : (old new : List Hop) (n : ℕ) → AreKnown old new (replicate n Unmet)
+none_known : (old new : List Hop) (n : ℕ) → AreKnown old new (replicate n Unmet)
 none_known old new n x k is = let e = none_marked n x (Wave k) is in cc
+
+-- where the walk has no node
+pub wave_from_met : (marks : List Mark) (walk : List ℕ) (x : ℕ) → walk ≡ [] → IsMet marks walk x → HasWave marks x
+wave_from_met marks walk x empty met = ⊎_elim (λ found. absurd (Contains-none x (subst (λ (ws : List ℕ). Contains ws x) empty found))) (λ is. is) met
+
+pub none_sound : (differ : List Bool) (new : List Hop) (marks : List Mark) (walk : Vec ℕ Global) → length differ ≡ length new → length new < 2 ^ 32 → IsInRange new
+    → length new ≤ vec_capacity walk → marks ≡ replicate (length new) Unmet → walk.items ≡ [] → IsSound differ new marks walk
+none_sound differ new marks walk one_each few range room unmet empty = record {
+  one_each = one_each;
+  few = few;
+  walking = record { range = range; room = room; stacked = rw (unmet, empty) (none_stacked new) };
+  known = rw unmet (none_known (changed_at differ new) new (length new));
+}

@@ -1,8 +1,9 @@
 -- Push orders: their beginnings and whole waves are closed downstream, they end with the new table, and the tables determine them.
-use Rattle.std.proofs.Common.{Contains, List, [], arith, get_or, inl, inr, length, length-append, refl, slice_get, subst, suc, sym, ℕ, ⊎_elim, ◌++◌, ◌<◌, ◌∙◌, ◌∷◌, ◌≡◌, ap}
-use Rattle.std.proofs.lemmas.Bool.{cases_lt}
-use Rattle.std.proofs.lemmas.List.{ext_get_or, get_or_append_left, get_or_default}
-use Rattle.std.proofs.lemmas.Option.{get_or_from_slice_get, slice_get-get_or}
+use Rattle.std.proofs.Common.{Contains, List, [], arith, get_or, inl, inr, length, length-append, refl, slice_get, subst, suc, sym, ℕ, ⊎_elim, ◌++◌, ◌<◌, ◌∙◌, ◌∷◌, ◌≡◌, ap, Some, length-set, set}
+use Rattle.std.proofs.lemmas.List.Elements.{Contains-append_left, Contains-push, Contains-push_cases}
+use Rattle.std.proofs.lemmas.Bool.{cases_lt, cases_eq}
+use Rattle.std.proofs.lemmas.List.{ext_get_or, get_or_append_left, get_or_default, get_or-set_other, get_or-set_same}
+use Rattle.std.proofs.lemmas.Option.{get_or_from_slice_get, slice_get-get_or, slice_get_past, slice_get_within}
 use Rattle.fr_tables.specs.Pushes.{DifferAt, IsBefore, IsClosedDownstream, IsPushOrder, IsPushed, IsUpToWave}
 use Rattle.fr_tables.specs.declared.hop.Hop.{Hop}
 use Rattle.fr_tables.specs.declared.hop.Hop.TheVariants.{Here}
@@ -42,6 +43,33 @@ pub ends_as_new : (old new : List Hop) (order : List ℕ) (table : List Hop) →
 ends_as_new old new order table same is pushed = same_table table new (pushed.one_length ∙ same) (λ x. ⊎_elim (pushed.these x)
     (λ out. ⊎_elim (λ kept. pushed.others x out ∙ kept) (λ differs. absurd (out ((is.these x).1 differs))) (cases_differ old new x))
     (cases_member order x))
+
+pub starts_as_old : (old new : List Hop) → IsPushed old new [] old
+starts_as_old old new = record { one_length = refl; these = λ x found. absurd (Contains-none x found); others = λ x out. refl }
+
+set_here : (table : List Hop) (i : ℕ) (hop : Hop) → i < length table → slice_get (set table i hop) i ≡ Some hop
+set_here table i hop low = slice_get-get_or (set table i hop) i hop (omega (arith, low, length-set table i hop)) ∙ ap Some (get_or-set_same table i hop hop low)
+
+set_there : (table : List Hop) (i : ℕ) (hop : Hop) (k : ℕ) → ¬ (k ≡ i) → slice_get (set table i hop) k ≡ slice_get table k
+set_there table i hop k apart = elim (cases_lt k (length table)) as (λ _. slice_get (set table i hop) k ≡ slice_get table k) [
+  | inl low ↦ slice_get-get_or (set table i hop) k hop (omega (arith, low, length-set table i hop)) ∙ (ap Some (get_or-set_other table i k hop hop apart) ∙ sym (slice_get-get_or table k hop low))
+  | inr out ↦ slice_get_past (set table i hop) k (omega (arith, out, length-set table i hop)) ∙ sym (slice_get_past table k out)
+]
+
+pub push_is_one_more : (old new : List Hop) (nodes : List ℕ) (table : List Hop) (x : ℕ) (hop : Hop) → length old ≡ length new → slice_get new x ≡ Some hop → IsPushed old new nodes table
+    → IsPushed old new (nodes ++ x ∷ []) (set table x hop)
+push_is_one_more old new nodes table x hop same is pushed =
+    let low : x < length table = omega (arith, slice_get_within new x hop is, pushed.one_length, same) in
+    record {
+      one_length = length-set table x hop ∙ pushed.one_length;
+      these = λ y found. ⊎_elim
+          (λ e. subst (λ (z : ℕ). slice_get (set table x hop) z ≡ slice_get new z) (sym e) (set_here table x hop low ∙ sym is))
+          (λ apart. ⊎_elim (λ was. set_there table x hop y apart ∙ pushed.these y was) (λ e. absurd (apart (sym e))) (Contains-push_cases nodes x y found))
+          (cases_eq y x);
+      others = λ y out.
+          let apart : ¬ (y ≡ x) = λ e. out (subst (Contains (nodes ++ x ∷ [])) (sym e) (Contains-push nodes x)) in
+          set_there table x hop y apart ∙ pushed.others y (λ found. out (Contains-append_left nodes (x ∷ []) y found));
+    }
 
 -- lists that are sorted by a relation in one direction alone, and have the same elements, are one
 

@@ -1,12 +1,13 @@
 -- The nodes of a walk as a list that grows at its end, and the loop that closes where the walk comes back to one of them.
-use Rattle.std.proofs.Common.{Contains, List, [], ap, arith, drop, eqb, false, get_or, length, refl, subst, suc, sym, zero, ℕ, ◌++◌, ◌<◌, ◌∙◌, ◌∷◌, ◌≡◌}
+use Rattle.std.proofs.Common.{Contains, List, MatchOption, None, Option, Some, [], ap, arith, drop, eqb, false, get_or, length, refl, subst, suc, sym, zero, ℕ, ◌++◌, ◌<◌, ◌∙◌, ◌∷◌, ◌≡◌}
 use Rattle.std.specs.List.{IsDistinct}
 use Rattle.std.specs.Cmp.{nat_eq_equiv}
 use Rattle.std.proofs.lemmas.Bool.{false≢true}
-use Rattle.std.proofs.lemmas.List.{get_or_append_left, get_or_push, length_push}
+use Rattle.std.proofs.lemmas.List.{get_or_append_left, get_or_default, get_or_push, length_push}
 use Rattle.std.proofs.lemmas.Map.Keys.{IsDistinct-from_apart, IsDistinct-tail, apart_from_distinct}
-use Rattle.fr_tables.specs.Inside.{IsTrail}
-use Rattle.fr_tables.specs.Tables.{IsLoop, IsWalk, SendsOn, end_of}
+use Rattle.fr_tables.specs.Faults.{IsOnceRound}
+use Rattle.fr_tables.specs.Inside.{IsBack, IsTrail}
+use Rattle.fr_tables.specs.Tables.{IsLoop, IsLoopFree, IsWalk, SendsOn, end_of}
 use Rattle.fr_tables.specs.declared.hop.Hop.{Hop}
 use Rattle.fr_tables.proofs.Walks.{end_append, walk_append}
 
@@ -59,15 +60,13 @@ distinct_last xs y once (i, low, is) =
     let same : eqb y y ≡ false = rw (get_or_append_left xs (y ∷ []) y i low, is, get_or_push xs y y (length xs) refl) at apart in
     false≢true (sym same ∙ nat_eq_equiv.refl y)
 
--- lists with the same end
-pub push_same : {X : Type 0} (xs ys : List X) (x y : X) → xs ++ x ∷ [] ≡ ys ++ y ∷ [] → (xs ≡ ys) × (x ≡ y)
-push_same [] [] x y e = (refl, cc)
-push_same [] (b ∷ []) x y e = absurd (omega (arith, ap length e))
-push_same [] (b ∷ c ∷ ys) x y e = absurd (omega (arith, ap length e))
-push_same (a ∷ []) [] x y e = absurd (omega (arith, ap length e))
-push_same (a ∷ c ∷ xs) [] x y e = absurd (omega (arith, ap length e))
-push_same {X} (a ∷ xs) (b ∷ ys) x y e =
-    let heads : a ≡ b = cc in
-    let tails : xs ++ x ∷ [] ≡ ys ++ y ∷ [] = cc in
-    let (front, last) = push_same xs ys x y tails in
-    (ap (λ (z : X). z ∷ xs) heads ∙ ap (λ (zs : List X). b ∷ zs) front, last)
+-- a walk that comes back to a node of it has a loop,
+pub back_loop : (new : List Hop) (walk : List ℕ) (y k : ℕ) → IsBack new walk y → k < length walk → get_or walk k 0 ≡ y → IsOnceRound new (drop k walk)
+back_loop new walk y k is low at = record { is_loop = loop_from new walk k y low at is.trail; once = distinct_drop walk k is.once }
+
+-- so in a table without loops none does
+pub met_free : (new : List Hop) (found : Option ℕ) (Met : Type 0) (walk : List ℕ) → IsLoopFree new → MatchOption found Met (IsBack new walk) → Met
+met_free new None Met walk free met = met
+met_free new (Some y) Met walk free is =
+    let (k, low, at) = is.back in
+    absurd (free (drop k walk) (loop_from new walk k y low (get_or_default walk k 0 y low ∙ at) is.trail))

@@ -1,5 +1,5 @@
 -- Walks along a table: where they lead, that a walk that ends is the only one, and that it comes to no node twice.
-use Rattle.std.proofs.Common.{Contains, List, [], Some, ap, arith, get_or, inl, inr, length, length-append, refl, subst, sym, ℕ, ⊎_elim, ◌++◌, ◌<◌, ◌∙◌, ◌∷◌, ◌≡◌, ◌⊎◌}
+use Rattle.std.proofs.Common.{Contains, List, [], Some, ap, arith, get_or, inl, inr, length, length-append, refl, subst, sym, ℕ, ⊎_elim, ◌++◌, ◌<◌, ◌∙◌, ◌∷◌, ◌≡◌, ◌⊎◌, None, Option, slice_get}
 use Rattle.std.proofs.lemmas.Bool.{cases_lt}
 use Rattle.std.proofs.lemmas.List.{append-nil, get_or_past}
 use Rattle.std.proofs.lemmas.Option.{get_or_from_slice_get, slice_get-get_or}
@@ -21,6 +21,15 @@ sends_read table x y is = elim (cases_lt x (length table)) [
 pub sends_none : (table : List Hop) (x : ℕ) → (get_or table x Here ≡ Here) ⊎ (get_or table x Here ≡ CutOff) → (y : ℕ) → ¬ SendsOn table x y
 sends_none table x (inl is) y sends = let at = get_or_from_slice_get table x (To y) Here sends in cc
 sends_none table x (inr is) y sends = let at = get_or_from_slice_get table x (To y) Here sends in cc
+
+pub cases_sends : (table : List Hop) (x : ℕ) → ((y : ℕ) × SendsOn table x y) ⊎ ((y : ℕ) → ¬ SendsOn table x y)
+cases_sends table x = by_hop (slice_get table x) refl
+  where
+    by_hop : (hop : Option Hop) → slice_get table x ≡ hop → ((y : ℕ) × SendsOn table x y) ⊎ ((y : ℕ) → ¬ SendsOn table x y)
+    by_hop None is = inr (λ y sends. cc)
+    by_hop (Some Here) is = inr (λ y sends. cc)
+    by_hop (Some (To y)) is = inl (y, is)
+    by_hop (Some CutOff) is = inr (λ y sends. cc)
 
 pub end_append : (x : ℕ) (ys zs : List ℕ) → end_of x (ys ++ zs) ≡ end_of (end_of x ys) zs
 end_append x [] zs = refl

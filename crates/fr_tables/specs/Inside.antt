@@ -1,9 +1,13 @@
--- How far the walks of the new table are followed. For `mark_waves` and `push_order` alone.
-use Rattle.std.specs.Prelude.{◌≡◌, ℕ, ◌<◌, ◌↔◌, ◌⊎◌, ◌++◌, List, [], ◌∷◌, Contains, length, slice_get, slice_index, slice_index_or, nat_eq}
+-- How far the walks of the new table are followed. For functions inside of this crate alone.
+use Rattle.std.specs.Prelude.{◌≡◌, ℕ, ◌<◌, ◌≤◌, ◌+◌, ◌^◌, ◌↔◌, ◌⊎◌, ◌++◌, Bool, true, false, cond, List, [], ◌∷◌, Contains, length, slice_get, slice_index, slice_index_or, nat_eq, count_by, vec_capacity}
 use Rattle.std.specs.List.{IsDistinct}
+use Rattle.std.specs.declared.alloc.Global.{Global}
+use Rattle.std.specs.declared.vec.Vec.{Vec}
 use Rattle.fr_tables.specs.Pushes.{DifferAt, IsWave}
-use Rattle.fr_tables.specs.Tables.{IsWalk, SendsOn}
+use Rattle.fr_tables.specs.Sorting.{AreCounts, is_key_below}
+use Rattle.fr_tables.specs.Tables.{IsInRange, IsWalk, SendsOn}
 use Rattle.fr_tables.specs.declared.hop.Hop.{Hop}
+use Rattle.fr_tables.specs.declared.hop.Hop.TheVariants.{CutOff, Here}
 use Rattle.fr_tables.specs.declared.waves.Mark.{Mark}
 use Rattle.fr_tables.specs.declared.waves.Mark.TheVariants.{Unmet, OnWalk, Wave}
 use Rattle.fr_tables.specs.declared.waves.Stop.{Stop}
@@ -44,6 +48,66 @@ LeadsToWave new marks y k = ((z : ℕ) × SendsOn new y z × (mark_of marks z �
 abbrev pub IsStop : List Hop → List Mark → List ℕ → Stop → Type 0
 IsStop new marks walk (Known k) = (rest : List ℕ) (y : ℕ) → walk ≡ rest ++ y ∷ [] → LeadsToWave new marks y k
 IsStop new marks walk (StopLoop y) = Contains walk y × IsTrail new (walk ++ y ∷ [])
+
+-- a hop, and another one
+abbrev pub other_hop : Hop → Hop
+other_hop Here = CutOff
+other_hop _ = Here
+
+-- a table that differs from this one at the nodes that are marked. Of an old table only where it differs is known here
+abbrev pub changed_at : List Bool → List Hop → List Hop
+changed_at [] new = new
+changed_at (b ∷ differ) [] = []
+changed_at (b ∷ differ) (hop ∷ new) = cond b (other_hop hop) hop ∷ changed_at differ new
+
+-- the walk that is being followed, in a list with a place for each node
+pub record IsWalking (new : List Hop) (marks : List Mark) (walk : Vec ℕ Global) : Type 0 where
+  pub range : IsInRange new
+  pub room : length new ≤ vec_capacity walk
+  pub stacked : IsStacked new marks walk.items
+
+-- and the waves that are known
+pub record IsSound (differ : List Bool) (new : List Hop) (marks : List Mark) (walk : Vec ℕ Global) : Type 0 where
+  pub one_each : length differ ≡ length new
+  pub few : length new < 2 ^ 32
+  pub walking : IsWalking new marks walk
+  pub known : AreKnown (changed_at differ new) new marks
+
+abbrev pub HasWave : List Mark → ℕ → Type 0
+HasWave marks x = (k : ℕ) × (mark_of marks x ≡ Wave k)
+
+-- x has its wave, and each node that had one has one
+pub record HasMet (differ : List Bool) (new : List Hop) (before after : List Mark) (walk : Vec ℕ Global) (x : ℕ) : Type 0 where
+  pub sound : IsSound differ new after walk
+  pub empty : walk.items ≡ []
+  pub kept : (y : ℕ) → HasWave before y → HasWave after y
+  pub met : HasWave after x
+
+-- the walk comes back to node y of it
+pub record IsBack (new : List Hop) (walk : List ℕ) (y : ℕ) : Type 0 where
+  pub back : Contains walk y
+  pub trail : IsTrail new (walk ++ y ∷ [])
+  pub once : IsDistinct nat_eq walk
+
+-- these nodes are marked, and no others
+abbrev pub AreNoted : List ℕ → List Bool → Type 0
+AreNoted changed differ = (x : ℕ) → Contains changed x ↔ (slice_index_or differ x false ≡ true)
+
+-- x has a wave, from 1 up to this one
+abbrev pub HasWaveUpTo : ℕ → List Mark → ℕ → Type 0
+HasWaveUpTo most marks x = (k : ℕ) × (mark_of marks x ≡ Wave k) × (0 < k) × (k ≤ most)
+
+-- the waves of the changed nodes as keys, and 0 for the others, and how many have each key
+pub record AreListed (marks : List Mark) (changed keys counts : List ℕ) : Type 0 where
+  pub counted : AreCounts keys counts
+  pub number : length changed ≡ count_by (is_key_below (length keys + 1)) keys
+  pub these : (x : ℕ) → Contains changed x → mark_of marks x ≡ Wave (slice_index keys x)
+  pub others : (x : ℕ) → ¬ Contains changed x → slice_index keys x ≡ 0
+
+-- the nodes at which the tables differ, each once
+pub record AreChanged (old new : List Hop) (nodes : List ℕ) : Type 0 where
+  pub these : (x : ℕ) → Contains nodes x ↔ DifferAt old new x
+  pub once : IsDistinct nat_eq nodes
 
 -- the waves of all nodes are known
 pub record AreAllKnown (old new : List Hop) (marks : List Mark) : Type 0 where

@@ -1,8 +1,17 @@
 -- The laws of push orders. Each is a clause of a function of src/laws.rt.
-use Rattle.std.specs.Prelude.{◌≡◌, ℕ, ◌≤◌, ◌++◌, ◌↔◌, List, ◌∷◌, Contains, length, nat_eq, count_by}
-use Rattle.fr_tables.specs.Tables.{IsLoop, IsLoopFree, IsWalk}
+use Rattle.std.specs.Prelude.{◌≡◌, ℕ, ◌≤◌, ◌++◌, ◌↔◌, List, ◌∷◌, Contains, length, nat_eq, count_by, [], slice_get, slice_set, Some}
+use Rattle.fr_tables.specs.Tables.{IsInRange, IsLoop, IsLoopFree, IsWalk}
 use Rattle.fr_tables.specs.Pushes.{Grows, IsClosedDownstream, IsPushOrder, IsPushed, IsUpToWave, Moves}
 use Rattle.fr_tables.specs.declared.hop.Hop.{Hop}
+
+-- Before the first push the table is the old one,
+abbrev pub StartsAsOld : Type 0
+StartsAsOld = (old new : List Hop) → IsPushed old new [] old
+
+-- and each push writes one hop of the new table.
+abbrev pub PushIsOneMore : Type 0
+PushIsOneMore = (old new : List Hop) (nodes : List ℕ) (table : List Hop) (x : ℕ) (hop : Hop) → length old ≡ length new
+    → slice_get new x ≡ Some hop → IsPushed old new nodes table → IsPushed old new (nodes ++ x ∷ []) (slice_set table x hop)
 
 -- Where the new table has no loop, and the nodes that have been pushed are closed downstream, every loop of the table as pushed so far
 -- was a loop of the old table, by the same nodes,
@@ -38,6 +47,9 @@ abbrev pub EndsAsNew : Type 0
 EndsAsNew = (old new : List Hop) (order : List ℕ) (table : List Hop) → length old ≡ length new → IsPushOrder old new order
     → IsPushed old new order table → table ≡ new
 
--- Two tables have one push order at most,
+-- Two tables have one push order, and no other.
+abbrev pub OrderExists : Type 0
+OrderExists = (old new : List Hop) → length old ≡ length new → IsInRange new → IsLoopFree new → (order : List ℕ) × IsPushOrder old new order
+
 abbrev pub OrderIsUnique : Type 0
 OrderIsUnique = (old new : List Hop) (order other : List ℕ) → IsPushOrder old new order → IsPushOrder old new other → order ≡ other

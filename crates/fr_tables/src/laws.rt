@@ -1,11 +1,13 @@
 //! The laws of push orders: each clause here is a law of `specs/Laws.antt`, proved. The functions do nothing.
 
-ghost use Rattle.fr_tables.specs.Laws.{NoLoopIsNew, NeverLoops, PushedIsRight, ComesTwiceAtMost};
-ghost use Rattle.fr_tables.specs.Laws.{BeginningIsClosed, WavesAreClosed, EndsAsNew, OrderIsUnique};
+ghost use Rattle.fr_tables.specs.Laws.{StartsAsOld, PushIsOneMore, NoLoopIsNew, NeverLoops, PushedIsRight, ComesTwiceAtMost};
+ghost use Rattle.fr_tables.specs.Laws.{BeginningIsClosed, WavesAreClosed, EndsAsNew, OrderExists, OrderIsUnique};
 
 /// While hops are pushed, no loop appears that was not in the old table, whatever the order, as long as the nodes that have been pushed
 /// are closed downstream. A packet that moves meanwhile comes to no node more than twice, if the old table had no loop.
 pub fn push_law()
+    ensures start { StartsAsOld }
+    ensures step { PushIsOneMore }
     ensures loops { NoLoopIsNew }
     ensures loop_free { NeverLoops }
     ensures right { PushedIsRight }
@@ -18,5 +20,6 @@ pub fn order_law()
     ensures beginnings { BeginningIsClosed }
     ensures waves { WavesAreClosed }
     ensures whole { EndsAsNew }
+    ensures exists { OrderExists }
     ensures unique { OrderIsUnique }
 {}

@@ -1,13 +1,14 @@
 //! A loop in a table.
 
-ghost use Rattle.std.specs.Prelude.{IfOk, IfErr};
+ghost use Rattle.std.specs.Prelude.{◌≡◌, ℕ, ◌<◌, [], Contains, IfErr, IfOk, MatchOption, drop, length, slice_index};
 ghost use Rattle.fr_tables.specs.Faults.{IsFound, IsFaultOfTable};
+ghost use Rattle.fr_tables.specs.Inside.{AreAllKnown, IsBack, IsSound, changed_at};
 
 use crate::fault::TableFault;
 use crate::hop::Hop;
 use crate::range::first_outside;
-use crate::waves::{Mark, mark_waves};
-use std::alloc::Global;
+use crate::waves::{Mark, mark_wave};
+use std::alloc::{AllocError, Global};
 
 /// Finds a loop of a table: nodes of which each sends on to the next, and the last to the first. No node is listed twice. `None`: the
 /// table has no loop.
@@ -26,6 +27,39 @@ pub fn find_loop(alloc: Global, table: &[Hop]) -> Result<Option<Vec<u32>>, Table
     if let Some(x) = first_outside(table) {
         return Err(TableFault::Range(x));
     }
+    let differ = vec![in alloc; false; table.len()]?;
     let mut marks = vec![in alloc; Mark::Unmet; table.len()]?;
-    Ok(mark_waves(alloc, table, table, &mut marks)?)
+    let mut walk = Vec::with_capacity(alloc, table.len())?;
+    match node_on_loop(&differ, table, &mut marks, &mut walk) {
+        Some(node) => Ok(Some(from_node(alloc, &walk, node)?)),
+        None => Ok(None),
+    }
+}
+
+/// A node to which its own walk comes back. The list is left as a walk that comes back to it.
+fn node_on_loop(differ: &[bool], table: &[Hop], marks: &mut [Mark], walk: &mut Vec<u32>) -> Option<u32>
+    requires sound { IsSound differ.now table.now marks.old walk.old }
+    requires empty { walk.old.items ≡ [] }
+    ensures { MatchOption result (AreAllKnown (changed_at differ.now table.now) table.now marks.new) (IsBack table.now walk.new.items) }
+{
+    for x in 0..table.len() as u32 {
+        if let Some(node) = mark_wave(differ, table, marks, walk, x) {
+            return Some(node);
+        }
+    }
+    None
+}
+
+/// The nodes of a walk from this one of them on.
+fn from_node(alloc: Global, walk: &[u32], node: u32) -> Result<Vec<u32>, AllocError>
+    requires { Contains walk.now node }
+    ensures { IfOk result (λ nodes. (k : ℕ) × (k < length walk.now) × (slice_index walk.now k ≡ node) × (nodes.items ≡ drop k walk.now)) }
+{
+    let mut start = 0;
+    while walk[start] != node {
+        start += 1;
+    }
+    let mut nodes = Vec::with_capacity(alloc, walk.len() - start)?;
+    nodes.extend_from_slice(&walk[start..])?;
+    Ok(nodes)
 }

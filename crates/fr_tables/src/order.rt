@@ -1,14 +1,14 @@
 //! The order in which changed hops are pushed.
 
-ghost use Rattle.std.specs.Prelude.{◌≡◌, ℕ, length, IfOk, IfErr};
-ghost use Rattle.fr_tables.specs.Faults.{IsOrdered, IsFaultOf};
-ghost use Rattle.fr_tables.specs.Inside.{AreKeys, AreAllKnown};
+ghost use Rattle.std.specs.Prelude.{◌≡◌, ◌≢◌, ◌<◌, ◌^◌, ◌↔◌, IfErr, IfOk, IsTrue, length};
+ghost use Rattle.fr_tables.specs.Faults.{IsFaultOf, IsOrdered};
+ghost use Rattle.fr_tables.specs.Inside.{AreChanged};
 
 use crate::fault::TableFault;
 use crate::hop::Hop;
+use crate::loops::find_loop;
 use crate::range::first_outside;
-use crate::sorting::by_key;
-use crate::waves::{Mark, differ, mark_waves};
+use crate::room::PushRoom;
 use std::alloc::{AllocError, Global};
 
 /// The nodes at which two tables differ, in the order in which their new hops are pushed: by wave, and within a wave by number. The wave
@@ -32,37 +32,32 @@ pub fn push_order(alloc: Global, old: &[Hop], new: &[Hop]) -> Result<Vec<u32>, T
     if let Some(x) = first_outside(old) {
         return Err(TableFault::Range(x));
     }
-    if let Some(x) = first_outside(new) {
-        return Err(TableFault::Range(x));
-    }
-    let mut marks = vec![in alloc; Mark::Unmet; new.len()]?;
-    if let Some(nodes) = mark_waves(alloc, old, new, &mut marks)? {
+    if let Some(nodes) = find_loop(alloc, new)? {
         return Err(TableFault::Loop(nodes));
     }
-    let keys = keys_of(alloc, old, new, &marks)?;
-    Ok(by_key(alloc, &keys)?)
+    let mut order = changed_nodes(alloc, old, new)?;
+    PushRoom::new(alloc, new.len() as u32)?.order(new, &mut order);
+    Ok(order)
 }
 
-/// The wave of each node at which the tables differ, and 0 for each other node.
-fn keys_of(alloc: Global, old: &[Hop], new: &[Hop], marks: &[Mark]) -> Result<Vec<u32>, AllocError>
+/// The nodes at which the tables differ, in rising order.
+fn changed_nodes(alloc: Global, old: &[Hop], new: &[Hop]) -> Result<Vec<u32>, AllocError>
     requires one_length { length old.now ≡ length new.now }
-    requires known { AreAllKnown old.now new.now marks.now }
-    ensures { IfOk result (λ keys. AreKeys old.now new.now keys.items) }
+    requires few { length new.now < 2 ^ 32 }
+    ensures { IfOk result (λ nodes. AreChanged old.now new.now nodes.items) }
 {
-    let mut keys = Vec::with_capacity(alloc, new.len())?;
-    for x in 0..new.len() {
-        keys.push(key_of(old[x], new[x], marks[x]))?;
+    let mut nodes = Vec::new(alloc);
+    for x in 0..new.len() as u32 {
+        if differ(old[x as usize], new[x as usize]) {
+            nodes.push(x)?;
+        }
     }
-    Ok(keys)
+    Ok(nodes)
 }
 
-/// The wave of a node whose hops differ, or else 0.
-fn key_of(old: Hop, new: Hop, mark: Mark) -> u32
-    ensures differ { ¬ (old ≡ new) → (k : ℕ) → mark ≡ Mark.Wave k → result ≡ k }
-    ensures same { old ≡ new → result ≡ 0 }
+/// Whether two hops differ.
+fn differ(old: Hop, new: Hop) -> bool
+    ensures { IsTrue result ↔ (old ≢ new) }
 {
-    match mark {
-        Mark::Wave(wave) if differ(old, new) => wave,
-        _ => 0,
-    }
+    old != new
 }

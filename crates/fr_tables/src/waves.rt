@@ -1,16 +1,14 @@
-//! The wave of each node: how many differing nodes its walk in the new table has. Each walk is followed up to a node whose wave is
-//! known, and its nodes get their waves on the way back, so each hop is read once.
+//! The waves of nodes: how many nodes of a node's walk in the new table differ. Each walk is followed up to a node whose wave is known, and
+//! its nodes get their waves on the way back, so each hop is read once.
 
-ghost use Rattle.std.specs.Prelude.{◌≡◌, ◌≢◌, ℕ, ◌<◌, ◌≤◌, ◌+◌, ◌^◌, ◌↔◌, ◌⊎◌, ◌++◌, ◌∷◌, [], Contains, length, drop, replicate, slice_index, IfOk, MatchOption, OnOk, IsTrue};
-ghost use Rattle.fr_tables.specs.Faults.{IsOnceRound};
-ghost use Rattle.fr_tables.specs.Tables.{IsInRange};
-ghost use Rattle.fr_tables.specs.Inside.{AreAllKnown, AreKnown, IsKept, IsMet, IsStacked, IsStop, mark_of};
+ghost use Rattle.std.specs.Prelude.{◌≡◌, ℕ, ◌<◌, ◌+◌, ◌^◌, [], All, Contains, IsTrue, MatchOption, length};
+ghost use Rattle.fr_tables.specs.Inside.{HasMet, HasWave, IsBack, IsKept, IsMet, IsSound, IsStop, IsWalking};
+ghost use Rattle.fr_tables.specs.Tables.{IsLoopFree};
 
 use crate::hop::Hop;
-use std::alloc::{AllocError, Global};
 
 /// What is known of a node.
-#[derive(Clone, Copy, Drop)]
+#[derive(Clone, Copy, Debug, Drop)]
 pub(crate) enum Mark {
     /// Nothing.
     Unmet,
@@ -28,102 +26,89 @@ enum Stop {
     Loop(u32),
 }
 
-/// Whether two hops differ.
-pub(crate) fn differ(old: Hop, new: Hop) -> bool
-    ensures { IsTrue result ↔ (old ≢ new) }
+/// Marks each of these nodes with its wave, in a table without loops.
+pub(crate) fn mark_waves(differ: &[bool], new: &[Hop], marks: &mut [Mark], walk: &mut Vec<u32>, nodes: &[u32])
+    requires sound { IsSound differ.now new.now marks.old walk.old }
+    requires empty { walk.old.items ≡ [] }
+    requires nodes { All (λ (x : ℕ). x < length new.now) nodes.now }
+    requires free { IsLoopFree new.now }
+    ensures sound { IsSound differ.now new.now marks.new walk.new }
+    ensures waves { (x : ℕ) → Contains nodes.now x → HasWave marks.new x }
 {
-    old != new
+    for x in nodes {
+        // No walk comes back.
+        let _back = mark_wave(differ, new, marks, walk, *x);
+    }
 }
 
-/// Marks each node with its wave, or answers a loop of the new table.
-pub(crate) fn mark_waves(
-    alloc: Global,
-    old: &[Hop],
+/// Marks node `x` with its wave. `Some`: its walk comes back to this node, and the list is left as the walk up to there.
+pub(crate) fn mark_wave(
+    differ: &[bool],
     new: &[Hop],
     marks: &mut [Mark],
-) -> Result<Option<Vec<u32>>, AllocError>
-    requires one_length { length old.now ≡ length new.now }
-    requires few { length new.now < 2 ^ 32 }
-    requires range { IsInRange new.now }
-    requires unmet { marks.old ≡ replicate (length new.now) Mark.Unmet }
-    ensures { IfOk result (λ found. MatchOption found (AreAllKnown old.now new.now marks.new) (λ nodes. IsOnceRound new.now nodes.items)) }
+    walk: &mut Vec<u32>,
+    x: u32,
+) -> Option<u32>
+    requires sound { IsSound differ.now new.now marks.old walk.old }
+    requires empty { walk.old.items ≡ [] }
+    requires node { x < length new.now }
+    ensures { MatchOption result (HasMet differ.now new.now marks.old marks.new walk.new x) (IsBack new.now walk.new.items) }
 {
-    let mut walk = Vec::with_capacity(alloc, new.len())?;
-    for x in 0..new.len() as u32 {
-        match follow(new, marks, &mut walk, x)? {
-            Stop::Known(wave) => give_waves(old, new, marks, &mut walk, wave),
-            Stop::Loop(node) => return Ok(Some(from_node(alloc, &walk, node)?)),
+    match follow(new, marks, walk, x) {
+        Stop::Known(wave) => {
+            give_waves(differ, new, marks, walk, wave);
+            None
         }
+        Stop::Loop(node) => Some(node),
     }
-    Ok(None)
 }
 
 /// Follows the walk from node `x` until a node that was met before, or its end, and lists its nodes up to there.
-fn follow(new: &[Hop], marks: &mut [Mark], walk: &mut Vec<u32>, x: u32) -> Result<Stop, AllocError>
-    requires range { IsInRange new.now }
-    requires node { x < length new.now }
+fn follow(new: &[Hop], marks: &mut [Mark], walk: &mut Vec<u32>, x: u32) -> Stop
+    requires walking { IsWalking new.now marks.old walk.old }
     requires empty { walk.old.items ≡ [] }
-    requires stacked { IsStacked new.now marks.old walk.old.items }
-    ensures stacked { OnOk result (IsStacked new.now marks.new walk.new.items) }
-    ensures kept { OnOk result (IsKept marks.old marks.new) }
-    ensures met { OnOk result (IsMet marks.new walk.new.items x) }
-    ensures stop { IfOk result (IsStop new.now marks.new walk.new.items) }
+    requires node { x < length new.now }
+    ensures walking { IsWalking new.now marks.new walk.new }
+    ensures kept { IsKept marks.old marks.new }
+    ensures met { IsMet marks.new walk.new.items x }
+    ensures stop { IsStop new.now marks.new walk.new.items result }
 {
     let mut at = x;
     loop {
         match marks[at as usize] {
-            Mark::Wave(wave) => return Ok(Stop::Known(wave)),
-            Mark::OnWalk => return Ok(Stop::Loop(at)),
+            Mark::Wave(wave) => return Stop::Known(wave),
+            Mark::OnWalk => return Stop::Loop(at),
             Mark::Unmet => {}
         }
         marks[at as usize] = Mark::OnWalk;
-        walk.push(at)?;
+        walk.push_reserved(at);
         match new[at as usize] {
             Hop::To(next) => at = next,
-            Hop::Here | Hop::CutOff => return Ok(Stop::Known(0)),
+            Hop::Here | Hop::CutOff => return Stop::Known(0),
         }
     }
 }
 
-/// Gives the nodes of a walk their waves, from the last to the first.
-fn give_waves(old: &[Hop], new: &[Hop], marks: &mut [Mark], walk: &mut Vec<u32>, below: u32)
-    requires one_length { length old.now ≡ length new.now }
-    requires few { length new.now < 2 ^ 32 }
-    requires range { IsInRange new.now }
-    requires stacked { IsStacked new.now marks.old walk.old.items }
-    requires known { AreKnown old.now new.now marks.old }
-    requires stop { IsStop new.now marks.old walk.old.items (Stop.Known below) }
-    ensures stacked { IsStacked new.now marks.new walk.new.items }
+/// Gives the nodes of a walk their waves, from the last to the first. Of the new table the contract alone speaks.
+fn give_waves(differ: &[bool], _new: &[Hop], marks: &mut [Mark], walk: &mut Vec<u32>, below: u32)
+    requires sound { IsSound differ.now _new.now marks.old walk.old }
+    requires stop { IsStop _new.now marks.old walk.old.items (Stop.Known below) }
+    ensures sound { IsSound differ.now _new.now marks.new walk.new }
     ensures empty { walk.new.items ≡ [] }
-    ensures known { AreKnown old.now new.now marks.new }
     ensures met { (x : ℕ) → IsMet marks.old walk.old.items x → IsMet marks.new walk.new.items x }
 {
     let mut wave = below;
     while let Some(x) = walk.pop() {
-        wave = wave_after(old[x as usize], new[x as usize], wave);
+        wave = wave_after(differ[x as usize], wave);
         marks[x as usize] = Mark::Wave(wave);
     }
 }
 
-/// The wave of a node with these hops, by that of the node to which it sends on.
-fn wave_after(old: Hop, new: Hop, below: u32) -> u32
-    requires { old ≢ new → below + 1 < 2 ^ 32 }
-    ensures differ { old ≢ new → result ≡ below + 1 }
-    ensures same { old ≡ new → result ≡ below }
+/// The wave of a node, by that of the node to which it sends on.
+fn wave_after(differs: bool, below: u32) -> u32
+    requires { IsTrue differs → below + 1 < 2 ^ 32 }
+    ensures differ { IsTrue differs → result ≡ below + 1 }
+    ensures same { ¬ IsTrue differs → result ≡ below }
 {
-    if differ(old, new) { below + 1 } else { below }
-}
-
-/// The nodes of a walk from this one of them on.
-fn from_node(alloc: Global, walk: &[u32], node: u32) -> Result<Vec<u32>, AllocError>
-    requires { Contains walk.now node }
-    ensures { IfOk result (λ nodes. (k : ℕ) × (k < length walk.now) × (slice_index walk.now k ≡ node) × (nodes.items ≡ drop k walk.now)) }
-{
-    let mut start = 0;
-    while walk[start] != node {
-        start += 1;
-    }
-    let mut nodes = Vec::with_capacity(alloc, walk.len() - start)?;
-    nodes.extend_from_slice(&walk[start..])?;
-    Ok(nodes)
+    if differs { below + 1 } else { below }
 }

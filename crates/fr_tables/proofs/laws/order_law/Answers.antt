@@ -1,4 +1,5 @@
 use Rattle.fr_tables.proofs.Orders.{beginning_closed, ends_as_new, order_unique, waves_closed}
+use Rattle.fr_tables.proofs.Existing.{order_exists}
 use Rattle.fr_tables.proofs.laws.order_law.Goals as goal
 
 pub returns-clause-beginnings : goal.returns-clause-beginnings
@@ -12,3 +13,6 @@ returns-clause-whole c = ends_as_new
 
 pub returns-clause-unique : goal.returns-clause-unique
 returns-clause-unique c = order_unique
+
+pub returns-clause-exists : goal.returns-clause-exists
+returns-clause-exists c = order_exists

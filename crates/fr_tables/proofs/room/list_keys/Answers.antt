@@ -1,0 +1,46 @@
+use Rattle.std.proofs.Common.{ap, List, arith, get_or, length, length-set, refl, set, subst, sym, take, ℕ, ◌+◌, ◌<◌, ◌∙◌, ◌≡◌, ◌≤◌, Contains}
+use Rattle.std.proofs.lemmas.List.{take_more}
+use Rattle.fr_tables.specs.Inside.{AreListed, mark_of}
+use Rattle.fr_tables.specs.declared.waves.Mark.TheVariants.{Wave}
+use Rattle.fr_tables.proofs.Listing.{fresh, listed_few, listed_more, listed_none}
+use Rattle.fr_tables.proofs.room.list_keys.Goals as goal
+
+pub loop-x-init : goal.loop-x-init
+loop-x-init c = record {
+  one_each = refl;
+  listed = rw (c.requires.keys, c.requires.places) (listed_none c.args.marks.now (length c.args.keys.now));
+}
+
+pub overflow_add-places-in-loop-x : goal.overflow_add-places-in-loop-x
+overflow_add-places-in-loop-x c =
+    let changed = c.args.changed.now in
+    let keys = c.loop-x.keys in
+    let i : ℕ = c.loop-x.x-index in
+    let x : ℕ = get_or changed i 0 in
+    let k : ℕ = c.wave_of-wave.result in
+    let before = c.loop-x.invariant in
+    let (inside, (wave, marked, some, few)) = c.requires.waves i 0 c.loop-x-test.true in
+    let is : k ≡ wave = c.wave_of-wave.ensures wave marked in
+    let low : x < length keys = omega (arith, inside, before.one_each) in
+    let out : ¬ Contains (take i changed) x = fresh changed i c.requires.once c.loop-x-test.true in
+    let more = listed_few c.args.marks.now (take i changed) keys c.loop-x.places x k before.listed low out (omega (arith, some, is)) (omega (arith, few, is, before.one_each)) in
+    omega (arith, more, before.one_each, c.requires.few)
+
+pub loop-x-preserved : goal.loop-x-preserved
+loop-x-preserved c =
+    let changed = c.args.changed.now in
+    let keys = c.loop-x.keys in
+    let places = c.loop-x.places in
+    let i : ℕ = c.loop-x.x-index in
+    let x : ℕ = get_or changed i 0 in
+    let k : ℕ = c.wave_of-wave.result in
+    let before = c.loop-x.invariant in
+    let (inside, (wave, marked, some, few)) = c.requires.waves i 0 c.loop-x-test.true in
+    let is : k ≡ wave = c.wave_of-wave.ensures wave marked in
+    let low : x < length keys = omega (arith, inside, before.one_each) in
+    let out : ¬ Contains (take i changed) x = fresh changed i c.requires.once c.loop-x-test.true in
+    record {
+      one_each = length-set keys x k ∙ before.one_each;
+      listed = subst (λ (xs : List ℕ). AreListed c.args.marks.now xs (set keys x k) (set places (k + 1) (get_or places (k + 1) 0 + 1))) (sym (take_more changed i 0 c.loop-x-test.true))
+      (listed_more c.args.marks.now (take i changed) keys places x k before.listed low out (omega (arith, some, is)) (omega (arith, few, is, before.one_each)) (marked ∙ ap Wave (sym is)));
+    }

@@ -1,0 +1,118 @@
+//! Putting nodes in push order without memory: the room is taken ahead.
+
+ghost use Rattle.std.specs.Prelude.{◌≡◌, ℕ, ◌<◌, ◌+◌, ◌^◌, ◌↔◌, All, Contains, IfOk, List, length, nat_eq, replicate, slice_index, slice_index_or, false, true};
+ghost use Rattle.std.specs.List.{IsDistinct};
+ghost use Rattle.fr_tables.specs.Inside.{AreListed, AreNoted, HasWaveUpTo};
+ghost use Rattle.fr_tables.specs.Pushes.{DifferAt, IsPushOrder};
+ghost use Rattle.fr_tables.specs.Tables.{IsInRange, IsLoopFree};
+ghost use Rattle.fr_tables.specs.declared.hop.Hop.{Hop};
+
+use crate::hop::Hop;
+use crate::sorting::by_key;
+use crate::waves::{Mark, mark_waves};
+use std::alloc::{AllocError, Global};
+use std::marker::Model;
+
+/// Room to put the nodes of one table in push order. It is taken ahead, so that ordering takes no memory. Contracts see for how many nodes.
+#[derive(Debug, Drop)]
+pub struct PushRoom {
+    // Whether the hop of each node has changed.
+    differ: Vec<bool>,
+    marks: Vec<Mark>,
+    // It has a place for each node.
+    walk: Vec<u32>,
+    // The wave of each node whose hop has changed, and 0 for each other node.
+    keys: Vec<u32>,
+    places: Vec<u32>,
+}
+
+impl Model for PushRoom {
+    ghost use Rattle.std.specs.Prelude.{ℕ};
+
+    ghost Value = { ℕ };
+
+    ghost use Rattle.fr_tables.specs.Rooms.{nodes_of, IsRoom};
+
+    ghost view = { nodes_of };
+
+    ghost invariant = { IsRoom };
+}
+
+impl PushRoom {
+    /// Room for tables of so many nodes. `AllocError` where no room could be had. O(n).
+    pub fn new(alloc: Global, nodes: u32) -> Result<PushRoom, AllocError>
+        ensures { IfOk result (λ room. room ≡ nodes) }
+    {
+        let nodes = nodes as usize;
+        Ok(PushRoom {
+            differ: vec![in alloc; false; nodes]?,
+            marks: vec![in alloc; Mark::Unmet; nodes]?,
+            walk: Vec::with_capacity(alloc, nodes)?,
+            keys: vec![in alloc; 0; nodes]?,
+            places: vec![in alloc; 0; nodes + 2]?,
+        })
+    }
+
+    /// Puts the nodes whose hop has changed in push order, as [`push_order`](crate::push_order) does. `new` is the table as it is now, with
+    /// as many nodes as there is room for. It takes no memory. O(1) for one node or none, else O(n).
+    pub fn order(&mut self, new: &[Hop], changed: &mut [u32])
+        requires room { length new.now ≡ self.old }
+        requires new { IsInRange new.now × IsLoopFree new.now }
+        requires changed { IsDistinct nat_eq changed.old × All (λ (x : ℕ). x < length new.now) changed.old }
+        ensures order { (old : List Hop) → length old ≡ length new.now → ((x : ℕ) → Contains changed.old x ↔ DifferAt old new.now x)
+            → IsPushOrder old new.now changed.new }
+        ensures kept { self.new ≡ self.old }
+    {
+        if changed.len() < 2 {
+            return;
+        }
+        self.differ.fill(false);
+        self.marks.fill(Mark::Unmet);
+        self.walk.clear();
+        self.keys.fill(0);
+        self.places.fill(0);
+        note(&mut self.differ, changed);
+        mark_waves(&self.differ, new, &mut self.marks, &mut self.walk, changed);
+        list_keys(&self.marks, changed, &mut self.keys, &mut self.places);
+        by_key(&self.keys, &mut self.places, changed);
+    }
+}
+
+/// Notes that the hops of these nodes have changed.
+fn note(differ: &mut [bool], changed: &[u32])
+    requires nodes { All (λ (x : ℕ). x < length differ.old) changed.now }
+    requires none { differ.old ≡ replicate (length differ.old) false }
+    ensures one_each { length differ.new ≡ length differ.old }
+    ensures noted { AreNoted changed.now differ.new }
+{
+    for x in changed {
+        differ[*x as usize] = true;
+    }
+}
+
+/// Makes the waves of the changed nodes their keys, and counts how many of them have each key.
+fn list_keys(marks: &[Mark], changed: &[u32], keys: &mut [u32], places: &mut [u32])
+    requires few { length keys.old < 2 ^ 32 }
+    requires keys { keys.old ≡ replicate (length keys.old) 0 }
+    requires places { places.old ≡ replicate (length keys.old + 2) 0 }
+    requires once { IsDistinct nat_eq changed.now }
+    requires waves { All (λ (x : ℕ). (x < length keys.old) × HasWaveUpTo (length keys.old) marks.now x) changed.now }
+    ensures one_each { length keys.new ≡ length keys.old }
+    ensures listed { AreListed marks.now changed.now keys.new places.new }
+{
+    for x in changed {
+        let wave = wave_of(marks[*x as usize]);
+        keys[*x as usize] = wave;
+        places[wave as usize + 1] += 1;
+    }
+}
+
+/// The wave that a mark tells.
+fn wave_of(mark: Mark) -> u32
+    ensures { (wave : ℕ) → mark ≡ Mark.Wave wave → result ≡ wave }
+{
+    match mark {
+        Mark::Wave(wave) => wave,
+        _ => 0,
+    }
+}
