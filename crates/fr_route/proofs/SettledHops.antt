@@ -45,8 +45,8 @@ settled_in_range s hops after are x y sends =
 
 -- the faults of a table that is compared with them
 push_fault_is : (s : State) (hops table : List Hop) → IsAfterRound s → AreHops s s.nodes hops → s.nodes ≤ most_nodes → (fault : TableFault) → IsFaultOf table hops fault → IsPushesFault s table fault
-push_fault_is s hops table after are few Length (inl other) same = other (same ∙ sym are.one_each)
-push_fault_is s hops table after are few Length (inr long) same = omega (arith, long, are.one_each, few)
+push_fault_is s hops table after are few Length (inl other) = λ same. other (same ∙ sym are.one_each)
+push_fault_is s hops table after are few Length (inr long) = λ same. omega (arith, long, are.one_each, few)
 push_fault_is s hops table after are few (Range x) (one, inl first) = (one.same ∙ are.one_each, first)
 push_fault_is s hops table after are few (Range x) (one, inr first) =
     absurd (omega (arith, settled_in_range s hops after are first.1.at x first.1.sends, first.1.outside))
@@ -66,8 +66,7 @@ rerouted_told old new nodes x same r = (
       ⊎_elim
       (λ below.
       let was = slice_get-get_or r.before x Here (omega (arith, below, r.were.one_each, same)) in
-      let is = slice_get-get_or r.after x Here (omega (arith, below, r.are.one_each)) in
-      (
+      let is = slice_get-get_or r.after x Here (omega (arith, below, r.are.one_each)) in (
         below,
         record {
           before = get_or r.before x Here;

@@ -32,8 +32,12 @@ bounds-table-x c =
     let nodes = c.deref-x-items.result.now in
     let order = c.in_ok-order.ensures.order in
     let is : IsPushOrder c.args.table.now c.args.new.now nodes = subst (IsPushOrder c.args.table.now c.args.new.now) (sym c.deref-x-items.ensures.value) order.is_order in
-    omega (arith, c.loop-x.invariant.one_length, order.tables.one_length.same,
-      node_inside c.args.table.now c.args.new.now nodes c.loop-x.x-index order.tables.one_length.same is (omega arith))
+    omega (
+      arith,
+      c.loop-x.invariant.one_length,
+      order.tables.one_length.same,
+      node_inside c.args.table.now c.args.new.now nodes c.loop-x.x-index order.tables.one_length.same is (omega arith),
+    )
 
 pub loop-x-preserved : goal.loop-x-preserved
 loop-x-preserved c =
@@ -65,5 +69,5 @@ returns-clause-loop_free c =
     let is : IsPushOrder c.args.table.now c.args.new.now nodes = subst (IsPushOrder c.args.table.now c.args.new.now) (sym c.deref-x-items.ensures.value) order.is_order in
     let all : take c.loop-x.x-index nodes ≡ nodes = take_all c.loop-x.x-index nodes (omega arith) in
     let same : c.loop-x.table ≡ c.args.new.now = c.order_law.ensures.whole c.args.table.now c.args.new.now nodes c.loop-x.table order.tables.one_length.same is
-        (subst (λ (done : List ℕ). IsPushed c.args.table.now c.args.new.now done c.loop-x.table) all c.loop-x.invariant) in
+    (subst (λ (done : List ℕ). IsPushed c.args.table.now c.args.new.now done c.loop-x.table) all c.loop-x.invariant) in
     subst IsLoopFree (sym same) order.loop_free
