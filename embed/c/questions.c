@@ -1,8 +1,8 @@
 /* Compares the typed questions with the lines' answers, on drawn networks and changes.
  *
  * After each line the hops, counts, routes, links and the report are asked both ways, each hop by its own call too, and the nodes that
- * are said to be rerouted have to be just those whose hop differs from what it was, found by comparing all. Each array ends where its
- * room does, so that a sanitizer sees a number written too far; one with a place too few has to stay as it was. Printed is how many
+ * are said to be rerouted have to be just those whose hop differs from what it was, found by comparing all, in push order. Each array ends
+ * where its room does, so that a sanitizer sees a number written too far; one with a place too few has to stay as it was. Printed is how many
  * lines were accepted.
  */
 #include "lines.h"
@@ -135,15 +135,26 @@ static uint32_t *rerouted_of(revroute *session, size_t *count) {
     return nodes;
 }
 
-/* The nodes whose hop is another one than before; before a network all are cut off. */
+/* How many nodes on the route of x have another hop than before, x itself included; 0 after a network, which is told by number. */
+static size_t wave_of(const uint32_t *before, const uint32_t *hops, size_t count, uint32_t x) {
+    size_t wave = 0;
+    for (; before && x < count; x = hops[x]) wave += hops[x] != before[x];
+    return wave;
+}
+
+/* The nodes whose hop is another one than before, by wave and then by number; before a network all are cut off. */
 static void look_at_rerouted(revroute *session, const uint32_t *before, const uint32_t *hops, size_t count) {
-    size_t told, next = 0;
+    size_t told, differ = 0, last = 0;
     uint32_t *nodes = rerouted_of(session, &told);
-    for (uint32_t x = 0; x < count; x++) {
-        if (hops[x] == (before ? before[x] : REVROUTE_CUT_OFF)) continue;
-        if (next == told || nodes[next++] != x) stop("a rerouted node is not told");
+    for (uint32_t x = 0; x < count; x++) differ += hops[x] != (before ? before[x] : REVROUTE_CUT_OFF);
+    if (differ != told) stop("another number of nodes is told than is rerouted");
+    for (size_t at = 0; at < told; at++) {
+        uint32_t x = nodes[at];
+        if (x >= count || hops[x] == (before ? before[x] : REVROUTE_CUT_OFF)) stop("a node is told that is not rerouted");
+        size_t wave = wave_of(before, hops, count, x);
+        if (at && (wave < last || (wave == last && x <= nodes[at - 1]))) stop("a rerouted node is not told in push order");
+        last = wave;
     }
-    if (next != told) stop("a node is told that is not rerouted");
     free(nodes);
 }
 

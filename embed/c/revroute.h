@@ -200,8 +200,9 @@ uint32_t revroute_next_hop(revroute *session, uint32_t node);
 /* The same of all nodes, in their order, by the same values. O(n). */
 uint32_t revroute_next_hops(revroute *session, uint32_t *hops, size_t room, size_t *length);
 
-/* The nodes whose next hop the last accepted round changed, in rising order: after a new network all that are not cut off. What is
- * refused, and questions, leave them. There are none before the first network. O(r) for r of them. */
+/* The nodes whose next hop the last accepted round changed, in push order: each behind the changed nodes on its new route. After a new
+ * network all that are not cut off, in rising order. What is refused, and questions, leave them. There are none before the first network.
+ * O(r) for r of them. */
 uint32_t revroute_rerouted(revroute *session, uint32_t *nodes, size_t room, size_t *length);
 
 /* How often each node turned in the last round, in the order of the nodes. O(n). */

@@ -23,8 +23,8 @@ use Rattle.fr_route.proofs.Touched.{into_filter}
 use Rattle.fr_route.specs.Outcomes.{cut_off_nodes, lone_count, settled_state}
 use Rattle.fr_route.specs.Routes.{IsHop, AreHops, is_cut_off}
 use Rattle.fr_route.specs.States.{State, IsCutOff, IsAfterRound, IsCutCount, IsReport, IsRound}
-use Rattle.fr_route.specs.declared.hops.Hop.{Hop}
-use Rattle.fr_route.specs.declared.hops.Hop.TheVariants.{Here, To, CutOff}
+use Rattle.fr_tables.specs.declared.hop.Hop.{Hop}
+use Rattle.fr_tables.specs.declared.hop.Hop.TheVariants.{Here, To, CutOff}
 
 same_bool : (a b : Bool) → (IsTrue a ↔ IsTrue b) → a ≡ b
 same_bool true true e = refl

@@ -23,8 +23,8 @@ use Rattle.fr_route.specs.States.{State, IsReport, IsRound, net_at}
 use Rattle.fr_route.specs.Routes.{IsHop, AreHops}
 use Rattle.fr_route.specs.Texts.{report_text, hops_text, walk_text, refusal_text}
 use Rattle.fr_route.specs.Answers.{fault_number, IsRefused, IsAccepted, IsReportLine, IsWalkLine, IsText, IsAnswer, IsLineAnswer, AreAnswers}
-use Rattle.fr_route.specs.declared.hops.Hop.{Hop}
-use Rattle.fr_route.specs.declared.hops.Hop.TheVariants as hop
+use Rattle.fr_tables.specs.declared.hop.Hop.{Hop}
+use Rattle.fr_tables.specs.declared.hop.Hop.TheVariants as hop
 use Rattle.fr_route.proofs.CutNodes.{cut_unique}
 use Rattle.fr_route.proofs.RoundEnds.{round_unique}
 use Rattle.fr_route.proofs.Routing.{hop_unique, route_joined, route_unique}

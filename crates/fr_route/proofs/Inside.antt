@@ -11,25 +11,26 @@ use Rattle.fr_route.specs.RouterInside.{IsSoundRouter}
 use Rattle.fr_route.specs.Routes.{AreHops}
 use Rattle.fr_route.specs.States.{IsReport}
 use Rattle.fr_route.specs.declared.change.Report.{Report}
-use Rattle.fr_route.specs.declared.hops.Hop.{Hop}
+use Rattle.fr_tables.specs.declared.hop.Hop.{Hop}
 use Rattle.fr_route.specs.declared.router.Router.TheInside.{Inside}
 use Rattle.fr_route.specs.declared.spare.Spare.{Spare}
 use Rattle.fr_route.proofs.CutNodes.{after_outcome}
 
-module _ (d : ℕ) (turns : List ℕ) (spare : Spare) (hops : Vec Hop Global) (report : Report) where
+module _ (d : ℕ) (turns : List ℕ) (spare : Spare) (hops : Vec Hop Global) (room : ℕ) (report : Report) where
   inside : Network → Inside
-  inside net = record { net = net; dest = d; turns = turns; spare = spare; hops = hops; report = report }
+  inside net = record { net = net; dest = d; turns = turns; spare = spare; hops = hops; room = room; report = report }
 
   pub sound_after : (net turned : Network) → IsNet net.nodes net.links → IsCounted net.nodes d net.links turns → IsReport (settled_state net d turns) report.turned report.cut
-      → turned ≡ net_of net.nodes (links_at net.links turns) → AreHops (settled_state net d turns) net.nodes hops.items
-      → IsSoundRouter (record { net = turned; dest = d; turns = turns; spare = spare; hops = hops; report = report })
+      → turned ≡ net_of net.nodes (links_at net.links turns) → AreHops (settled_state net d turns) net.nodes hops.items → room ≡ net.nodes
+      → IsSoundRouter (record { net = turned; dest = d; turns = turns; spare = spare; hops = hops; room = room; report = report })
   unfolding inside
-  sound_after net turned is counted reported turned_is hops_are =
+  sound_after net turned is counted reported turned_is hops_are for_all =
       let there : IsSoundRouter (inside (net_of net.nodes (links_at net.links turns))) = record {
         dest = counted.destination;
         round = after_outcome net d turns is counted;
         one_each = counted.settled.one_each;
         hops = hops_are;
+        room = for_all;
         report = reported;
       } in
       subst (λ (m : Network). IsSoundRouter (inside m)) (sym turned_is) there

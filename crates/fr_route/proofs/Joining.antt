@@ -10,8 +10,8 @@ use Rattle.fr_route.specs.Outcomes.{AreJoinedBelow}
 use Rattle.fr_route.specs.Reroutes.{AreJoined}
 use Rattle.fr_route.specs.Routes.{AreHops}
 use Rattle.fr_route.specs.States.{State}
-use Rattle.fr_route.specs.declared.hops.Hop.{Hop}
-use Rattle.fr_route.specs.declared.hops.Hop.TheVariants.{CutOff, Here}
+use Rattle.fr_tables.specs.declared.hop.Hop.{Hop}
+use Rattle.fr_tables.specs.declared.hop.Hop.TheVariants.{CutOff, Here}
 use Rattle.fr_route.proofs.Determined.{one_hop}
 
 module _ (hops : List Hop) (k : ℕ) (nodes : List ℕ) (before : AreJoinedBelow hops k nodes) where

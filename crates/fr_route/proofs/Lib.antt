@@ -15,6 +15,8 @@ pub mod Moving
 pub mod Written
 pub mod Renewing
 pub mod Noting
+pub mod SettledHops
+pub mod PushLengths
 pub mod Joining
 pub mod Inside
 pub mod Telling

@@ -17,8 +17,8 @@ use Rattle.fr_crew.specs.Settlements.{HoldsSinks, IsCounted}
 use Rattle.fr_route.specs.Outcomes.{HoldsMoved, IsStale, cut_off_nodes, ends_of, movable, settled_state, touched}
 use Rattle.fr_route.specs.Routes.{AreHops, IsHop}
 use Rattle.fr_route.specs.States.{IsAfterRound, IsRound, State, net_at}
-use Rattle.fr_route.specs.declared.hops.Hop.{Hop}
-use Rattle.fr_route.specs.declared.hops.Hop.TheVariants.{CutOff, Here, To}
+use Rattle.fr_tables.specs.declared.hop.Hop.{Hop}
+use Rattle.fr_tables.specs.declared.hop.Hop.TheVariants.{CutOff, Here, To}
 use Rattle.fr_route.proofs.Changing.{made_nodes}
 use Rattle.fr_route.proofs.CutNodes.{capped_cut, cut_below, ended}
 use Rattle.fr_route.proofs.RoundEnds.{hop_leads_on, linked_joined, linked_out, round_joined, round_joins, round_net, still_cut_off}

@@ -1,26 +1,21 @@
 -- Which hops are other ones once some are made anew, and the list that notes where.
 use Rattle.std.proofs.Common.{Contains, false, true, List, [], Some, ap, arith, eqb, get_or, inl, inr, length, length-set, refl, set, slice_get, subst, sym, vec_capacity, ℕ, ⊎_elim, ◌++◌, ◌<◌, ◌∙◌, ◌∷◌, ◌≡◌, ◌⊎◌}
 use Rattle.std.specs.List.{IsDistinct, list_any}
-use Rattle.std.specs.List.Sorted.{IsPermutation, IsSorted}
 use Rattle.std.specs.Cmp.{nat_eq_equiv}
-use Rattle.std.specs.Ordering.{nat_cmp}
 use Rattle.std.specs.declared.alloc.Global.{Global}
 use Rattle.std.specs.declared.vec.Vec.{Vec}
 use Rattle.std.proofs.lemmas.Bool.{cases_Bool, cases_eq, cases_lt, eqb-true}
 use Rattle.std.proofs.lemmas.List.{get_or-set_other, get_or-set_same, length_push}
-use Rattle.std.proofs.lemmas.List.Elements.{Contains-append_left, Contains-push, Contains-push_cases}
-use Rattle.std.proofs.lemmas.List.Sorted.{Contains-permutation, IsNonDecreasingBy-from_sort, IsPermutation-sym}
-use Rattle.std.proofs.lemmas.Map.Keys.{IsDistinct-IsPermutation, IsDistinct-push, IsStrictlyIncreasing-from_distinct}
+use Rattle.std.proofs.lemmas.List.Elements.{All-contains_itself, All-weaker, Contains-append_left, Contains-push, Contains-push_cases}
+use Rattle.std.proofs.lemmas.Map.Keys.{IsDistinct-push}
 use Rattle.std.proofs.lemmas.Map.Steps.{length-le_from_distinct_below}
 use Rattle.std.proofs.lemmas.Map.Views.{Contains-from_any}
 use Rattle.std.proofs.lemmas.Option.{get_or_from_slice_get, slice_get-get_or, slice_get_past, slice_get_within}
 use Rattle.fr_graph.proofs.Members.{Contains-none, cases_some}
 use Rattle.fr_route.specs.Outcomes.{AreNoted, AreOthers, NotesMore}
-use Rattle.fr_route.specs.Reroutes.{AreRerouted}
-use Rattle.fr_route.specs.Routes.{AreHops, IsHop}
+use Rattle.fr_route.specs.Routes.{IsHop}
 use Rattle.fr_route.specs.States.{State}
-use Rattle.fr_route.specs.declared.hops.Hop.{Hop}
-use Rattle.fr_route.specs.declared.hops.Hop.TheVariants.{Here}
+use Rattle.fr_tables.specs.declared.hop.Hop.{Hop}
 use Rattle.fr_route.proofs.Determined.{one_hop}
 
 -- no hop is made anew
@@ -103,41 +98,14 @@ notes_one s x hop d old nodes more right low apart same put = record {
       subst (AreNoted s before (set old x hop)) (sym (put (omega (arith, left, room)))) (noted_also s x hop right old low another before nodes.items noted);
 }
 
--- the list in rising order
-pub others_sorted : (s : State) (before hops : List Hop) (nodes sorted : List ℕ) → AreNoted s before hops nodes → IsPermutation nodes sorted → IsSorted nat_cmp sorted → AreOthers before hops sorted
-others_sorted s before hops nodes sorted noted moved rising = record {
-  rising = IsStrictlyIncreasing-from_distinct sorted (IsNonDecreasingBy-from_sort (λ (x : ℕ). x) sorted rising) (IsDistinct-IsPermutation eqb nat_eq_equiv.symm nodes sorted moved noted.once);
-  these = λ x found.
-      let at = noted.these x (Contains-permutation sorted nodes x (IsPermutation-sym nodes sorted moved) found) in
-      (slice_get_within hops x at.0 at.1.0, (λ same. at.1.2 (sym same ∙ at.1.0)));
-  others = λ x out. noted.others x (λ found. out (Contains-permutation nodes sorted x moved found));
-}
-
--- just these nodes are rerouted
-pub rerouted_by : (s t : State) (n : ℕ) (old new : List Hop) (nodes : List ℕ) → AreHops s n old → AreHops t n new → t.nodes ≡ n → AreOthers old new nodes → AreRerouted s t nodes
-rerouted_by s t n old new nodes h g same others = record {
-  rising = others.rising;
+-- the noted nodes are those with another hop
+pub others_noted : (s : State) (before hops : List Hop) (nodes : List ℕ) → AreNoted s before hops nodes → AreOthers before hops nodes
+others_noted s before hops nodes noted = record {
+  once = noted.once;
+  below = All-weaker (Contains nodes) (λ (x : ℕ). x < length hops)
+      (λ x found. let at = noted.these x found in slice_get_within hops x at.0 at.1.0) nodes (All-contains_itself nodes);
   just = λ x. (
-    λ found.
-        let at = others.these x found in
-        let was : slice_get old x ≡ Some (get_or old x Here) = slice_get-get_or old x Here (omega (arith, at.0, h.one_each, g.one_each)) in
-        let is : slice_get new x ≡ Some (get_or new x Here) = slice_get-get_or new x Here at.0 in (
-          omega (arith, at.0, g.one_each, same),
-          record {
-            before = get_or old x Here;
-            after = get_or new x Here;
-            was = h.each x (get_or old x Here) was;
-            is = g.each x (get_or new x Here) is;
-            another = λ e. at.1 (is ∙ (ap Some (sym e) ∙ sym was));
-          },
-        ),
-    λ (below, r). ⊎_elim
-        (λ found. found)
-        (λ out.
-        let hop = get_or old x Here in
-        let was : slice_get old x ≡ Some hop = slice_get-get_or old x Here (omega (arith, below, h.one_each, same)) in
-        let stays : IsHop t x hop = g.each x hop (others.others x out ∙ was) in
-        absurd (r.another (one_hop s x r.before hop r.was (h.each x hop was) ∙ one_hop t x hop r.after stays r.is)))
-        (in_or_out x nodes),
+    λ found. let at = noted.these x found in λ same. at.1.2 (same ∙ at.1.0),
+    λ differ. ⊎_elim (λ found. found) (λ out. absurd (differ (sym (noted.others x out)))) (in_or_out x nodes),
   );
 }

@@ -11,8 +11,8 @@ use Rattle.fr_graph.specs.declared.first.First.TheVariants.{Inward, Outward}
 use Rattle.fr_route.specs.Outcomes.{AreRenewed, SendsTo}
 use Rattle.fr_route.specs.Routes.{IsHop}
 use Rattle.fr_route.specs.States.{State}
-use Rattle.fr_route.specs.declared.hops.Hop.{Hop}
-use Rattle.fr_route.specs.declared.hops.Hop.TheVariants.{To}
+use Rattle.fr_tables.specs.declared.hop.Hop.{Hop}
+use Rattle.fr_tables.specs.declared.hop.Hop.TheVariants.{To}
 
 -- nothing is made anew
 pub renewed_none : (s : State) (hops : List Hop) (left : ℕ → Hop → Type 0) → ((x : ℕ) (hop : Hop) → left x hop) → AreRenewed s hops hops left

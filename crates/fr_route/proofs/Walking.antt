@@ -6,8 +6,8 @@ use Rattle.fr_graph.specs.Links.{IsNet}
 use Rattle.fr_core.proofs.Following.{path_short}
 use Rattle.fr_route.specs.States.{State}
 use Rattle.fr_route.specs.Routes.{IsHop, IsRoute}
-use Rattle.fr_route.specs.declared.hops.Hop.{Hop}
-use Rattle.fr_route.specs.declared.hops.Hop.TheVariants.{Here, To, CutOff}
+use Rattle.fr_tables.specs.declared.hop.Hop.{Hop}
+use Rattle.fr_tables.specs.declared.hop.Hop.TheVariants.{Here, To, CutOff}
 use Rattle.fr_route.proofs.Routing.{route_joined, route_path, route_unique}
 
 -- these nodes are the front of the route from x, and the rest of it begins at the node that was reached

@@ -16,7 +16,7 @@ use Rattle.fr_route.specs.Routes.{IsRoute, AreHops}
 use Rattle.fr_route.specs.Changes.{CanTurnAfter, IsBatch, IsChanged, IsChangeFault, IsMoved, IsStill, MayStart}
 use Rattle.fr_route.specs.Texts.{counts_text, links_text, hops_text, walk_text, no_walk_text, report_text, refusal_text}
 use Rattle.fr_route.specs.declared.change.Change.TheVariants.{Cut, Add, Join, Destination}
-use Rattle.fr_route.specs.declared.hops.Hop.{Hop}
+use Rattle.fr_tables.specs.declared.hop.Hop.{Hop}
 
 -- the number by which an answer names a fault of links or of an edit (want of memory is none, and has no number)
 abbrev pub fault_number : NetFault → ℕ

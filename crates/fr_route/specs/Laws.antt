@@ -1,14 +1,16 @@
 -- The laws of routes and of answers. Each is the contract of a function of src/laws.rt.
-use Rattle.std.specs.Prelude.{◌≡◌, ℕ, ◌<◌, ◌↔◌, List, ◌∷◌, Option, Result, nat_eq}
+use Rattle.std.specs.Prelude.{◌≡◌, ℕ, ◌<◌, ◌↔◌, List, ◌∷◌, Contains, Option, Result, nat_eq}
 use Rattle.std.specs.List.{IsDistinct}
 use Rattle.fr_graph.specs.Links.{IsAcyclic, IsNet, IsPath, end_of}
 use Rattle.fr_lines.specs.Requests.{PlainRequest}
 use Rattle.fr_lines.specs.declared.requests.LineFault.{LineFault}
 use Rattle.fr_core.specs.Walks.{IsJoined}
-use Rattle.fr_route.specs.States.{State, IsRound, IsReport}
-use Rattle.fr_route.specs.Routes.{IsRoute, IsHop}
+use Rattle.fr_route.specs.States.{State, IsAfterRound, IsRound, IsReport}
+use Rattle.fr_route.specs.Reroutes.{AreRerouted, IsRerouted}
+use Rattle.fr_route.specs.Routes.{AreHops, IsRoute, IsHop}
 use Rattle.fr_route.specs.Answers.{IsAnswer, IsLineAnswer}
-use Rattle.fr_route.specs.declared.hops.Hop.{Hop}
+use Rattle.fr_tables.specs.Tables.{IsInRange, IsLoopFree}
+use Rattle.fr_tables.specs.declared.hop.Hop.{Hop}
 
 -- Rounds
 
@@ -47,6 +49,17 @@ RouteIsSimple = (links : List (ℕ × ℕ)) (d x : ℕ) (rest : List ℕ) → Is
 -- no node has two hops
 abbrev pub HopIsUnique : Type 0
 HopIsUnique = (s : State) (x : ℕ) (some other : Hop) → IsHop s x some → IsHop s x other → some ≡ other
+
+-- Pushes
+
+-- the hops of a state after a round have no loop, and name nodes
+abbrev pub HopsHaveNoLoop : Type 0
+HopsHaveNoLoop = (s : State) (hops : List Hop) → IsAfterRound s → AreHops s s.nodes hops → IsLoopFree hops × IsInRange hops
+
+-- just the rerouted nodes are told
+abbrev pub ReroutedAreTold : Type 0
+ReroutedAreTold = (old new : State) (nodes : List ℕ) (x : ℕ) → old.nodes ≡ new.nodes → AreRerouted old new nodes
+    → Contains nodes x ↔ ((x < new.nodes) × IsRerouted old new x)
 
 -- Answers
 

@@ -19,8 +19,9 @@ use Rattle.fr_route.specs.Changes.{CanTurnAfter}
 use Rattle.fr_route.specs.States.{State, IsReport, IsRound, net_at, state_with}
 use Rattle.fr_route.specs.declared.fault.RouteFault.{RouteFault}
 use Rattle.fr_route.specs.declared.fault.RouteFault.TheVariants.{Net, Range, Start, Memory}
-use Rattle.fr_route.specs.declared.hops.Hop.{Hop}
-use Rattle.fr_route.specs.declared.hops.Hop.TheVariants.{CutOff, To}
+use Rattle.fr_tables.specs.Pushes.{DifferAt}
+use Rattle.fr_tables.specs.declared.hop.Hop.{Hop}
+use Rattle.fr_tables.specs.declared.hop.Hop.TheVariants.{CutOff, To}
 use Rattle.fr_route.specs.declared.outcome.Outcome.{Outcome}
 
 -- the state after a round with these counts on a network
@@ -83,11 +84,16 @@ pub record NotesMore (s : State) (old : List Hop) (nodes : Vec ℕ Global) (new 
   pub room : vec_capacity more ≡ vec_capacity nodes
   pub noted : length old ≤ vec_capacity nodes → (before : List Hop) → AreNoted s before old nodes.items → AreNoted s before new more.items
 
--- these are the places at which the hops differ, in rising order
+-- these are the places at which the hops differ, each once
 pub record AreOthers (old new : List Hop) (nodes : List ℕ) : Type 0 where
-  pub rising : IsStrictlyIncreasing nodes
-  pub these : (x : ℕ) → Contains nodes x → (x < length new) × ¬ (slice_get new x ≡ slice_get old x)
-  pub others : (x : ℕ) → ¬ Contains nodes x → slice_get new x ≡ slice_get old x
+  pub once : IsDistinct nat_eq nodes
+  pub below : All (λ x. x < length new) nodes
+  pub just : (x : ℕ) → Contains nodes x ↔ DifferAt old new x
+
+-- the list has just these places, if it has room for each
+pub record ListsOthers (old new : List Hop) (before after : Vec ℕ Global) : Type 0 where
+  pub room : vec_capacity after ≡ vec_capacity before
+  pub others : length old ≤ vec_capacity before → AreOthers old new after.items
 
 -- the hops of these nodes below k do not say that they are cut off, and those of the others do, in rising order
 pub record AreJoinedBelow (hops : List Hop) (k : ℕ) (nodes : List ℕ) : Type 0 where

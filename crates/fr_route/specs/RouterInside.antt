@@ -12,4 +12,5 @@ pub record IsSoundRouter (r : Inside) : Type 0 where
   pub round : IsAfterRound (state_of r)
   pub one_each : length r.turns ≡ r.net.nodes
   pub hops : AreHops (state_of r) r.net.nodes r.hops.items
+  pub room : r.room ≡ r.net.nodes
   pub report : IsReport (state_of r) r.report.turned r.report.cut

@@ -2,8 +2,8 @@
 use Rattle.std.specs.Prelude.{◌≡◌, ℕ, ◌≤◌, Bool, true, false, List, [], ◌∷◌, length, slice_get, Some}
 use Rattle.fr_graph.specs.Links.{Points}
 use Rattle.fr_route.specs.States.{State, IsCutOff}
-use Rattle.fr_route.specs.declared.hops.Hop.{Hop}
-use Rattle.fr_route.specs.declared.hops.Hop.TheVariants.{Here, To, CutOff}
+use Rattle.fr_tables.specs.declared.hop.Hop.{Hop}
+use Rattle.fr_tables.specs.declared.hop.Hop.TheVariants.{Here, To, CutOff}
 use Rattle.fr_route.specs.declared.hops.Walked.{Walked}
 use Rattle.fr_route.specs.declared.hops.Walked.TheVariants.{Route, CutOff as NoRoute}
 

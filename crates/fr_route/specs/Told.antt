@@ -7,7 +7,7 @@ use Rattle.fr_route.specs.Reroutes.{AreJoined, AreRerouted}
 use Rattle.fr_route.specs.States.{State}
 
 -- an accepted request tells of these nodes, where the list had others before: a network of those that are not cut off, a change of
--- those that it reroutes, and all else leaves the list
+-- those that it reroutes, in push order, and all else leaves the list
 abbrev pub TellsOf : Option State → PlainRequest → State → List ℕ → List ℕ → Type 0
 TellsOf s (new_network n d links) new before after = AreJoined new after
 TellsOf None request new before after = ⊥

@@ -7,18 +7,8 @@ ghost use Rattle.fr_route.specs.Outcomes.{AreJoinedBelow, AreRenewed, HoldsMoved
 ghost use Rattle.fr_route.specs.States.{IsAfterRound, state_with};
 
 use fr_graph::{First, Net, Turns};
+use fr_tables::Hop;
 use std::alloc::{AllocError, Global};
-
-/// Where a node sends on to, so that what it sends gets to the destination.
-#[derive(Clone, Copy, Debug, PartialEq, Eq)]
-pub enum Hop {
-    /// The node is the destination.
-    Here,
-    /// To this neighbour: the least of those to which its links point.
-    To(u32),
-    /// The node is not joined with the destination.
-    CutOff,
-}
 
 /// The route from a node to the destination.
 #[derive(Debug, Drop, PartialEq, Eq)]

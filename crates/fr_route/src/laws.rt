@@ -2,6 +2,7 @@
 
 ghost use Rattle.fr_route.specs.Laws.{RoundIsUnique, RoundLeavesNoLoop, RoundKeepsJoined, ReportIsUnique};
 ghost use Rattle.fr_route.specs.Laws.{RoutesLeadHome, RouteIsUnique, RouteIsSimple, HopIsUnique};
+ghost use Rattle.fr_route.specs.Laws.{HopsHaveNoLoop, ReroutedAreTold};
 ghost use Rattle.fr_route.specs.Laws.{AnswerIsUnique, LineAnswerIsUnique};
 
 /// The state after a round is determined by the first links, and so is what the round reports. No closed walk stands among
@@ -20,6 +21,13 @@ pub fn route_law()
     ensures unique { RouteIsUnique }
     ensures simple { RouteIsSimple }
     ensures hop { HopIsUnique }
+{}
+
+/// The hops of a settled network are a table with no loop, in which each hop names a node. So the laws of push orders are true of them
+/// ([`push_law`](fr_tables::laws::push_law)), and just the nodes that send on to another node than before are told.
+pub fn hops_law()
+    ensures no_loop { HopsHaveNoLoop }
+    ensures told { ReroutedAreTold }
 {}
 
 /// An answer and the state after it are determined by the state before it and the request.

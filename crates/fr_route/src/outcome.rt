@@ -1,6 +1,6 @@
 //! What a round on a network comes to, before any of it is put in place.
 
-ghost use Rattle.std.specs.Prelude.{◌≡◌, ◌≢◌, ℕ, ◌<◌, ◌≤◌, ◌==◌, ◌↔◌, [], ◌∷◌, ◌++◌, All, Any, IsTrue, count_by, length, replicate, slice_index, sum, vec_capacity, IfOk, IfErr, OnOk};
+ghost use Rattle.std.specs.Prelude.{◌≡◌, ◌≢◌, ℕ, ◌<◌, ◌≤◌, ◌==◌, ◌↔◌, List, [], ◌∷◌, ◌++◌, All, Any, IsTrue, count_by, length, replicate, slice_index, sum, vec_capacity, IfOk, IfErr, OnOk};
 ghost use Rattle.std.specs.List.{filter, range_with_len};
 ghost use Rattle.fr_core.specs.History.{moment_of};
 ghost use Rattle.fr_core.specs.Legal.{CanTurn};
@@ -12,15 +12,18 @@ ghost use Rattle.fr_graph.specs.Network.{net_of};
 ghost use Rattle.fr_route.specs.Routes.{AreHops};
 ghost use Rattle.fr_route.specs.States.{IsReport};
 ghost use Rattle.fr_route.specs.Changes.{IsOpenFault, IsStill};
-ghost use Rattle.fr_route.specs.Outcomes.{AreOthers, HoldsMoved, IsOutcome, ends_of, lone_count, settled_state};
+ghost use Rattle.fr_route.specs.Outcomes.{AreOthers, HoldsMoved, IsOutcome, ListsOthers, ends_of, lone_count, settled_state};
 ghost use Rattle.fr_route.specs.declared.fault.RouteFault.TheVariants.{Start};
+ghost use Rattle.fr_tables.specs.Pushes.{IsPushOrder};
+ghost use Rattle.fr_tables.specs.Tables.{IsInRange, IsLoopFree};
 
 use crate::change::Report;
 use crate::fault::RouteFault;
-use crate::hops::{Hop, renew_hops};
+use crate::hops::renew_hops;
 use fr_core::can_turn;
 use fr_crew::{CrewFault, settled_counts_by};
 use fr_graph::{Edit, Net, Turns};
+use fr_tables::{Hop, PushRoom};
 use std::alloc::{AllocError, Global};
 
 /// What a round on a network comes to.
@@ -133,7 +136,7 @@ fn capped_nodes(nodes: u32, counts: &[u64], turned: u64) -> u64
 }
 
 /// Puts a round in place: turns the links as these turns leave them, and makes anew where the moved nodes send on to, and what
-/// turns have made stale. The list tells then which nodes have another hop than before, if it has a place for each node.
+/// turns have made stale. The list has then the nodes with another hop than before, if it has a place for each node.
 pub(crate) fn put_in_place(
     net: &mut Net,
     hops: &mut [Hop],
@@ -147,13 +150,27 @@ pub(crate) fn put_in_place(
     requires moved { HoldsMoved (settled_state net.old dest turns.now) hops.old moved.now }
     ensures net { net.new ≡ net_of net.old.nodes (links_at net.old.links turns.now) }
     ensures hops { AreHops (settled_state net.old dest turns.now) net.old.nodes hops.new }
-    ensures rerouted { net.old.nodes ≤ vec_capacity rerouted.old → AreOthers hops.old hops.new rerouted.new.items }
+    ensures rerouted { ListsOthers hops.old hops.new rerouted.old rerouted.new }
 {
     net.network_law();
     net.turn(turns);
     rerouted.clear();
     renew_hops(hops, net, dest, turns, moved, rerouted);
-    rerouted.sort_unstable();
+}
+
+/// Puts the nodes with another hop than before in push order. A list with no place for each node is for a caller that does not ask, and
+/// is left.
+pub(crate) fn put_in_order(room: &mut PushRoom, hops: &[Hop], rerouted: &mut Vec<u32>)
+    requires room { length hops.now ≡ room.old }
+    requires table { IsInRange hops.now × IsLoopFree hops.now }
+    requires others { (old : List Hop) × (length hops.now ≤ vec_capacity rerouted.old → AreOthers old hops.now rerouted.old.items) }
+    ensures order { (old : List Hop) → length old ≡ length hops.now → length hops.now ≤ vec_capacity rerouted.old
+        → AreOthers old hops.now rerouted.old.items → IsPushOrder old hops.now rerouted.new.items }
+    ensures kept { room.new ≡ room.old }
+{
+    if rerouted.capacity() >= hops.len() {
+        room.order(hops, rerouted);
+    }
 }
 
 /// The nodes that edits and a new destination touch: both destinations, and the ends of the links that are taken out or added.

@@ -7,19 +7,21 @@ ghost use Rattle.fr_route.specs.declared.fault.RouteFault.TheVariants.{Start, Me
 ghost use Rattle.fr_route.specs.States.{IsRound, IsReport};
 ghost use Rattle.fr_route.specs.Routes.{IsHop, AreHops, IsWalked};
 ghost use Rattle.fr_route.specs.Changes.{IsOpenFault, IsChanged, IsRouteFault, IsStill};
-ghost use Rattle.fr_route.specs.Reroutes.{AreJoined, AreRerouted};
+ghost use Rattle.fr_route.specs.Reroutes.{AreJoined, ArePushes, AreRerouted, IsPushesFault};
 ghost use Rattle.fr_route.specs.Tries.{IsTried};
 ghost use Rattle.fr_route.specs.Outcomes.{IsEdited, IsEditingFault, IsOutcome, cut_off_nodes, movable};
 
 use crate::change::{Change, Report};
 use crate::fault::RouteFault;
-use crate::hops::{Hop, Walked, hop_table, list_joined};
+use crate::hops::{Walked, hop_table, list_joined};
 use crate::outcome::{
-    Outcome, alone_nodes, outcome_of, push_capped, put_in_place, report_of, touched_nodes,
+    Outcome, alone_nodes, outcome_of, push_capped, put_in_order, put_in_place, report_of,
+    touched_nodes,
 };
 use crate::spare::Spare;
 use fr_crew::{CrewFault, Gate, Plan, settled_counts, settled_counts_alone, settled_counts_by};
 use fr_graph::{Edit, MAX_EDITS, Net, NetFault, Turns};
+use fr_tables::{Hop, PushRoom, TableFault, push_order};
 use std::alloc::{AllocError, Global};
 use std::marker::Model;
 use std::mem;
@@ -35,6 +37,7 @@ pub struct Router {
     turns: Turns,
     spare: Spare,
     hops: Vec<Hop>,
+    room: PushRoom,
     report: Report,
 }
 
@@ -151,12 +154,14 @@ impl Router {
         let report = report_of(&net, dest, &turns);
         net.turn(&turns);
         let hops = hop_table(alloc, &net, dest, turns.counts())?;
+        let room = PushRoom::new(alloc, net.nodes())?;
         Ok(Router {
             net,
             dest,
             turns,
             spare: Spare::none(),
             hops,
+            room,
             report,
         })
     }
@@ -222,11 +227,13 @@ impl Router {
     }
 
     /// Changes the network as `change` does, and tells which nodes it reroutes, in a list of the caller's: those that send on to
-    /// another node than before, that are cut off now, or that are no longer, in rising order. Just their hops are new to a caller
-    /// that keeps the hops of all nodes. A fault leaves the list as it was, as it does the router.
+    /// another node than before, that are cut off now, or that are no longer. Just their hops are new to a caller that keeps the
+    /// hops of all nodes. They come in push order: each behind the rerouted nodes on its new route. Routers that get their hops in this
+    /// order send nothing round a loop at any moment ([`push_law`](fr_tables::laws::push_law)). A fault leaves the list as it was, as it
+    /// does the router.
     ///
     /// The list gets room for all nodes before anything is changed, and keeps it: so a caller that hands in the same list each
-    /// time pays for that once. It costs what `change` does, and `O(r log r)` more for r nodes that it tells.
+    /// time pays for that once. It costs what `change` does, and `O(n)` more where it tells more than one node.
     pub fn change_telling<R: Threads + Wait + Sync, G: Gate + Sync>(
         &mut self,
         rt: &R,
@@ -257,7 +264,7 @@ impl Router {
     }
 
     /// The same on the thread that calls, with no crew: it starts no thread, waits for nobody, and never answers `Start`. It costs
-    /// what `change_alone` does, and `O(r log r)` more for r nodes that it tells.
+    /// what `change_alone` does, and `O(n)` more where it tells more than one node.
     pub fn change_telling_alone(
         &mut self,
         alloc: Global,
@@ -405,6 +412,7 @@ impl Router {
         )?;
         let Outcome { turns, report } = outcome;
         put_in_place(&mut self.net, &mut self.hops, dest, &turns, from, rerouted);
+        put_in_order(&mut self.room, &self.hops, rerouted);
         keep_turns(&mut self.turns, &mut self.spare, turns);
         self.dest = dest;
         self.report = report;
@@ -496,7 +504,22 @@ impl Router {
         Ok(nodes)
     }
 
-    /// Where node `x` sends on to, which has to be a node. `O(1)`.
+    /// Which nodes of a caller's table have another hop than here, in push order: each behind those on its route. Whoever gives the
+    /// table their hops, one after the other, has the hops of all nodes at the end, and no loop at any moment that was not in the
+    /// table ([`push_law`](fr_tables::laws::push_law)). It can be any table, also one with loops.
+    ///
+    /// `Length` where the table has not a hop for each node, `Range` with the node that its first hop out of range names, and `Memory` where no
+    /// room could be had; never `Loop`. `O(n)`.
+    pub fn pushes(&self, alloc: Global, table: &[Hop]) -> Result<Vec<u32>, TableFault>
+        ensures pushes { IfOk result (λ nodes. ArePushes self.now table.now nodes.items) }
+        ensures fault { IfErr result (IsPushesFault self.now table.now) }
+    {
+        self.net.network_law();
+        push_order(alloc, table, &self.hops)
+    }
+
+    /// Where node `x` sends on to, which has to be a node: the least neighbour to which its links point. `CutOff`: it is not joined with
+    /// the destination. `O(1)`.
     pub fn next_hop(&self, x: u32) -> Hop
         requires { x < self.now.nodes }
         ensures { IsHop self.now x result }

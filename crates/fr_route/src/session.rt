@@ -146,9 +146,9 @@ impl Session {
         )
     }
 
-    /// The same, and tells which nodes the line reroutes, in a list of the caller's, in rising order: a change those that send on to
-    /// another node than before, that are cut off now or that are no longer, and a new network those that are not cut off. Whatever
-    /// else is answered leaves the list, and so does a fault. The list gets room for all nodes before anything is changed, and keeps it. It
+    /// The same, and tells which nodes the line reroutes, in a list of the caller's: a change those that send on to another node than
+    /// before, that are cut off now or that are no longer, in push order as [`Router::change_telling`] does, and a new network those that
+    /// are not cut off, in rising order. Whatever else is answered leaves the list, and so does a fault. The list gets room for all nodes before anything is changed, and keeps it. It
     /// costs the same, by the calls of the router that tell.
     pub fn answer_line_telling_alone(
         &mut self,

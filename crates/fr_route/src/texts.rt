@@ -5,9 +5,9 @@ ghost use Rattle.fr_route.specs.Refusals.{number_of};
 ghost use Rattle.fr_route.specs.Texts.{counts_text, links_text, hops_text, hop_word, walk_text, no_walk_text, report_text, longest_report, refusal_text};
 
 use crate::change::Report;
-use crate::hops::Hop;
 use crate::refusals::Refusal;
 use fr_graph::{Links, MAX_NODES};
+use fr_tables::Hop;
 use itoa::Buffer;
 use std::alloc::{AllocError, Global};
 

@@ -5,7 +5,7 @@ use Rattle.std.proofs.lemmas.Bool.{cases_lt}
 use Rattle.fr_core.specs.History.{Moment}
 use Rattle.fr_core.specs.Legal.{NoneCanTurn}
 use Rattle.fr_route.specs.States.{State}
-use Rattle.fr_route.specs.declared.hops.Hop.{Hop}
+use Rattle.fr_tables.specs.declared.hop.Hop.{Hop}
 use Rattle.fr_route.proofs.Determined.{hops_unique, answers_unique}
 use Rattle.fr_bytes.specs.Lines.{lines_of}
 use Rattle.revdot.specs.Drawings.{IsDrawing, IsPictureOf}

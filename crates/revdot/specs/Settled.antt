@@ -3,8 +3,8 @@ use Rattle.std.specs.Prelude.{◌≡◌, ℕ, ◌==◌, if◌then◌else◌, fal
 use Rattle.std.specs.List.{range_with_len}
 use Rattle.fr_route.specs.States.{State}
 use Rattle.fr_route.specs.Routes.{AreHops}
-use Rattle.fr_route.specs.declared.hops.Hop.{Hop}
-use Rattle.fr_route.specs.declared.hops.Hop.TheVariants.{Here, To, CutOff}
+use Rattle.fr_tables.specs.declared.hop.Hop.{Hop}
+use Rattle.fr_tables.specs.declared.hop.Hop.TheVariants.{Here, To, CutOff}
 use Rattle.revdot.specs.Graphs.{graph_text}
 use Rattle.revdot.specs.declared.graphs.NodeLook.{NodeLook}
 use Rattle.revdot.specs.declared.graphs.NodeLook.TheVariants as node

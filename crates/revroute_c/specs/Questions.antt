@@ -2,8 +2,8 @@
 use Rattle.std.specs.Prelude.{◌≡◌, ℕ, ◌<◌, ◌≤◌, ◌⊎◌, [], ◌∷◌, List, length, slice_get, Option, Some, None}
 use Rattle.fr_route.specs.Routes.{IsHop, IsRoute}
 use Rattle.fr_route.specs.States.{State, IsCutOff}
-use Rattle.fr_route.specs.declared.hops.Hop.{Hop}
-use Rattle.fr_route.specs.declared.hops.Hop.TheVariants.{Here, To, CutOff}
+use Rattle.fr_tables.specs.declared.hop.Hop.{Hop}
+use Rattle.fr_tables.specs.declared.hop.Hop.TheVariants.{Here, To, CutOff}
 use Rattle.revroute_c.specs.Replies.{IsWritten}
 
 -- the values that are no node, above all nodes: the node is the destination, it is cut off, it is none, and there is no network

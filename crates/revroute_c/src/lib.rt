@@ -357,7 +357,8 @@ pub extern "C" fn revroute_next_hops(handle: &mut Handle, hops: &mut [u32], size
     }
 }
 
-/// Writes the nodes that the last accepted round rerouted, in rising order, into the front of the place, and how many there are to `size`.
+/// Writes the nodes that the last accepted round rerouted, in push order (after a new network in rising order), into the front of the place,
+/// and how many there are to `size`.
 /// `TOO_SHORT` says that the place is as it was, and has less room. `O(r)` for r nodes.
 #[unsafe(no_mangle)]
 pub extern "C" fn revroute_rerouted(handle: &mut Handle, nodes: &mut [u32], size: &mut usize) -> u32

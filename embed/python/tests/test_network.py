@@ -100,6 +100,19 @@ class ByLines:
         return [tuple(map(int, it.split(">"))) for it in self.session.answer('["links"]').split()[1:]]
 
 
+def joined(hops):
+    return [x for x, hop in enumerate(hops) if hop is not NoHop.CUT_OFF]
+
+
+def push_order(before, hops):
+    """The nodes whose hop differs, by how many of them lie on the node's route, itself included, and then by number."""
+
+    def wave(x):
+        return (hops[x] != before[x]) + (0 if isinstance(hops[x], NoHop) else wave(hops[x]))
+
+    return sorted((x for x, hop in enumerate(hops) if hop != before[x]), key=lambda x: (wave(x), x))
+
+
 class NetworkTests(unittest.TestCase):
     def look(self, network, lines, before):
         """Compares all questions, and the changed hops with those before."""
@@ -109,7 +122,8 @@ class NetworkTests(unittest.TestCase):
         self.assertEqual(network.counts(), lines.numbers("counts"))
         self.assertEqual(network.links(), lines.links())
         self.assertEqual([network.walk(x) for x in range(lines.nodes)], [lines.walk(x) for x in range(lines.nodes)])
-        self.assertEqual(network.changed(), [(x, hop) for x, hop in enumerate(hops) if hop != before[x]])
+        changed = joined(hops) if before is None else push_order(before, hops)
+        self.assertEqual(network.changed(), [(x, hops[x]) for x in changed])
         return hops
 
     def test_calls_tell_what_lines_tell(self):
@@ -119,7 +133,7 @@ class NetworkTests(unittest.TestCase):
             nodes = draw.randrange(1, 9)
             links, dest = drawn(draw, nodes), draw.randrange(nodes)
             network, lines = Network(nodes, dest, links), ByLines(nodes, dest, links)
-            before = self.look(network, lines, [NoHop.CUT_OFF] * nodes)
+            before = self.look(network, lines, None)
             for _ in range(30):
                 edits = [drawn_edit(draw, nodes) for _ in range(draw.randrange(4))]
                 one, dest = drawn_edit(draw, nodes), draw.randrange(nodes + 1)

@@ -36,6 +36,19 @@ def examples():
         yield path.name, path.read_bytes().split(b"\n"), path.with_suffix(".answers").read_text().splitlines()
 
 
+def joined(hops):
+    return [x for x, hop in enumerate(hops) if hop is not revroute.NoHop.CUT_OFF]
+
+
+def push_order(before, hops):
+    """The nodes whose hop differs, by how many of them lie on the node's route, itself included, and then by number."""
+
+    def wave(x):
+        return (hops[x] != before[x]) + (0 if isinstance(hops[x], revroute.NoHop) else wave(hops[x]))
+
+    return sorted((x for x, hop in enumerate(hops) if hop != before[x]), key=lambda x: (wave(x), x))
+
+
 class LongerThanItIs(bytes):
     """Bytes that tell another length, and are no more than they are."""
 
@@ -120,8 +133,8 @@ class SessionTest(unittest.TestCase):
                         self.assertEqual(after, before)
                         continue
                     accepted += 1
-                    was = [revroute.NoHop.CUT_OFF] * len(after) if line.startswith(b'["net"') else before
-                    self.assertEqual(session.rerouted(), [x for x, hop in enumerate(after) if hop != was[x]])
+                    changed = joined(after) if line.startswith(b'["net"') else push_order(before, after)
+                    self.assertEqual(session.rerouted(), changed)
                     self.assertEqual([session.next_hop(x) for x in range(len(after))], after)
                     self.assertEqual(session.last_answer(), answer)
                     told = [it.value if isinstance(it, revroute.NoHop) else str(it) for it in after]

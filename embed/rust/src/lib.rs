@@ -7,7 +7,7 @@
 //! let mut network = Network::new(5, 0, &[(1, 0), (2, 0), (3, 1), (3, 2), (4, 3)])?;
 //! assert!(network.walk(4).eq([4, 3, 1, 0]));
 //! assert_eq!(network.cut(1, 0)?, Report { turned: 1, cut_off: 0 });
-//! assert_eq!(network.changed()?, [(1, Hop::To(3)), (3, Hop::To(2))]);
+//! assert_eq!(network.changed()?, [(3, Hop::To(2)), (1, Hop::To(3))]);
 //! assert_eq!(network.add(0, 4), Err(Refused::ClosedWalk(vec![0, 4, 3, 2, 0])));
 //! # Ok::<(), Refused>(())
 //! ```

@@ -255,7 +255,8 @@ impl Network {
         }
     }
 
-    /// The nodes whose next hop the last change changed, in rising order, each with what it is now; at first all that are not cut off.
+    /// The nodes whose next hop the last change changed, in push order, each with what it is now: each behind the changed nodes on its new
+    /// route. At first all that are not cut off, in rising order.
     /// What is refused leaves them. `O(k)` for k nodes.
     ///
     /// ```
@@ -263,7 +264,7 @@ impl Network {
     ///
     /// let mut network = Network::new(5, 0, &[(1, 0), (2, 0), (3, 1), (3, 2), (4, 3)])?;
     /// network.cut(1, 0)?;
-    /// assert_eq!(network.changed()?, [(1, Hop::To(3)), (3, Hop::To(2))]);
+    /// assert_eq!(network.changed()?, [(3, Hop::To(2)), (1, Hop::To(3))]);
     /// # Ok::<(), revroute::Refused>(())
     /// ```
     ///

@@ -27,14 +27,14 @@ impl Session {
         self.engine.next_hops()
     }
 
-    /// The nodes whose next hop the last accepted round changed, in rising order: after a new network all that are not cut off. What
-    /// is refused, and questions, leave them. `O(k)` for k nodes.
+    /// The nodes whose next hop the last accepted round changed, in push order: each behind the changed nodes on its new route. After a new
+    /// network all that are not cut off, in rising order. What is refused, and questions, leave them. `O(k)` for k nodes.
     ///
     /// ```
     /// let mut session = revroute::Session::new();
     /// session.answer(r#"["net",5,0,[[1,0],[2,0],[3,1],[3,2],[4,3]]]"#)?;
     /// session.answer(r#"["cut",1,0]"#)?;
-    /// assert_eq!(session.rerouted()?, [1, 3]);
+    /// assert_eq!(session.rerouted()?, [3, 1]);
     /// # Ok::<(), revroute::NoMemory>(())
     /// ```
     ///

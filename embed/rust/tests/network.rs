@@ -1,5 +1,8 @@
 //! Networks by typed calls, beside a session that is told the same by lines.
 
+mod order;
+
+use order::{joined, push_order};
 use revroute::{Edit, Hop, Network, Refused, RefusedEdit, Report, Session, Size};
 use std::error::Error;
 use std::thread;
@@ -92,8 +95,13 @@ fn number(refused: &Refused) -> u32 {
     }
 }
 
-/// Looks that all questions answer what lines do, and that the changed hops are those that differ from before.
-fn compare(network: &Network, lines: &mut Lines, before: &[Hop]) -> Result<(), Box<dyn Error>> {
+/// Looks that all questions answer what lines do, and that the changed hops are those that differ from before, in push order; of a new
+/// network those that are not cut off.
+fn compare(
+    network: &Network,
+    lines: &mut Lines,
+    before: Option<&[Hop]>,
+) -> Result<(), Box<dyn Error>> {
     let hops = network.hops()?;
     assert_eq!(hops, lines.hops());
     let counts: Vec<String> = network.counts()?.iter().map(u64::to_string).collect();
@@ -109,9 +117,9 @@ fn compare(network: &Network, lines: &mut Lines, before: &[Hop]) -> Result<(), B
         }
         assert!(network.walk(x).map(|it| it.to_string()).eq(told));
     }
-    let differ = (0..nodes).zip(hops).zip(before);
-    let differ = differ.filter(|((_, hop), was)| hop != *was);
-    assert!(differ.map(|(now, _)| now).eq(network.changed()?));
+    let changed = before.map_or_else(|| joined(&hops), |before| push_order(before, &hops));
+    let changed = changed.into_iter().map(|x| (x, hops[x as usize]));
+    assert!(changed.eq(network.changed()?));
     Ok(())
 }
 
@@ -223,7 +231,7 @@ fn change_both(seed: u64) -> Result<(u32, u32), Box<dyn Error>> {
     let mut lines = Lines(Session::new());
     let told = lines.answer(&line_of_links(nodes, dest, &links));
     assert_eq!(told_of(network.report()), told);
-    compare(&network, &mut lines, &vec![Hop::CutOff; nodes as usize])?;
+    compare(&network, &mut lines, None)?;
     let (mut accepted, mut refused) = (0, 0);
     for _ in 0..60 {
         let asked = Asked::drawn(&mut draw, nodes);
@@ -232,7 +240,7 @@ fn change_both(seed: u64) -> Result<(u32, u32), Box<dyn Error>> {
         match asked.make(&mut network, links.clone()) {
             Ok(report) => {
                 assert_eq!((told_of(report), network.report()), (told, report));
-                compare(&network, &mut lines, &hops)?;
+                compare(&network, &mut lines, Some(&hops))?;
                 accepted += 1;
             }
             Err(why) => {

@@ -1,5 +1,8 @@
 //! The session, as safe Rust sees it.
 
+mod order;
+
+use order::{joined, push_order};
 use revroute::{Hop, NoMemory, Report, Session, TakeFault, version};
 use std::error::Error;
 use std::path::Path;
@@ -209,11 +212,11 @@ fn questions_tell_what_lines_tell() -> Result<(), Box<dyn Error>> {
             let after = session.next_hops()?;
             assert_eq!(after, hops(session.answer(r#"["hops"]"#)?));
             assert_eq!(session.counts()?, numbers(session.answer(r#"["counts"]"#)?));
-            let was = |x: usize| if is_network { Hop::CutOff } else { before[x] };
-            let rerouted: Vec<u32> = (0..after.len())
-                .filter(|&x| was(x) != after[x])
-                .map(|x| x as u32)
-                .collect();
+            let rerouted = if is_network {
+                joined(&after)
+            } else {
+                push_order(&before, &after)
+            };
             assert_eq!(session.rerouted()?, rerouted, "{}", it.name);
             let one_by_one: Vec<Option<Hop>> = (0..=after.len() as u32)
                 .map(|x| session.next_hop(x))

@@ -25,7 +25,8 @@ pub fn way_round(
     router.walk(alloc, x)
 }
 
-/// The same cut, for a caller with a table of hops: only those of the nodes in the list are new, and `next_hop` has them.
+/// The same cut, for a caller with a table of hops: only those of the nodes in the list are new, and `next_hop` has them. They are pushed in
+/// the order of the list.
 pub fn rerouted_by_cut(
     alloc: Global,
     router: &mut Router,

@@ -8,7 +8,7 @@ and do so again after each change.
 >>> network.cut(1, 0)
 Report(turned=1, cut_off=0)
 >>> network.changed()
-[(1, 3), (3, 2)]
+[(3, 2), (1, 3)]
 
 Changes, each a round with a Report, or Refused in words and with evidence:
 

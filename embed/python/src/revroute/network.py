@@ -65,7 +65,7 @@ class Network(Generic[Name]):
     >>> network.cut(1, 0)
     Report(turned=1, cut_off=0)
     >>> network.changed()
-    [(1, 3), (3, 2)]
+    [(3, 2), (1, 3)]
     >>> network.cut(1, 0)
     Traceback (most recent call last):
     revroute.network.Refused: refused 8: no link joins 1 and 0
@@ -184,7 +184,10 @@ class Network(Generic[Name]):
         return self._session._fill((ctypes.c_uint32 * room).from_buffer(view.cast("B")), room)
 
     def changed(self) -> list[tuple[Name, Union[Name, NoHop]]]:
-        """The nodes whose next hop the last change changed, in order, each with what it is now; at first all that are not cut off."""
+        """The nodes whose next hop the last change changed, each with what it is now; at first all that are not cut off, in order.
+
+        They come in push order: each behind the changed nodes on its new route.
+        """
         return [(self._name(node), self._hop_of(hop)) for node, hop in self._session._changed()]
 
     def counts(self) -> list[int]:

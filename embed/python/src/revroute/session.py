@@ -344,9 +344,9 @@ class Session:
         return self._filled(questions.revroute_next_hops, ctypes.c_uint32)
 
     def rerouted(self) -> list[int]:
-        """The nodes whose next hop the last accepted round changed, in rising order: after a new network all that are not cut off.
+        """The nodes whose next hop the last accepted round changed, in push order: each behind the changed nodes on its new route.
 
-        What is refused, and questions, leave them. There are none before the first network.
+        After a new network they are all that are not cut off, in rising order. What is refused, and questions, leave them. There are none before the first network.
 
         >>> with Session() as session:
         ...     session.answer('["net",5,0,[[1,0],[2,0],[3,1],[3,2],[4,3]]]')
@@ -354,7 +354,7 @@ class Session:
         ...     session.rerouted()
         'turned 0 cut 0'
         'turned 1 cut 0'
-        [1, 3]
+        [3, 1]
         """
         return self._filled(questions.revroute_rerouted, ctypes.c_uint32)
 

@@ -3,7 +3,7 @@ use Rattle.std.proofs.lemmas.Bool.{false≢true}
 use Rattle.std.proofs.lemmas.List.{length_push}
 use Rattle.std.proofs.lemmas.Option.{get_or_from_slice_get, slice_get-get_or}
 use Rattle.fr_route.specs.Outcomes.{AreJoinedBelow}
-use Rattle.fr_route.specs.declared.hops.Hop.TheVariants.{CutOff, Here}
+use Rattle.fr_tables.specs.declared.hop.Hop.TheVariants.{CutOff, Here}
 use Rattle.fr_route.proofs.Joining.{joined_more, joined_same}
 use Rattle.fr_route.proofs.hops.list_joined.Goals as goal
 use Rattle.fr_route.proofs.hops.list_joined.Goals.{then-not-is_same, else-not-is_same}

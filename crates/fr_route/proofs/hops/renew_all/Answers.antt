@@ -1,7 +1,7 @@
 use Rattle.std.proofs.Common.{arith, ℕ, ◌+◌, ◌<◌}
 use Rattle.fr_route.specs.Routes.{IsHop}
 use Rattle.fr_route.specs.States.{State, state_with}
-use Rattle.fr_route.specs.declared.hops.Hop.{Hop}
+use Rattle.fr_tables.specs.declared.hop.Hop.{Hop}
 use Rattle.fr_route.proofs.Written.{written}
 use Rattle.fr_route.proofs.hops.renew_all.Goals as goal
 

@@ -1,7 +1,7 @@
 use Rattle.std.proofs.Common.{Some, slice_get, ℕ, ◌<◌, ◌≡◌}
 use Rattle.fr_route.specs.Routes.{IsHop}
 use Rattle.fr_route.specs.States.{state_with}
-use Rattle.fr_route.specs.declared.hops.Hop.{Hop}
+use Rattle.fr_tables.specs.declared.hop.Hop.{Hop}
 use Rattle.fr_route.proofs.hops.renew_all.Given as goal
 
 abbrev pub invariant-loop-x : goal.invariant-loop-x

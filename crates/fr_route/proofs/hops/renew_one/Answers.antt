@@ -2,8 +2,8 @@ use Rattle.std.proofs.Common.{Some, arith, inl, inr, slice_get, sym, ℕ, ◌∙
 use Rattle.std.proofs.lemmas.Bool.{false≢true}
 use Rattle.fr_route.specs.States.{State, state_with}
 use Rattle.fr_route.specs.Routes.{IsHop}
-use Rattle.fr_route.specs.declared.hops.Hop.{Hop}
-use Rattle.fr_route.specs.declared.hops.Hop.TheVariants.{Here}
+use Rattle.fr_tables.specs.declared.hop.Hop.{Hop}
+use Rattle.fr_tables.specs.declared.hop.Hop.TheVariants.{Here}
 use Rattle.fr_route.proofs.Noting.{notes_none, notes_one}
 use Rattle.fr_route.proofs.Renewing.{renewed_right}
 use Rattle.fr_route.proofs.Written.{written}

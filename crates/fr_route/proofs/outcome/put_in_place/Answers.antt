@@ -6,7 +6,7 @@ use Rattle.fr_route.specs.Outcomes.{AreNoted, HoldsMoved, settled_state}
 use Rattle.fr_route.specs.Routes.{AreHops}
 use Rattle.fr_route.specs.States.{IsAfterRound, State, state_with}
 use Rattle.fr_route.proofs.CutNodes.{after_outcome}
-use Rattle.fr_route.proofs.Noting.{noted_first, others_sorted}
+use Rattle.fr_route.proofs.Noting.{noted_first, others_noted}
 use Rattle.fr_route.proofs.outcome.put_in_place.Goals as goal
 use Rattle.fr_route.proofs.outcome.put_in_place.Goals.{After-turn}
 
@@ -42,10 +42,13 @@ returns-clause-hops c =
     (subst (λ (s : State). AreHops s c.turn.new.self.nodes c.renew_hops.new.hops) (reached at) c.renew_hops.ensures.hops)
 
 pub returns-clause-rerouted : goal.returns-clause-rerouted
-returns-clause-rerouted c = λ room.
-    let s : State = state_with c.turn.new.self c.args.dest c.args.turns.now in
-    let hops = c.args.hops.now in
-    let long : length hops ≤ vec_capacity c.clear.new.self = omega (arith, room, c.clear.ensures.capacity, c.requires.one_each) in
-    let noted : AreNoted s hops c.renew_hops.new.hops c.renew_hops.new.rerouted.items =
-    c.renew_hops.ensures.noted.noted long hops (subst (AreNoted s hops hops) (sym c.clear.ensures.items) (noted_first s hops)) in
-    others_sorted s hops c.renew_hops.new.hops c.renew_hops.new.rerouted.items c.sort_unstable.new.self.items noted c.sort_unstable.ensures.permutation c.sort_unstable.ensures.sorted
+returns-clause-rerouted c = record {
+  room = c.renew_hops.ensures.noted.room ∙ c.clear.ensures.capacity;
+  others = λ room.
+      let s : State = state_with c.turn.new.self c.args.dest c.args.turns.now in
+      let hops = c.args.hops.now in
+      let long : length hops ≤ vec_capacity c.clear.new.self = omega (arith, room, c.clear.ensures.capacity) in
+      let noted : AreNoted s hops c.renew_hops.new.hops c.renew_hops.new.rerouted.items =
+      c.renew_hops.ensures.noted.noted long hops (subst (AreNoted s hops hops) (sym c.clear.ensures.items) (noted_first s hops)) in
+      others_noted s hops c.renew_hops.new.hops c.renew_hops.new.rerouted.items noted;
+}

@@ -1,4 +1,4 @@
-use Rattle.std.proofs.Common.{◌≡◌, ◌≢◌, ◌∙◌, ◌<◌, List, ap, arith, length, refl, rules, subst, sym, vec_len, ℕ}
+use Rattle.std.proofs.Common.{◌≡◌, ◌≢◌, ◌∙◌, ◌<◌, ◌≤◌, List, ap, arith, length, refl, rules, subst, sym, vec_capacity, vec_len, ℕ}
 use Rattle.std.proofs.lemmas.List.{with_items_is}
 use Rattle.std.proofs.lemmas.Result.{err_from_is_err_and}
 use Rattle.std.specs.Vec.{with_items}
@@ -9,21 +9,28 @@ use Rattle.fr_graph.specs.declared.fault.NotEdited.{NotEdited}
 use Rattle.fr_graph.specs.declared.fault.NotEdited.TheVariants.{Fault, Refused}
 use Rattle.fr_route.specs.Changes.{IsOpenFault, IsStill}
 use Rattle.fr_route.specs.Faults.{of_not_edited}
-use Rattle.fr_route.specs.Outcomes.{HoldsMoved, IsEditingFault, IsOutcome, movable, settled_state}
+use Rattle.fr_route.specs.Outcomes.{AreOthers, HoldsMoved, IsEditingFault, IsOutcome, movable, settled_state}
 use Rattle.fr_route.specs.Reroutes.{AreRerouted}
 use Rattle.fr_route.specs.Routes.{AreHops}
 use Rattle.fr_route.specs.RouterInside.{state_of}
-use Rattle.fr_route.specs.States.{State, net_at}
+use Rattle.fr_route.specs.States.{IsAfterRound, State, net_at}
 use Rattle.fr_route.specs.declared.fault.RouteFault.{RouteFault}
 use Rattle.fr_route.specs.declared.fault.RouteFault.TheVariants.{Start}
-use Rattle.fr_route.proofs.CutNodes.{ended}
+use Rattle.std.specs.declared.alloc.Global.{Global}
+use Rattle.std.specs.declared.vec.Vec.{Vec}
+use Rattle.fr_tables.specs.Pushes.{IsPushOrder}
+use Rattle.fr_tables.specs.declared.hop.Hop.{Hop}
+use Rattle.fr_route.proofs.CutNodes.{after_outcome, ended}
 use Rattle.fr_route.proofs.Changing.{made_nodes, refused_fault, round_fault}
 use Rattle.fr_route.proofs.Inside.{sound_after}
 use Rattle.fr_route.proofs.Moving.{made_net, movable_sinks, unmoved_hops}
-use Rattle.fr_route.proofs.Noting.{rerouted_by}
+use Rattle.fr_route.proofs.SettledHops.{settled_in_range, settled_loop_free}
 use Rattle.fr_route.proofs.router.Router.edit_by.Given.{Over}
 use Rattle.fr_route.proofs.router.Router.edit_by.Goals as goal
 use Rattle.fr_route.proofs.router.Router.edit_by.Goals.{After-as_slice-from, After-self, In_ok-outcome}
+
+items_put : (v : Vec Hop Global) (hops : List Hop) → length hops ≡ length v.items → (with_items v hops).items ≡ hops
+items_put v hops as_many = with_items_is v hops (omega (arith, as_many, v.ok.0))
 
 -- the router is as it was when its network is edited
 now_is : (g : Over) (c : After-self g) → state_of c.self.inside ≡ c.args.self.now
@@ -108,6 +115,22 @@ put_in_place-requires-clause-moved g c =
     subst (HoldsMoved (settled_state net c.args.dest counts) c.deref_mut.result.now) (sym (from_movable g at.After-as_slice-from))
     (unmoved_hops s c.self.invariant.round c.args.edits.now net c.args.dest (in_range g at.After-self) (edits_made g at.In_ok-outcome) counts (outcome_is g at.In_ok-outcome).counts c.deref_mut.result.now hops)
 
+pub put_in_order-requires-clause-table : goal.put_in_order-requires-clause-table
+put_in_order-requires-clause-table g c =
+    let at = goal.at.put_in_order-requires-clause-table g c in
+    let s : State = state_of c.self.inside in
+    let net : Network = c.edit_if.new.self in
+    let counts : List ℕ = c.in_ok-outcome.outcome.turns in
+    let after : State = settled_state net c.args.dest counts in
+    let made = edits_made g at.In_ok-outcome in
+    let nodes : net.nodes ≡ s.nodes = made_nodes c.self.inside.net c.args.edits.now net made in
+    let as_many : length c.put_in_place.new.hops ≡ length c.self.inside.hops.items =
+    omega (arith, c.put_in_place.ensures.hops.one_each, nodes, c.self.invariant.hops.one_each) in
+    let put : c.deref.result.now ≡ c.put_in_place.new.hops = c.deref.ensures.value ∙ items_put c.self.inside.hops c.put_in_place.new.hops as_many in
+    let hops : AreHops after net.nodes c.deref.result.now = subst (AreHops after net.nodes) (sym put) c.put_in_place.ensures.hops in
+    let round : IsAfterRound after = after_outcome net c.args.dest counts (made_net s c.args.edits.now net c.self.invariant.round made) (outcome_is g at.In_ok-outcome).counts in
+    (settled_in_range after c.deref.result.now round hops, settled_loop_free after c.deref.result.now round hops)
+
 pub invariant_of-self-2 : goal.invariant_of-self-2
 invariant_of-self-2 g c =
     let at = goal.at.invariant_of-self-2 g c in
@@ -121,10 +144,11 @@ invariant_of-self-2 g c =
     omega (arith, c.put_in_place.ensures.hops.one_each, nodes, c.self.invariant.hops.one_each, c.self.inside.hops.ok.0) in
     let items : (with_items c.self.inside.hops c.put_in_place.new.hops).items ≡ c.put_in_place.new.hops = with_items_is c.self.inside.hops c.put_in_place.new.hops same in
     rw c.keep_turns.ensures
-    (sound_after c.args.dest counts c.keep_turns.new.spare (with_items c.self.inside.hops c.put_in_place.new.hops) c.in_ok-outcome.outcome.report net c.put_in_place.new.net
+    (sound_after c.args.dest counts c.keep_turns.new.spare (with_items c.self.inside.hops c.put_in_place.new.hops) c.put_in_order.new.room c.in_ok-outcome.outcome.report net c.put_in_place.new.net
     (made_net s c.args.edits.now net c.self.invariant.round made)
     outcome.counts outcome.report c.put_in_place.ensures.net
-    (subst (AreHops (settled_state net c.args.dest counts) net.nodes) (sym items) c.put_in_place.ensures.hops))
+    (subst (AreHops (settled_state net c.args.dest counts) net.nodes) (sym items) c.put_in_place.ensures.hops)
+    (c.put_in_order.ensures.kept ∙ (c.self.invariant.room ∙ sym nodes)))
 
 pub returns : goal.returns
 returns g c =
@@ -143,9 +167,21 @@ returns g c =
       made = (c.in_ok-outcome.ensures.few, (net, (here, ended net c.args.dest c.in_ok-outcome.outcome.turns (made_net s c.args.edits.now net c.self.invariant.round made) outcome.counts)));
       told = (c.in_ok-outcome.outcome.report, outcome.report, search rules);
       rerouted = λ room.
-          let others = c.put_in_place.ensures.rerouted (omega (arith, room, nodes, as_many)) in
-          subst (λ (now : State). AreRerouted now after c.put_in_place.new.rerouted.items) (now_is g at.After-self)
-          (rerouted_by s after s.nodes c.deref_mut.result.now c.put_in_place.new.hops c.put_in_place.new.rerouted.items before hops nodes others);
+          let noted = c.put_in_place.ensures.rerouted in
+          let others = noted.others (omega (arith, room, as_many, before.one_each)) in
+          let put : c.deref.result.now ≡ c.put_in_place.new.hops = c.deref.ensures.value ∙ items_put c.self.inside.hops c.put_in_place.new.hops (omega (arith, hops.one_each, c.self.invariant.hops.one_each)) in
+          let one_length : length c.deref_mut.result.now ≡ length c.put_in_place.new.hops = omega (arith, before.one_each, hops.one_each) in
+          let ordered : (old : List Hop) → length old ≡ length c.put_in_place.new.hops → length c.put_in_place.new.hops ≤ vec_capacity c.put_in_place.new.rerouted
+          → AreOthers old c.put_in_place.new.hops c.put_in_place.new.rerouted.items → IsPushOrder old c.put_in_place.new.hops c.put_in_order.new.rerouted.items =
+          rw put at c.put_in_order.ensures.order in
+          let order = ordered c.deref_mut.result.now one_length (omega (arith, room, as_many, hops.one_each, noted.room)) others in
+          subst (λ (now : State). AreRerouted now after c.put_in_order.new.rerouted.items) (now_is g at.After-self) (record {
+            before = c.deref_mut.result.now;
+            after = c.put_in_place.new.hops;
+            were = before;
+            are = c.put_in_place.ensures.hops;
+            order = order;
+          });
       fault = tt;
       unchanged = tt;
       untold = tt;

@@ -3,7 +3,7 @@ use Rattle.std.proofs.lemmas.List.{length_push}
 use Rattle.fr_graph.specs.Links.{IsNet}
 use Rattle.fr_route.specs.States.{State}
 use Rattle.fr_route.proofs.Walking.{HasWalked, walk_begins, walk_ends, walk_in_range, walk_short, walks_on}
-use Rattle.fr_route.specs.declared.hops.Hop.TheVariants.{CutOff}
+use Rattle.fr_tables.specs.declared.hop.Hop.TheVariants.{CutOff}
 use Rattle.fr_route.proofs.router.Router.walk.Goals as goal
 
 pub hops-init : goal.hops-init

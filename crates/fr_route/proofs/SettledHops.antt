@@ -1,0 +1,87 @@
+-- The hops of a settled network as a table: it has no loop, and each hop names a node. Which nodes are told, by such tables.
+use Rattle.std.proofs.Common.{Contains, Err, IfErr, IfOk, List, Ok, Result, Some, [], ap, arith, get_or, inl, inr, length, refl, sym, ℕ, ⊎_elim, ◌++◌, ◌<◌, ◌≤◌, ◌∙◌, ◌∷◌, ◌≡◌, ◌↔◌}
+use Rattle.std.proofs.lemmas.Bool.{cases_lt}
+use Rattle.std.proofs.lemmas.Option.{slice_get-get_or, slice_get_past}
+use Rattle.fr_graph.specs.Links.{IsAcyclic, IsNet, IsPath, end_of}
+use Rattle.fr_graph.specs.Limits.{most_nodes}
+use Rattle.fr_route.specs.Reroutes.{AreRerouted, IsPushesFault, IsRerouted}
+use Rattle.fr_route.specs.Routes.{AreHops}
+use Rattle.fr_route.specs.States.{State, IsAfterRound}
+use Rattle.fr_tables.specs.Faults.{IsFaultOf}
+use Rattle.fr_tables.specs.Tables.{IsInRange, IsLoop, IsLoopFree, IsWalk, SendsOn}
+use Rattle.fr_tables.specs.declared.fault.TableFault.{TableFault}
+use Rattle.fr_tables.specs.declared.fault.TableFault.TheVariants.{Length, Range, Loop, Memory}
+use Rattle.fr_tables.specs.declared.hop.Hop.{Hop}
+use Rattle.fr_tables.specs.declared.hop.Hop.TheVariants.{Here, To}
+use Rattle.fr_route.proofs.Determined.{one_hop}
+use Rattle.fr_route.proofs.RoundEnds.{round_acyclic, round_net}
+use Rattle.fr_route.proofs.Walking.{route_in_range}
+
+walk_path : (s : State) (hops : List Hop) → AreHops s s.nodes hops → (x : ℕ) (ys : List ℕ) → IsWalk hops x ys → IsPath s.links x ys
+walk_path s hops are x [] goes = tt
+walk_path s hops are x (y ∷ ys) goes = ((are.each x (To y) goes.0).1.1.link, walk_path s hops are y ys goes.1)
+
+end_push : (x : ℕ) (ys : List ℕ) (z : ℕ) → end_of x (ys ++ z ∷ []) ≡ z
+end_push x [] z = refl
+end_push x (y ∷ ys) z = end_push y ys z
+
+-- a loop would be a closed walk along the links
+no_loop : (s : State) (hops : List Hop) → AreHops s s.nodes hops → IsAcyclic s.links → (x : ℕ) (xs : List ℕ) → ¬ IsWalk hops x (xs ++ x ∷ [])
+no_loop s hops are acyclic x [] goes = acyclic x (x ∷ []) (walk_path s hops are x (x ∷ []) goes, refl)
+no_loop s hops are acyclic x (y ∷ ys) goes = acyclic x (y ∷ (ys ++ x ∷ [])) (walk_path s hops are x (y ∷ (ys ++ x ∷ [])) goes, end_push y ys x)
+
+no_loops : (s : State) (hops : List Hop) → AreHops s s.nodes hops → IsAcyclic s.links → (nodes : List ℕ) → ¬ IsLoop hops nodes
+no_loops s hops are acyclic [] none = none
+no_loops s hops are acyclic (x ∷ xs) goes = no_loop s hops are acyclic x xs goes
+
+pub settled_loop_free : (s : State) (hops : List Hop) → IsAfterRound s → AreHops s s.nodes hops → IsLoopFree hops
+settled_loop_free s hops after are = no_loops s hops are (round_acyclic s.nodes s.dest after.first s after.is_net after.dest after.round)
+
+pub settled_in_range : (s : State) (hops : List Hop) → IsAfterRound s → AreHops s s.nodes hops → IsInRange hops
+settled_in_range s hops after are x y sends =
+    let net : IsNet s.nodes s.links = round_net s.nodes s.dest after.first s after.is_net after.dest after.round in
+    let r = are.each x (To y) sends in
+    omega (arith, are.one_each, route_in_range s.nodes s.links s.dest y r.0 net after.dest r.1.2)
+
+-- the faults of a table that is compared with them
+push_fault_is : (s : State) (hops table : List Hop) → IsAfterRound s → AreHops s s.nodes hops → s.nodes ≤ most_nodes → (fault : TableFault) → IsFaultOf table hops fault → IsPushesFault s table fault
+push_fault_is s hops table after are few Length (inl other) = λ same. other (same ∙ sym are.one_each)
+push_fault_is s hops table after are few Length (inr long) = λ same. omega (arith, long, are.one_each, few)
+push_fault_is s hops table after are few (Range x) (one, inl first) = (one.same ∙ are.one_each, first)
+push_fault_is s hops table after are few (Range x) (one, inr first) =
+    absurd (omega (arith, settled_in_range s hops after are first.1.at x first.1.sends, first.1.outside))
+push_fault_is s hops table after are few (Loop nodes) h = settled_loop_free s hops after are nodes.items h.1.is_loop
+push_fault_is s hops table after are few Memory h = tt
+
+pub push_fault : {T : Type 0} (s : State) (hops table : List Hop) → IsAfterRound s → AreHops s s.nodes hops → s.nodes ≤ most_nodes → (r : Result T TableFault) → IfErr r (IsFaultOf table hops)
+    → IfErr r (IsPushesFault s table)
+push_fault s hops table after are few (Ok nodes) h = h
+push_fault s hops table after are few (Err fault) h = push_fault_is s hops table after are few fault h
+
+-- just the rerouted nodes are told
+pub rerouted_told : (old new : State) (nodes : List ℕ) (x : ℕ) → old.nodes ≡ new.nodes → AreRerouted old new nodes → Contains nodes x ↔ ((x < new.nodes) × IsRerouted old new x)
+rerouted_told old new nodes x same r = (
+  λ found.
+      let differ = (r.order.these x).0 found in
+      ⊎_elim
+      (λ below.
+      let was = slice_get-get_or r.before x Here (omega (arith, below, r.were.one_each, same)) in
+      let is = slice_get-get_or r.after x Here (omega (arith, below, r.are.one_each)) in (
+        below,
+        record {
+          before = get_or r.before x Here;
+          after = get_or r.after x Here;
+          was = r.were.each x (get_or r.before x Here) was;
+          is = r.are.each x (get_or r.after x Here) is;
+          another = λ e. differ (was ∙ (ap Some e ∙ sym is));
+        },
+      ))
+      (λ out. absurd (differ (slice_get_past r.before x (omega (arith, out, r.were.one_each, same)) ∙ sym (slice_get_past r.after x (omega (arith, out, r.are.one_each))))))
+      (cases_lt x new.nodes),
+  λ (below, at). (r.order.these x).1 (λ alike.
+      let was = slice_get-get_or r.before x Here (omega (arith, below, r.were.one_each, same)) in
+      let is = slice_get-get_or r.after x Here (omega (arith, below, r.are.one_each)) in
+      let one : at.before ≡ get_or r.before x Here = one_hop old x at.before (get_or r.before x Here) at.was (r.were.each x (get_or r.before x Here) was) in
+      let other : at.after ≡ get_or r.after x Here = one_hop new x at.after (get_or r.after x Here) at.is (r.are.each x (get_or r.after x Here) is) in
+      at.another (cc (one, other, was, is, alike))),
+)
