@@ -1,5 +1,5 @@
-/* A mesh that loses links and regains them: the next hops that change are pushed to the nodes' forwarding tables, and after each change the
- * tables are followed from every node, by no more than what was pushed. */
+/* A mesh that loses links and regains them. The next hops that change are pushed to the nodes' forwarding tables, one by one. No loop may be
+ * in the tables after any push. After the last push of a change the tables are followed from every node. */
 #include <revroute.h>
 #include <stdbool.h>
 #include <stdio.h>
@@ -33,12 +33,22 @@ static void lay(revroute_link *links) {
     }
 }
 
-/* Pushes the next hops that the last round changed. */
+/* Whether the tables lead from a node back to it. */
+static bool goes_round(uint32_t node) {
+    uint32_t next = table[node];
+    for (size_t steps = 0; steps < NODES && next < NODES && next != node; steps++) next = table[next];
+    return next == node;
+}
+
+/* Pushes the next hops that the last round changed. A new loop would pass the node that was pushed. */
 static void push(revroute *session) {
     uint32_t nodes[NODES];
     size_t count;
     if (revroute_rerouted(session, nodes, NODES, &count) != REVROUTE_ANSWERED) stop("the changed hops are not told");
-    for (size_t at = 0; at < count; at++) table[nodes[at]] = revroute_next_hop(session, nodes[at]);
+    for (size_t at = 0; at < count; at++) {
+        table[nodes[at]] = revroute_next_hop(session, nodes[at]);
+        if (goes_round(nodes[at])) stop("a loop is in the tables");
+    }
 }
 
 /* Whether the tables lead from a node to the destination by links that are up. */
@@ -84,5 +94,5 @@ int main(void) {
         follow_all(round.cut_off);
     }
     revroute_close(&session);
-    printf("%d changes, every table leads to the destination\n", CHANGES);
+    printf("%d changes, no loop after any push, every table leads to the destination\n", CHANGES);
 }

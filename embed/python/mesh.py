@@ -1,5 +1,5 @@
-"""A mesh that loses links and regains them: the next hops that change are pushed to the nodes' forwarding tables, and after each change
-the tables are followed from every node, by no more than what was pushed."""
+"""A mesh that loses links and regains them. The next hops that change are pushed to the nodes' forwarding tables, one by one. No loop may be in
+the tables after any push. After the last push of a change the tables are followed from every node."""
 
 import random
 
@@ -24,6 +24,16 @@ def lost(table, up):
     return found
 
 
+def goes_round(table, node):
+    """Whether the tables lead from a node back to it."""
+    at = table[node]
+    for _ in table:
+        if isinstance(at, NoHop) or at == node:
+            break
+        at = table[at]
+    return at == node
+
+
 def main():
     draw, nodes = random.Random(1), range(SIDE * SIDE)
     links = [(x, y) for x in nodes for y in (x - 1, x - SIDE) if y >= 0 and (y == x - SIDE or x % SIDE)]
@@ -33,6 +43,9 @@ def main():
     for _ in range(CHANGES):
         for node, hop in network.changed():
             table[node] = hop
+            # A new loop would pass the node that was pushed.
+            if goes_round(table, node):
+                raise SystemExit(f"a loop passes node {node}: {table}")
         if lost(table, up) or table.count(NoHop.CUT_OFF) != network.report.cut_off:
             raise SystemExit(f"the tables are wrong: {table}")
         if down and draw.random() < 0.5:
@@ -44,7 +57,7 @@ def main():
             network.cut(*link)
             up.remove(link)
             down.append(link)
-    print(f"{CHANGES} changes, every table leads to the destination")
+    print(f"{CHANGES} changes, no loop after any push, every table leads to the destination")
 
 
 main()

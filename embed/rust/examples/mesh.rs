@@ -1,5 +1,5 @@
-//! A mesh that loses links and regains them: the next hops that change are pushed to the nodes' forwarding tables, and after each change
-//! the tables are followed from every node, by no more than what was pushed.
+//! A mesh that loses links and regains them. The next hops that change are pushed to the nodes' forwarding tables, one by one. No loop may
+//! be in the tables after any push. After the last push of a change the tables are followed from every node.
 
 use revroute::{Hop, Network};
 use std::error::Error;
@@ -48,6 +48,21 @@ fn leads(tables: &[Hop], up: &Up, mut node: u32) -> bool {
     false
 }
 
+/// Whether the tables lead from a node back to it.
+fn goes_round(tables: &[Hop], node: u32) -> bool {
+    let mut at = node;
+    for _ in tables {
+        let Hop::To(next) = tables[at as usize] else {
+            return false;
+        };
+        at = next;
+        if at == node {
+            return true;
+        }
+    }
+    false
+}
+
 /// Looks at all tables: each leads to the destination, or its node knows that it is cut off.
 fn follow_all(tables: &[Hop], up: &Up, cut_off: u64) -> Result<(), String> {
     let (lost, joined): (Vec<u32>, Vec<u32>) =
@@ -79,6 +94,10 @@ fn main() -> Result<(), Box<dyn Error>> {
     for _ in 0..CHANGES {
         for (node, hop) in network.changed()? {
             tables[node as usize] = hop;
+            // A new loop would pass the node that was pushed.
+            if goes_round(&tables, node) {
+                return Err(format!("a loop passes node {node}").into());
+            }
         }
         follow_all(&tables, &up, network.report().cut_off)?;
         if !failed.is_empty() && draw(&mut drawn, 2) == 0 {
@@ -93,6 +112,6 @@ fn main() -> Result<(), Box<dyn Error>> {
             up.set((u, v), false);
         }
     }
-    println!("{CHANGES} changes, every table leads to the destination");
+    println!("{CHANGES} changes, no loop after any push, every table leads to the destination");
     Ok(())
 }
