@@ -287,10 +287,7 @@ fn lines_read<R: Alloc<A = Global> + Eprint>(rt: &R, answer: &mut Answer) {
 fn put_links(answer: &mut Answer, links: &[(u32, u32)]) {
     answer.say("links");
     for (tail, head) in links {
-        answer.say(" ");
-        answer.put(tail);
-        answer.say(">");
-        answer.put(head);
+        answer.put_link(*tail, *head);
     }
 }
 

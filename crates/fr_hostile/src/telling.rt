@@ -77,6 +77,14 @@ impl Answer {
         }
     }
 
+    /// Puts a link behind it, and a blank between.
+    pub fn put_link(&mut self, tail: u32, head: u32) {
+        self.say("");
+        if write!(self.text, "{tail}>{head}").is_err() {
+            self.is_whole = false;
+        }
+    }
+
     /// Puts a value behind it as a programmer reads it, and a blank between.
     pub fn put<T: Debug>(&mut self, value: &T) {
         self.say("");
