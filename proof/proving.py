@@ -8,13 +8,14 @@ import tarfile
 import tempfile
 import time
 from concurrent.futures import FIRST_COMPLETED, ThreadPoolExecutor, wait
-from functools import cache
 from pathlib import Path
 
 import crates
 
 # Proved libraries, each packed into one file. A library is a folder with sources in it, and rt ci refuses a source outside of a crate.
 PROVED = crates.BUILT / "proved"
+# Where they are unpacked, outside of the clone. It goes when the command ends.
+ROOM = tempfile.TemporaryDirectory(prefix="revroute-proved-")
 FAILED = 70
 # Each job loads what it needs, so that more of them cost more than they bring: revroute, with 6 functions, takes as long by four as by one, and 20
 # seconds of one processor more. By two at most, large crates took a first answer three minutes longer.
@@ -22,16 +23,8 @@ MOST_JOBS = 4
 FUNCTIONS_OF_A_JOB = 20
 
 
-@cache
-def room():
-    """A folder outside of the clone for unpacked libraries. It goes when this command ends."""
-    made = tempfile.TemporaryDirectory(prefix="revroute-proved-")
-    room.kept = made
-    return Path(made.name)
-
-
 def own_rlib(name):
-    return room() / f"{name}.rlib"
+    return Path(ROOM.name, f"{name}.rlib")
 
 
 def packed(name):
@@ -51,8 +44,8 @@ def unpack(names):
     for it in names:
         if packed(it).is_file() and not own_rlib(it).exists():
             with tarfile.open(packed(it)) as file:
-                file.extractall(room())
-            (room() / it).rename(own_rlib(it))
+                file.extractall(ROOM.name)
+            Path(ROOM.name, it).rename(own_rlib(it))
 
 
 def gate_rlib(name):
