@@ -210,10 +210,10 @@ uint32_t revroute_next_hops(revroute *session, uint32_t *hops, size_t room, size
  * nothing here. O(r) for r of them. */
 uint32_t revroute_rerouted(revroute *session, uint32_t *nodes, size_t room, size_t *length);
 
-/* The nodes whose hop in a table of yours is not the settled one, in push order: each after those of them on its
- * settled route. The table has `count` hops, one for each node in their order, as revroute_next_hops writes them: a
- * node, REVROUTE_HERE or REVROUTE_CUT_OFF. It may have loops. Give it the settled hops of these nodes, one after the
- * other: at the end it is the settled table, and at no moment does it have a loop that it did not have before.
+/* The nodes whose hop in a table of yours is not their next hop, in push order: each after those of them on its
+ * route. The table has `count` hops, one for each node in their order, as revroute_next_hops writes them: a node,
+ * REVROUTE_HERE or REVROUTE_CUT_OFF. It may have loops. Give it the next hops of these nodes, one after the other: at
+ * the end all its hops are next hops, and at no moment does it have a loop that it did not have before.
  * REVROUTE_NO_TABLE if it does not have one hop for each node, or a hop of it names no node; REVROUTE_NO_MEMORY if
  * memory ran out. O(n). */
 uint32_t revroute_pushes(revroute *session, const uint32_t *table, size_t count, uint32_t *nodes, size_t room,
