@@ -67,8 +67,8 @@ impl Session {
     }
 
     /// The nodes whose hop in a table of yours is not their next hop, each with its next hop, in push order: as
-    /// [`Network::pushes`](crate::Network::pushes). Before the first network there are no nodes, so only the empty table
-    /// has an answer. `O(n)`.
+    /// [`Network::pushes`](crate::Network::pushes). Before the first network there are no nodes, so only the empty
+    /// table has an answer. `O(n)`.
     ///
     /// ```
     /// use revroute::{Hop, Session};
