@@ -406,7 +406,9 @@ class Session:
         """
         return [(node, _hop(hop)) for node, hop in self._changed()]
 
-    def pushes(self, table: Union[Mapping[int, Any], Sequence[Any]]) -> list[tuple[int, Union[int, NoHop]]]:
+    def pushes(
+        self, table: Union[Mapping[int, Union[int, NoHop, None]], Sequence[Union[int, NoHop, None]]]
+    ) -> list[tuple[int, Union[int, NoHop]]]:
         """The nodes whose hop in a table of yours is not their next hop, each with its next hop, in push order.
 
         The table and its faults are those of `Network.pushes`. Before the first network there are no nodes.
