@@ -388,6 +388,22 @@ fn refusals_say_what_is_wrong() -> Result<(), Box<dyn Error>> {
 }
 
 #[test]
+fn the_largest_tables_have_pushes() -> Result<(), Box<dyn Error>> {
+    let mut draw = Draw(1);
+    let chain: Vec<(u32, u32)> = (1..4096).map(|x| (x, x - 1)).collect();
+    let tree: Vec<(u32, u32)> = (1..4096).map(|x| (x, draw.below(x))).collect();
+    for links in [chain, tree] {
+        let network = Network::new(4096, 0, &links)?;
+        let none = vec![Hop::CutOff; 4096];
+        assert_eq!(network.pushes(&none)?, pushes_of(&none, &network.hops()?));
+        for _ in 0..4 {
+            push_drawn(&network, &mut draw)?;
+        }
+    }
+    Ok(())
+}
+
+#[test]
 fn a_wrong_table_has_no_pushes() -> Result<(), Box<dyn Error>> {
     let network = Network::new(3, 0, &[(1, 0)])?;
     let (here, cut, to) = (Hop::Here, Hop::CutOff, Hop::To);
