@@ -631,7 +631,8 @@ function pushText(round, {push, node, hops, loop}) {
 // The push after so many, where there is one.
 function nextText(round, pushed) {
   const table = tableBefore(round), node = round.pushes[pushed];
-  if (!table || node === undefined) return '';
+  if (!table) return ' The hops before it are not known, so no push is shown.';
+  if (node === undefined) return '';
   return ' Next push: node ' + node + ' (' + hopName(table[node]) + ' to ' + hopName(hopAfter(round, node)) + ').';
 }
 
