@@ -95,7 +95,7 @@ class Network(Generic[Name]):
         if self._numbers is not None and len(self._numbers) != count:
             raise ValueError("two nodes have one name")
         # what None means as a hop: a node of that name, or that there is none
-        self._none = (self._numbers or {}).get(None, _calls.CUT_OFF)  # type: ignore[call-overload]
+        self._none = (self._numbers or {}).get(None, _calls.CUT_OFF)  # type: ignore[arg-type]
         # the nodes in their order, and those that next_hop asks for at once: none where they have names
         self._nodes: Sequence[Name] = range(count) if self._names is None else self._names  # type: ignore[assignment]
         self._bound = count if names is None else 0
