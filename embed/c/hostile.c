@@ -58,16 +58,29 @@ static int is_same(answer one, answer other) {
     return one.length == other.length && !memcmp(one.bytes, other.bytes, one.length);
 }
 
-/* What can be asked of a session's state. */
-enum { QUESTIONS = 3 };
+/* The nodes that the last round rerouted, by their bytes. */
+static answer rerouted_of(revroute *session) {
+    size_t count;
+    revroute_rerouted(session, (uint32_t[1]){0}, 0, &count);
+    uint32_t *nodes = grown(NULL, (count + 1) * sizeof *nodes);
+    if (revroute_rerouted(session, nodes, count, &count) != REVROUTE_ANSWERED) stop("rerouted nodes cannot be told");
+    return (answer){REVROUTE_ANSWERED, (uint8_t *)nodes, count * sizeof *nodes};
+}
+
+/* What can be asked of a session's state: the lines, and which nodes were rerouted last. */
+enum { LINES = 3, QUESTIONS };
 typedef struct {
     answer to[QUESTIONS];
 } state;
 
 static state state_of(revroute *session) {
-    static const char *const questions[QUESTIONS] = {"[\"links\"]", "[\"counts\"]", "[\"hops\"]"};
+    static const char *const questions[LINES] = {"[\"links\"]", "[\"counts\"]", "[\"hops\"]"};
     state all;
-    for (int at = 0; at < QUESTIONS; at++) all.to[at] = ask(session, (line){(const uint8_t *)questions[at], strlen(questions[at])});
+    for (int at = 0; at < LINES; at++) {
+        line question = {(const uint8_t *)questions[at], strlen(questions[at])};
+        all.to[at] = ask(session, question);
+    }
+    all.to[LINES] = rerouted_of(session);
     return all;
 }
 
