@@ -1,6 +1,7 @@
 /* Times the typed calls of revroute.h, and each change beside its line, as timing.rs does: the best of several runs, nanoseconds a call. */
 #include <pthread.h>
 #include <revroute.h>
+#include <stdbool.h>
 #include <stdio.h>
 #include <stdlib.h>
 #include <string.h>
@@ -8,7 +9,7 @@
 
 enum { RUNS = 9, THREADS = 4, ROUNDS = 500, TABLES = 200, NODES = 4096, LINKS = 32768, CHANGES = 4096, TEXT = 40 };
 
-static uint32_t nodes, dest, order[NODES], table[NODES];
+static uint32_t nodes, dest, order[NODES], table[NODES], pushed[NODES];
 static revroute_link links[LINKS];
 static revroute_edit changes[CHANGES];
 static char lines[CHANGES][TEXT];
@@ -51,12 +52,22 @@ static double now(void) {
     return (double)time.tv_sec * 1e9 + (double)time.tv_nsec;
 }
 
-static revroute opened(void) {
+/* The network of the first so many nodes, and the links between them. */
+static revroute opened_first(uint32_t count) {
+    static revroute_link some[LINKS];
     revroute session = REVROUTE_NEW;
     revroute_round round;
     revroute_refusal refusal;
-    if (revroute_open(&session, nodes, dest, links, link_count, &round, &refusal) != REVROUTE_ANSWERED) stop("there is no network");
+    size_t found = 0;
+    for (size_t at = 0; at < link_count; at++)
+        if (links[at].tail < count && links[at].head < count) some[found++] = links[at];
+    uint32_t status = revroute_open(&session, count, dest, some, found, &round, &refusal);
+    if (status != REVROUTE_ANSWERED) stop("there is no network");
     return session;
+}
+
+static revroute opened(void) {
+    return opened_first(nodes);
 }
 
 static void ask(revroute *session) {
@@ -99,6 +110,34 @@ static void tell_tables(revroute *session) {
     for (int at = 0; at < TABLES; at++)
         if (revroute_next_hops(session, table, NODES, &length) != REVROUTE_ANSWERED) stop("there are no hops");
     kept = table[nodes - 1];
+}
+
+/* Makes the table the settled one, or one that differs from it everywhere. */
+static void fill_table(revroute *session, uint32_t count, bool differs) {
+    size_t length;
+    if (revroute_next_hops(session, table, NODES, &length) != REVROUTE_ANSWERED) stop("there are no hops");
+    for (uint32_t x = 0; differs && x < count; x++)
+        table[x] = table[x] == REVROUTE_CUT_OFF ? REVROUTE_HERE : REVROUTE_CUT_OFF;
+}
+
+/* The best time of the pushes of a table of so many nodes, in which nothing or everything differs. */
+static double best_pushes(uint32_t count, bool differs) {
+    revroute session = opened_first(count);
+    double least = 1e18;
+    size_t length = 0;
+    fill_table(&session, count, differs);
+    for (int run = 0; run < RUNS; run++) {
+        double begin = now();
+        for (int at = 0; at < TABLES; at++) {
+            uint32_t status = revroute_pushes(&session, table, count, pushed, NODES, &length);
+            if (status != REVROUTE_ANSWERED) stop("there are no pushes");
+        }
+        double spent = now() - begin;
+        if (spent < least) least = spent;
+    }
+    if (length != (differs ? count : 0)) stop("another number of hops is pushed than differs");
+    revroute_close(&session);
+    return least / TABLES;
 }
 
 /* Makes the changes, with a hop asked for behind each. */
@@ -162,6 +201,10 @@ int main(void) {
     for (int at = 0; at < THREADS; at++) revroute_close(&all[at].session);
     printf("hop4 %.3f\n", least / count / THREADS);
     printf("hops %.0f\n", best(tell_tables) / TABLES);
+    printf("pushes-none %.0f\n", best_pushes(nodes, false));
+    printf("pushes %.0f\n", best_pushes(nodes, true));
+    printf("pushes-half %.0f\n", best_pushes(nodes / 2, true));
+    printf("pushes-quarter %.0f\n", best_pushes(nodes / 4, true));
     printf("change %.0f\n", best(change) / (double)change_count);
     printf("line %.0f\n", best(change_by_lines) / (double)change_count);
     printf("table %u\n", summed());

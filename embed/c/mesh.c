@@ -1,5 +1,7 @@
-/* A mesh that loses links and regains them. The next hops that change are pushed to the nodes' forwarding tables, one by one. No loop may be
- * in the tables after any push. After the last push of a change the tables are followed from every node. */
+/* A mesh that loses links and regains them. The next hops that change are pushed to the nodes' forwarding tables, one
+ * by one. No loop may be in the tables after any push. Now and then the next link fails or comes back before all is
+ * pushed; then the pushes go on from the tables as they are. Once all is pushed the tables are followed from every
+ * node. */
 #include <revroute.h>
 #include <stdbool.h>
 #include <stdio.h>
@@ -40,15 +42,32 @@ static bool goes_round(uint32_t node) {
     return next == node;
 }
 
-/* Pushes the next hops that the last round changed. A new loop would pass the node that was pushed. */
-static void push(revroute *session) {
-    uint32_t nodes[NODES];
+/* The nodes to push, in push order: those that the last round changed, or if pushes were left over, all whose table
+ * is not settled. */
+static size_t nodes_to_push(revroute *session, bool is_settled, uint32_t *nodes) {
     size_t count;
-    if (revroute_rerouted(session, nodes, NODES, &count) != REVROUTE_ANSWERED) stop("the changed hops are not told");
-    for (size_t at = 0; at < count; at++) {
+    uint32_t status = is_settled ? revroute_rerouted(session, nodes, NODES, &count)
+                                 : revroute_pushes(session, table, NODES, nodes, NODES, &count);
+    if (status != REVROUTE_ANSWERED) stop("the nodes to push are not told");
+    return count;
+}
+
+/* Pushes next hops, all or as many as are drawn, and returns whether these are all. A new loop would pass the node
+ * that was pushed. */
+static bool push(revroute *session, bool is_settled, bool is_interrupted) {
+    uint32_t nodes[NODES];
+    size_t count = nodes_to_push(session, is_settled, nodes), last = is_interrupted ? draw(count + 1) : count;
+    for (size_t at = 0; at < last; at++) {
         table[nodes[at]] = revroute_next_hop(session, nodes[at]);
         if (goes_round(nodes[at])) stop("a loop is in the tables");
     }
+    return last == count;
+}
+
+/* A link that fails takes the hops over it out of the tables. */
+static void forget(revroute_link link) {
+    if (table[link.tail] == link.head) table[link.tail] = REVROUTE_CUT_OFF;
+    if (table[link.head] == link.tail) table[link.head] = REVROUTE_CUT_OFF;
 }
 
 /* Whether the tables lead from a node to the destination by links that are up. */
@@ -69,6 +88,20 @@ static void follow_all(uint64_t cut_off) {
     if (cut_off) stop("a table is of another node that is cut off");
 }
 
+/* A link of the mesh fails or comes back. The first *up links are up, those after them down. */
+static void change(revroute *session, revroute_link *links, size_t *up, revroute_round *round) {
+    revroute_refusal refusal;
+    bool fails = *up == LINKS || (*up && draw(2));
+    size_t at = fails ? draw(*up) : *up + draw(LINKS - *up), border = fails ? --*up : (*up)++;
+    revroute_link link = links[at];
+    revroute_edit edit = {fails ? REVROUTE_CUT : REVROUTE_JOIN, link.tail, link.head};
+    links[at] = links[border];
+    links[border] = link;
+    set(link, !fails);
+    if (fails) forget(link);
+    if (revroute_change(session, &edit, 1, round, &refusal) != REVROUTE_ANSWERED) stop("a change is not made");
+}
+
 int main(void) {
     revroute session = REVROUTE_NEW;
     revroute_link links[LINKS];
@@ -76,23 +109,16 @@ int main(void) {
     revroute_refusal refusal;
     lay(links);
     for (size_t at = 0; at < LINKS; at++) set(links[at], true);
+    for (size_t node = 0; node < NODES; node++) table[node] = REVROUTE_CUT_OFF;
     if (revroute_open(&session, NODES, HOME, links, LINKS, &round, &refusal) != REVROUTE_ANSWERED) stop("there is no network");
-    push(&session);
-    follow_all(round.cut_off);
-    /* the links before `up` are up, those behind it down */
+    bool is_settled = true;
     size_t up = LINKS;
-    for (int change = 0; change < CHANGES; change++) {
-        bool fails = up == LINKS || (up && draw(2));
-        size_t at = fails ? draw(up) : up + draw(LINKS - up), border = fails ? --up : up++;
-        revroute_link link = links[at];
-        revroute_edit edit = {fails ? REVROUTE_CUT : REVROUTE_JOIN, link.tail, link.head};
-        if (revroute_change(&session, &edit, 1, &round, &refusal) != REVROUTE_ANSWERED) stop("a change is not made");
-        links[at] = links[border];
-        links[border] = link;
-        set(link, !fails);
-        push(&session);
-        follow_all(round.cut_off);
+    for (int changes = 0; changes <= CHANGES; changes++) {
+        if (changes) change(&session, links, &up, &round);
+        bool is_interrupted = changes < CHANGES && draw(4) == 0;
+        is_settled = push(&session, is_settled, is_interrupted);
+        if (is_settled) follow_all(round.cut_off);
     }
     revroute_close(&session);
-    printf("%d changes, no loop after any push, every table leads to the destination\n", CHANGES);
+    printf("%d changes, some before all was pushed: no loop after any push, every table leads home\n", CHANGES);
 }

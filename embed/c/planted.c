@@ -12,7 +12,9 @@ uint32_t engine_finish(revroute *, uint8_t *, size_t, size_t *);
 uint32_t engine_links(revroute *, uint32_t *, size_t, size_t *);
 uint32_t engine_move(revroute *, uint32_t, revroute_round *, revroute_refusal *);
 uint32_t engine_open(revroute *, uint32_t, uint32_t, const revroute_link *, size_t, revroute_round *, revroute_refusal *);
+uint32_t engine_pushes(revroute *, const uint32_t *, size_t, uint32_t *, size_t, size_t *);
 uint32_t engine_report(revroute *, uint64_t *, uint64_t *);
+uint32_t engine_rerouted(revroute *, uint32_t *, size_t, size_t *);
 uint32_t engine_route(revroute *, uint32_t, uint32_t *, size_t, size_t *);
 uint32_t engine_size(revroute *, uint32_t *, size_t *);
 uint32_t engine_take(revroute *, const uint8_t *, size_t, uint8_t *, size_t, size_t *, size_t *);
@@ -61,7 +63,18 @@ enum {
     a_destination_that_stays,
     a_walk_without_its_end,
     a_walk_that_is_not_found,
-    a_walk_that_makes_the_edits
+    a_walk_that_makes_the_edits,
+    rerouted_nodes_by_number,
+    no_rerouted_node_that_is_gone,
+    pushes_by_number,
+    pushes_of_the_last_change_alone,
+    a_push_left_out,
+    pushes_where_they_have_no_room,
+    no_memory_told_as_no_push,
+    a_longer_table_taken,
+    a_shorter_table_taken,
+    a_hop_of_no_node_taken,
+    the_table_read_too_far
 };
 
 /* Asks once more with room enough, as if the state had moved on where the buffer was too short. */
@@ -243,6 +256,52 @@ uint32_t revroute_closed_walk_of(uint32_t nodes, const revroute_link *links, siz
     if (FAULT != a_walk_that_is_not_found || status != REVROUTE_TOO_SHORT) return status;
     *length = 0;
     return REVROUTE_NO_WALK;
+}
+
+static int compare_numbers(const void *one, const void *other) {
+    uint32_t a = *(const uint32_t *)one, b = *(const uint32_t *)other;
+    return (a > b) - (a < b);
+}
+
+uint32_t revroute_rerouted(revroute *session, uint32_t *nodes, size_t room, size_t *length) {
+    uint32_t status = engine_rerouted(session, nodes, room, length), count;
+    size_t links;
+    if (status != REVROUTE_ANSWERED) return status;
+    if (FAULT == rerouted_nodes_by_number) qsort(nodes, *length, sizeof *nodes, compare_numbers);
+    engine_size(session, &count, &links);
+    for (size_t at = 0; FAULT == no_rerouted_node_that_is_gone && at < *length; at++)
+        if (nodes[at] >= count) memmove(nodes + at, nodes + at + 1, (--*length - at--) * sizeof *nodes);
+    return status;
+}
+
+/* A wrong table, made fit in place of being refused. */
+static const uint32_t *made_fit(revroute *session, const uint32_t *table, size_t *count) {
+    static uint32_t fit[4096];
+    uint32_t nodes;
+    size_t links;
+    engine_size(session, &nodes, &links);
+    for (size_t x = 0; x < nodes; x++) {
+        fit[x] = x < *count ? table[x] : REVROUTE_CUT_OFF;
+        if (FAULT == a_hop_of_no_node_taken && fit[x] >= nodes && fit[x] < REVROUTE_CUT_OFF) fit[x] = REVROUTE_CUT_OFF;
+    }
+    if (FAULT == a_longer_table_taken && *count > nodes) *count = nodes;
+    if (FAULT == a_shorter_table_taken && *count < nodes) *count = nodes;
+    return fit;
+}
+
+uint32_t revroute_pushes(revroute *session, const uint32_t *table, size_t count, uint32_t *nodes, size_t room,
+                         size_t *length) {
+    if (FAULT == the_table_read_too_far && table[count] == 0xff) return REVROUTE_NO_MEMORY;
+    if (FAULT == a_longer_table_taken || FAULT == a_shorter_table_taken || FAULT == a_hop_of_no_node_taken)
+        table = made_fit(session, table, &count);
+    uint32_t status = engine_pushes(session, table, count, nodes, room, length);
+    if (FAULT == no_memory_told_as_no_push && status == REVROUTE_NO_MEMORY) return REVROUTE_ANSWERED;
+    if (FAULT == pushes_where_they_have_no_room && status == REVROUTE_TOO_SHORT && room) nodes[room - 1] = 0;
+    if (status != REVROUTE_ANSWERED) return status;
+    if (FAULT == pushes_of_the_last_change_alone) return engine_rerouted(session, nodes, room, length);
+    if (FAULT == pushes_by_number) qsort(nodes, *length, sizeof *nodes, compare_numbers);
+    if (FAULT == a_push_left_out && *length) --*length;
+    return status;
 }
 
 void revroute_close(revroute *session) {

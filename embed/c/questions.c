@@ -1,11 +1,13 @@
 /* Compares the typed questions with the lines' answers, on drawn networks and changes.
  *
- * After each line the hops, counts, routes, links and the report are asked both ways, each hop by its own call too, and the nodes that
- * are said to be rerouted have to be just those whose hop differs from what it was, found by comparing all, in push order. Each array ends
- * where its room does, so that a sanitizer sees a number written too far; one with a place too few has to stay as it was. Printed is how many
- * lines were accepted.
+ * After each line the hops, counts, routes, links and the report are asked both ways, each hop by its own call too.
+ * The rerouted nodes have to be those whose hop differs from what it was, in push order. After a network too: it has
+ * more, fewer or as many nodes, and often most links of the last one. Each array ends where its room does, so that a
+ * sanitizer sees a number written too far; one with a place too few has to stay as it was. Printed is how many lines
+ * were accepted.
  */
 #include "lines.h"
+#include "order.h"
 
 #include <revroute.h>
 #include <stdbool.h>
@@ -135,39 +137,58 @@ static uint32_t *rerouted_of(revroute *session, size_t *count) {
     return nodes;
 }
 
-/* How many nodes on the route of x have another hop than before, x itself included; 0 after a network, which is told by number. */
-static size_t wave_of(const uint32_t *before, const uint32_t *hops, size_t count, uint32_t x) {
-    size_t wave = 0;
-    for (; before && x < count; x = hops[x]) wave += hops[x] != before[x];
-    return wave;
+/* The hops of a network in a table of so many places. Numbers above its nodes are cut off. */
+static uint32_t *widened(const uint32_t *hops, size_t count, size_t places) {
+    uint32_t *table = grown(NULL, (places + 1) * sizeof *table);
+    for (size_t x = 0; x < places; x++) table[x] = x < count ? hops[x] : REVROUTE_CUT_OFF;
+    return table;
 }
 
-/* The nodes whose hop is another one than before, by wave and then by number; before a network all are cut off. */
-static void look_at_rerouted(revroute *session, const uint32_t *before, const uint32_t *hops, size_t count) {
-    size_t told, differ = 0, last = 0;
-    uint32_t *nodes = rerouted_of(session, &told);
-    for (uint32_t x = 0; x < count; x++) differ += hops[x] != (before ? before[x] : REVROUTE_CUT_OFF);
-    if (differ != told) stop("another number of nodes is told than is rerouted");
-    for (size_t at = 0; at < told; at++) {
-        uint32_t x = nodes[at];
-        if (x >= count || hops[x] == (before ? before[x] : REVROUTE_CUT_OFF)) stop("a node is told that is not rerouted");
-        size_t wave = wave_of(before, hops, count, x);
-        if (at && (wave < last || (wave == last && x <= nodes[at - 1]))) stop("a rerouted node is not told in push order");
-        last = wave;
-    }
+/* The rerouted nodes, found by comparing all hops of both moments. */
+static void look_at_rerouted(revroute *session, const uint32_t *was, size_t before, const uint32_t *is, size_t after) {
+    size_t told, places = before > after ? before : after;
+    uint32_t *nodes = rerouted_of(session, &told), *order = grown(NULL, (places + 1) * sizeof *order);
+    uint32_t *old = widened(was, before, places), *new = widened(is, after, places);
+    if (push_order(old, new, places, order) != told) stop("another number of nodes is told than is rerouted");
+    if (memcmp(nodes, order, told * sizeof *nodes)) stop("the rerouted nodes are not those that differ, in push order");
     free(nodes);
+    free(order);
+    free(old);
+    free(new);
+}
+
+static char *put_link(char *at, bool *any, uint32_t tail, uint32_t head) {
+    at += sprintf(at, "%s[%u,%u]", *any ? "," : "", (unsigned)tail, (unsigned)head);
+    *any = true;
+    return at;
+}
+
+/* Links of nodes from the first one on, each to a lesser number. */
+static char *put_links(char *at, bool *any, uint32_t first, uint32_t count) {
+    for (uint32_t u = first; u < count; u++)
+        for (uint32_t v = 0; v < u; v++)
+            if (draw(3) == 0) at = put_link(at, any, u, v);
+    return at;
 }
 
 static void draw_network(uint32_t count, char *asked) {
-    char *at = asked + sprintf(asked, "[\"net\",%u,%u,[", (unsigned)count, (unsigned)draw(count));
     bool any = false;
-    for (uint32_t u = 0; u < count; u++)
-        for (uint32_t v = 0; v < u; v++)
-            if (draw(3) == 0) {
-                at += sprintf(at, "%s[%u,%u]", any ? "," : "", (unsigned)u, (unsigned)v);
-                any = true;
-            }
-    sprintf(at, "]]");
+    char *at = asked + sprintf(asked, "[\"net\",%u,%u,[", (unsigned)count, (unsigned)draw(count));
+    sprintf(put_links(at, &any, 0, count), "]]");
+}
+
+/* A network of so many nodes with most links of the last one, and mostly its destination. */
+static void draw_resized(revroute *session, uint32_t last, uint32_t count, char *asked) {
+    uint32_t ends[MOST * (MOST - 1)], dest = draw(count);
+    size_t length;
+    bool any = false;
+    if (revroute_links(session, ends, MOST * (MOST - 1), &length) != REVROUTE_ANSWERED) stop("there are no links");
+    for (uint32_t x = 0; x < count && draw(8); x++)
+        if (revroute_next_hop(session, x) == REVROUTE_HERE) dest = x;
+    char *at = asked + sprintf(asked, "[\"net\",%u,%u,[", (unsigned)count, (unsigned)dest);
+    for (size_t end = 0; end < length; end += 2)
+        if (ends[end] < count && ends[end + 1] < count && draw(6)) at = put_link(at, &any, ends[end], ends[end + 1]);
+    sprintf(put_links(at, &any, last, count), "]]");
 }
 
 static void draw_edit(uint32_t count, char *asked) {
@@ -186,7 +207,7 @@ static void draw_change(uint32_t count, char *asked) {
 }
 
 /* One line, with a look at what it changed. */
-static size_t step(revroute *session, const char *asked, bool is_network) {
+static size_t step(revroute *session, const char *asked) {
     size_t count, after, told, still;
     uint32_t *before = hops_of(session, &count), *nodes = rerouted_of(session, &told);
     char answer[TEXT];
@@ -194,12 +215,12 @@ static size_t step(revroute *session, const char *asked, bool is_network) {
     bool accepted = !strncmp(answer, "turned ", 7);
     uint32_t *hops = hops_of(session, &after);
     if (accepted) {
-        look_at_rerouted(session, is_network ? NULL : before, hops, after);
+        look_at_rerouted(session, before, count, hops, after);
         compare(session, hops, after);
         compare_routes(session, after);
         compare_links(session);
         compare_numbers(session, after, answer);
-        look_at_rerouted(session, is_network ? NULL : before, hops, after);
+        look_at_rerouted(session, before, count, hops, after);
     } else {
         uint32_t *same = rerouted_of(session, &still);
         if (still != told || memcmp(same, nodes, told * sizeof *nodes)) stop("a refusal changed the rerouted nodes");
@@ -244,10 +265,11 @@ int main(void) {
         for (int change = 0; change < CHANGES; change++) {
             size_t count;
             free(hops_of(&session, &count));
-            bool is_network = count == 0 || draw(40) == 0;
-            if (is_network) draw_network(1 + draw(MOST), asked);
+            uint32_t kind = count ? draw(40) : 0;
+            if (kind == 0) draw_network(1 + draw(MOST), asked);
+            else if (kind == 1) draw_resized(&session, (uint32_t)count, 1 + draw(MOST), asked);
             else draw_change((uint32_t)count, asked);
-            accepted += step(&session, asked, is_network);
+            accepted += step(&session, asked);
         }
         revroute_close(&session);
         if (revroute_next_hop(&session, 0) != REVROUTE_NO_HOP) stop("there is a hop behind the end");

@@ -75,7 +75,9 @@ enum {
     /* No line has ended: the bytes are kept behind the session. *length is 0. */
     REVROUTE_BEGUN = 8,
     /* The line is longer than 16,777,216 bytes: nothing was taken. *length is 0. */
-    REVROUTE_TOO_LONG = 9
+    REVROUTE_TOO_LONG = 9,
+    /* The table does not have one hop for each node, or a hop of it names no node. *length is 0. */
+    REVROUTE_NO_TABLE = 10
 };
 
 /* What stands in place of a next hop. All are above all nodes: a network has at most 4,096. The node is the destination; it is not
@@ -189,7 +191,8 @@ uint32_t revroute_finish(revroute *session, uint8_t *answer, size_t room, size_t
 /* Gives back all memory of a session, which is then as REVROUTE_NEW made it: it can be closed again, or used. O(1). */
 void revroute_close(revroute *session);
 
-/* Questions. They change nothing and, but for a route and the links, take no memory; as any call, each has the session for itself while it runs.
+/* Questions. They change nothing. A route, the links and the pushes take memory, the others none. As any call, each has
+ * the session for itself while it runs.
  *
  * Those that write into an array of `room` places write to its front, and leave the rest: *length is how many they are, which
  * REVROUTE_TOO_SHORT tells as well. After any end but REVROUTE_ANSWERED the array is as it was. */
@@ -200,10 +203,21 @@ uint32_t revroute_next_hop(revroute *session, uint32_t node);
 /* The same of all nodes, in their order, by the same values. O(n). */
 uint32_t revroute_next_hops(revroute *session, uint32_t *hops, size_t room, size_t *length);
 
-/* The nodes whose next hop the last accepted round changed, in push order: each behind the changed nodes on its new route. After a new
- * network all that are not cut off, in rising order. What is refused, and questions, leave them. There are none before the first network.
- * O(r) for r of them. */
+/* The nodes whose next hop the last accepted round changed, in push order: each after those of them on its new route.
+ * A number that is no node of the network before or after the round counts as cut off there, and before the first
+ * network all are cut off. So after a smaller network the nodes that are gone and had a hop are among them.
+ * revroute_next_hop returns REVROUTE_NO_SUCH_NODE for these: treat it as no hop. Refused calls and questions change
+ * nothing here. O(r) for r of them. */
 uint32_t revroute_rerouted(revroute *session, uint32_t *nodes, size_t room, size_t *length);
+
+/* The nodes whose hop in a table of yours is not their next hop, in push order: each after those of them on its
+ * route. The table has `count` hops, one for each node in their order, as revroute_next_hops writes them: a node,
+ * REVROUTE_HERE or REVROUTE_CUT_OFF. It may have loops. Give it the next hops of these nodes, one after the other: at
+ * the end all its hops are next hops, and at no moment does it have a loop that it did not have before.
+ * REVROUTE_NO_TABLE if it does not have one hop for each node, or a hop of it names no node; REVROUTE_NO_MEMORY if
+ * memory ran out. O(n). */
+uint32_t revroute_pushes(revroute *session, const uint32_t *table, size_t count, uint32_t *nodes, size_t room,
+                         size_t *length);
 
 /* How often each node turned in the last round, in the order of the nodes. O(n). */
 uint32_t revroute_counts(revroute *session, uint64_t *counts, size_t room, size_t *length);

@@ -1,13 +1,20 @@
 /* Compares the calls with numbers to the lines that ask the same, and looks at the evidence of what they refuse.
  *
- * Two sessions take the same drawn networks, edits and destinations, the one by lines, the other by calls; after each step all that can be
- * asked of the two has to be the same. What is refused is looked at in a table of links of this program's own: which edit is the first that
- * cannot be made there, why, and whether each step of the closed walk goes along a link. Arrays end where no memory is behind them. In some
- * steps the Nth allocation is refused, for N = 1, 2, .. until the call does without: before that nothing may have changed. Printed are how many
- * steps were accepted, refused, and ended for want of memory.
+ * Two sessions take the same drawn networks, edits and destinations, the one by lines, the other by calls; after each
+ * step all that can be asked of the two has to be the same. What is refused is looked at in a table of links of this
+ * program's own: which edit is the first that cannot be made there, why, and whether each step of the closed walk
+ * goes along a link. Arrays end where no memory is behind them. In some steps the Nth allocation is refused, for N =
+ * 1, 2, .. until the call does without: before that nothing may have changed.
+ *
+ * After each step a table is drawn, often with loops. Its pushes have to be those of the definition (order.h). They
+ * are made one by one, and none may close a loop. Wrong tables have to be refused.
+ *
+ * Printed are how many steps were accepted, refused, and ended for want of memory; how many pushes were made; and how
+ * often memory was refused to the call for pushes.
  */
 #define _DEFAULT_SOURCE
 #include "fence.h"
+#include "order.h"
 #include "refusing_heap.h"
 
 #include <revroute.h>
@@ -16,7 +23,7 @@
 enum { MOST = 9, NETWORKS = 2600, STEPS = 80, MOST_EDITS = 1024, MOST_LINKS = 64, TEXT = 1 << 16, FENCED = 1 << 16, UNTOUCHED = 77 };
 
 static uint64_t drawn = 20261125;
-static size_t accepted, refused, wanting;
+static size_t accepted, refused, wanting, pushed, unpushed;
 static uint8_t *given_end, *place_end;
 
 static uint32_t draw(uint32_t below) {
@@ -283,6 +290,24 @@ static void draw_edits(step *it, const table *net) {
         for (size_t at = 0; at < it->count; at++) it->edits[at] = (revroute_edit){at % 2 ? REVROUTE_CUT : REVROUTE_JOIN, 0, 1};
 }
 
+static void add_link(step *it, uint32_t tail, uint32_t head) {
+    it->links[it->count++] = (revroute_link){tail, head};
+}
+
+/* New links, each to a lesser number; or most of the last network's, and new ones of the added nodes. */
+static void draw_links(step *it, const state *now) {
+    bool is_near = draw(2);
+    for (uint32_t u = is_near ? now->nodes : 0; u < it->nodes; u++)
+        for (uint32_t v = 0; v < u; v++)
+            if (draw(3) == 0) add_link(it, u, v);
+    for (size_t at = 0; is_near && at < now->ends_length; at += 2) {
+        uint32_t tail = now->ends[at], head = now->ends[at + 1];
+        if (tail < it->nodes && head < it->nodes && draw(6)) add_link(it, tail, head);
+    }
+    if (it->nodes && draw(3) == 0)
+        for (uint32_t more = draw(3); more; more--) add_link(it, draw(it->nodes + (draw(9) == 0)), draw(it->nodes));
+}
+
 static step draw_step(revroute *session) {
     static step it;
     state now = state_of(session);
@@ -293,13 +318,119 @@ static step draw_step(revroute *session) {
     it.count = 0;
     it.dest = draw((it.what == OPEN ? it.nodes : nodes) + (draw(9) == 0) + 1);
     if (it.what == CHANGE) draw_edits(&it, &net);
-    if (it.what == OPEN)
-        for (uint32_t u = 0; u < it.nodes; u++)
-            for (uint32_t v = 0; v < u; v++)
-                if (draw(3) == 0) it.links[it.count++] = (revroute_link){u, v};
-    if (it.what == OPEN && it.nodes && draw(3) == 0)
-        for (uint32_t more = draw(3); more; more--) it.links[it.count++] = (revroute_link){draw(it.nodes + (draw(9) == 0)), draw(it.nodes)};
+    if (it.what == OPEN) draw_links(&it, &now);
     return it;
+}
+
+/* The hops of a state, with numbers above its nodes cut off. */
+static void widen(const state *now, uint32_t *hops) {
+    for (uint32_t x = 0; x < MOST; x++) hops[x] = x < now->nodes ? now->hops[x] : REVROUTE_CUT_OFF;
+}
+
+/* After a round the nodes are told whose hop differs, in push order. */
+static void look_at_rerouted(const state *before, const state *after) {
+    uint32_t old[MOST], new[MOST], order[MOST];
+    widen(before, old);
+    widen(after, new);
+    size_t count = push_order(old, new, MOST, order);
+    if (count != after->rerouted_length || memcmp(order, after->rerouted, count * sizeof *order))
+        stop("the rerouted nodes are not those that differ, in push order");
+}
+
+static uint32_t *place_of(size_t room) {
+    return (uint32_t *)(void *)place_end - room;
+}
+
+/* Asks for the pushes of a table. The call writes its answer, and nothing else. */
+static uint32_t ask_pushes(revroute *session, const uint32_t *hops, size_t count, size_t room, size_t *length) {
+    uint32_t *place = place_of(room), *given = fenced(hops, count * sizeof *hops);
+    revroute before = *session;
+    for (size_t at = 0; at < room; at++) place[at] = UNTOUCHED;
+    uint32_t status = revroute_pushes(session, given, count, place, room, length);
+    bool is_answered = status == REVROUTE_ANSWERED, has_length = is_answered || status == REVROUTE_TOO_SHORT;
+    if (session->at != before.at) stop("a question for pushes wrote the handle");
+    if (memcmp(given, hops, count * sizeof *hops)) stop("a question for pushes wrote the table");
+    for (size_t at = is_answered ? *length : 0; at < room; at++)
+        if (place[at] != UNTOUCHED) stop("more was written than the pushes");
+    if (!has_length && *length) stop("there are no pushes, and they have a length");
+    return status;
+}
+
+/* Asks so that sometimes one allocation after the other is refused, until the call does without. */
+static uint32_t ask_poor(revroute *session, const uint32_t *hops, size_t count, size_t room, size_t *length) {
+    for (long number = draw(16) ? 0 : 1;; number++) {
+        long held = refusing_held;
+        refusing_left = number;
+        uint32_t status = ask_pushes(session, hops, count, room, length);
+        bool is_met = number && refusing_left == 0;
+        refusing_left = 0;
+        if (refusing_held != held) stop("the call for pushes keeps memory");
+        if (status != REVROUTE_NO_MEMORY) return status;
+        if (!is_met) stop("want of memory was told where none was refused");
+        unpushed++;
+    }
+}
+
+/* Some of the settled hops, and others that are drawn. */
+static void draw_table(const state *now, uint32_t *hops) {
+    uint32_t settled = draw(5);
+    for (uint32_t x = 0; x < now->nodes; x++) {
+        uint32_t others[] = {REVROUTE_CUT_OFF, REVROUTE_HERE, draw(now->nodes), draw(now->nodes)};
+        hops[x] = draw(4) < settled ? now->hops[x] : others[draw(4)];
+    }
+}
+
+static void expect_no_table(revroute *session, const uint32_t *hops, size_t count) {
+    size_t length = UNTOUCHED;
+    if (ask_poor(session, hops, count, draw(MOST + 1), &length) != REVROUTE_NO_TABLE) stop("a wrong table has pushes");
+}
+
+/* A table with a hop too many, one too few or none is refused, and so is a hop to a number that is no node. */
+static void refuse_tables(revroute *session, const uint32_t *hops, uint32_t count) {
+    uint32_t wrong[MOST + 1], outside[] = {count, count + draw(9), REVROUTE_NO_HOP, REVROUTE_NO_SUCH_NODE};
+    memcpy(wrong, hops, count * sizeof *hops);
+    wrong[count] = draw(2) ? REVROUTE_CUT_OFF : 0;
+    expect_no_table(session, wrong, count + 1);
+    expect_no_table(session, wrong, count - 1);
+    expect_no_table(session, wrong, 0);
+    wrong[draw(count)] = outside[draw(4)];
+    expect_no_table(session, wrong, count);
+}
+
+/* Whether a table leads from a node back to it. */
+static bool goes_round(const uint32_t *hops, size_t count, uint32_t node) {
+    uint32_t next = hops[node];
+    for (size_t steps = 0; steps < count && next < count && next != node; steps++) next = hops[next];
+    return next == node;
+}
+
+/* Makes the pushes. A new loop would pass the node that was pushed. */
+static void push_all(uint32_t *hops, const state *now, const uint32_t *nodes, size_t count) {
+    for (size_t at = 0; at < count; at++) {
+        hops[nodes[at]] = now->hops[nodes[at]];
+        if (goes_round(hops, now->nodes, nodes[at])) stop("a push closes a loop");
+    }
+    if (memcmp(hops, now->hops, now->nodes * sizeof *hops)) stop("after all pushes the table is not the settled one");
+    pushed += count;
+}
+
+/* The pushes of a drawn table, with just enough room, and with too little. */
+static void look_at_pushes(revroute *session, const state *now) {
+    uint32_t hops[MOST], order[MOST];
+    uint32_t nodes = now->nodes;
+    size_t length = UNTOUCHED;
+    draw_table(now, hops);
+    size_t count = push_order(hops, now->hops, nodes, order);
+    if (ask_poor(session, hops, nodes, count, &length) != REVROUTE_ANSWERED || length != count)
+        stop("another number of nodes is pushed than differs");
+    if (memcmp(place_of(count), order, count * sizeof *order)) stop("the pushes are not in push order");
+    size_t less = count ? draw((uint32_t)count) : 0;
+    if (count && (ask_poor(session, hops, nodes, less, &length) != REVROUTE_TOO_SHORT || length != count))
+        stop("pushes fit where they do not");
+    refuse_tables(session, hops, nodes);
+    push_all(hops, now, order, count);
+    if (ask_poor(session, hops, nodes, draw(MOST), &length) != REVROUTE_ANSWERED || length)
+        stop("the settled table has pushes");
 }
 
 /* Compares the end of a call with what the line was answered. */
@@ -331,6 +462,8 @@ static void take(revroute *by_line, revroute *by_call, const step *it) {
     expect_state(by_call, &after, "after a call something is otherwise than after the line");
     if (it->what == CHANGE && before.status == REVROUTE_ANSWERED) look_at_change(by_call, it, &before, ended, walk);
     if (it->what == OPEN) look_at_open(by_call, it, ended, walk);
+    if (ended.status == REVROUTE_ANSWERED) look_at_rerouted(&before, &after);
+    if (after.status == REVROUTE_ANSWERED) look_at_pushes(by_call, &after);
     expect_state(by_call, &after, "a question changed something");
 }
 
@@ -342,6 +475,9 @@ static void look_at_nothing(void) {
     size_t length = UNTOUCHED;
     if (call(&session, &it).status != REVROUTE_NO_NETWORK) stop("a change is made of nothing");
     if (ask_walk(&session, &it, 0, (uint32_t *)(void *)place_end, &length) != REVROUTE_NO_NETWORK || length) stop("there is a walk in nothing");
+    static const uint32_t hops[] = {REVROUTE_HERE, 0, REVROUTE_NO_HOP};
+    for (size_t count = 0; count < 4; count++)
+        if (ask_poor(&session, hops, count, 0, &length) != REVROUTE_NO_NETWORK) stop("nothing has pushes");
     it.edits[0].kind = 3;
     end ended = call(&session, &it);
     if (ended.status != REVROUTE_REFUSED || ended.refusal.number != REVROUTE_UNKNOWN_EDIT || ended.refusal.at) stop("an edit of no kind is taken");
@@ -363,6 +499,8 @@ int main(void) {
         revroute_close(&by_call);
         if (refusing_held) stop("a closed session holds memory");
     }
-    printf("%lu %lu %lu\n", (unsigned long)accepted, (unsigned long)refused, (unsigned long)wanting);
+    const size_t numbers[] = {accepted, refused, wanting, pushed, unpushed};
+    for (size_t at = 0; at < 5; at++) printf(at ? " %lu" : "%lu", (unsigned long)numbers[at]);
+    puts("");
     return 0;
 }

@@ -1,5 +1,7 @@
-"""A mesh that loses links and regains them. The next hops that change are pushed to the nodes' forwarding tables, one by one. No loop may be in
-the tables after any push. After the last push of a change the tables are followed from every node."""
+"""A mesh that loses links and regains them. The next hops that change are pushed to the nodes' forwarding tables, one
+by one. No loop may be in the tables after any push. Now and then the next link fails or comes back before all is
+pushed; then the pushes go on from the tables as they are. Once all is pushed the tables are followed from every
+node."""
 
 import random
 
@@ -34,30 +36,52 @@ def goes_round(table, node):
     return at == node
 
 
+def forget(table, u, v):
+    """A link that fails takes the hops over it out of the tables."""
+    for node, other in ((u, v), (v, u)):
+        if table[node] == other:
+            table[node] = NoHop.CUT_OFF
+
+
+def change(draw, network, table, up, down):
+    """A link fails or comes back."""
+    if down and draw.random() < 0.5:
+        link = down.pop(draw.randrange(len(down)))
+        network.join(*link)
+        up.add(link)
+    else:
+        link = draw.choice([*up])
+        forget(table, *link)
+        network.cut(*link)
+        up.remove(link)
+        down.append(link)
+
+
+def push(pushes, table):
+    for node, hop in pushes:
+        table[node] = hop
+        # A new loop would pass the node that was pushed.
+        if goes_round(table, node):
+            raise SystemExit(f"a loop passes node {node}: {table}")
+
+
 def main():
     draw, nodes = random.Random(1), range(SIDE * SIDE)
     links = [(x, y) for x in nodes for y in (x - 1, x - SIDE) if y >= 0 and (y == x - SIDE or x % SIDE)]
     network = revroute.Network(len(nodes), HOME, links)
-    table = [NoHop.CUT_OFF for _ in nodes]
+    table, is_settled = [NoHop.CUT_OFF for _ in nodes], True
     up, down = {*map(frozenset, links)}, []
-    for _ in range(CHANGES):
-        for node, hop in network.changed():
-            table[node] = hop
-            # A new loop would pass the node that was pushed.
-            if goes_round(table, node):
-                raise SystemExit(f"a loop passes node {node}: {table}")
-        if lost(table, up) or table.count(NoHop.CUT_OFF) != network.report.cut_off:
+    for changes in range(CHANGES + 1):
+        if changes:
+            change(draw, network, table, up, down)
+        pushes = network.changed() if is_settled else network.pushes(table)
+        is_interrupted = changes < CHANGES and draw.random() < 0.25
+        last = draw.randint(0, len(pushes)) if is_interrupted else len(pushes)
+        push(pushes[:last], table)
+        is_settled = last == len(pushes)
+        if is_settled and (lost(table, up) or table.count(NoHop.CUT_OFF) != network.report.cut_off):
             raise SystemExit(f"the tables are wrong: {table}")
-        if down and draw.random() < 0.5:
-            link = down.pop(draw.randrange(len(down)))
-            network.join(*link)
-            up.add(link)
-        else:
-            link = draw.choice([*up])
-            network.cut(*link)
-            up.remove(link)
-            down.append(link)
-    print(f"{CHANGES} changes, no loop after any push, every table leads to the destination")
+    print(f"{CHANGES} changes, some before all was pushed: no loop after any push, every table leads home")
 
 
 main()

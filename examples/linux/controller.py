@@ -51,12 +51,8 @@ class Controller:
             yield router
 
     def pushes(self):
-        """All routers whose hop in the table is not the settled one, each after the differing routers on its new route."""
-        # engine: in its place, return self.network.pushes(self.table), once the engine has it
-        settled = zip(self.addresses, self.network.hops())
-        differing = {router: hop for router, hop in settled if hop != self.table.get(router, NoHop.CUT_OFF)}
-        waves = {router: len(differing.keys() & (self.network.walk(router) or [router])) for router in differing}
-        return sorted(differing.items(), key=lambda it: waves[it[0]])
+        """The routers whose hop in the table is not the settled one, with that hop, in push order."""
+        return self.network.pushes(self.table)
 
     def push(self, router, hop):
         """Gives a router its hop, and returns once its kernel has it."""

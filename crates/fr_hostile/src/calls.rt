@@ -533,8 +533,8 @@ fn routed_alone<R: Alloc<A = Global> + Print + Eprint>(rt: &R, answer: &mut Answ
 /// The nodes that a cut reroutes. Where it finds no memory, the router has to be as it was.
 fn rerouted<R: Alloc<A = Global> + Print + Eprint>(rt: &R, answer: &mut Answer, net: Net) {
     if let Some(mut router) = answer.told(rt, Router::open_alone(rt.alloc(), net, 0)) {
-        let joined = router.joined(rt.alloc());
-        if let Some(mut nodes) = answer.told(rt, joined) {
+        let all = router.changed_since(rt.alloc(), None);
+        if let Some(mut nodes) = answer.told(rt, all) {
             reroute(rt, answer, &mut router, &mut nodes);
         }
     }

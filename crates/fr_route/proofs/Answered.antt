@@ -8,7 +8,7 @@ use Rattle.fr_route.specs.Answers.{IsAccepted, IsAnswer, IsRefused, IsReportLine
 use Rattle.fr_route.specs.Changes.{IsChanged, IsRouteFault}
 use Rattle.fr_route.specs.Outcomes.{IsEdited, IsEditingFault}
 use Rattle.fr_route.specs.Refusals.{IsNewFault, IsRefusalOf, request_of_change}
-use Rattle.fr_route.specs.Reroutes.{AreJoined, AreRerouted}
+use Rattle.fr_route.specs.Reroutes.{AreReplaced, AreRerouted}
 use Rattle.fr_route.specs.Sessions.{IsAnswered}
 use Rattle.fr_route.specs.States.{State}
 use Rattle.fr_route.specs.Texts.{longest_report, refusal_text}
@@ -102,7 +102,7 @@ module _ (never : Type 0) (telling : Bool) (before : List ℕ) where
   edits_done s edits new text after made line short rerouted = done s (make_edits edits) new text after made line rerouted short
 
   pub network_put : (s : Option State) (n d : ℕ) (links : List (ℕ × ℕ)) (router : State) (answer : Result (String Global) AnswerFault) (next : Option State) (after : List ℕ) → IsAccepted None (new_network n d links) router
-      → IfOk answer (λ text. IsReportLine router (string_bytes text) × (next ≡ Some router)) → (telling ≡ true → OnOk answer (AreJoined router after)) → OnErr answer (next ≡ s) → OnErr answer (after ≡ before)
+      → IfOk answer (λ text. IsReportLine router (string_bytes text) × (next ≡ Some router)) → (telling ≡ true → OnOk answer (AreReplaced s router after)) → OnErr answer (next ≡ s) → OnErr answer (after ≡ before)
       → IfOk answer (λ text. length (string_bytes text) ≤ longest_report) → IfErr answer (λ fault. fault ≡ Memory) → IsAnswered never s (new_network n d links) telling before answer next after
   network_put s n d links router (Ok text) next after accepted line joined unchanged untold short memory = record {
     text = inr (router, accepted, line.0, line.1);

@@ -17,7 +17,6 @@ pub mod Renewing
 pub mod Noting
 pub mod SettledHops
 pub mod PushLengths
-pub mod Joining
 pub mod Inside
 pub mod Telling
 pub mod Answered

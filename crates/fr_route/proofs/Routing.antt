@@ -103,7 +103,7 @@ module _ (n d : ℕ) (first : List (ℕ × ℕ)) (net : IsNet n first) (in_range
       (route_by k hop.0 (joined_next x hop.0 hop.1.link joined)))
       (cases_eq x d)
 
-  joined_in_range : (x : ℕ) → IsJoined first d x → x < n
+  pub joined_in_range : (x : ℕ) → IsJoined first d x → x < n
   joined_in_range x joined = ⊎_elim (λ e. omega (arith, e)) (λ h. (joined_below n first x h.0 net h.1).0) (walk_linked first d joined.1.0 joined.0 x joined.1.1)
 
   pub route : (x : ℕ) → IsJoined first d x → (ys : List ℕ) × IsRoute (links_at first c) d x ys

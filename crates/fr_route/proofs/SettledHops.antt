@@ -1,47 +1,100 @@
 -- The hops of a settled network as a table: it has no loop, and each hop names a node. Which nodes are told, by such tables.
-use Rattle.std.proofs.Common.{Contains, Err, IfErr, IfOk, List, Ok, Result, Some, [], ap, arith, get_or, inl, inr, length, refl, sym, ℕ, ⊎_elim, ◌++◌, ◌<◌, ◌≤◌, ◌∙◌, ◌∷◌, ◌≡◌, ◌↔◌}
+use Rattle.std.proofs.Common.{Contains, Err, IfErr, IfOk, List, Ok, Result, Some, [], ap, arith, get_or, inl, inr, le_refl, length, refl, replicate, slice_get, subst, sym, take, ℕ, ⊎_elim, ◌+◌, ◌++◌, ◌-◌, ◌<◌, ◌≤◌, ◌∙◌, ◌∷◌, ◌≡◌, ◌↔◌}
+use Rattle.std.proofs.Math.ListN.{get_or-append}
 use Rattle.std.proofs.lemmas.Bool.{cases_lt}
-use Rattle.std.proofs.lemmas.Option.{slice_get-get_or, slice_get_past}
+use Rattle.std.proofs.lemmas.List.{get_or-append-add, get_or-replicate, length-append, length-replicate, take_all}
+use Rattle.std.proofs.lemmas.Option.{get_or_from_slice_get, slice_get-get_or, slice_get_past, slice_get_within}
 use Rattle.fr_graph.specs.Links.{IsAcyclic, IsNet, IsPath, end_of}
 use Rattle.fr_graph.specs.Limits.{most_nodes}
 use Rattle.fr_route.specs.Reroutes.{AreRerouted, IsPushesFault, IsRerouted}
-use Rattle.fr_route.specs.Routes.{AreHops}
-use Rattle.fr_route.specs.States.{State, IsAfterRound}
+use Rattle.fr_core.specs.Walks.{IsJoined}
+use Rattle.fr_route.specs.Outcomes.{IsSettledTable}
+use Rattle.fr_route.specs.Routes.{AreHops, IsHop}
+use Rattle.fr_route.specs.States.{State, IsAfterRound, IsCutOff}
 use Rattle.fr_tables.specs.Faults.{IsFaultOf}
 use Rattle.fr_tables.specs.Tables.{IsInRange, IsLoop, IsLoopFree, IsWalk, SendsOn}
 use Rattle.fr_tables.specs.declared.fault.TableFault.{TableFault}
 use Rattle.fr_tables.specs.declared.fault.TableFault.TheVariants.{Length, Range, Loop, Memory}
 use Rattle.fr_tables.specs.declared.hop.Hop.{Hop}
-use Rattle.fr_tables.specs.declared.hop.Hop.TheVariants.{Here, To}
+use Rattle.fr_tables.specs.declared.hop.Hop.TheVariants.{CutOff, Here, To}
 use Rattle.fr_route.proofs.Determined.{one_hop}
-use Rattle.fr_route.proofs.RoundEnds.{round_acyclic, round_net}
+use Rattle.fr_route.proofs.RoundEnds.{round_acyclic, round_joined, round_net}
+use Rattle.fr_route.proofs.Routing.{joined_in_range}
 use Rattle.fr_route.proofs.Walking.{route_in_range}
-
-walk_path : (s : State) (hops : List Hop) → AreHops s s.nodes hops → (x : ℕ) (ys : List ℕ) → IsWalk hops x ys → IsPath s.links x ys
-walk_path s hops are x [] goes = tt
-walk_path s hops are x (y ∷ ys) goes = ((are.each x (To y) goes.0).1.1.link, walk_path s hops are y ys goes.1)
 
 end_push : (x : ℕ) (ys : List ℕ) (z : ℕ) → end_of x (ys ++ z ∷ []) ≡ z
 end_push x [] z = refl
 end_push x (y ∷ ys) z = end_push y ys z
 
--- a loop would be a closed walk along the links
-no_loop : (s : State) (hops : List Hop) → AreHops s s.nodes hops → IsAcyclic s.links → (x : ℕ) (xs : List ℕ) → ¬ IsWalk hops x (xs ++ x ∷ [])
-no_loop s hops are acyclic x [] goes = acyclic x (x ∷ []) (walk_path s hops are x (x ∷ []) goes, refl)
-no_loop s hops are acyclic x (y ∷ ys) goes = acyclic x (y ∷ (ys ++ x ∷ [])) (walk_path s hops are x (y ∷ (ys ++ x ∷ [])) goes, end_push y ys x)
+module _ (s : State) (n : ℕ) (hops : List Hop) (are : AreHops s n hops) where
+  walk_path : (x : ℕ) (ys : List ℕ) → IsWalk hops x ys → IsPath s.links x ys
+  walk_path x [] goes = tt
+  walk_path x (y ∷ ys) goes = ((are.each x (To y) goes.0).1.1.link, walk_path y ys goes.1)
 
-no_loops : (s : State) (hops : List Hop) → AreHops s s.nodes hops → IsAcyclic s.links → (nodes : List ℕ) → ¬ IsLoop hops nodes
-no_loops s hops are acyclic [] none = none
-no_loops s hops are acyclic (x ∷ xs) goes = no_loop s hops are acyclic x xs goes
+  -- a loop would be a closed walk along the links
+  no_loop : IsAcyclic s.links → (x : ℕ) (xs : List ℕ) → ¬ IsWalk hops x (xs ++ x ∷ [])
+  no_loop acyclic x [] goes = acyclic x (x ∷ []) (walk_path x (x ∷ []) goes, refl)
+  no_loop acyclic x (y ∷ ys) goes =
+      acyclic x (y ∷ (ys ++ x ∷ [])) (walk_path x (y ∷ (ys ++ x ∷ [])) goes, end_push y ys x)
+
+  no_loops : IsAcyclic s.links → (nodes : List ℕ) → ¬ IsLoop hops nodes
+  no_loops acyclic [] none = none
+  no_loops acyclic (x ∷ xs) goes = no_loop acyclic x xs goes
+
+  pub settled_table : IsAfterRound s → s.nodes ≤ n → IsSettledTable s n hops
+  settled_table after enough =
+      let net : IsNet s.nodes s.links = round_net s.nodes s.dest after.first s after.is_net after.dest after.round in
+      record {
+        are = are;
+        in_range = λ x y sends.
+            let r = are.each x (To y) sends in
+            let below : y < s.nodes = route_in_range s.nodes s.links s.dest y r.0 net after.dest r.1.2 in
+            omega (arith, are.one_each, enough, below);
+        loop_free = no_loops (round_acyclic s.nodes s.dest after.first s after.is_net after.dest after.round);
+      }
 
 pub settled_loop_free : (s : State) (hops : List Hop) → IsAfterRound s → AreHops s s.nodes hops → IsLoopFree hops
-settled_loop_free s hops after are = no_loops s hops are (round_acyclic s.nodes s.dest after.first s after.is_net after.dest after.round)
+settled_loop_free s hops after are = (settled_table s s.nodes hops are after (le_refl s.nodes)).loop_free
 
 pub settled_in_range : (s : State) (hops : List Hop) → IsAfterRound s → AreHops s s.nodes hops → IsInRange hops
-settled_in_range s hops after are x y sends =
-    let net : IsNet s.nodes s.links = round_net s.nodes s.dest after.first s after.is_net after.dest after.round in
-    let r = are.each x (To y) sends in
-    omega (arith, are.one_each, route_in_range s.nodes s.links s.dest y r.0 net after.dest r.1.2)
+settled_in_range s hops after are = (settled_table s s.nodes hops are after (le_refl s.nodes)).in_range
+
+-- the hops of the numbers past the nodes: they are cut off
+module _ (s : State) (after : IsAfterRound s) where
+  outside_cut : (x : ℕ) → s.nodes ≤ x → IsCutOff s.dest s.links x
+  outside_cut x out = (
+    λ same. omega (arith, same, out, after.dest),
+    λ joined.
+        let at_first : IsJoined after.first s.dest x = (round_joined s.nodes s.dest after.first s after.is_net after.dest after.round x).1 joined in
+        let below : x < s.nodes = joined_in_range s.nodes s.dest after.first after.is_net after.dest s.counts after.round.counts x at_first in
+        omega (arith, out, below),
+  )
+
+  pub resized_table : (hops : List Hop) (n : ℕ) → AreHops s s.nodes hops → s.nodes ≤ n
+      → IsSettledTable s n (take n hops ++ replicate (n - length hops) CutOff)
+  resized_table hops n are enough =
+      let whole : take n hops ≡ hops = take_all n hops (omega (arith, are.one_each, enough)) in
+      let fill = replicate (n - length hops) CutOff in
+      let long : length (hops ++ fill) ≡ n =
+          omega (arith, length-append hops fill, length-replicate (n - length hops) CutOff, are.one_each, enough) in
+      let below : (x : ℕ) (hop : Hop) → x < length hops → slice_get (hops ++ fill) x ≡ Some hop → IsHop s x hop =
+          λ x hop low is. are.each x hop (slice_get-get_or hops x hop low ∙ ap Some (sym (get_or-append hops fill hop x low)
+              ∙ get_or_from_slice_get (hops ++ fill) x hop hop is)) in
+      let past : (x : ℕ) (hop : Hop) → length hops ≤ x → slice_get (hops ++ fill) x ≡ Some hop → IsHop s x hop =
+          λ x hop high is.
+          let at = x - length hops in
+          let place : x ≡ length hops + at = omega (arith, high) in
+          let inside : at < n - length hops = omega (arith, high, long, slice_get_within (hops ++ fill) x hop is) in
+          let filled : hop ≡ CutOff =
+              sym (get_or_from_slice_get (hops ++ fill) x hop hop is) ∙ (ap (λ (k : ℕ). get_or (hops ++ fill) k hop) place
+              ∙ (get_or-append-add hops fill at hop ∙ get_or-replicate (n - length hops) at CutOff hop inside)) in
+          subst (IsHop s x) (sym filled) (outside_cut x (omega (arith, high, are.one_each))) in
+      let are_all : AreHops s n (hops ++ fill) = record {
+            one_each = long;
+            each = λ x hop is. ⊎_elim (λ low. below x hop low is) (λ high. past x hop high is) (cases_lt x (length hops));
+          } in
+      subst (λ (front : List Hop). IsSettledTable s n (front ++ fill)) (sym whole)
+          (settled_table s n (hops ++ fill) are_all after enough)
 
 -- the faults of a table that is compared with them
 push_fault_is : (s : State) (hops table : List Hop) → IsAfterRound s → AreHops s s.nodes hops → s.nodes ≤ most_nodes → (fault : TableFault) → IsFaultOf table hops fault → IsPushesFault s table fault

@@ -1,7 +1,6 @@
 -- What a round on a network comes to, and the nodes at which edits change links.
 use Rattle.std.specs.Prelude.{◌≡◌, ℕ, ◌<◌, ◌≤◌, ◌⊎◌, ◌↔◌, not, ◌==◌, ◌&&◌, List, [], ◌∷◌, ◌++◌, count_by, length, nat_eq, slice_get, slice_index, vec_capacity, Some}
 use Rattle.std.specs.List.{All, Contains, IsDistinct, filter, range_with_len}
-use Rattle.std.specs.List.Sorted.{IsStrictlyIncreasing}
 use Rattle.std.specs.declared.alloc.Global.{Global}
 use Rattle.std.specs.declared.vec.Vec.{Vec}
 use Rattle.fr_graph.specs.Batches.{AreMade, IsBatchFault}
@@ -14,14 +13,15 @@ use Rattle.fr_graph.specs.declared.fault.EditFault.{EditFault}
 use Rattle.fr_graph.specs.declared.edit.Edit.{Edit}
 use Rattle.fr_graph.specs.declared.edit.Edit.TheVariants.{Cut, Add, Join}
 use Rattle.fr_crew.specs.Settlements.{IsCounted}
-use Rattle.fr_route.specs.Routes.{IsHop}
+use Rattle.fr_route.specs.Routes.{AreHops, IsHop}
 use Rattle.fr_route.specs.Changes.{CanTurnAfter}
 use Rattle.fr_route.specs.States.{State, IsReport, IsRound, net_at, state_with}
 use Rattle.fr_route.specs.declared.fault.RouteFault.{RouteFault}
 use Rattle.fr_route.specs.declared.fault.RouteFault.TheVariants.{Net, Range, Start, Memory}
 use Rattle.fr_tables.specs.Pushes.{DifferAt}
+use Rattle.fr_tables.specs.Tables.{IsInRange, IsLoopFree}
 use Rattle.fr_tables.specs.declared.hop.Hop.{Hop}
-use Rattle.fr_tables.specs.declared.hop.Hop.TheVariants.{CutOff, To}
+use Rattle.fr_tables.specs.declared.hop.Hop.TheVariants.{To}
 use Rattle.fr_route.specs.declared.outcome.Outcome.{Outcome}
 
 -- the state after a round with these counts on a network
@@ -95,10 +95,11 @@ pub record ListsOthers (old new : List Hop) (before after : Vec ℕ Global) : Ty
   pub room : vec_capacity after ≡ vec_capacity before
   pub others : length old ≤ vec_capacity before → AreOthers old new after.items
 
--- the hops of these nodes below k do not say that they are cut off, and those of the others do, in rising order
-pub record AreJoinedBelow (hops : List Hop) (k : ℕ) (nodes : List ℕ) : Type 0 where
-  pub rising : IsStrictlyIncreasing nodes
-  pub just : (x : ℕ) → Contains nodes x ↔ ((x < k) × ¬ (slice_get hops x ≡ Some CutOff))
+-- the hops of the numbers below n in a state after a round, as a table
+pub record IsSettledTable (s : State) (n : ℕ) (hops : List Hop) : Type 0 where
+  pub are : AreHops s n hops
+  pub in_range : IsInRange hops
+  pub loop_free : IsLoopFree hops
 
 -- the edits are made, and this is the state after the round on the network that they make, toward d
 abbrev pub IsEdited : State → List Edit → ℕ → State → Type 0

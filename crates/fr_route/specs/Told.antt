@@ -3,13 +3,13 @@ use Rattle.std.specs.Prelude.{◌≡◌, ℕ, ◌⊎◌, List, Option, Some, Non
 use Rattle.fr_lines.specs.Requests.{PlainRequest, new_network, cut_link, add_link, join_nodes, make_edits, move_dest, walk_from, ask}
 use Rattle.fr_lines.specs.declared.requests.LineFault.{LineFault}
 use Rattle.fr_route.specs.Answers.{IsAccepted, IsRefused}
-use Rattle.fr_route.specs.Reroutes.{AreJoined, AreRerouted}
+use Rattle.fr_route.specs.Reroutes.{AreReplaced, AreRerouted}
 use Rattle.fr_route.specs.States.{State}
 
--- an accepted request tells of these nodes, where the list had others before: a network of those that are not cut off, a change of
--- those that it reroutes, in push order, and all else leaves the list
+-- an accepted request tells of these nodes, where the list had others before: a network and a change of those that it reroutes, in push
+-- order, and all else leaves the list
 abbrev pub TellsOf : Option State → PlainRequest → State → List ℕ → List ℕ → Type 0
-TellsOf s (new_network n d links) new before after = AreJoined new after
+TellsOf s (new_network n d links) new before after = AreReplaced s new after
 TellsOf None request new before after = ⊥
 TellsOf (Some s) (cut_link u v) new before after = AreRerouted s new after
 TellsOf (Some s) (add_link u v) new before after = AreRerouted s new after

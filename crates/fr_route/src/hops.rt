@@ -1,10 +1,11 @@
 //! Where each node sends on to.
 
-ghost use Rattle.std.specs.Prelude.{◌≡◌, ℕ, ◌<◌, ◌≤◌, ◌↔◌, [], ◌∷◌, ◌++◌, All, Contains, IsTrue, length, sum, vec_capacity, IfOk, MatchOption};
+ghost use Rattle.std.specs.Prelude.{◌≡◌, ℕ, ◌<◌, ◌≤◌, ◌↔◌, [], ◌∷◌, ◌++◌, ◌-◌, All, Contains, IsTrue, length, replicate, sum, take, vec_capacity, IfOk, MatchOption};
 ghost use Rattle.fr_graph.specs.Links.{Points};
 ghost use Rattle.fr_route.specs.Routes.{IsNextHop, IsHop, AreHops};
-ghost use Rattle.fr_route.specs.Outcomes.{AreJoinedBelow, AreRenewed, HoldsMoved, IsStale, NotesMore, SendsTo};
+ghost use Rattle.fr_route.specs.Outcomes.{AreRenewed, HoldsMoved, IsStale, NotesMore, SendsTo};
 ghost use Rattle.fr_route.specs.States.{IsAfterRound, state_with};
+ghost use Rattle.fr_tables.specs.declared.hop.Hop.TheVariants.{CutOff};
 
 use fr_graph::{First, Net, Turns};
 use fr_tables::Hop;
@@ -207,18 +208,14 @@ fn note(rerouted: &mut Vec<u32>, x: u32)
     }
 }
 
-/// Lists the nodes that are not cut off, in rising order, where the list has a place for each node.
-pub(crate) fn list_joined(nodes: &mut Vec<u32>, hops: &[Hop], count: u32)
-    requires one_each { length hops.now ≡ count }
-    requires room { count ≤ vec_capacity nodes.old }
-    ensures { AreJoinedBelow hops.now count nodes.new.items }
+/// A copy of a table that has `count` hops: those past its end are cut off.
+pub(crate) fn resized(alloc: Global, table: &[Hop], count: u32) -> Result<Vec<Hop>, AllocError>
+    ensures { IfOk result (λ hops. hops.items ≡ take count table.now ++ replicate (count - length table.now) CutOff) }
 {
-    nodes.clear();
-    for x in 0..count {
-        if !is_same(hops[x as usize], Hop::CutOff) {
-            nodes.push_reserved(x);
-        }
-    }
+    let mut hops = Vec::with_capacity(alloc, count as usize)?;
+    hops.extend_from_slice(table)?;
+    hops.resize(count as usize, Hop::CutOff)?;
+    Ok(hops)
 }
 
 /// Makes anew where each node sends on to.

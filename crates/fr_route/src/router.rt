@@ -1,19 +1,20 @@
 //! A router: a settled network with its next hops and routes, and the changes after which it is settled anew.
 
-ghost use Rattle.std.specs.Prelude.{◌≡◌, ◌≢◌, ◌<◌, [], ◌∷◌, length, replicate, Ok, Some, IfOk, IfErr, IfSome, OnErr, OnOk};
+ghost use Rattle.std.specs.Prelude.{◌≡◌, ◌≢◌, ◌<◌, ◌≤◌, [], ◌∷◌, length, replicate, Ok, Some, IfOk, IfErr, IfSome, OnErr, OnOk};
+ghost use Rattle.std.specs.Option.{option_copied};
 ghost use Rattle.fr_crew.specs.Settlements.{HoldsSinks, IsCounted};
 ghost use Rattle.fr_crew.specs.Ways.{Settles, NeverStarts};
 ghost use Rattle.fr_route.specs.declared.fault.RouteFault.TheVariants.{Start, Memory};
 ghost use Rattle.fr_route.specs.States.{IsRound, IsReport};
 ghost use Rattle.fr_route.specs.Routes.{IsHop, AreHops, IsWalked};
 ghost use Rattle.fr_route.specs.Changes.{IsOpenFault, IsChanged, IsRouteFault, IsStill};
-ghost use Rattle.fr_route.specs.Reroutes.{AreJoined, ArePushes, AreRerouted, IsPushesFault};
+ghost use Rattle.fr_route.specs.Reroutes.{AreHopsIn, ArePushes, AreReplaced, AreRerouted, IsPushesFault};
 ghost use Rattle.fr_route.specs.Tries.{IsTried};
-ghost use Rattle.fr_route.specs.Outcomes.{IsEdited, IsEditingFault, IsOutcome, cut_off_nodes, movable};
+ghost use Rattle.fr_route.specs.Outcomes.{IsEdited, IsEditingFault, IsOutcome, IsSettledTable, cut_off_nodes, movable};
 
 use crate::change::{Change, Report};
 use crate::fault::RouteFault;
-use crate::hops::{Walked, hop_table, list_joined};
+use crate::hops::{Walked, hop_table, resized};
 use crate::outcome::{
     Outcome, alone_nodes, outcome_of, push_capped, put_in_order, put_in_place, report_of,
     touched_nodes,
@@ -21,7 +22,7 @@ use crate::outcome::{
 use crate::spare::Spare;
 use fr_crew::{CrewFault, Gate, Plan, settled_counts, settled_counts_alone, settled_counts_by};
 use fr_graph::{Edit, MAX_EDITS, Net, NetFault, Turns};
-use fr_tables::{Hop, PushRoom, TableFault, push_order};
+use fr_tables::{Hop, PushRoom, TableFault, first_outside, known_push_order};
 use std::alloc::{AllocError, Global};
 use std::marker::Model;
 use std::mem;
@@ -493,15 +494,37 @@ impl Router {
         &self.hops
     }
 
-    /// The nodes that are not cut off, in rising order: those whose hops a caller reads first that keeps the hops of all nodes, and begins
-    /// with a table that says `CutOff` of each. `AllocError` where no room could be had. `O(n)`.
-    pub fn joined(&self, alloc: Global) -> Result<Vec<u32>, AllocError>
-        ensures { IfOk result (λ nodes. AreJoined self.now nodes.items) }
+    /// Which nodes have another hop than in `before`, the router that this one replaces, in push order: each after those of them on its
+    /// route. Whoever keeps the hops of all nodes gives them their new ones in this order. A number that is no node of a router counts as
+    /// cut off there; with no router before, all nodes were cut off. The only fault is `Memory`, where no room could be had. `O(n)` for n
+    /// nodes of the larger network.
+    pub fn changed_since(
+        &self,
+        alloc: Global,
+        before: Option<&Router>,
+    ) -> Result<Vec<u32>, RouteFault>
+        ensures changed { IfOk result (λ nodes. AreReplaced (option_copied before) self.now nodes.items) }
+        ensures memory { IfErr result (λ fault. fault ≡ Memory) }
     {
-        let count = self.net.nodes();
-        let mut nodes = Vec::with_capacity(alloc, count as usize)?;
-        list_joined(&mut nodes, &self.hops, count);
-        Ok(nodes)
+        let nodes = self.net.nodes();
+        let count = match before {
+            Some(router) => nodes.max(router.net.nodes()),
+            None => nodes,
+        };
+        let old = match before {
+            Some(router) => router.hops_below(alloc, count)?,
+            None => vec![in alloc; Hop::CutOff; count as usize]?,
+        };
+        let new = self.hops_below(alloc, count)?;
+        Ok(known_push_order(alloc, &old, &new)?)
+    }
+
+    /// The hops of the numbers below `count`: one that is no node is cut off.
+    fn hops_below(&self, alloc: Global, count: u32) -> Result<Vec<Hop>, AllocError>
+        requires { self.now.nodes ≤ count }
+        ensures { IfOk result (λ hops. IsSettledTable self.now count hops.items) }
+    {
+        resized(alloc, &self.hops, count)
     }
 
     /// Which nodes of a caller's table have another hop than here, in push order: each behind those on its route. Whoever gives the
@@ -515,7 +538,13 @@ impl Router {
         ensures fault { IfErr result (IsPushesFault self.now table.now) }
     {
         self.net.network_law();
-        push_order(alloc, table, &self.hops)
+        if table.len() != self.hops.len() {
+            return Err(TableFault::Length);
+        }
+        if let Some(x) = first_outside(table) {
+            return Err(TableFault::Range(x));
+        }
+        Ok(known_push_order(alloc, table, &self.hops)?)
     }
 
     /// Where node `x` sends on to, which has to be a node: the least neighbour to which its links point. `CutOff`: it is not joined with

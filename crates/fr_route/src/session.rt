@@ -9,7 +9,7 @@ ghost use Rattle.fr_route.specs.Blank.{is_blank as is_blank_line};
 ghost use Rattle.fr_route.specs.Answers.{IsAccepted, IsAnswer, IsLineAnswer, IsReportLine, MayStartFor, MayStartForLine};
 ghost use Rattle.fr_route.specs.Sessions.{IsAnswered};
 ghost use Rattle.fr_route.specs.Told.{IsLineTold};
-ghost use Rattle.fr_route.specs.Reroutes.{AreJoined};
+ghost use Rattle.fr_route.specs.Reroutes.{AreReplaced};
 ghost use Rattle.fr_route.specs.Texts.{longest_report, refusal_text};
 ghost use Rattle.fr_route.specs.Faults.{of_route_fault};
 ghost use Rattle.fr_route.specs.Refusals.{number_of, request_of_change, IsNewFault, IsRefusalOf};
@@ -146,10 +146,10 @@ impl Session {
         )
     }
 
-    /// The same, and tells which nodes the line reroutes, in a list of the caller's: a change those that send on to another node than
-    /// before, that are cut off now or that are no longer, in push order as [`Router::change_telling`] does, and a new network those that
-    /// are not cut off, in rising order. Whatever else is answered leaves the list, and so does a fault. The list gets room for all nodes before anything is changed, and keeps it. It
-    /// costs the same, by the calls of the router that tell.
+    /// The same, and tells in a list of the caller's which nodes the line reroutes, in push order: after a change as
+    /// [`Router::change_telling`] does, after a new network as [`Router::changed_since`] does. Whatever else is answered leaves the list,
+    /// and so does a fault. The list gets room for all nodes before anything is changed, and keeps it. It costs the same, by the calls of
+    /// the router that tell.
     pub fn answer_line_telling_alone(
         &mut self,
         alloc: Global,
@@ -395,7 +395,7 @@ impl Session {
         edited(alloc, router, edits, settle, telling, rerouted)
     }
 
-    /// Puts a router in place, once the line that reports its round is made, and tells which nodes are not cut off if that is asked.
+    /// Puts a router in place, once the line that reports its round is made, and tells which nodes have another hop if that is asked.
     fn put(
         &mut self,
         alloc: Global,
@@ -404,7 +404,7 @@ impl Session {
         rerouted: &mut Vec<u32>,
     ) -> Result<String, AnswerFault>
         ensures text { IfOk result (λ text. IsReportLine router (string_bytes text) × (self.new ≡ Some router)) }
-        ensures told { telling ≡ true → OnOk result (AreJoined router rerouted.new.items) }
+        ensures told { telling ≡ true → OnOk result (AreReplaced self.old router rerouted.new.items) }
         ensures unchanged { OnErr result (self.new ≡ self.old) }
         ensures untold { OnErr result (rerouted.new.items ≡ rerouted.old.items) }
         ensures short { IfOk result (λ text. length (string_bytes text) ≤ longest_report) }
@@ -412,7 +412,7 @@ impl Session {
     {
         let text = report_line(alloc, router.report())?;
         if telling {
-            *rerouted = router.joined(alloc)?;
+            *rerouted = changed_hops(alloc, self.router.as_ref(), &router)?;
         }
         self.put_router(router);
         Ok(text)
@@ -449,6 +449,21 @@ impl Session {
             Question::Counts => Ok(counts_line(alloc, router.counts())?),
             Question::Hops => Ok(hops_line(alloc, router.hops())?),
         }
+    }
+}
+
+/// The nodes that a new router reroutes, in the place of the one before it, if there was one.
+fn changed_hops(
+    alloc: Global,
+    before: Option<&Router>,
+    router: &Router,
+) -> Result<Vec<u32>, AnswerFault>
+    ensures changed { IfOk result (λ nodes. AreReplaced (option_copied before) router.now nodes.items) }
+    ensures memory { IfErr result (λ fault. fault ≡ Memory) }
+{
+    match router.changed_since(alloc, before) {
+        Ok(nodes) => Ok(nodes),
+        Err(_) => Err(AnswerFault::Memory),
     }
 }
 

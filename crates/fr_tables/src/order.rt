@@ -1,8 +1,10 @@
 //! The order in which changed hops are pushed.
 
 ghost use Rattle.std.specs.Prelude.{◌≡◌, ◌≢◌, ◌<◌, ◌^◌, ◌↔◌, IfErr, IfOk, IsTrue, length};
-ghost use Rattle.fr_tables.specs.Faults.{IsFaultOf, IsOrdered};
+ghost use Rattle.fr_tables.specs.Faults.{AreTables, IsFaultOf, IsOrdered};
 ghost use Rattle.fr_tables.specs.Inside.{AreChanged};
+ghost use Rattle.fr_tables.specs.Pushes.{IsPushOrder};
+ghost use Rattle.fr_tables.specs.Tables.{IsLoopFree};
 
 use crate::fault::TableFault;
 use crate::hop::Hop;
@@ -35,6 +37,18 @@ pub fn push_order(alloc: Global, old: &[Hop], new: &[Hop]) -> Result<Vec<u32>, T
     if let Some(nodes) = find_loop(alloc, new)? {
         return Err(TableFault::Loop(nodes));
     }
+    Ok(known_push_order(alloc, old, new)?)
+}
+
+/// The same for tables of one length whose hops all name nodes, where the new one has no loop: nothing is tested. `AllocError` where an
+/// allocation is refused.
+///
+/// O(n) time and memory.
+pub fn known_push_order(alloc: Global, old: &[Hop], new: &[Hop]) -> Result<Vec<u32>, AllocError>
+    requires tables { AreTables old.now new.now }
+    requires loop_free { IsLoopFree new.now }
+    ensures { IfOk result (λ order. IsPushOrder old.now new.now order.items) }
+{
     let mut order = changed_nodes(alloc, old, new)?;
     PushRoom::new(alloc, new.len() as u32)?.order(new, &mut order);
     Ok(order)

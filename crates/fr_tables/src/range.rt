@@ -5,8 +5,8 @@ ghost use Rattle.fr_tables.specs.Tables.{IsInRange, IsFirstOutside};
 
 use crate::hop::Hop;
 
-/// The node out of range that the first such hop names.
-pub(crate) fn first_outside(table: &[Hop]) -> Option<u32>
+/// The number that the first hop names which names no node of its table; `None` where all name nodes. O(n).
+pub fn first_outside(table: &[Hop]) -> Option<u32>
     ensures { MatchOption result (IsInRange table.now) (IsFirstOutside table.now) }
 {
     for hop in table {

@@ -8,7 +8,6 @@ use Rattle.fr_graph.specs.declared.fault.NetFault.{NetFault}
 use Rattle.fr_graph.specs.declared.fault.NetFault.TheVariants.{TooMany, Range, SelfLink, Twice, Cycle, NoLink, Memory}
 use Rattle.fr_route.specs.States.{State, net_at}
 use Rattle.revroute_c.specs.Records.{AreKnown, edit_of}
-use Rattle.revroute_c.specs.Replies.{IsWritten}
 use Rattle.revroute_c.specs.declared.records.LinkEdit.{LinkEdit}
 
 -- the fault is the closed walk by these nodes, the first again at the end
@@ -61,11 +60,3 @@ IsWalkOfNetwork n links nodes = (fault : NetFault) × IsFirstFault n links fault
 -- no closed walk refuses it: its links have no fault, or another one
 abbrev pub HasNoWalkOfNetwork : ℕ → List (ℕ × ℕ) → Type 0
 HasNoWalkOfNetwork n links = IsFaultless n links ⊎ ((fault : NetFault) × IsFirstFault n links fault × IsNoWalk fault)
-
--- the nodes of such a walk stand at the front of the place, and this is their number
-abbrev pub IsGiven : (List ℕ → Type 0) → List ℕ → List ℕ → ℕ → Type 0
-IsGiven IsWalk before after size = (nodes : List ℕ) × IsWalk nodes × IsWritten nodes before after × (size ≡ length nodes)
-
--- such a walk has so many nodes
-abbrev pub IsLength : (List ℕ → Type 0) → ℕ → Type 0
-IsLength IsWalk size = (nodes : List ℕ) × IsWalk nodes × (size ≡ length nodes)

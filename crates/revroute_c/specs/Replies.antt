@@ -13,6 +13,14 @@ least_room = 64
 abbrev pub IsWritten : {X : Type 0} → List X → List X → List X → Type 0
 IsWritten items before after = (length items ≤ length before) × (after ≡ items ++ drop (length items) before)
 
+-- such numbers are at the front of the place, and this is how many
+abbrev pub IsGiven : (List ℕ → Type 0) → List ℕ → List ℕ → ℕ → Type 0
+IsGiven Are before after size = (numbers : List ℕ) × Are numbers × IsWritten numbers before after × (size ≡ length numbers)
+
+-- there are so many such numbers
+abbrev pub IsLength : (List ℕ → Type 0) → ℕ → Type 0
+IsLength Are size = (numbers : List ℕ) × Are numbers × (size ≡ length numbers)
+
 -- the line is answered, the session is then in this state, the answer stands in the buffer, and this is its length
 pub record IsAnswered (old : Option State) (line : List ℕ) (new : Option State) (before after : List ℕ) (size : ℕ) : Type 0 where
   pub asks : is_blank line ≡ false

@@ -40,3 +40,7 @@ REVROUTE_BEGUN = 8
 -- the line is too long
 abbrev pub REVROUTE_TOO_LONG : ℕ
 REVROUTE_TOO_LONG = 9
+
+-- the table is none of this network
+abbrev pub REVROUTE_NO_TABLE : ℕ
+REVROUTE_NO_TABLE = 10

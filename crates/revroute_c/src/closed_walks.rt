@@ -2,19 +2,17 @@
 
 ghost use Rattle.std.specs.Prelude.{◌≡◌, ◌≢◌, ◌≤◌, ◌<◌, ◌⊎◌, ◌↔◌, length, map, None};
 ghost use Rattle.fr_graph.specs.declared.fault.NetFault.TheVariants.{Memory};
-ghost use Rattle.revroute_c.specs.ClosedWalks.{HasNoWalkOfChange, HasNoWalkOfNetwork, IsGiven, IsLength, IsNoWalk, IsWalkOf, IsWalkOfChange, IsWalkOfNetwork};
+ghost use Rattle.revroute_c.specs.ClosedWalks.{HasNoWalkOfChange, HasNoWalkOfNetwork, IsNoWalk, IsWalkOf, IsWalkOfChange, IsWalkOfNetwork};
 ghost use Rattle.revroute_c.specs.Records.{link_of};
+ghost use Rattle.revroute_c.specs.Replies.{IsGiven, IsLength};
 
-use crate::questions::NO_NETWORK;
 use crate::records::{Link, LinkEdit, first_unknown};
-use crate::replies::{ANSWERED, NO_MEMORY, TOO_SHORT, hand_out};
+use crate::replies::hand_out;
 use crate::rounds::{edited, network_of};
+use crate::statuses::{ANSWERED, NO_MEMORY, NO_NETWORK, NO_WALK, TOO_SHORT};
 use fr_graph::{EditFault, MAX_EDITS, NetFault};
 use fr_route::Session;
 use std::alloc::Global;
-
-/// No closed walk refuses that.
-pub(crate) const NO_WALK: u32 = 7;
 
 /// Writes the closed walk for which these edits are refused, if there is one. `size` has to be 0.
 pub(crate) fn walk_of_change(

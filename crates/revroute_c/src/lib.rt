@@ -10,14 +10,15 @@ ghost use Rattle.fr_lines.specs.Requests.{make_edits, move_dest, new_network, re
 ghost use Rattle.fr_route.specs.Blank.{is_blank as is_blank_line};
 ghost use Rattle.fr_route.specs.States.{IsReport};
 ghost use Rattle.fr_route.specs.Told.{IsLineTold};
-ghost use Rattle.revroute_c.specs.Replies.{least_room, IsAnswered, IsWanted, IsWritten};
+ghost use Rattle.revroute_c.specs.Replies.{least_room, IsAnswered, IsGiven, IsLength, IsWanted, IsWritten};
 ghost use Rattle.revroute_c.specs.Statuses.{REVROUTE_ANSWERED, REVROUTE_BLANK, REVROUTE_TOO_SHORT, REVROUTE_NO_MEMORY, REVROUTE_NO_NETWORK};
-ghost use Rattle.revroute_c.specs.Statuses.{REVROUTE_NO_ROUTE, REVROUTE_REFUSED, REVROUTE_NO_WALK, REVROUTE_BEGUN, REVROUTE_TOO_LONG};
+ghost use Rattle.revroute_c.specs.Statuses.{REVROUTE_NO_ROUTE, REVROUTE_REFUSED, REVROUTE_NO_WALK, REVROUTE_BEGUN, REVROUTE_TOO_LONG, REVROUTE_NO_TABLE};
 ghost use Rattle.revroute_c.specs.Pieces.{longest_line, EndsBlank, EndsLine, IsTooLong, IsWantedAtEnd};
-ghost use Rattle.revroute_c.specs.ClosedWalks.{HasNoWalkOfChange, HasNoWalkOfNetwork, IsGiven, IsLength, IsWalkOfChange, IsWalkOfNetwork};
+ghost use Rattle.revroute_c.specs.ClosedWalks.{HasNoWalkOfChange, HasNoWalkOfNetwork, IsWalkOfChange, IsWalkOfNetwork};
 ghost use Rattle.revroute_c.specs.Records.{AreKnown, edit_of, link_of};
 ghost use Rattle.revroute_c.specs.Rounds.{IsChangeRefused, IsMoveRefused, IsNewRefused, IsNewRound};
 ghost use Rattle.revroute_c.specs.Questions.{AreHopsWritten, HasNoRoute, IsRouteLength, IsRouteWritten, TellsHop, ends};
+ghost use Rattle.revroute_c.specs.Tables.{ArePushesOf, IsNoTable};
 
 mod closed_walks;
 mod engine;
@@ -28,19 +29,20 @@ mod questions;
 mod records;
 mod replies;
 mod rounds;
+mod statuses;
+mod tables;
 
 use closed_walks::{walk_of_change, walk_of_network};
 use fr_route::{VERSION, is_blank};
 use handle::Handle;
 use pieces::{finish_line, take_anew, take_front};
-use questions::{
-    HOP_OF_NO_NETWORK, NO_NETWORK, counts_in, hop_in, hops_in, links_in, report_in, route_in,
-    size_in,
-};
+use questions::{HOP_OF_NO_NETWORK, counts_in, hop_in, hops_in, links_in, report_in, route_in, size_in};
 use records::{Link, LinkEdit, Refusal, Round, first_unknown, unknown_at};
-use replies::{BLANK, LEAST_ROOM, TOO_SHORT, hand_out, reply, reply_anew};
-use rounds::{REFUSED, change_in, move_in, open_anew, open_in};
+use replies::{LEAST_ROOM, hand_out, reply, reply_anew};
+use rounds::{change_in, move_in, open_anew, open_in};
+use statuses::{BLANK, NO_NETWORK, REFUSED, TOO_SHORT};
 use std::alloc::Global;
+use tables::pushes_in;
 
 /// Answers a line, without its line end, in the session behind the handle; a null handle is a session that holds no network yet.
 /// The answer goes to the front of the buffer, with no line end, and its length to `size`. `BLANK` says that the line is blank and
@@ -357,9 +359,9 @@ pub extern "C" fn revroute_next_hops(handle: &mut Handle, hops: &mut [u32], size
     }
 }
 
-/// Writes the nodes that the last accepted round rerouted, in push order (after a new network in rising order), into the front of the place,
-/// and how many there are to `size`.
-/// `TOO_SHORT` says that the place is as it was, and has less room. `O(r)` for r nodes.
+/// Writes the nodes that the last accepted round rerouted, in push order, into the front of the place, and how many there are to `size`. A new
+/// network reroutes the nodes whose hop is another one than in the network before; a number that is no node of one of them counts as cut off
+/// there. `TOO_SHORT` says that the place is as it was, and has less room. `O(r)` for r nodes.
 #[unsafe(no_mangle)]
 pub extern "C" fn revroute_rerouted(handle: &mut Handle, nodes: &mut [u32], size: &mut usize) -> u32
     ensures same { (handle.new.session ≡ handle.old.session) × (handle.new.rerouted ≡ handle.old.rerouted) × (handle.new.begun ≡ handle.old.begun) }
@@ -372,6 +374,35 @@ pub extern "C" fn revroute_rerouted(handle: &mut Handle, nodes: &mut [u32], size
     match handle.engine_mut() {
         Some(engine) => hand_out(&engine.rerouted, nodes, size),
         None => hand_out(&[], nodes, size),
+    }
+}
+
+/// Writes the nodes whose hop in a table of the caller's is another one than here, in push order, into the front of the place, and how many there
+/// are to `size`. The table has a hop for each node, as [`revroute_next_hops`] writes them; it may have loops. `TOO_SHORT` says that the place has
+/// less room, `NO_TABLE` that the table has not one hop for each node or names no node in one, `NO_NETWORK` that there is no network yet, and
+/// `NO_MEMORY` that an allocation was refused; `size` is 0 after these three. After each of the four the place is as it was. Nothing changes. `O(n)`.
+#[unsafe(no_mangle)]
+pub extern "C" fn revroute_pushes(
+    alloc: Global,
+    handle: &mut Handle,
+    table: &[u32],
+    nodes: &mut [u32],
+    size: &mut usize,
+) -> u32
+    ensures same { (handle.new.session ≡ handle.old.session) × (handle.new.rerouted ≡ handle.old.rerouted) × (handle.new.begun ≡ handle.old.begun) }
+    ensures kept { handle.new.at ≡ handle.old.at }
+    ensures written { result ≡ REVROUTE_ANSWERED → IsGiven (ArePushesOf handle.old.session table.now) nodes.old nodes.new size.new }
+    ensures too_short { result ≡ REVROUTE_TOO_SHORT → (length nodes.old < size.new) × IsLength (ArePushesOf handle.old.session table.now) size.new }
+    ensures no_network { (result ≡ REVROUTE_NO_NETWORK) ↔ (handle.old.session ≡ None) }
+    ensures no_table { result ≡ REVROUTE_NO_TABLE → IsNoTable handle.old.session table.now }
+    ensures unchanged { ¬ (result ≡ REVROUTE_ANSWERED) → nodes.new ≡ nodes.old }
+    ensures none { REVROUTE_TOO_SHORT < result → size.new ≡ 0 }
+    ensures status { (result ≡ REVROUTE_ANSWERED) ⊎ ((REVROUTE_TOO_SHORT ≤ result) × (result ≤ REVROUTE_NO_NETWORK)) ⊎ (result ≡ REVROUTE_NO_TABLE) }
+{
+    *size = 0;
+    match handle.engine_mut() {
+        Some(engine) => pushes_in(&engine.session, alloc, table, nodes, size),
+        None => NO_NETWORK,
     }
 }
 

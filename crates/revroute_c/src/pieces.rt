@@ -12,16 +12,11 @@ ghost use Rattle.revroute_c.specs.Replies.{least_room, IsAnswered, IsAnswerLengt
 
 use crate::engine::Engine;
 use crate::handle::Handle;
-use crate::replies::{ANSWERED, BLANK, NO_MEMORY, TOO_SHORT, reply};
+use crate::replies::reply;
+use crate::statuses::{ANSWERED, BEGUN, BLANK, NO_MEMORY, TOO_LONG, TOO_SHORT};
 use fr_route::is_blank;
 use std::alloc::Global;
 use std::mem::replace;
-
-/// No line has ended, and the bytes are kept.
-pub(crate) const BEGUN: u32 = 8;
-
-/// The line is longer than [`LONGEST_LINE`].
-pub(crate) const TOO_LONG: u32 = 9;
 
 /// The longest line that is taken in pieces, in bytes.
 pub(crate) const LONGEST_LINE: usize = 16_777_216;

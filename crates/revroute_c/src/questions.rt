@@ -5,21 +5,16 @@ ghost use Rattle.fr_route.specs.States.{IsReport};
 ghost use Rattle.revroute_c.specs.Questions.{number_of, AreHopNumbers, AreHopsWritten, HasNoRoute, IsHopNumber, IsRouteLength, IsRouteWritten, TellsHop, ends};
 ghost use Rattle.revroute_c.specs.Replies.{IsWritten};
 
-use crate::replies::{ANSWERED, NO_MEMORY, TOO_SHORT, hand_out};
+use crate::replies::hand_out;
+use crate::statuses::{ANSWERED, NO_MEMORY, NO_NETWORK, NO_ROUTE, TOO_SHORT};
 use fr_route::{Hop, Router, Session, Walked};
 use std::alloc::{AllocError, Global};
 
-/// There is no network yet.
-pub(crate) const NO_NETWORK: u32 = 4;
-
-/// There is no route to the destination.
-pub(crate) const NO_ROUTE: u32 = 5;
-
 /// In place of a hop: the node is the destination.
-const HERE: u32 = u32::MAX;
+pub(crate) const HERE: u32 = u32::MAX;
 
 /// In place of a hop: the node is cut off.
-const CUT_OFF: u32 = u32::MAX - 1;
+pub(crate) const CUT_OFF: u32 = u32::MAX - 1;
 
 /// In place of a hop: there is no such node.
 const HOP_OF_NO_NODE: u32 = u32::MAX - 2;

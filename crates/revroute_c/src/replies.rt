@@ -11,20 +11,9 @@ ghost use Rattle.revroute_c.specs.Replies.{least_room, IsAnswered, IsAnswerLengt
 
 use crate::engine::Engine;
 use crate::handle::Handle;
+use crate::statuses::{ANSWERED, BLANK, NO_MEMORY, TOO_SHORT};
 use fr_route::AnswerFault;
 use std::alloc::Global;
-
-/// What was asked for stands in the buffer.
-pub(crate) const ANSWERED: u32 = 0;
-
-/// The line is blank, and has no answer.
-pub(crate) const BLANK: u32 = 1;
-
-/// The buffer has too little room, and nothing has changed.
-pub(crate) const TOO_SHORT: u32 = 2;
-
-/// An allocation was refused, and nothing has changed.
-pub(crate) const NO_MEMORY: u32 = 3;
 
 /// The least room for an answer, in bytes: each answer that changes the session fits into it. So where a text is too long for a
 /// buffer of this room, it changes nothing.

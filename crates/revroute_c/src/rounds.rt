@@ -16,15 +16,11 @@ ghost use Rattle.revroute_c.specs.Rounds.{IsChangeRefused, IsEditRefused, IsMove
 
 use crate::engine::Engine;
 use crate::handle::Handle;
-use crate::questions::NO_NETWORK;
 use crate::records::{Link, LinkEdit, Refusal, Round, edits_of, pairs_of, round_of};
-use crate::replies::{ANSWERED, NO_MEMORY};
+use crate::statuses::{ANSWERED, NO_MEMORY, NO_NETWORK, REFUSED};
 use fr_graph::{EditFault, MAX_EDITS, MAX_LINKS, Net, NetFault};
 use fr_route::{Change, RouteFault, Router, fault_number};
 use std::alloc::Global;
-
-/// The call is refused, and nothing has changed.
-pub(crate) const REFUSED: u32 = 6;
 
 /// The first step of a walk.
 fn step_of(walk: &[u32]) -> (u32, u32)
@@ -99,7 +95,7 @@ fn opened(alloc: Global, nodes: u32, dest: u32, links: &[Link]) -> Result<Router
     }
 }
 
-/// Takes a network in place of the last one, and tells which nodes are not cut off.
+/// Takes a network in place of the last one, and tells which nodes have another hop then.
 pub(crate) fn open_in(
     engine: &mut Engine,
     alloc: Global,
@@ -124,7 +120,7 @@ pub(crate) fn open_in(
             return REFUSED;
         }
     };
-    let Ok(rerouted) = router.joined(alloc) else {
+    let Ok(rerouted) = router.changed_since(alloc, engine.session.router()) else {
         return NO_MEMORY;
     };
     *round = round_of(router.report());

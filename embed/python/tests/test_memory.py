@@ -147,6 +147,22 @@ class MemoryTest(unittest.TestCase):
         network.close()
         self.assertEqual(ctypes.c_long.in_dll(library, "refusing_held").value, 0)
 
+    def test_pushes_without_memory_change_nothing(self):
+        left = ctypes.c_long.in_dll(library, "refusing_left")
+        with revroute.Network(4, 0, [(0, 1), (1, 2), (2, 3)]) as network:
+            found, number = None, 0
+            while found is None:
+                number += 1
+                left.value = number
+                try:
+                    found = network.pushes({1: 2, 2: 1})
+                except MemoryError:
+                    self.assertEqual(left.value, 0)
+                left.value = 0
+            self.assertEqual(found, [(0, revroute.NoHop.HERE), (1, 0), (2, 1), (3, 2)])
+            self.assertGreater(number, 1)
+        self.assertEqual(ctypes.c_long.in_dll(library, "refusing_held").value, 0)
+
     @unittest.skipUnless(set_nomemory, "Python has no heap that refuses")
     def test_where_python_has_no_memory_a_change_of_a_network_is_made_or_not(self):
         for many in (1, 2):

@@ -1,6 +1,7 @@
 """Networks by calls, compared with sessions by lines, and graphs of networkx where that is installed."""
 
 import array
+import collections
 import copy
 import doctest
 import gc
@@ -10,6 +11,7 @@ import pickle
 import random
 import signal
 import threading
+import types
 import unittest
 import warnings
 from concurrent.futures import ThreadPoolExecutor
@@ -100,17 +102,34 @@ class ByLines:
         return [tuple(map(int, it.split(">"))) for it in self.session.answer('["links"]').split()[1:]]
 
 
-def joined(hops):
-    return [x for x, hop in enumerate(hops) if hop is not NoHop.CUT_OFF]
-
-
 def push_order(before, hops):
-    """The nodes whose hop differs, by how many of them lie on the node's route, itself included, and then by number."""
+    """The nodes whose hop differs, by how many of them lie on the node's route, itself included, and then by number.
+    A number that is no node of one of the networks is cut off there."""
+    nodes = range(max(len(before), len(hops)))
+    old, new = ([*table, *[NoHop.CUT_OFF] * (len(nodes) - len(table))] for table in (before, hops))
 
     def wave(x):
-        return (hops[x] != before[x]) + (0 if isinstance(hops[x], NoHop) else wave(hops[x]))
+        return (new[x] != old[x]) + (0 if isinstance(new[x], NoHop) else wave(new[x]))
 
-    return sorted((x for x, hop in enumerate(hops) if hop != before[x]), key=lambda x: (wave(x), x))
+    return sorted((x for x in nodes if new[x] != old[x]), key=lambda x: (wave(x), x))
+
+
+def drawn_table(draw, hops):
+    """A table with some of these hops, and others that are drawn, often with loops."""
+    kept = draw.choice((0, 0.25, 0.5, 0.75, 1))
+    nodes = range(len(hops))
+    others = [(NoHop.CUT_OFF, NoHop.HERE, draw.choice(nodes), draw.choice(nodes)) for _ in nodes]
+    return [hop if draw.random() < kept else draw.choice(some) for hop, some in zip(hops, others)]
+
+
+def goes_round(table, node):
+    """Whether a table leads from a node back to it."""
+    at = table[node]
+    for _ in table:
+        if at == node or isinstance(at, NoHop):
+            break
+        at = table[at]
+    return at == node
 
 
 class NetworkTests(unittest.TestCase):
@@ -122,9 +141,21 @@ class NetworkTests(unittest.TestCase):
         self.assertEqual(network.counts(), lines.numbers("counts"))
         self.assertEqual(network.links(), lines.links())
         self.assertEqual([network.walk(x) for x in range(lines.nodes)], [lines.walk(x) for x in range(lines.nodes)])
-        changed = joined(hops) if before is None else push_order(before, hops)
-        self.assertEqual(network.changed(), [(x, hops[x]) for x in changed])
+        self.assertEqual(network.changed(), [(x, hops[x]) for x in push_order(before, hops)])
+        self.assertEqual(network.table(), dict(enumerate(hops)))
         return hops
+
+    def push_drawn(self, network, draw, hops):
+        """Makes the pushes of a drawn table. A new loop would pass the node that was pushed."""
+        before = drawn_table(draw, hops)
+        wanted = [(x, hops[x]) for x in push_order(before, hops)]
+        shuffled = {x: before[x] for x in draw.sample(range(len(hops)), len(hops))}
+        for table in (before, shuffled, {x: hop for x, hop in shuffled.items() if hop is not NoHop.CUT_OFF}):
+            self.assertEqual(network.pushes(table), wanted)
+        for node, hop in network.pushes(before):
+            before[node] = hop
+            self.assertFalse(goes_round(before, node), before)
+        self.assertEqual((before, network.pushes(before)), (hops, []))
 
     def test_calls_tell_what_lines_tell(self):
         accepted = refused = 0
@@ -133,7 +164,7 @@ class NetworkTests(unittest.TestCase):
             nodes = draw.randrange(1, 9)
             links, dest = drawn(draw, nodes), draw.randrange(nodes)
             network, lines = Network(nodes, dest, links), ByLines(nodes, dest, links)
-            before = self.look(network, lines, None)
+            before = self.look(network, lines, [])
             for _ in range(30):
                 edits = [drawn_edit(draw, nodes) for _ in range(draw.randrange(4))]
                 one, dest = drawn_edit(draw, nodes), draw.randrange(nodes + 1)
@@ -151,6 +182,7 @@ class NetworkTests(unittest.TestCase):
                     self.assertEqual("turned {} cut {}".format(*report), told)
                     self.assertEqual(network.report, report)
                     before = self.look(network, lines, before)
+                    self.push_drawn(network, draw, before)
                     accepted += 1
                 except Refused as it:
                     self.assertEqual(f"refused {it.number}", told)
@@ -384,6 +416,69 @@ class NetworkTests(unittest.TestCase):
         self.assertEqual(network.changed(), [(7, None)])
         self.assertEqual(network.links(), [("x", ("home", 1)), (None, "x"), (7, None)])
 
+    def test_a_table_can_be_changed_while_its_pushes_are_made(self):
+        network = Network(5, "a", [("b", "a"), ("c", "a"), ("d", "b"), ("d", "c"), ("e", "d")], names="abcde")
+        table, pushed = {}, []
+        for node, hop in network.pushes(table):
+            pushed.append(node)
+            table[node] = hop
+        self.assertEqual((pushed, table), ([*"abcde"], network.table()))
+        del table["b"]
+        network.cut("b", "a")
+        for node, hop in network.pushes(table):
+            self.assertEqual((node, hop), ("d", "c"))
+            table[node] = hop
+            break
+        network.join("b", "a")
+        self.assertEqual(network.pushes(table), [("b", "a")])
+        table |= network.pushes(table)
+        self.assertEqual((table, network.pushes(table)), (network.table(), []))
+
+    def test_a_node_without_a_hop_is_as_one_that_is_cut_off(self):
+        network = Network(4, 0, [(1, 0), (2, 1)])
+        settled, cut = [NoHop.HERE, 0, 1, NoHop.CUT_OFF], NoHop.CUT_OFF
+        self.assertEqual(network.hops(), settled)
+        for table in ({}, [], (), {3: cut}, {3: None}, [None] * 4, [cut] * 4, [None, cut], {1: None, 0: cut}):
+            self.assertEqual(network.pushes(table), [*enumerate(settled[:3])], table)
+        some = dict(enumerate(settled[:3]))
+        for table in (
+            settled,
+            tuple(settled),
+            settled[:3],
+            [*settled[:3], None],
+            collections.deque(settled),
+            collections.UserList(settled),
+            dict(enumerate(settled)),
+            some,
+            collections.ChainMap({3: None}, some),
+            types.MappingProxyType(some),
+        ):
+            self.assertEqual(network.pushes(table), [], table)
+
+    def test_a_wrong_table_has_no_pushes(self):
+        network = Network(3, 0, [(1, 0), (2, 1)])
+        for node in (3, -1, (1 << 32) - 1, (1 << 32) - 2, 1 << 32, 1 << 80):
+            for table in ({node: 0}, {1: node}, {node: None}, [NoHop.HERE, node], [NoHop.HERE, 0, node]):
+                with self.assertRaises(NoSuchNode) as met:
+                    network.pushes(table)
+                self.assertEqual(met.exception.node, node)
+        for table in ([NoHop.HERE, 0, 1, None], [None] * 5, range(4)):
+            self.assertRaises(ValueError, network.pushes, table)
+        for table in (None, 7, {1, 2}, iter([0]), object(), {"1": 0}, {1: "0"}, {1: 1.0}, ["0"], [[0]], {(): 0}):
+            self.assertRaises(TypeError, network.pushes, table)
+        named = Network(2, "a", [("b", "a")], names=["a", "b"])
+        for table in ({"c": "a"}, {"b": "c"}, {0: "a"}, {"b": 0}, ["c"], [1]):
+            self.assertRaises(NoSuchNode, named.pushes, table)
+        self.assertRaises(TypeError, named.pushes, {"b": []})
+        self.assertEqual(network.pushes(network.table()), [])
+
+    def test_none_can_be_the_name_of_a_node(self):
+        network = Network(3, "home", [(None, "home"), ("x", None)], names=[None, "home", "x"])
+        self.assertEqual(network.table(), {None: "home", "home": NoHop.HERE, "x": None})
+        self.assertEqual(network.pushes({"x": None}), [("home", NoHop.HERE), (None, "home")])
+        self.assertEqual(network.pushes(["home", NoHop.HERE]), [("x", None)])
+        self.assertEqual(network.pushes(network.table()), [])
+
     def test_hops_are_written_into_buffers(self):
         network = Network(3, 0, [(1, 0)])
         wanted = [Network.HERE, 0, Network.CUT_OFF]
@@ -404,11 +499,14 @@ class NetworkTests(unittest.TestCase):
         hops = numpy.full(4, 7, numpy.uint32)
         self.assertEqual((network.hops_into(hops), [*hops]), (3, [Network.HERE, 0, Network.CUT_OFF, 7]))
         self.assertRaises(TypeError, network.hops_into, numpy.zeros(3, numpy.float32))
+        self.assertEqual(network.pushes(numpy.array([1, 0, 2])), [(0, NoHop.HERE), (2, NoHop.CUT_OFF)])
         self.assertEqual(network.next_hop(numpy.int64(1)), 0)
 
     def test_a_closed_network_is_an_error(self):
         with Network(2, 0, [(1, 0)]) as network:
             pass
+        for call in (network.table, lambda: network.pushes({}), lambda: network.pushes([NoHop.HERE, 0])):
+            self.assertRaises(ValueError, call)
         for call in (network.hops, network.changed, network.links, network.counts, lambda: network.walk(1), lambda: network.cut(1, 0)):
             self.assertRaises(ValueError, call)
         self.assertRaises(ValueError, network.hops_into, array.array("I", [7] * 2))

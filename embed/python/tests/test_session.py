@@ -36,17 +36,16 @@ def examples():
         yield path.name, path.read_bytes().split(b"\n"), path.with_suffix(".answers").read_text().splitlines()
 
 
-def joined(hops):
-    return [x for x, hop in enumerate(hops) if hop is not revroute.NoHop.CUT_OFF]
-
-
 def push_order(before, hops):
-    """The nodes whose hop differs, by how many of them lie on the node's route, itself included, and then by number."""
+    """The nodes whose hop differs, by how many of them lie on the node's route, itself included, and then by number.
+    A number that is no node of one of the networks is cut off there."""
+    nodes = range(max(len(before), len(hops)))
+    old, new = ([*table, *[revroute.NoHop.CUT_OFF] * (len(nodes) - len(table))] for table in (before, hops))
 
     def wave(x):
-        return (hops[x] != before[x]) + (0 if isinstance(hops[x], revroute.NoHop) else wave(hops[x]))
+        return (new[x] != old[x]) + (0 if isinstance(new[x], revroute.NoHop) else wave(new[x]))
 
-    return sorted((x for x, hop in enumerate(hops) if hop != before[x]), key=lambda x: (wave(x), x))
+    return sorted((x for x in nodes if new[x] != old[x]), key=lambda x: (wave(x), x))
 
 
 class LongerThanItIs(bytes):
@@ -122,6 +121,50 @@ class SessionTest(unittest.TestCase):
             with self.subTest(name):
                 self.assertEqual(answers([it.decode() for it in lines]), wanted)
 
+    def look_at_changes(self, session, before, after):
+        """The nodes are told whose hop differs, in push order; a table with the hops from before has the same
+        pushes."""
+        rerouted = push_order(before, after)
+        changed = [(x, after[x] if x < len(after) else revroute.NoHop.CUT_OFF) for x in rerouted]
+        self.assertEqual((session.rerouted(), session.changed()), (rerouted, changed))
+        if len(before) == len(after):
+            self.assertEqual(session.pushes(before), changed)
+            self.assertEqual(session.pushes(dict(enumerate(before))), changed)
+
+    def test_after_a_network_the_difference_is_told(self):
+        before = []
+        with revroute.Session() as session:
+            for nodes, dest, links in (
+                (4, 0, [[0, 1], [1, 2], [2, 3]]),
+                (7, 0, [[1, 0], [2, 6], [3, 1], [4, 0], [5, 4], [6, 4]]),
+                (3, 2, [[0, 1], [1, 2]]),
+                (3, 0, [[0, 1], [1, 2]]),
+                (3, 0, [[0, 1], [1, 2]]),
+                (6, 5, [[4, 5], [3, 4], [2, 3], [1, 2], [0, 1]]),
+                (1, 0, []),
+                (5, 4, []),
+            ):
+                session.answer(f'["net",{nodes},{dest},{links}]')
+                after = session.next_hops()
+                self.look_at_changes(session, before, after)
+                for x in range(len(after), len(before)):
+                    self.assertRaises(revroute.NoSuchNode, session.next_hop, x)
+                before = after
+
+    def test_a_wrong_table_has_no_pushes(self):
+        with revroute.Session() as session:
+            self.assertEqual([session.pushes(it) for it in ({}, [])], [[], []])
+            self.assertRaises(ValueError, session.pushes, [revroute.NoHop.HERE])
+            self.assertRaises(revroute.NoSuchNode, session.pushes, {0: 0})
+            session.answer(CHAIN)
+            self.assertEqual(session.pushes({1: 0, 2: 1}), [(0, revroute.NoHop.HERE), (3, 2)])
+            for table in ({4: 0}, {0: 4}, [-1], [1 << 40]):
+                self.assertRaises(revroute.NoSuchNode, session.pushes, table)
+            self.assertRaises(ValueError, session.pushes, [None] * 5)
+            self.assertRaises(TypeError, session.pushes, None)
+            with mock.patch.object(session, "size", lambda: revroute.Size(5, 3)):
+                self.assertRaises(ValueError, session.pushes, {})
+
     def test_questions_tell_what_lines_tell(self):
         accepted = 0
         for name, lines, _ in examples():
@@ -133,8 +176,7 @@ class SessionTest(unittest.TestCase):
                         self.assertEqual(after, before)
                         continue
                     accepted += 1
-                    changed = joined(after) if line.startswith(b'["net"') else push_order(before, after)
-                    self.assertEqual(session.rerouted(), changed)
+                    self.look_at_changes(session, before, after)
                     self.assertEqual([session.next_hop(x) for x in range(len(after))], after)
                     self.assertEqual(session.last_answer(), answer)
                     told = [it.value if isinstance(it, revroute.NoHop) else str(it) for it in after]
@@ -177,7 +219,8 @@ class SessionTest(unittest.TestCase):
 
     def test_before_the_first_network_there_is_nothing_to_tell(self):
         with revroute.Session() as session:
-            self.assertEqual([session.next_hops(), session.rerouted(), session.counts()], [[], [], []])
+            self.assertEqual([session.next_hops(), session.counts()], [[], []])
+            self.assertEqual([session.rerouted(), session.changed()], [[], []])
             self.assertEqual([session.links(), session.report(), session.size()], [[], None, None])
             self.assertRaises(IndexError, session.next_hop, 0)
             self.assertRaises(IndexError, session.route, 0)
@@ -191,8 +234,9 @@ class SessionTest(unittest.TestCase):
             self.assertRaises(TypeError, session.next_hop, "1")
             self.assertRaises(TypeError, session.route, 1.0)
         numbers = session.next_hops, session.rerouted, session.counts, session.links, session.report, session.size
-        for question in (*numbers, lambda: session.next_hop(1), lambda: session.route(1)):
+        for question in (*numbers, session.changed, lambda: session.next_hop(1), lambda: session.route(1)):
             self.assertRaises(ValueError, question)
+        self.assertRaises(ValueError, session.pushes, {})
 
     def test_threads_with_a_session_each_answer_alike(self):
         for name, lines, wanted in examples():

@@ -1,7 +1,9 @@
-//! A mesh that loses links and regains them. The next hops that change are pushed to the nodes' forwarding tables, one by one. No loop may
-//! be in the tables after any push. After the last push of a change the tables are followed from every node.
+//! A mesh that loses links and regains them. The next hops that change are pushed to the nodes' forwarding tables,
+//! one by one. No loop may be in the tables after any push. Now and then the next link fails or comes back before all
+//! is pushed; then the pushes go on from the tables as they are. Once all is pushed the tables are followed from
+//! every node.
 
-use revroute::{Hop, Network};
+use revroute::{Hop, Network, Refused, Report};
 use std::error::Error;
 
 const SIDE: u32 = 20;
@@ -84,34 +86,94 @@ fn draw(drawn: &mut u64, below: usize) -> usize {
     (*drawn >> 33) as usize % below
 }
 
-fn main() -> Result<(), Box<dyn Error>> {
-    let mut network = Network::new(SIDE * SIDE, HOME, &mesh())?;
-    let mut tables = vec![Hop::CutOff; (SIDE * SIDE) as usize];
-    let (mut running, mut failed) = (mesh(), Vec::new());
-    let mut up = Up(vec![false; (SIDE * SIDE * SIDE * SIDE) as usize]);
-    running.iter().for_each(|&link| up.set(link, true));
-    let mut drawn = 1;
-    for _ in 0..CHANGES {
-        for (node, hop) in network.changed()? {
-            tables[node as usize] = hop;
+/// The mesh: its network, the tables of its nodes, and the links that are up and down.
+struct Mesh {
+    network: Network,
+    tables: Vec<Hop>,
+    running: Vec<(u32, u32)>,
+    failed: Vec<(u32, u32)>,
+    up: Up,
+    drawn: u64,
+}
+
+impl Mesh {
+    fn new() -> Result<Mesh, Refused> {
+        let mut up = Up(vec![false; (SIDE * SIDE * SIDE * SIDE) as usize]);
+        mesh().iter().for_each(|&link| up.set(link, true));
+        Ok(Mesh {
+            network: Network::new(SIDE * SIDE, HOME, &mesh())?,
+            tables: vec![Hop::CutOff; (SIDE * SIDE) as usize],
+            running: mesh(),
+            failed: Vec::new(),
+            up,
+            drawn: 1,
+        })
+    }
+
+    /// A link fails or comes back.
+    fn change(&mut self) -> Result<Report, Refused> {
+        if !self.failed.is_empty() && draw(&mut self.drawn, 2) == 0 {
+            let at = draw(&mut self.drawn, self.failed.len());
+            let (u, v) = self.failed.swap_remove(at);
+            self.running.push((u, v));
+            self.up.set((u, v), true);
+            self.network.join(u, v)
+        } else {
+            let at = draw(&mut self.drawn, self.running.len());
+            let (u, v) = self.running.swap_remove(at);
+            self.failed.push((u, v));
+            self.up.set((u, v), false);
+            self.forget(u, v);
+            self.network.cut(u, v)
+        }
+    }
+
+    /// A link that fails takes the hops over it out of the tables.
+    fn forget(&mut self, u: u32, v: u32) {
+        for (node, other) in [(u, v), (v, u)] {
+            if self.tables[node as usize] == Hop::To(other) {
+                self.tables[node as usize] = Hop::CutOff;
+            }
+        }
+    }
+
+    /// Pushes next hops, all or as many as are drawn, and returns whether these are all.
+    fn push(&mut self, is_settled: bool, is_interrupted: bool) -> Result<bool, Box<dyn Error>> {
+        let pushes = if is_settled {
+            self.network.changed()?
+        } else {
+            self.network.pushes(&self.tables)?
+        };
+        let last = match is_interrupted {
+            true => draw(&mut self.drawn, pushes.len() + 1),
+            false => pushes.len(),
+        };
+        for &(node, hop) in &pushes[..last] {
+            self.tables[node as usize] = hop;
             // A new loop would pass the node that was pushed.
-            if goes_round(&tables, node) {
+            if goes_round(&self.tables, node) {
                 return Err(format!("a loop passes node {node}").into());
             }
         }
-        follow_all(&tables, &up, network.report().cut_off)?;
-        if !failed.is_empty() && draw(&mut drawn, 2) == 0 {
-            let (u, v) = failed.swap_remove(draw(&mut drawn, failed.len()));
-            network.join(u, v)?;
-            running.push((u, v));
-            up.set((u, v), true);
-        } else {
-            let (u, v) = running.swap_remove(draw(&mut drawn, running.len()));
-            network.cut(u, v)?;
-            failed.push((u, v));
-            up.set((u, v), false);
+        Ok(last == pushes.len())
+    }
+}
+
+fn main() -> Result<(), Box<dyn Error>> {
+    let mut mesh = Mesh::new()?;
+    let mut is_settled = true;
+    for changes in 0..=CHANGES {
+        if changes > 0 {
+            mesh.change()?;
+        }
+        let is_interrupted = changes < CHANGES && draw(&mut mesh.drawn, 4) == 0;
+        is_settled = mesh.push(is_settled, is_interrupted)?;
+        if is_settled {
+            follow_all(&mesh.tables, &mesh.up, mesh.network.report().cut_off)?;
         }
     }
-    println!("{CHANGES} changes, no loop after any push, every table leads to the destination");
+    println!(
+        "{CHANGES} changes, some before all was pushed: no loop after any push, every table leads home"
+    );
     Ok(())
 }

@@ -1,6 +1,6 @@
 //! What stands behind a session or a network: the handle of the library, and the questions to it.
 
-use crate::{Hop, NoMemory, Report, Size, listed, sys};
+use crate::{Hop, NoMemory, Report, Size, TableFault, listed, sys, table};
 use std::cell::UnsafeCell;
 
 /// The owner of a handle. Questions change nothing, though the library takes the handle as its own for each: so it stands in a cell, and
@@ -45,6 +45,29 @@ impl Engine {
 
     pub fn rerouted(&self) -> Result<Vec<u32>, NoMemory> {
         self.all_of(sys::revroute_rerouted)
+    }
+
+    pub fn changed(&self) -> Result<Vec<(u32, Hop)>, NoMemory> {
+        self.with_hops(&self.rerouted()?)
+    }
+
+    pub fn pushes(&self, table: &[Hop]) -> Result<Vec<(u32, Hop)>, TableFault> {
+        let nodes = self.size().map_or(0, |size| size.nodes);
+        table::check(table, nodes)?;
+        let values = listed(table.iter().map(|hop| hop.value()))?;
+        let (hops, count) = (values.as_ptr(), values.len());
+        // each call makes the order anew, so the first one has room for all nodes
+        let found = filled_with(count, |places, room, length| {
+            // SAFETY: as `all_of` hands them on, and the hops are a slice of their own.
+            unsafe { sys::revroute_pushes(self.handle.get(), hops, count, places, room, length) }
+        })?;
+        Ok(self.with_hops(&found.unwrap_or_default())?)
+    }
+
+    /// Nodes with their next hops. A node that is no longer one has none.
+    fn with_hops(&self, nodes: &[u32]) -> Result<Vec<(u32, Hop)>, NoMemory> {
+        let hop = |node| self.next_hop(node).unwrap_or(Hop::CutOff);
+        listed(nodes.iter().map(|&node| (node, hop(node))))
     }
 
     pub fn counts(&self) -> Result<Vec<u64>, NoMemory> {
@@ -98,7 +121,15 @@ impl Drop for Engine {
 pub fn filled<T: Copy + Default>(
     fill: impl Fn(*mut T, usize, *mut usize) -> u32,
 ) -> Result<Option<Vec<T>>, NoMemory> {
-    let mut found: Vec<T> = Vec::new();
+    filled_with(0, fill)
+}
+
+/// The same with so many places at first.
+fn filled_with<T: Copy + Default>(
+    room: usize,
+    fill: impl Fn(*mut T, usize, *mut usize) -> u32,
+) -> Result<Option<Vec<T>>, NoMemory> {
+    let mut found = listed((0..room).map(|_| T::default()))?;
     loop {
         let mut length = 0;
         match fill(found.as_mut_ptr(), found.len(), &mut length) {

@@ -24,6 +24,15 @@ impl Hop {
         }
     }
 
+    /// The hop as the library has it, where it names a node.
+    pub(crate) fn value(self) -> u32 {
+        match self {
+            Hop::To(node) => node,
+            Hop::Here => sys::HERE,
+            Hop::CutOff => sys::CUT_OFF,
+        }
+    }
+
     /// The next hop, if there is one. `O(1)`.
     pub fn node(self) -> Option<u32> {
         match self {

@@ -27,12 +27,14 @@ mod questions;
 mod refused;
 mod session;
 mod sys;
+mod table;
 
 pub use hop::{Hop, Report, Size};
 pub use network::{Edit, Network, Walk};
 pub use pieces::TakeFault;
 pub use refused::{Refused, RefusedEdit};
 pub use session::Session;
+pub use table::TableFault;
 
 use std::fmt;
 use std::str;

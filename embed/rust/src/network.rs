@@ -1,7 +1,7 @@
 //! A network by typed calls.
 
 use crate::engine::{Engine, filled};
-use crate::{Hop, NoMemory, Refused, RefusedEdit, Report, Size, listed, sys};
+use crate::{Hop, NoMemory, Refused, RefusedEdit, Report, Size, TableFault, listed, sys};
 use std::fmt;
 use std::iter::FusedIterator;
 
@@ -255,9 +255,9 @@ impl Network {
         }
     }
 
-    /// The nodes whose next hop the last change changed, in push order, each with what it is now: each behind the changed nodes on its new
-    /// route. At first all that are not cut off, in rising order.
-    /// What is refused leaves them. `O(k)` for k nodes.
+    /// The nodes whose next hop the last change changed, each with what it is now, in push order: each after the
+    /// changed nodes on its new route. At first these are all nodes that are not cut off. A refused change leaves
+    /// them as they were. `O(k)` for k nodes.
     ///
     /// ```
     /// use revroute::{Hop, Network};
@@ -272,8 +272,56 @@ impl Network {
     ///
     /// Where memory for the lists runs out.
     pub fn changed(&self) -> Result<Vec<(u32, Hop)>, NoMemory> {
-        let nodes = self.engine.rerouted()?;
-        listed(nodes.iter().map(|&node| (node, self.next_hop(node))))
+        self.engine.changed()
+    }
+
+    /// The nodes whose hop in a table of yours is not their [`next_hop`](Network::next_hop), each with its next hop, in
+    /// push order: each after those of them on its route. `O(n)`.
+    ///
+    /// Keep a table of what your routers have confirmed, and push the difference after each change. If the next
+    /// change comes before all is pushed, make it, and ask again: nothing has to be undone. At no moment does the
+    /// table have a loop that it did not have before.
+    ///
+    /// ```
+    /// use revroute::{Hop, Network, TableFault};
+    ///
+    /// /// Brings all routers up to date. `push` returns once the router has confirmed its hop, or false to stop.
+    /// fn update(
+    ///     network: &Network,
+    ///     table: &mut [Hop],
+    ///     mut push: impl FnMut(u32, Hop) -> bool,
+    /// ) -> Result<(), TableFault> {
+    ///     for (node, hop) in network.pushes(table)? {
+    ///         if !push(node, hop) {
+    ///             break;
+    ///         }
+    ///         table[node as usize] = hop;
+    ///     }
+    ///     Ok(())
+    /// }
+    ///
+    /// let mut network = Network::new(4, 0, &[(1, 0), (2, 1), (2, 3), (3, 0)])?;
+    /// let mut table = vec![Hop::CutOff; 4]; // no router has a hop yet
+    /// update(&network, &mut table, |_, _| true)?;
+    ///
+    /// table[1] = Hop::CutOff; // the link of 1 and 0 fails, and with it the hop over it
+    /// network.cut(1, 0)?;
+    /// assert_eq!(network.pushes(&table)?, [(2, Hop::To(3)), (1, Hop::To(2))]);
+    /// update(&network, &mut table, |node, _| node == 2)?; // interrupted before node 1
+    ///
+    /// network.join(1, 0)?; // the link comes back
+    /// update(&network, &mut table, |_, _| true)?;
+    /// assert_eq!(table, network.hops()?);
+    /// # Ok::<(), Box<dyn std::error::Error>>(())
+    /// ```
+    ///
+    /// # Errors
+    ///
+    /// [`Length`](TableFault::Length) if the table does not have one hop for each node;
+    /// [`NoSuchNode`](TableFault::NoSuchNode) for the first hop that names no node;
+    /// [`NoMemory`](TableFault::NoMemory) if memory runs out.
+    pub fn pushes(&self, table: &[Hop]) -> Result<Vec<(u32, Hop)>, TableFault> {
+        self.engine.pushes(table)
     }
 
     /// How often each node turned in the last round, in the order of the nodes. `O(n)`.

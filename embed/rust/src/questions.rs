@@ -1,6 +1,6 @@
 //! Questions to a session with numbers for answers, and no text between.
 
-use crate::{Hop, NoMemory, Report, Session, Size};
+use crate::{Hop, NoMemory, Report, Session, Size, TableFault};
 
 impl Session {
     /// Where a node sends on to; `None` where there is no such node, as before the first network. `O(1)`, without memory.
@@ -27,8 +27,10 @@ impl Session {
         self.engine.next_hops()
     }
 
-    /// The nodes whose next hop the last accepted round changed, in push order: each behind the changed nodes on its new route. After a new
-    /// network all that are not cut off, in rising order. What is refused, and questions, leave them. `O(k)` for k nodes.
+    /// The nodes whose next hop the last accepted round changed, in push order: each after the changed nodes on its
+    /// new route. A number that is no node of the network before or after the round counts as cut off there, and
+    /// before the first network all are cut off: so after a smaller network the nodes that are gone and had a hop are
+    /// among them. Refused requests and questions change nothing here. `O(k)` for k nodes.
     ///
     /// ```
     /// let mut session = revroute::Session::new();
@@ -43,6 +45,47 @@ impl Session {
     /// Where memory for the list runs out.
     pub fn rerouted(&mut self) -> Result<Vec<u32>, NoMemory> {
         self.engine.rerouted()
+    }
+
+    /// The same nodes, each with its next hop: [`CutOff`](Hop::CutOff) for a node that is gone. `O(k)` for k nodes.
+    ///
+    /// ```
+    /// use revroute::{Hop, Session};
+    ///
+    /// let mut session = Session::new();
+    /// session.answer(r#"["net",4,0,[[1,0],[2,1],[3,0]]]"#)?;
+    /// session.answer(r#"["net",3,0,[[1,0],[2,0]]]"#)?;
+    /// assert_eq!(session.changed()?, [(2, Hop::To(0)), (3, Hop::CutOff)]);
+    /// # Ok::<(), revroute::NoMemory>(())
+    /// ```
+    ///
+    /// # Errors
+    ///
+    /// Where memory for the lists runs out.
+    pub fn changed(&mut self) -> Result<Vec<(u32, Hop)>, NoMemory> {
+        self.engine.changed()
+    }
+
+    /// The nodes whose hop in a table of yours is not their next hop, each with its next hop, in push order: as
+    /// [`Network::pushes`](crate::Network::pushes). Before the first network there are no nodes, so only the empty
+    /// table has an answer. `O(n)`.
+    ///
+    /// ```
+    /// use revroute::{Hop, Session};
+    ///
+    /// let mut session = Session::new();
+    /// session.answer(r#"["net",4,0,[[1,0],[2,1],[2,3],[3,0]]]"#)?;
+    /// let table = session.next_hops()?;
+    /// session.answer(r#"["cut",1,0]"#)?;
+    /// assert_eq!(session.pushes(&table)?, [(2, Hop::To(3)), (1, Hop::To(2))]);
+    /// # Ok::<(), revroute::TableFault>(())
+    /// ```
+    ///
+    /// # Errors
+    ///
+    /// By all of [`TableFault`].
+    pub fn pushes(&mut self, table: &[Hop]) -> Result<Vec<(u32, Hop)>, TableFault> {
+        self.engine.pushes(table)
     }
 
     /// How often each node turned in the last round, in the order of the nodes; nothing before the first network. `O(n)`.

@@ -34,6 +34,7 @@ pub const NO_WALK: u32 = 7;
 pub const BEGUN: u32 = 8;
 /// The line is longer than a line may be, and nothing was taken.
 pub const TOO_LONG: u32 = 9;
+// `NO_TABLE`, 10, never comes: the crate looks at a table before it asks.
 
 /// In place of a next hop: the node is the destination.
 pub const HERE: u32 = 0xffff_ffff;
@@ -173,6 +174,15 @@ unsafe extern "C" {
 
     pub fn revroute_rerouted(
         session: *mut Handle,
+        nodes: *mut u32,
+        room: usize,
+        length: *mut usize,
+    ) -> u32;
+
+    pub fn revroute_pushes(
+        session: *mut Handle,
+        table: *const u32,
+        count: usize,
         nodes: *mut u32,
         room: usize,
         length: *mut usize,

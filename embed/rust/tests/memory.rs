@@ -1,7 +1,7 @@
 //! Without memory: each allocation of the library refused in turn, by the heap that embed/check puts under it.
 #![cfg(refusing_heap)]
 
-use revroute::{Edit, Network, NoMemory, Refused, Report, Session};
+use revroute::{Edit, Hop, Network, NoMemory, Refused, Report, Session, TableFault};
 use std::ffi::c_long;
 use std::sync::{Mutex, PoisonError};
 
@@ -74,6 +74,26 @@ fn made_poor(
         }
         number += 1;
     }
+}
+
+#[test]
+fn without_memory_pushes_change_nothing() -> Result<(), Refused> {
+    let _held = COUNTER.lock().unwrap_or_else(PoisonError::into_inner);
+    let network = Network::new(4, 0, &[(0, 1), (1, 2), (2, 3)])?;
+    let table = [Hop::Here, Hop::To(2), Hop::To(1), Hop::CutOff];
+    let mut number = 1;
+    let pushes = loop {
+        match poor(number, || network.pushes(&table)) {
+            Err(TableFault::NoMemory) => number += 1,
+            ended => break ended,
+        }
+    };
+    assert!(number > 1, "pushes take memory");
+    assert_eq!(
+        pushes,
+        Ok(vec![(1, Hop::To(0)), (2, Hop::To(1)), (3, Hop::To(2))])
+    );
+    Ok(())
 }
 
 #[test]

@@ -2,8 +2,8 @@
 
 mod order;
 
-use order::{joined, push_order};
-use revroute::{Edit, Hop, Network, Refused, RefusedEdit, Report, Session, Size};
+use order::push_order;
+use revroute::{Edit, Hop, Network, Refused, RefusedEdit, Report, Session, Size, TableFault};
 use std::error::Error;
 use std::thread;
 
@@ -24,6 +24,18 @@ impl Draw {
         let behind = nodes + u32::from(self.below(10) == 0);
         let (u, v) = (self.below(behind), self.below(behind));
         [Edit::Cut, Edit::Add, Edit::Join][self.below(3) as usize](u, v)
+    }
+
+    /// A table with some of these hops, and others that are drawn.
+    fn table(&mut self, hops: &[Hop]) -> Vec<Hop> {
+        let (nodes, kept) = (hops.len() as u32, self.below(5));
+        let mut drawn = |hop| match self.below(16) {
+            it if it / 4 < kept => hop,
+            it if it % 4 == 0 => Hop::CutOff,
+            it if it % 4 == 1 => Hop::Here,
+            _ => Hop::To(self.below(nodes)),
+        };
+        hops.iter().map(|&hop| drawn(hop)).collect()
     }
 
     /// Links that close no walk, since each points to the lesser number.
@@ -95,13 +107,9 @@ fn number(refused: &Refused) -> u32 {
     }
 }
 
-/// Looks that all questions answer what lines do, and that the changed hops are those that differ from before, in push order; of a new
-/// network those that are not cut off.
-fn compare(
-    network: &Network,
-    lines: &mut Lines,
-    before: Option<&[Hop]>,
-) -> Result<(), Box<dyn Error>> {
+/// Looks that all questions answer what lines do, and that the changed hops are those that differ from before, in
+/// push order.
+fn compare(network: &Network, lines: &mut Lines, before: &[Hop]) -> Result<(), Box<dyn Error>> {
     let hops = network.hops()?;
     assert_eq!(hops, lines.hops());
     let counts: Vec<String> = network.counts()?.iter().map(u64::to_string).collect();
@@ -117,9 +125,42 @@ fn compare(
         }
         assert!(network.walk(x).map(|it| it.to_string()).eq(told));
     }
-    let changed = before.map_or_else(|| joined(&hops), |before| push_order(before, &hops));
-    let changed = changed.into_iter().map(|x| (x, hops[x as usize]));
-    assert!(changed.eq(network.changed()?));
+    assert_eq!(network.changed()?, pushes_of(before, &hops));
+    Ok(())
+}
+
+/// What is to be pushed where a table has these hops and is to have those.
+fn pushes_of(before: &[Hop], hops: &[Hop]) -> Vec<(u32, Hop)> {
+    let order = push_order(before, hops).into_iter();
+    order.map(|x| (x, hops[x as usize])).collect()
+}
+
+/// Whether a table leads from a node back to it.
+fn goes_round(table: &[Hop], node: u32) -> bool {
+    let mut at = node;
+    for _ in table {
+        match table[at as usize].node() {
+            Some(next) if next == node => return true,
+            Some(next) => at = next,
+            None => return false,
+        }
+    }
+    false
+}
+
+/// Looks that the pushes of a drawn table are the right ones, and that none closes a loop, which would pass the node
+/// that was pushed.
+fn push_drawn(network: &Network, draw: &mut Draw) -> Result<(), Box<dyn Error>> {
+    let hops = network.hops()?;
+    let mut table = draw.table(&hops);
+    let pushes = network.pushes(&table)?;
+    assert_eq!(pushes, pushes_of(&table, &hops));
+    for (node, hop) in pushes {
+        table[node as usize] = hop;
+        assert!(!goes_round(&table, node), "{table:?}");
+    }
+    assert_eq!(table, hops);
+    assert_eq!(network.pushes(&table)?, []);
     Ok(())
 }
 
@@ -231,7 +272,7 @@ fn change_both(seed: u64) -> Result<(u32, u32), Box<dyn Error>> {
     let mut lines = Lines(Session::new());
     let told = lines.answer(&line_of_links(nodes, dest, &links));
     assert_eq!(told_of(network.report()), told);
-    compare(&network, &mut lines, None)?;
+    compare(&network, &mut lines, &[])?;
     let (mut accepted, mut refused) = (0, 0);
     for _ in 0..60 {
         let asked = Asked::drawn(&mut draw, nodes);
@@ -240,7 +281,8 @@ fn change_both(seed: u64) -> Result<(u32, u32), Box<dyn Error>> {
         match asked.make(&mut network, links.clone()) {
             Ok(report) => {
                 assert_eq!((told_of(report), network.report()), (told, report));
-                compare(&network, &mut lines, Some(&hops))?;
+                compare(&network, &mut lines, &hops)?;
+                push_drawn(&network, &mut draw)?;
                 accepted += 1;
             }
             Err(why) => {
@@ -342,6 +384,47 @@ fn refusals_say_what_is_wrong() -> Result<(), Box<dyn Error>> {
         format!("{network:?}"),
         "Network { nodes: 5, links: 5, destination: 0, .. }"
     );
+    Ok(())
+}
+
+#[test]
+fn the_largest_tables_have_pushes() -> Result<(), Box<dyn Error>> {
+    let mut draw = Draw(1);
+    let chain: Vec<(u32, u32)> = (1..4096).map(|x| (x, x - 1)).collect();
+    let tree: Vec<(u32, u32)> = (1..4096).map(|x| (x, draw.below(x))).collect();
+    for links in [chain, tree] {
+        let network = Network::new(4096, 0, &links)?;
+        let none = vec![Hop::CutOff; 4096];
+        assert_eq!(network.pushes(&none)?, pushes_of(&none, &network.hops()?));
+        for _ in 0..4 {
+            push_drawn(&network, &mut draw)?;
+        }
+    }
+    Ok(())
+}
+
+#[test]
+fn a_wrong_table_has_no_pushes() -> Result<(), Box<dyn Error>> {
+    let network = Network::new(3, 0, &[(1, 0)])?;
+    let (here, cut, to) = (Hop::Here, Hop::CutOff, Hop::To);
+    for (table, fault) in [
+        (&[][..], TableFault::Length),
+        (&[here, to(0)], TableFault::Length),
+        (&[here, to(0), cut, to(9)], TableFault::Length),
+        (&[here, to(3), to(4)], TableFault::NoSuchNode(3)),
+        (&[to(u32::MAX), to(0), cut], TableFault::NoSuchNode(u32::MAX)),
+        (&[here, to(0), to(u32::MAX - 1)], TableFault::NoSuchNode(u32::MAX - 1)),
+    ] {
+        assert_eq!(network.pushes(table), Err(fault), "{table:?}");
+    }
+    for (fault, said) in [
+        (TableFault::Length, "the table does not have one hop for each node"),
+        (TableFault::NoSuchNode(7), "a hop of the table names 7, which is no node"),
+        (TableFault::NoMemory, "no memory"),
+    ] {
+        assert_eq!(fault.to_string(), said);
+    }
+    assert_eq!(network.pushes(&[here, to(0), cut])?, []);
     Ok(())
 }
 

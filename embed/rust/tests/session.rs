@@ -2,8 +2,8 @@
 
 mod order;
 
-use order::{joined, push_order};
-use revroute::{Hop, NoMemory, Report, Session, TakeFault, version};
+use order::push_order;
+use revroute::{Hop, NoMemory, Report, Session, TableFault, TakeFault, version};
 use std::error::Error;
 use std::path::Path;
 use std::{fs, mem, thread};
@@ -193,6 +193,44 @@ fn tells_routes(session: &mut Session, nodes: u32) -> Result<(), NoMemory> {
     Ok(())
 }
 
+/// Looks that the nodes are told whose hop differs, in push order, and that a table with the hops from before has the
+/// same pushes.
+fn tells_changes(session: &mut Session, before: &[Hop], after: &[Hop]) -> Result<(), TableFault> {
+    let rerouted = push_order(before, after);
+    let hop = |x: u32| after.get(x as usize).copied().unwrap_or(Hop::CutOff);
+    let changed: Vec<(u32, Hop)> = rerouted.iter().map(|&x| (x, hop(x))).collect();
+    assert_eq!(session.rerouted()?, rerouted);
+    assert_eq!(session.changed()?, changed);
+    if before.len() == after.len() {
+        assert_eq!(session.pushes(before)?, changed);
+    }
+    Ok(())
+}
+
+#[test]
+fn after_a_network_the_difference_is_told() -> Result<(), TableFault> {
+    let (mut session, mut before) = (Session::new(), Vec::new());
+    for line in [
+        r#"["net",4,0,[[0,1],[1,2],[2,3]]]"#,
+        r#"["net",7,0,[[1,0],[2,6],[3,1],[4,0],[5,4],[6,4]]]"#,
+        r#"["net",3,2,[[0,1],[1,2]]]"#,
+        r#"["net",3,0,[[0,1],[1,2]]]"#,
+        r#"["net",3,0,[[0,1],[1,2]]]"#,
+        r#"["net",6,5,[[4,5],[3,4],[2,3],[1,2],[0,1]]]"#,
+        r#"["net",1,0,[]]"#,
+        r#"["net",5,4,[]]"#,
+    ] {
+        session.answer(line)?;
+        let after = session.next_hops()?;
+        tells_changes(&mut session, &before, &after)?;
+        for x in after.len()..before.len() {
+            assert_eq!(session.next_hop(x as u32), None);
+        }
+        before = after;
+    }
+    Ok(())
+}
+
 #[test]
 fn questions_tell_what_lines_tell() -> Result<(), Box<dyn Error>> {
     let mut accepted = 0;
@@ -203,7 +241,6 @@ fn questions_tell_what_lines_tell() -> Result<(), Box<dyn Error>> {
             let Some(answer) = session.answer(line)?.map(String::from) else {
                 continue;
             };
-            let is_network = line.starts_with(b"[\"net\"");
             if !answer.starts_with("turned ") {
                 assert_eq!(session.next_hops()?, before, "{}", it.name);
                 continue;
@@ -212,12 +249,7 @@ fn questions_tell_what_lines_tell() -> Result<(), Box<dyn Error>> {
             let after = session.next_hops()?;
             assert_eq!(after, hops(session.answer(r#"["hops"]"#)?));
             assert_eq!(session.counts()?, numbers(session.answer(r#"["counts"]"#)?));
-            let rerouted = if is_network {
-                joined(&after)
-            } else {
-                push_order(&before, &after)
-            };
-            assert_eq!(session.rerouted()?, rerouted, "{}", it.name);
+            tells_changes(&mut session, &before, &after)?;
             let one_by_one: Vec<Option<Hop>> = (0..=after.len() as u32)
                 .map(|x| session.next_hop(x))
                 .collect();
@@ -249,6 +281,9 @@ fn before_the_first_network_there_is_nothing_to_tell() -> Result<(), NoMemory> {
     assert_eq!(session.next_hop(0), None);
     assert_eq!(session.next_hops()?, []);
     assert_eq!(session.rerouted()?, []);
+    assert_eq!(session.changed()?, []);
+    assert_eq!(session.pushes(&[]), Ok(Vec::new()));
+    assert_eq!(session.pushes(&[Hop::Here]), Err(TableFault::Length));
     assert_eq!(session.counts()?, []);
     assert_eq!(session.links()?, []);
     assert_eq!(session.route(0)?, None);

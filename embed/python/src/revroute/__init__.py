@@ -20,10 +20,26 @@ Changes, each a round with a Report, or Refused in words and with evidence:
 
 Questions:
 
-    next_hop(node)    where a node sends on to; hops() and hops_into(buffer) for all nodes
+    next_hop(node)    where a node sends on to; table(), hops() and hops_into(buffer) for all nodes
     walk(node)        the way from a node to the destination
-    changed()         the nodes whose next hop the last change changed, with the hop
+    changed()         the nodes whose next hop the last change changed, with the hop, in push order
+    pushes(table)     the nodes whose hop in a table of yours is another one, with the hop, in push order
     counts(), links(), report, size, dest
+
+Give forwarding tables their hops in push order, and no loop appears in them. This is a whole controller; `send` gives
+a router its hop, and returns once the router has confirmed it:
+
+>>> table, send = {}, print
+>>> for node, hop in network.pushes(table):
+...     send(node, hop)
+...     table[node] = hop
+0 NoHop.HERE
+2 0
+3 2
+1 3
+4 3
+>>> network.pushes(table)
+[]
 
 `Network.from_networkx(graph, dest)` takes a graph of networkx with its names, and `to_networkx()` gives one.
 

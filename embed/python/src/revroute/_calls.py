@@ -9,7 +9,7 @@ import ctypes
 from pathlib import Path
 from typing import Any
 
-ANSWERED, BLANK, TOO_SHORT, NO_MEMORY, NO_NETWORK, NO_ROUTE, REFUSED, NO_WALK, BEGUN, TOO_LONG = range(10)
+ANSWERED, BLANK, TOO_SHORT, NO_MEMORY, NO_NETWORK, NO_ROUTE, REFUSED, NO_WALK, BEGUN, TOO_LONG, NO_TABLE = range(11)
 HERE, CUT_OFF, NO_SUCH_NODE, NO_HOP = range(0xFFFFFFFF, 0xFFFFFFFB, -1)
 CUT, ADD, JOIN = range(3)
 UNKNOWN_EDIT, RANGE, SELF_LINK, TWICE, CLOSED_WALK, NO_LINK, TOO_MANY = 2, *range(4, 10)
@@ -28,7 +28,7 @@ class Refusal(ctypes.Structure):
 
 
 _number, _wide, _size = ctypes.c_uint32, ctypes.c_uint64, ctypes.c_size_t
-# the bytes of links or edits, and the two numbers of a round by their address
+# the bytes of links, edits or hops, and the two numbers of a round by their address
 _given, _round, _handle = ctypes.c_char_p, ctypes.c_void_p, ctypes.POINTER(Handle)
 _text, _length, _numbers = ctypes.POINTER(ctypes.c_char), ctypes.POINTER(_size), ctypes.POINTER(_number)
 _ended = [_round, ctypes.POINTER(Refusal)]
@@ -44,6 +44,7 @@ _WORDS: dict[str, list[Any]] = {
     "next_hop": [_handle, _number],
     "next_hops": [_handle, _numbers, _size, _length],
     "rerouted": [_handle, _numbers, _size, _length],
+    "pushes": [_handle, _given, _size, _numbers, _size, _length],
     "counts": [_handle, ctypes.POINTER(_wide), _size, _length],
     "links": [_handle, _numbers, _size, _length],
     "route": [_handle, _number, _numbers, _size, _length],

@@ -6,11 +6,12 @@ import ctypes
 from array import array
 from collections import deque
 from operator import index
-from typing import TYPE_CHECKING, Any, Callable, Generic, Hashable, Iterable, NoReturn, Optional, Sequence, TypeVar, Union
+from typing import TYPE_CHECKING, Any, Callable, Generic, Hashable, Iterable, Mapping, NoReturn, Optional, Sequence
+from typing import TypeVar, Union
 
 from . import _calls
 from ._calls import library
-from .session import NoHop, NoSuchNode, Report, Session, Size, _hop, _Why
+from .session import NoHop, NoSuchNode, Report, Session, Size, _hop, _node, _packed_table, _Why
 
 if TYPE_CHECKING:
     import networkx
@@ -76,9 +77,10 @@ class Network(Generic[Name]):
     NoSuchNode, and where a change has it by number, Refused. A closed network is a ValueError. Any thread may call, one at a time:
     others wait. What would wait for itself is a RuntimeError, as a session has it.
 
-    With n nodes and m links `next_hop`, `size` and `report` are O(1), `walk` and `changed` as long as what they answer, `hops`, `hops_into`,
-    `counts` and `dest` O(n), `links`, `move` and a new network O(n + m) and the round; a change is O(n + m) at most, and where few nodes turn
-    the links of these and of those that sent on to them.
+    With n nodes and m links `next_hop`, `size` and `report` are O(1), `walk` and `changed` as long as what they
+    answer, `hops`, `hops_into`, `table`, `pushes`, `counts` and `dest` O(n), `links`, `move` and a new network
+    O(n + m) and the round; a change is O(n + m) at most, and where few nodes turn the links of these and of those
+    that sent on to them.
     """
 
     HERE, CUT_OFF = 0xFFFFFFFF, 0xFFFFFFFE
@@ -92,7 +94,10 @@ class Network(Generic[Name]):
         self._numbers = None if names is None else {name: at for at, name in enumerate(names)}
         if self._numbers is not None and len(self._numbers) != count:
             raise ValueError("two nodes have one name")
-        # the nodes that next_hop asks for at once: none where they have names
+        # what None means as a hop: a node of that name, or that there is none
+        self._none = (self._numbers or {}).get(None, _calls.CUT_OFF)  # type: ignore[call-overload]
+        # the nodes in their order, and those that next_hop asks for at once: none where they have names
+        self._nodes: Sequence[Name] = range(count) if self._names is None else self._names  # type: ignore[assignment]
         self._bound = count if names is None else 0
         ends = [self._number(node) for u, v in links for node in (u, v)]
         self._session = Session()
@@ -184,11 +189,48 @@ class Network(Generic[Name]):
         return self._session._fill((ctypes.c_uint32 * room).from_buffer(view.cast("B")), room)
 
     def changed(self) -> list[tuple[Name, Union[Name, NoHop]]]:
-        """The nodes whose next hop the last change changed, each with what it is now; at first all that are not cut off, in order.
+        """The nodes whose next hop the last change changed, each with what it is now, in push order: each after the
+        changed nodes on its new route. At first these are all nodes that are not cut off."""
+        return self._told(self._session._changed())
 
-        They come in push order: each behind the changed nodes on its new route.
+    def table(self) -> dict[Name, Union[Name, NoHop]]:
+        """The next hop of each node, by its name or number.
+
+        >>> Network(4, 0, [(1, 0), (2, 1)]).table()
+        {0: <NoHop.HERE: 'here'>, 1: 0, 2: 1, 3: <NoHop.CUT_OFF: 'cut'>}
         """
-        return [(self._name(node), self._hop_of(hop)) for node, hop in self._session._changed()]
+        return dict(zip(self._nodes, self.hops()))
+
+    def pushes(
+        self, table: Union[Mapping[Name, Union[Name, NoHop, None]], Sequence[Union[Name, NoHop, None]]]
+    ) -> list[tuple[Name, Union[Name, NoHop]]]:
+        """The nodes whose hop in a table of yours is not their next hop, each with its next hop, in push order: each
+        after those of them on its route.
+
+        Keep a table of what your routers have confirmed, and push the difference after each change:
+
+        >>> network = Network(4, 0, [(1, 0), (2, 1), (2, 3), (3, 0)])
+        >>> table = {}
+        >>> for node, hop in network.pushes(table):
+        ...     # send the hop to the router, and wait until it has confirmed
+        ...     table[node] = hop
+        >>> network.cut(1, 0)
+        Report(turned=1, cut_off=0)
+        >>> network.pushes(table)
+        [(2, 3), (1, 2)]
+
+        If the next change comes before all is pushed, make it, and ask again: nothing has to be undone. At no moment
+        does the table have a loop that it did not have before.
+
+        The table is a mapping from nodes to hops, or a sequence of hops in the order of the nodes. A hop is a node,
+        HERE or CUT_OFF of NoHop, or None, which means CUT_OFF unless a node has that name. A node without an entry
+        has CUT_OFF. The table may have loops.
+
+        Raises NoSuchNode if a node or a hop of it is no node of the network, and ValueError if a sequence has more
+        hops than the network has nodes.
+        """
+        values = _packed_table(table, len(self._nodes), self._place, self._none)
+        return self._told(self._session._pushes(values, len(self._nodes)))
 
     def counts(self) -> list[int]:
         """How often each node turned in the last round, in order."""
@@ -268,6 +310,14 @@ class Network(Generic[Name]):
 
     def _name(self, number: int) -> Name:
         return self._names[number] if self._names is not None else number  # type: ignore[return-value]
+
+    def _place(self, node: Name) -> int:
+        """The number of a node."""
+        return self._number(node) if self._numbers is not None else _node(node, self._bound)  # type: ignore[arg-type]
+
+    def _told(self, hops: list[tuple[int, int]]) -> list[tuple[Name, Union[Name, NoHop]]]:
+        """Nodes with their hops, by their names."""
+        return [(self._name(node), self._hop_of(hop)) for node, hop in hops]
 
     def _hop_of(self, hop: int) -> Union[Name, NoHop]:
         return self._name(hop) if hop < _calls.NO_HOP else _hop(hop)  # type: ignore[return-value]

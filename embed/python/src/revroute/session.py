@@ -20,6 +20,7 @@ import os
 import sys
 import weakref
 from array import array
+from collections.abc import Mapping, Sequence
 from operator import index
 from threading import RLock, get_ident
 from typing import Any, Callable, NamedTuple, NoReturn, Optional, Union
@@ -71,6 +72,9 @@ class NoHop(enum.Enum):
     """No links join the node with the destination, whichever way they point."""
 
 
+_VALUES = {NoHop.HERE: _calls.HERE, NoHop.CUT_OFF: _calls.CUT_OFF}
+
+
 class Report(NamedTuple):
     """What a round reported."""
 
@@ -101,6 +105,34 @@ def _hop(value: int) -> Union[int, NoHop]:
     return NoHop.HERE if value == _calls.HERE else NoHop.CUT_OFF if value == _calls.CUT_OFF else value
 
 
+def _node(number: int, count: int) -> int:
+    """The number of one of so many nodes."""
+    node = index(number)
+    if not 0 <= node < count:
+        raise NoSuchNode(number)
+    return node
+
+
+def _packed_table(table: Any, count: int, node_of: Callable[[Any], int], none: int = _calls.CUT_OFF) -> bytes:
+    """The hops of a caller's table as the library has them, one for each of so many nodes. `node_of` has the number
+    of a node or raises NoSuchNode, and `none` is what the hop None means."""
+    if isinstance(table, Mapping):
+        hops = [(node_of(node), hop) for node, hop in table.items()]
+    elif not hasattr(table, "__getitem__"):
+        raise TypeError(f"a table is a mapping from nodes to hops or a sequence of hops, and no {type(table).__name__}")
+    elif len(table) > count:
+        raise ValueError(f"the table has {len(table)} hops, and the network {count} nodes")
+    else:
+        hops = [*enumerate(table)]
+    values = array("I", [_calls.CUT_OFF]) * count
+    for node, hop in hops:
+        if isinstance(hop, NoHop):
+            values[node] = _VALUES[hop]
+        else:
+            values[node] = none if hop is None else node_of(hop)
+    return values.tobytes()
+
+
 class Session:
     """A session, which holds the network of the lines so far. It begins with none.
 
@@ -111,9 +143,9 @@ class Session:
     session, and a call in the child of `os.fork` if another thread was in a call as the process was forked. The child can use
     every other session, and has a copy of its own.
 
-    With n nodes and m links `next_hop`, `size` and `report` are O(1), `route` and `rerouted` as long as what they answer, `next_hops` and
-    `counts` O(n), `links` O(n + m). `answer`, `take` and `finish` are O(b) for b bytes of lines and answers, and what the calls of a Network
-    cost.
+    With n nodes and m links `next_hop`, `size` and `report` are O(1), `route`, `rerouted` and `changed` as long as
+    what they answer, `next_hops`, `pushes` and `counts` O(n), `links` O(n + m). `answer`, `take` and `finish` are
+    O(b) for b bytes of lines and answers, and what the calls of a Network cost.
     """
 
     def __init__(self) -> None:
@@ -344,9 +376,12 @@ class Session:
         return self._filled(questions.revroute_next_hops, ctypes.c_uint32)
 
     def rerouted(self) -> list[int]:
-        """The nodes whose next hop the last accepted round changed, in push order: each behind the changed nodes on its new route.
+        """The nodes whose next hop the last accepted round changed, in push order: each after the changed nodes on
+        its new route.
 
-        After a new network they are all that are not cut off, in rising order. What is refused, and questions, leave them. There are none before the first network.
+        A number that is no node of the network before or after the round counts as cut off there, and before the
+        first network all are cut off. So after a smaller network the nodes that are gone and had a hop are among
+        them; `changed` gives CUT_OFF for these. Refused requests and questions change nothing here.
 
         >>> with Session() as session:
         ...     session.answer('["net",5,0,[[1,0],[2,0],[3,1],[3,2],[4,3]]]')
@@ -357,6 +392,40 @@ class Session:
         [3, 1]
         """
         return self._filled(questions.revroute_rerouted, ctypes.c_uint32)
+
+    def changed(self) -> list[tuple[int, Union[int, NoHop]]]:
+        """The same nodes, each with its next hop: CUT_OFF for a node that is gone.
+
+        >>> with Session() as session:
+        ...     session.answer('["net",4,0,[[1,0],[2,1],[3,0]]]')
+        ...     session.answer('["net",3,0,[[1,0],[2,0]]]')
+        ...     session.changed()
+        'turned 0 cut 0'
+        'turned 0 cut 0'
+        [(2, 0), (3, <NoHop.CUT_OFF: 'cut'>)]
+        """
+        return [(node, _hop(hop)) for node, hop in self._changed()]
+
+    def pushes(
+        self, table: Union[Mapping[int, Union[int, NoHop, None]], Sequence[Union[int, NoHop, None]]]
+    ) -> list[tuple[int, Union[int, NoHop]]]:
+        """The nodes whose hop in a table of yours is not their next hop, each with its next hop, in push order.
+
+        The table and its faults are those of `Network.pushes`. Before the first network there are no nodes.
+
+        >>> with Session() as session:
+        ...     session.answer('["net",4,0,[[1,0],[2,1],[2,3],[3,0]]]')
+        ...     table = session.next_hops()
+        ...     session.answer('["cut",1,0]')
+        ...     session.pushes(table)
+        'turned 0 cut 0'
+        'turned 1 cut 0'
+        [(2, 3), (1, 2)]
+        """
+        size = self.size()
+        count = size.nodes if size else 0
+        values = _packed_table(table, count, lambda node: _node(node, count))
+        return [(node, _hop(hop)) for node, hop in self._pushes(values, count)]
 
     def counts(self) -> list[int]:
         """How often each node turned in the last round, in the order of the nodes; nothing before the first network."""
@@ -428,14 +497,15 @@ class Session:
             finally:
                 self._caller = None
 
-    def _places(self, item: Any, fill: Callable[..., int]) -> list[int]:
+    def _places(self, item: Any, fill: Callable[..., int], room: int = _FEW) -> list[int]:
         """The numbers that are filled into as many places as are asked for, for a caller that has the session."""
-        room = _FEW
         while True:
             values = (item * room)()
             status = fill(values, room, self._count_at)
             if status == _calls.NO_MEMORY:
                 raise MemoryError
+            if status == _calls.NO_TABLE:
+                raise ValueError("the table is one of a network that another thread has replaced")
             if status != _calls.TOO_SHORT:
                 found: list[int] = values[: self._count.value] if status == _calls.ANSWERED else []
                 return found
@@ -454,14 +524,23 @@ class Session:
                 self._caller = None
 
     def _changed(self) -> list[tuple[int, int]]:
-        """The rerouted nodes with their next hops, of one moment."""
+        """The rerouted nodes with their next hops."""
+        return self._with_hops(questions.revroute_rerouted, _FEW)
+
+    def _pushes(self, table: bytes, count: int) -> list[tuple[int, int]]:
+        """The nodes to push for a table of so many hops, with their next hops."""
+        return self._with_hops(questions.revroute_pushes, count, table, count)
+
+    def _with_hops(self, question: Any, room: int, *words: Any) -> list[tuple[int, int]]:
+        """The nodes that a question fills in, with their next hops, of one moment. A node that is gone has none."""
         with self._lock:
             self._begin_call()
             try:
-                nodes = self._places(ctypes.c_uint32, lambda *places: questions.revroute_rerouted(self._at, *places))
-                return [(node, _calls.next_hop(self._at, node)) for node in nodes]
+                nodes = self._places(ctypes.c_uint32, lambda *places: question(self._at, *words, *places), room)
+                hops = [_calls.next_hop(self._at, node) for node in nodes]
             finally:
                 self._caller = None
+        return [(node, _calls.CUT_OFF if hop == _calls.NO_SUCH_NODE else hop) for node, hop in zip(nodes, hops)]
 
     def close(self) -> None:
         """Ends the session, and gives its memory back. A second call does nothing."""

@@ -2,25 +2,21 @@
 
 use revroute::Hop;
 
-/// The nodes whose hop differs, by how many of them lie on the node's route, itself included, and then by number.
-pub fn push_order(before: &[Hop], hops: &[Hop]) -> Vec<u32> {
-    let differs = |x: usize| before[x] != hops[x];
+/// The nodes whose hop differs, by how many of them lie on the node's route, itself included, and then by number. A
+/// number that is no node of one of the networks is cut off there.
+pub fn push_order(before: &[Hop], after: &[Hop]) -> Vec<u32> {
+    let hop = |table: &[Hop], x: usize| table.get(x).copied().unwrap_or(Hop::CutOff);
+    let differs = |x: usize| hop(before, x) != hop(after, x);
     let wave = |mut x: usize| {
         let mut met = usize::from(differs(x));
-        while let Hop::To(next) = hops[x] {
+        while let Hop::To(next) = hop(after, x) {
             x = next as usize;
             met += usize::from(differs(x));
         }
         met
     };
-    let mut nodes: Vec<usize> = (0..hops.len()).filter(|&x| differs(x)).collect();
+    let all = 0..before.len().max(after.len());
+    let mut nodes: Vec<usize> = all.filter(|&x| differs(x)).collect();
     nodes.sort_by_key(|&x| (wave(x), x));
     nodes.into_iter().map(|x| x as u32).collect()
-}
-
-/// The nodes that are not cut off, in rising order, which are told of a new network.
-pub fn joined(hops: &[Hop]) -> Vec<u32> {
-    (0..hops.len() as u32)
-        .filter(|&x| hops[x as usize] != Hop::CutOff)
-        .collect()
 }

@@ -1,0 +1,22 @@
+-- Where a table of a caller's differs from the settled hops. Its hops are numbers, as those that questions answer.
+use Rattle.std.specs.Prelude.{◌≡◌, ◌≢◌, ℕ, ◌⊎◌, ◌==◌, if◌then◌else◌, List, length, map, Option, Some, None}
+use Rattle.fr_route.specs.Reroutes.{ArePushes}
+use Rattle.fr_route.specs.States.{State}
+use Rattle.fr_tables.specs.Tables.{IsFirstOutside}
+use Rattle.fr_tables.specs.declared.hop.Hop.{Hop}
+use Rattle.fr_tables.specs.declared.hop.Hop.TheVariants.{Here, To, CutOff}
+use Rattle.revroute_c.specs.Questions.{cut_off, here}
+
+-- the hop that a number names
+abbrev pub hop_of : ℕ → Hop
+hop_of number = if number == here then Here else (if number == cut_off then CutOff else To number)
+
+-- the nodes whose hop is another one than in this table, in push order
+abbrev pub ArePushesOf : Option State → List ℕ → List ℕ → Type 0
+ArePushesOf None table nodes = ⊥
+ArePushesOf (Some s) table nodes = ArePushes s (map hop_of table) nodes
+
+-- the table has too few or too many hops, or one of them names no node
+abbrev pub IsNoTable : Option State → List ℕ → Type 0
+IsNoTable None table = ⊥
+IsNoTable (Some s) table = (length table ≢ s.nodes) ⊎ ((x : ℕ) × IsFirstOutside (map hop_of table) x)

@@ -1,0 +1,65 @@
+//! Where a table of a caller's differs from the settled hops.
+
+ghost use Rattle.std.specs.Prelude.{◌≡◌, ◌≤◌, ◌<◌, ◌⊎◌, ◌↔◌, length, map, None, IfOk};
+ghost use Rattle.revroute_c.specs.Replies.{IsGiven, IsLength};
+ghost use Rattle.revroute_c.specs.Tables.{ArePushesOf, IsNoTable, hop_of as hop_named};
+
+use crate::questions::{CUT_OFF, HERE};
+use crate::replies::hand_out;
+use crate::statuses::{ANSWERED, NO_MEMORY, NO_NETWORK, NO_TABLE, TOO_SHORT};
+use fr_route::{Hop, Session};
+use fr_tables::TableFault;
+use std::alloc::{AllocError, Global};
+
+/// The hop that a number names.
+fn hop_of(number: u32) -> Hop
+    ensures { result ≡ hop_named number }
+{
+    match number {
+        HERE => Hop::Here,
+        CUT_OFF => Hop::CutOff,
+        next => Hop::To(next),
+    }
+}
+
+/// The table of these numbers.
+fn table_of(alloc: Global, numbers: &[u32]) -> Result<Vec<Hop>, AllocError>
+    ensures { IfOk result (λ table. table.items ≡ map hop_named numbers.now) }
+{
+    let mut table = Vec::with_capacity(alloc, numbers.len())?;
+    for number in numbers {
+        table.push(hop_of(*number))?;
+    }
+    Ok(table)
+}
+
+/// Writes which nodes have another hop than in a table of the caller's, in push order. `size` has to be 0.
+pub(crate) fn pushes_in(
+    session: &Session,
+    alloc: Global,
+    table: &[u32],
+    nodes: &mut [u32],
+    size: &mut usize,
+) -> u32
+    requires { size.old ≡ 0 }
+    ensures written { result ≡ ANSWERED → IsGiven (ArePushesOf session.now table.now) nodes.old nodes.new size.new }
+    ensures too_short { result ≡ TOO_SHORT → (length nodes.old < size.new) × IsLength (ArePushesOf session.now table.now) size.new }
+    ensures no_network { (result ≡ NO_NETWORK) ↔ (session.now ≡ None) }
+    ensures no_table { result ≡ NO_TABLE → IsNoTable session.now table.now }
+    ensures unchanged { ¬ (result ≡ ANSWERED) → nodes.new ≡ nodes.old }
+    ensures none { TOO_SHORT < result → size.new ≡ 0 }
+    ensures status { (result ≡ ANSWERED) ⊎ ((TOO_SHORT ≤ result) × (result ≤ NO_NETWORK)) ⊎ (result ≡ NO_TABLE) }
+{
+    let Some(router) = session.router() else {
+        return NO_NETWORK;
+    };
+    let Ok(hops) = table_of(alloc, table) else {
+        return NO_MEMORY;
+    };
+    match router.pushes(alloc, &hops) {
+        Ok(pushes) => hand_out(&pushes, nodes, size),
+        Err(TableFault::Length | TableFault::Range(_)) => NO_TABLE,
+        Err(TableFault::Memory) => NO_MEMORY,
+        Err(TableFault::Loop(_)) => unreachable!(),
+    }
+}
