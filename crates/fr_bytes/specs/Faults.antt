@@ -4,8 +4,8 @@ use Rattle.fr_bytes.specs.Bytes.{ReadsSome, ReadsOneTooMany}
 use Rattle.fr_bytes.specs.declared.fault.RunFault.{RunFault}
 use Rattle.fr_bytes.specs.declared.fault.RunFault.TheVariants.{Read, Write, TooLong, Start, Memory}
 
--- a read may fail at any byte; the input is too long only where it has a byte too many, and memory is missing only for a byte that the
--- reader gave; nothing is written, and no thread is started
+-- a read may fail at any byte; the input is too long only where it has a byte too many, and memory is missing only
+-- for a byte that the reader gave; nothing is written, and no thread is started
 abbrev pub IsInputFault : (before after : Option (List ℕ)) → RunFault → Type 0
 IsInputFault before after Read = Unit {0}
 IsInputFault before after Write = ⊥

@@ -109,7 +109,8 @@ module _ (whole line : List ℕ) (left : List (List ℕ)) (now : Option State) (
       }
 
   -- the line was not answered
-  pub line_failed : (new : Option (List ℕ)) (fault : RunFault) → IsLineFault now line mid new fault → IsAnsweringFault whole old new fault
+  pub line_failed : (new : Option (List ℕ)) (fault : RunFault) → IsLineFault now line mid new fault
+      → IsAnsweringFault whole old new fault
   line_failed new Read why = why
   line_failed new Write why = stops_writing new why
   line_failed new TooLong why = why

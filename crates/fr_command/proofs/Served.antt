@@ -89,7 +89,8 @@ module _ (first mid : Talk) (piece : List ℕ) (done : ℕ) (u v : Option (List 
   }
 
   -- or it stops there
-  stops_later : (fault : RunFault) (new : Talk) (w : Option (List ℕ)) → new ≡ mid → Keeps v w → IsTakeFault (carried mid (drop done piece)) (drop done piece) fault → StopsInPiece fault first piece new u w
+  stops_later : (fault : RunFault) (new : Talk) (w : Option (List ℕ)) → new ≡ mid → Keeps v w
+      → IsTakeFault (carried mid (drop done piece)) (drop done piece) fault → StopsInPiece fault first piece new u w
   stops_later fault new w same kept why = record {
     count = done;
     says = subst (λ (t : Talk). Says first (take done piece) t u w) (sym same) (says_kept first mid (take done piece) u v w h kept);
@@ -97,7 +98,8 @@ module _ (first mid : Talk) (piece : List ℕ) (done : ℕ) (u v : Option (List 
   }
 
   -- why the front of what is left of a piece is not answered is why the piece is not
-  pub fails_later : (new : Talk) (w : Option (List ℕ)) (fault : RunFault) → IsFrontFault mid (drop done piece) new v w fault → IsPieceFault first piece new u w fault
+  pub fails_later : (new : Talk) (w : Option (List ℕ)) (fault : RunFault)
+      → IsFrontFault mid (drop done piece) new v w fault → IsPieceFault first piece new u w fault
   fails_later new w Read why = stops_later Read new w why.0 why.1 why.2
   fails_later new w Write why = begins_later w why
   fails_later new w TooLong why = stops_later TooLong new w why.0 why.1 why.2
@@ -167,7 +169,8 @@ module _ (bytes : List ℕ) (talk : Talk) (u v : Option (List ℕ)) (h : Says si
       }
 
   -- or it was not answered
-  pub end_failed : (r s w : Option (List ℕ)) (fault : RunFault) → Consumes r s bytes → IsLineFault talk.state talk.begun v w fault → IsServeFault r s u w fault
+  pub end_failed : (r s w : Option (List ℕ)) (fault : RunFault) → Consumes r s bytes
+      → IsLineFault talk.state talk.begun v w fault → IsServeFault r s u w fault
   end_failed r s w Read reads why = absurd why
   end_failed r s w Write reads why = (bytes, reads, output_begun w why)
   end_failed r s w TooLong reads why = absurd why
@@ -234,7 +237,9 @@ module _ (bytes : List ℕ) (talk : Talk) (u v : Option (List ℕ)) (h : Says si
           (last, subst (λ (l : List ℕ). Says silence (bytes ++ l) last u w) (take-append-drop k.count piece) said, exact)
 
     -- the piece was not answered to its end
-    pub piece_failed : (r s : Option (List ℕ)) (new : Talk) (fault : RunFault) → Consumes r s (bytes ++ piece) → length talk.begun + length piece ≤ most_bytes + 1 → IsPieceFault talk piece new v w fault → IsServeFault r s u w fault
+    pub piece_failed : (r s : Option (List ℕ)) (new : Talk) (fault : RunFault) → Consumes r s (bytes ++ piece)
+        → length talk.begun + length piece ≤ most_bytes + 1 → IsPieceFault talk piece new v w fault
+        → IsServeFault r s u w fault
     piece_failed r s new Read reads few why = absurd why.untaken
     piece_failed r s new Write reads few why = (bytes ++ piece, reads, piece_begun why)
     piece_failed r s new TooLong reads few why =

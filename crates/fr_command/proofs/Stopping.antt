@@ -15,7 +15,8 @@ use Rattle.fr_command.specs.InLines.{BeginsAnswer, IsLineFault, IsAnsweringFault
 use Rattle.fr_command.specs.InPieces.{IsFrontFault}
 
 -- while the input was read, nothing was written,
-pub input_failed : (before after w : Option (List ℕ)) (fault : RunFault) → IsInputFault before after fault → IsRunFault before after w w fault
+pub input_failed : (before after w : Option (List ℕ)) (fault : RunFault) → IsInputFault before after fault
+    → IsRunFault before after w w fault
 input_failed before after w Read why = Keeps-refl w
 input_failed before after w Write why = absurd why
 input_failed before after w TooLong why = (Keeps-refl w, why)
@@ -23,7 +24,8 @@ input_failed before after w Start why = absurd why
 input_failed before after w Memory why = inl (Keeps-refl w, why)
 
 -- of a play too
-pub input_unplayed : (draw : Draw) (before after w : Option (List ℕ)) (fault : RunFault) → IsInputFault before after fault → IsDrawnPlayFault draw before after w w fault
+pub input_unplayed : (draw : Draw) (before after w : Option (List ℕ)) (fault : RunFault)
+    → IsInputFault before after fault → IsDrawnPlayFault draw before after w w fault
 input_unplayed draw before after w Read why = Keeps-refl w
 input_unplayed draw before after w Write why = absurd why
 input_unplayed draw before after w TooLong why = (Keeps-refl w, why)
@@ -31,7 +33,8 @@ input_unplayed draw before after w Start why = absurd why
 input_unplayed draw before after w Memory why = Keeps-refl w
 
 -- and then its lines were answered
-pub answering_failed : (before after old new : Option (List ℕ)) (bytes : List ℕ) (fault : RunFault) → ReadsInput before after bytes → IsAnsweringFault bytes old new fault → IsRunFault before after old new fault
+pub answering_failed : (before after old new : Option (List ℕ)) (bytes : List ℕ) (fault : RunFault)
+    → ReadsInput before after bytes → IsAnsweringFault bytes old new fault → IsRunFault before after old new fault
 answering_failed before after old new bytes Read reads why = absurd why
 answering_failed before after old new bytes Write reads why = (bytes, reads, why)
 answering_failed before after old new bytes TooLong reads why = absurd why
@@ -44,7 +47,8 @@ blank_or_some [] asks = cc
 blank_or_some (x ∷ xs) asks = λ e. cc
 
 -- a session answers a blank line
-pub not_finished : (line : List ℕ) (fault : RunFault) → (fault ≡ Start) ⊎ (fault ≡ Memory) → is_blank line ≡ false → IsFinishFault line fault
+pub not_finished : (line : List ℕ) (fault : RunFault) → (fault ≡ Start) ⊎ (fault ≡ Memory) → is_blank line ≡ false
+    → IsFinishFault line fault
 not_finished line fault (inl start) asks = subst (IsFinishFault line) (sym start) asks
 not_finished line fault (inr memory) asks = subst (IsFinishFault line) (sym memory) asks
 
@@ -57,7 +61,8 @@ not_taken line piece Start why = why
 not_taken line piece Memory why = (blank_or_some line why, λ blank. let bad : true ≡ false = sym blank ∙ why in cc)
 
 -- and nothing was written for it,
-pub unwritten : (state : Option State) (line : List ℕ) (w : Option (List ℕ)) (fault : RunFault) → IsFinishFault line fault → IsLineFault state line w w fault
+pub unwritten : (state : Option State) (line : List ℕ) (w : Option (List ℕ)) (fault : RunFault)
+    → IsFinishFault line fault → IsLineFault state line w w fault
 unwritten state line w Read why = why
 unwritten state line w Write why = absurd why
 unwritten state line w TooLong why = why
@@ -65,7 +70,8 @@ unwritten state line w Start why = (why, Keeps-refl w)
 unwritten state line w Memory why = (why, Keeps-refl w)
 
 -- or for the front of a piece
-pub front_untaken : (old new : Talk) (piece : List ℕ) (w : Option (List ℕ)) (fault : RunFault) → new ≡ old → IsTakeFault (carried old piece) piece fault → IsFrontFault old piece new w w fault
+pub front_untaken : (old new : Talk) (piece : List ℕ) (w : Option (List ℕ)) (fault : RunFault) → new ≡ old
+    → IsTakeFault (carried old piece) piece fault → IsFrontFault old piece new w w fault
 front_untaken old new piece w Read same why = (same, Keeps-refl w, why)
 front_untaken old new piece w Write same why = absurd why
 front_untaken old new piece w TooLong same why = (same, Keeps-refl w, why)
@@ -73,7 +79,8 @@ front_untaken old new piece w Start same why = (same, Keeps-refl w, why)
 front_untaken old new piece w Memory same why = (same, Keeps-refl w, why)
 
 -- a line that was ended had a beginning of its answer written
-pub ends_begun : (old last : Talk) (text out : List ℕ) (before after : Option (List ℕ)) → Ends old text last → IsBeginning out text → Appends before after out → BeginsAnswer old.state old.begun before after
+pub ends_begun : (old last : Talk) (text out : List ℕ) (before after : Option (List ℕ)) → Ends old text last
+    → IsBeginning out text → Appends before after out → BeginsAnswer old.state old.begun before after
 ends_begun old last text out before after end begins writes = record {
   answer = text;
   last = last.state;

@@ -14,18 +14,20 @@ use Rattle.fr_command.specs.Plays.{WritesPlayBeginning}
 abbrev pub StopsAfterReading : (before after old new : Option (List ℕ)) → Type 0
 StopsAfterReading before after old new = (bytes : List ℕ) × ReadsInput before after bytes × StopsAtLine bytes old new
 
--- why a run stops. If a read failed or the input is too long, nothing was written. If a write failed, what went out is a beginning of the
--- output. If a thread was missing, or memory, it was at a line; or memory was missing for a byte of the input, and nothing was written
+-- why a run stops. If a read failed or the input is too long, nothing was written. If a write failed, what went
+-- out is a beginning of the output. If a thread was missing, or memory, it was at a line; or memory was missing
+-- for a byte of the input, and nothing was written
 abbrev pub IsRunFault : (before after old new : Option (List ℕ)) → RunFault → Type 0
 IsRunFault before after old new Read = Keeps old new
 IsRunFault before after old new Write = (bytes : List ℕ) × ReadsInput before after bytes × WritesBeginning bytes old new
 IsRunFault before after old new TooLong = Keeps old new × ReadsOneTooMany before after
 IsRunFault before after old new Start = StopsAfterReading before after old new
-IsRunFault before after old new Memory = (Keeps old new × ReadsSome before after) ⊎ StopsAfterReading before after old new
+IsRunFault before after old new Memory =
+    (Keeps old new × ReadsSome before after) ⊎ StopsAfterReading before after old new
 
--- why a service stops. If a read failed, whichever it was, the lines that had ended were answered, and no other; so too if the last byte
--- read makes a line too long. If a write failed, what went out is a beginning of the output. If a thread was missing at a line, or memory,
--- the lines before it were answered
+-- why a service stops. If a read failed, whichever it was, the lines that had ended were answered, and no other;
+-- so too if the last byte read makes a line too long. If a write failed, what went out is a beginning of the
+-- output. If a thread was missing at a line, or memory, the lines before it were answered
 abbrev pub IsServeFault : (before after old new : Option (List ℕ)) → RunFault → Type 0
 IsServeFault before after old new Read =
     (bytes : List ℕ) × (talk : Talk) × Consumes before after bytes × Says silence bytes talk old new
@@ -40,8 +42,8 @@ IsServeFault before after old new Memory =
     (bytes : List ℕ) × (line : List ℕ) × Consumes before after bytes × (stop : AnswersBefore bytes line old new)
     × (line ≢ []) × (is_blank line ≡ true → stop.behind ≡ [])
 
--- why a play of a drawn schedule stops. If a write failed, what went out is a beginning of the output; else nothing was written. It starts
--- no thread
+-- why a play of a drawn schedule stops. If a write failed, what went out is a beginning of the output; else
+-- nothing was written. It starts no thread
 abbrev pub IsDrawnPlayFault : (draw : Draw) (before after old new : Option (List ℕ)) → RunFault → Type 0
 IsDrawnPlayFault draw before after old new Read = Keeps old new
 IsDrawnPlayFault draw before after old new Write =
@@ -50,8 +52,9 @@ IsDrawnPlayFault draw before after old new TooLong = Keeps old new × ReadsOneTo
 IsDrawnPlayFault draw before after old new Start = ⊥
 IsDrawnPlayFault draw before after old new Memory = Keeps old new
 
--- why a conversation takes nothing of a piece, which carries its line on to this one: the line is too long, or it is not blank and there
--- was no thread for its answer, or memory was missing. A conversation reads and writes nothing
+-- why a conversation takes nothing of a piece, which carries its line on to this one: the line is too long, or it
+-- is not blank and there was no thread for its answer, or memory was missing. A conversation reads and writes
+-- nothing
 abbrev pub IsTakeFault : (line piece : List ℕ) → RunFault → Type 0
 IsTakeFault line piece Read = ⊥
 IsTakeFault line piece Write = ⊥

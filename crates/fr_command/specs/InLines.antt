@@ -18,7 +18,8 @@ pub record BeginsAnswer (state : Option State) (line : List ℕ) (before after :
   pub begins : IsBeginning out answer
   pub writes : Appends before after out
 
--- why a line is not answered: a write failed, or the line is not blank, a thread or memory was missing, and nothing was written
+-- why a line is not answered: a write failed, or the line is not blank, a thread or memory was missing, and
+-- nothing was written
 abbrev pub IsLineFault : (state : Option State) (line : List ℕ) (before after : Option (List ℕ)) → RunFault → Type 0
 IsLineFault state line before after Read = ⊥
 IsLineFault state line before after Write = BeginsAnswer state line before after

@@ -7,7 +7,8 @@ use Rattle.fr_bytes.specs.declared.fault.RunFault.TheVariants.{Read, Write, TooL
 use Rattle.fr_command.specs.Conversations.{Talk, Takes, Says, carried}
 use Rattle.fr_command.specs.Faults.{IsTakeFault}
 
--- some bytes of the piece were taken, and the answer to them was written; for this fault nothing was taken of what is left of it
+-- some bytes of the piece were taken, and the answer to them was written; for this fault nothing was taken of what
+-- is left of it
 pub record StopsInPiece (fault : RunFault) (old : Talk) (piece : List ℕ) (new : Talk) (before after : Option (List ℕ)) : Type 0 where
   pub count : ℕ
   pub says : Says old (take count piece) new before after
@@ -28,10 +29,12 @@ abbrev pub IsPieceFault : (old : Talk) (piece : List ℕ) (new : Talk) (before a
 IsPieceFault old piece new before after Write = BeginsInPiece old piece before after
 IsPieceFault old piece new before after fault = StopsInPiece fault old piece new before after
 
--- why the front of a piece is not answered: a write failed, or the conversation could not take it, and nothing was written
+-- why the front of a piece is not answered: a write failed, or the conversation could not take it, and nothing was
+-- written
 abbrev pub IsFrontFault : (old : Talk) (piece : List ℕ) (new : Talk) (before after : Option (List ℕ)) → RunFault → Type 0
 IsFrontFault old piece new before after Write = BeginsInPiece old piece before after
-IsFrontFault old piece new before after fault = (new ≡ old) × Keeps before after × IsTakeFault (carried old piece) piece fault
+IsFrontFault old piece new before after fault =
+    (new ≡ old) × Keeps before after × IsTakeFault (carried old piece) piece fault
 
 -- why a line that has begun cannot go on with these bytes: it is too long, or memory was missing for one of them
 abbrev pub IsHoldFault : (begun bytes : List ℕ) → RunFault → Type 0
