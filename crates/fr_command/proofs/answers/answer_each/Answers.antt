@@ -2,6 +2,7 @@ use Rattle.std.proofs.Common.{List, ℕ, ap, not, subst, sym, ◌∙◌, ◌≡�
 use Rattle.fr_route.specs.Blank.{is_blank}
 use Rattle.fr_bytes.specs.Lines.{lines_left, lines_of}
 use Rattle.fr_bytes.proofs.Faults.{handed_on}
+use Rattle.fr_command.specs.InLines.{IsAnsweringFault}
 use Rattle.fr_command.proofs.Progress.{HasAnswered, at_start, next_line, one_line_more, line_failed, all_answered, weight-le}
 use Rattle.fr_command.proofs.answers.answer_each.Goals as goal
 
@@ -27,9 +28,12 @@ pub returns-in_err-answered-clause-fault : goal.returns-in_err-answered-clause-f
 returns-in_err-answered-clause-fault g c =
     let left : List (List ℕ) = lines_left c.next.new.self in
     let h = next_line c.args.input.now c.in-Some.line.now (lines_left c.loop-line.line-iterator) left c.loop-line.session (g.W.Write.contents c.args.writer.now) (g.W.Write.contents c.loop-line.writer) c.loop-line.count c.in-Some.ensures.steps c.loop-line.invariant in
-    handed_on c.from_residual.result c.in_err-answered.field-0.0 _ c.from_residual.ensures.1
-    (line_failed c.args.input.now c.in-Some.line.now left c.loop-line.session (g.W.Write.contents c.args.writer.now) (g.W.Write.contents c.loop-line.writer) c.loop-line.count h (g.W.Write.contents c.answer_one.new.writer)
-    c.in_err-answered.field-0.0 c.in_err-answered.ensures.fault)
+    let old = g.W.Write.contents c.args.writer.now in
+    let new = g.W.Write.contents c.answer_one.new.writer in
+    let fault = c.in_err-answered.field-0.0 in
+    handed_on c.from_residual.result fault (IsAnsweringFault c.args.input.now old new) c.from_residual.ensures.1
+    (line_failed c.args.input.now c.in-Some.line.now left c.loop-line.session old (g.W.Write.contents c.loop-line.writer) c.loop-line.count h
+    new fault c.in_err-answered.ensures.fault)
 
 pub returns-clause-ok : goal.returns-clause-ok
 returns-clause-ok g c =

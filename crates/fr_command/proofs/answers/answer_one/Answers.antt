@@ -20,8 +20,9 @@ returns-in_err-write_whole-in-Ok-Some-clause-fault g c =
       begins = (drop part.0 answer, sym (take-append-drop part.0 answer));
       writes = rw c.as_bytes.ensures.value at part.1;
     } in
-    handed_on c.from_residual.result c.in_err-write_whole-in-Ok-Some.field-0.0 _ c.from_residual.ensures.1
-    (subst (IsLineFault c.args.session.now c.args.line.now old new) (sym c.in_err-write_whole-in-Ok-Some.ensures.kind) begun)
+    let why = IsLineFault c.args.session.now c.args.line.now old new in
+    handed_on c.from_residual.result c.in_err-write_whole-in-Ok-Some.field-0.0 why c.from_residual.ensures.1
+    (subst why (sym c.in_err-write_whole-in-Ok-Some.ensures.kind) begun)
 
 pub returns-in-Err-clause-fault : goal.returns-in-Err-clause-fault
 returns-in-Err-clause-fault g c =

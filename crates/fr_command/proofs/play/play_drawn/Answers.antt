@@ -8,8 +8,12 @@ use Rattle.fr_command.proofs.play.play_drawn.Goals as goal
 
 pub returns-in_err-input-clause-fault : goal.returns-in_err-input-clause-fault
 returns-in_err-input-clause-fault g c =
-    handed_on c.from_residual.result c.in_err-input.field-0.0 _ c.from_residual.ensures.1
-    (input_unplayed c.args.draw (g.R.Read.remaining c.args.reader.now) (g.R.Read.remaining c.read_input.new.reader) (g.W.Write.contents c.args.writer.now) c.in_err-input.field-0.0 c.in_err-input.ensures.fault)
+    let before = g.R.Read.remaining c.args.reader.now in
+    let after = g.R.Read.remaining c.read_input.new.reader in
+    let written = g.W.Write.contents c.args.writer.now in
+    let fault = c.in_err-input.field-0.0 in
+    handed_on c.from_residual.result fault (IsDrawnPlayFault c.args.draw before after written written) c.from_residual.ensures.1
+    (input_unplayed c.args.draw before after written fault c.in_err-input.ensures.fault)
 
 pub returns-in_err-write_whole-clause-fault : goal.returns-in_err-write_whole-clause-fault
 returns-in_err-write_whole-clause-fault g c =
@@ -19,8 +23,10 @@ returns-in_err-write_whole-clause-fault g c =
     let out = string_bytes c.in-Ok.text in
     let output : IsPlayOutput c.args.draw bytes out c.in-Ok.count = rw c.deref.ensures.value at c.in-Ok.ensures in
     let part = rw c.as_bytes.ensures.value at c.in_err-write_whole.ensures.err in
-    handed_on c.from_residual-in_err-write_whole.result c.in_err-write_whole.field-0.0 _ c.from_residual-in_err-write_whole.ensures.1
-    (subst (IsDrawnPlayFault c.args.draw (g.R.Read.remaining c.args.reader.now) (g.R.Read.remaining c.read_input.new.reader) old new) (sym c.in_err-write_whole.ensures.kind)
+    let why = IsDrawnPlayFault c.args.draw (g.R.Read.remaining c.args.reader.now) (g.R.Read.remaining c.read_input.new.reader) old new in
+    let exit = c.from_residual-in_err-write_whole in
+    handed_on exit.result c.in_err-write_whole.field-0.0 why exit.ensures.1
+    (subst why (sym c.in_err-write_whole.ensures.kind)
     (bytes, c.in_ok-input.ensures.ok, play_begun c.args.draw bytes out c.in-Ok.count output old old new part.0 part.1))
 
 pub returns-in-Ok-flush-clause-ok : goal.returns-in-Ok-flush-clause-ok

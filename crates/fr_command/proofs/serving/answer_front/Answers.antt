@@ -7,8 +7,13 @@ use Rattle.fr_command.proofs.serving.answer_front.Goals as goal
 
 pub returns-in_err-taken-clause-fault : goal.returns-in_err-taken-clause-fault
 returns-in_err-taken-clause-fault g c =
-    handed_on c.from_residual.result c.in_err-taken.field-0.0 _ c.from_residual.ensures.1
-    (front_untaken c.args.conversation.now c.take.new.self c.args.piece.now (g.W.Write.contents c.args.writer.now) c.in_err-taken.field-0.0 c.in_err-taken.ensures.unchanged c.in_err-taken.ensures.fault)
+    let old = c.args.conversation.now in
+    let new = c.take.new.self in
+    let piece = c.args.piece.now in
+    let written = g.W.Write.contents c.args.writer.now in
+    let fault = c.in_err-taken.field-0.0 in
+    handed_on c.from_residual.result fault (IsFrontFault old piece new written written) c.from_residual.ensures.1
+    (front_untaken old new piece written fault c.in_err-taken.ensures.unchanged c.in_err-taken.ensures.fault)
 
 pub returns-in_err-write_answer-clause-fault : goal.returns-in_err-write_answer-clause-fault
 returns-in_err-write_answer-clause-fault g c =
@@ -24,5 +29,7 @@ returns-in_err-write_answer-clause-fault g c =
       begins = part.1;
       writes = part.2;
     } in
-    handed_on c.from_residual-in_err-write_answer.result c.in_err-write_answer.field-0.0 _ c.from_residual-in_err-write_answer.ensures.1
-    (subst (IsFrontFault c.args.conversation.now c.args.piece.now c.take.new.self old new) (sym c.in_err-write_answer.ensures.kind) begun)
+    let why = IsFrontFault c.args.conversation.now c.args.piece.now c.take.new.self old new in
+    let exit = c.from_residual-in_err-write_answer in
+    handed_on exit.result c.in_err-write_answer.field-0.0 why exit.ensures.1
+    (subst why (sym c.in_err-write_answer.ensures.kind) begun)

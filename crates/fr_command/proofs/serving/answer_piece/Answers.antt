@@ -4,6 +4,7 @@ use Rattle.std.proofs.lemmas.List.{take_all}
 use Rattle.fr_bytes.proofs.Faults.{handed_on, only_fault}
 use Rattle.fr_bytes.specs.declared.fault.RunFault.TheVariants.{Write}
 use Rattle.fr_command.specs.Conversations.{Says, line_size}
+use Rattle.fr_command.specs.InPieces.{IsPieceFault}
 use Rattle.fr_command.proofs.Served.{says_nothing, says_on, says_kept, says_begins, fails_later, on_ok}
 use Rattle.fr_command.proofs.serving.answer_piece.Goals as goal
 
@@ -34,10 +35,16 @@ loop-done-preserved g c =
 
 pub returns-in_err-count-clause-fault : goal.returns-in_err-count-clause-fault
 returns-in_err-count-clause-fault g c =
-    let why = rw (rest_is c.args.piece.now c.loop-done.done) at c.in_err-count.ensures.fault in
-    handed_on c.from_residual.result c.in_err-count.field-0.0 _ c.from_residual.ensures.1
-    (fails_later c.args.conversation.now c.loop-done.conversation c.args.piece.now c.loop-done.done (g.W.Write.contents c.args.writer.now) (g.W.Write.contents c.loop-done.writer)
-    c.loop-done.invariant.says c.answer_front.new.conversation (g.W.Write.contents c.answer_front.new.writer) c.in_err-count.field-0.0 why)
+    let first = c.args.conversation.now in
+    let last = c.answer_front.new.conversation in
+    let piece = c.args.piece.now in
+    let done = c.loop-done.done in
+    let old = g.W.Write.contents c.args.writer.now in
+    let new = g.W.Write.contents c.answer_front.new.writer in
+    let fault = c.in_err-count.field-0.0 in
+    let why = rw (rest_is piece done) at c.in_err-count.ensures.fault in
+    handed_on c.from_residual.result fault (IsPieceFault first piece last old new) c.from_residual.ensures.1
+    (fails_later first c.loop-done.conversation piece done old (g.W.Write.contents c.loop-done.writer) c.loop-done.invariant.says last new fault why)
 
 pub returns-clause-ok : goal.returns-clause-ok
 returns-clause-ok g c =
@@ -49,7 +56,11 @@ returns-clause-ok g c =
 
 pub returns-clause-fault : goal.returns-clause-fault
 returns-clause-fault g c =
-    let said = says_kept c.args.conversation.now c.loop-done.conversation (take c.loop-done.done c.args.piece.now) (g.W.Write.contents c.args.writer.now) (g.W.Write.contents c.loop-done.writer)
-    (g.W.Write.contents c.flush.new.writer) c.loop-done.invariant.says c.flush.ensures.kept in
-    only_fault c.flush.result Write _ c.flush.ensures.kind
-    (says_begins c.args.conversation.now c.loop-done.conversation c.args.piece.now c.loop-done.done (g.W.Write.contents c.args.writer.now) (g.W.Write.contents c.flush.new.writer) said)
+    let first = c.args.conversation.now in
+    let last = c.loop-done.conversation in
+    let piece = c.args.piece.now in
+    let done = c.loop-done.done in
+    let old = g.W.Write.contents c.args.writer.now in
+    let new = g.W.Write.contents c.flush.new.writer in
+    let said = says_kept first last (take done piece) old (g.W.Write.contents c.loop-done.writer) new c.loop-done.invariant.says c.flush.ensures.kept in
+    only_fault c.flush.result Write (IsPieceFault first piece last old new) c.flush.ensures.kind (says_begins first last piece done old new said)

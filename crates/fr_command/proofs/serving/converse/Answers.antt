@@ -6,6 +6,7 @@ use Rattle.fr_bytes.specs.Bytes.{most_bytes}
 use Rattle.fr_bytes.proofs.Faults.{handed_on}
 use Rattle.fr_command.specs.Conversations.{Ends, silence}
 use Rattle.fr_command.specs.Faults.{IsServeFault}
+use Rattle.fr_command.specs.InLines.{IsLineFault}
 use Rattle.fr_command.proofs.Served.{HasServed, nothing_served, read_nothing, read_on, output_written, end_failed, piece_failed, says_on}
 use Rattle.fr_command.proofs.serving.converse.Goals as goal
 
@@ -38,7 +39,10 @@ returns-then-count-eq0-clause-fault g c =
     let u = g.W.Write.contents c.args.writer.now in
     let w = g.W.Write.contents c.answer_end.new.writer in
     let reads = read_nothing r (g.R.Read.remaining c.reads.reader) s h.bytes c.read_piece.new.piece c.in_ok-count.count c.if-count-eq0.true h.reads c.in_ok-count.ensures.bytes in
-    IfErr-weaker c.answer_end.result _ _ (λ fault why. end_failed h.bytes c.reads.conversation u (g.W.Write.contents c.reads.writer) h.says r s w fault reads why) c.answer_end.ensures.fault
+    let v = g.W.Write.contents c.reads.writer in
+    let talk = c.reads.conversation in
+    IfErr-weaker c.answer_end.result (IsLineFault talk.state talk.begun v w) (IsServeFault r s u w)
+    (λ fault why. end_failed h.bytes talk u v h.says r s w fault reads why) c.answer_end.ensures.fault
 
 pub returns-in_err-count-clause-fault : goal.returns-in_err-count-clause-fault
 returns-in_err-count-clause-fault g c =
@@ -46,8 +50,9 @@ returns-in_err-count-clause-fault g c =
     let r = g.R.Read.remaining c.args.reader.now in
     let s = g.R.Read.remaining c.read_piece.new.reader in
     let reads = Consumes-kept r (g.R.Read.remaining c.reads.reader) s h.bytes h.reads c.in_err-count.ensures.kept in
-    handed_on c.from_residual.result c.in_err-count.field-0.0 _ c.from_residual.ensures.1
-    (subst (IsServeFault r s (g.W.Write.contents c.args.writer.now) (g.W.Write.contents c.reads.writer)) (sym c.in_err-count.ensures.fault) (h.bytes, c.reads.conversation, reads, h.says))
+    let why = IsServeFault r s (g.W.Write.contents c.args.writer.now) (g.W.Write.contents c.reads.writer) in
+    handed_on c.from_residual.result c.in_err-count.field-0.0 why c.from_residual.ensures.1
+    (subst why (sym c.in_err-count.ensures.fault) (h.bytes, c.reads.conversation, reads, h.says))
 
 pub reads-preserved : goal.reads-preserved
 reads-preserved g c =
@@ -78,6 +83,10 @@ returns-in_err-answer_piece-clause-fault g c =
     let reads = read_on r (g.R.Read.remaining c.reads.reader) s h.bytes c.read_piece.new.piece room c.in_ok-count.count few h.reads c.in_ok-count.ensures.bytes in
     let short : length c.reads.conversation.begun + length piece ≤ most_bytes + 1 =
     omega (arith, c.in_ok-count.ensures.bound, c.min-room.ensures, c.begun.ensures.within, ap length c.begun.ensures.line, length-take c.in_ok-count.count (c.read_piece.new.piece ++ room), length-take c.min-room.result c.reads.piece) in
-    handed_on c.from_residual-in_err-answer_piece.result c.in_err-answer_piece.field-0.0 _ c.from_residual-in_err-answer_piece.ensures.1
-    (piece_failed h.bytes c.reads.conversation (g.W.Write.contents c.args.writer.now) (g.W.Write.contents c.reads.writer) h.says piece (g.W.Write.contents c.answer_piece.new.writer) r s c.answer_piece.new.conversation
-    c.in_err-answer_piece.field-0.0 reads short c.in_err-answer_piece.ensures.fault)
+    let u = g.W.Write.contents c.args.writer.now in
+    let w = g.W.Write.contents c.answer_piece.new.writer in
+    let fault = c.in_err-answer_piece.field-0.0 in
+    let exit = c.from_residual-in_err-answer_piece in
+    handed_on exit.result fault (IsServeFault r s u w) exit.ensures.1
+    (piece_failed h.bytes c.reads.conversation u (g.W.Write.contents c.reads.writer) h.says piece w r s c.answer_piece.new.conversation
+    fault reads short c.in_err-answer_piece.ensures.fault)

@@ -66,8 +66,11 @@ returns-then-ends_blank-clause-takes g c =
 
 pub returns-in_err-hold-clause-fault : goal.returns-in_err-hold-clause-fault
 returns-in_err-hold-clause-fault g c =
-    handed_on c.from_residual.result c.in_err-hold.field-0.0 _ c.from_residual.ensures.1
-    (not_held c.args.self.now.begun c.args.piece.now c.front_size-end.result c.ends_blank.result c.in_err-hold.field-0.0 c.front_size-end.ensures c.if-ends_blank.false c.ends_blank.ensures.1 c.in_err-hold.ensures.fault)
+    let old : Talk = c.args.self.now in
+    let piece : List ℕ = c.args.piece.now in
+    let fault = c.in_err-hold.field-0.0 in
+    handed_on c.from_residual.result fault (IsTakeFault (carried old piece) piece) c.from_residual.ensures.1
+    (not_held old.begun piece c.front_size-end.result c.ends_blank.result fault c.front_size-end.ensures c.if-ends_blank.false c.ends_blank.ensures.1 c.in_err-hold.ensures.fault)
 
 pub returns-in_err-hold-clause-no_start : goal.returns-in_err-hold-clause-no_start
 returns-in_err-hold-clause-no_start g c _ e =
