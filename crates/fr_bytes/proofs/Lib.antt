@@ -1,4 +1,3 @@
 pub mod Pieces
 pub mod Cutting
 pub mod Ending
-pub mod Faults

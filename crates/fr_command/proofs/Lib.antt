@@ -1,5 +1,5 @@
+pub mod Faults
 pub mod Taking
-pub mod Stopping
 pub mod Served
 pub mod Determined
 pub mod EachOutput

@@ -1,5 +1,5 @@
 -- How far an input was served.
-use Rattle.std.proofs.Common.{◌≡◌, ◌∙◌, ℕ, ◌+◌, ◌<◌, ◌≤◌, List, [], ◌∷◌, ◌++◌, length, take, drop, take-append-drop, length-append, append_assoc, append-nil, refl, sym, ap, subst, Option, Result, Ok, Err, OnOk, OnErr, true, false, not, arith}
+use Rattle.std.proofs.Common.{◌≡◌, ◌≢◌, ◌∙◌, ℕ, ◌+◌, ◌<◌, ◌≤◌, List, [], ◌∷◌, ◌++◌, length, take, drop, take-append-drop, length-append, append_assoc, append-nil, refl, sym, ap, subst, Option, Result, Ok, Err, OnOk, OnErr, true, false, not, arith}
 use Rattle.std.proofs.Math.Seq.{take-add}
 use Rattle.std.proofs.lemmas.List.{take-append-le}
 use Rattle.std.proofs.lemmas.List.Folds.{length-prefix_len}
@@ -7,6 +7,7 @@ use Rattle.std.proofs.lemmas.List.Sums.{prefix_len-le-length}
 use Rattle.std.proofs.KnownBytes.{Appends-trans, Appends-nil, Appends-kept, Consumes-nil, Consumes-trans}
 use Rattle.std.specs.Io.KnownBytes.{Appends, Consumes, Keeps}
 use Rattle.std.specs.List.{before_first}
+use Rattle.fr_route.specs.Blank.{is_blank}
 use Rattle.fr_bytes.specs.Lines.{lines_of}
 use Rattle.fr_bytes.specs.Bytes.{IsBeginning, most_bytes}
 use Rattle.fr_bytes.specs.declared.fault.RunFault.{RunFault}
@@ -19,7 +20,6 @@ use Rattle.fr_command.specs.InPieces.{StopsInPiece, BeginsInPiece, IsFrontFault,
 use Rattle.fr_command.proofs.Determined.{output_unique, begins-trans, begins_behind}
 use Rattle.fr_command.proofs.EachOutput.{each_output}
 use Rattle.fr_bytes.proofs.Ending.{lines_go_on, line_goes_on, begun_alone, begun_short, first_line_is, one_line, ends_line}
-use Rattle.fr_command.proofs.Stopping.{blank_or_some}
 use Rattle.fr_command.proofs.Taking.{takes_on, takes_none, answer_stands, output_ends}
 
 -- a fact is one for each result
@@ -67,6 +67,18 @@ says_begins first last piece done u v h = record {
   writes = h.writes;
 }
 
+-- a beginning of the answer to the line that the end of the input ends
+pub ends_begun : (old last : Talk) (text out : List ℕ) (before after : Option (List ℕ)) → Ends old text last
+    → IsBeginning out text → Appends before after out → BeginsAnswer old.state old.begun before after
+ends_begun old last text out before after end begins writes = record {
+  answer = text;
+  last = last.state;
+  out = out;
+  are_answers = end.0;
+  begins = begins;
+  writes = writes;
+}
+
 -- of a text and its end
 pub text_begun : (text end : List ℕ) (n : ℕ) → IsBeginning (take n text) (text ++ end)
 text_begun text end n = (drop n text ++ end, ap (λ (l : List ℕ). l ++ end) (sym (take-append-drop n text)) ∙ append_assoc (take n text) (drop n text) end)
@@ -105,6 +117,11 @@ module _ (first mid : Talk) (piece : List ℕ) (done : ℕ) (u v : Option (List 
   fails_later new w TooLong why = stops_later TooLong new w why.0 why.1 why.2
   fails_later new w Start why = stops_later Start new w why.0 why.1 why.2
   fails_later new w Memory why = stops_later Memory new w why.0 why.1 why.2
+
+-- a line that is not blank has a byte
+pub blank_or_some : (line : List ℕ) → is_blank line ≡ false → line ≢ []
+blank_or_some [] asks = cc
+blank_or_some (x ∷ xs) asks = λ e. cc
 
 -- the lines that ended in what was read were answered
 pub record HasServed (r s u v : Option (List ℕ)) (talk : Talk) : Type 0 where

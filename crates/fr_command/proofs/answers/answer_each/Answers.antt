@@ -1,7 +1,7 @@
-use Rattle.std.proofs.Common.{List, ℕ, ap, not, subst, sym, ◌∙◌, ◌≡◌, arith}
+use Rattle.std.proofs.Common.{List, ℕ, ap, not, subst, ◌∙◌, ◌≡◌, arith}
 use Rattle.fr_route.specs.Blank.{is_blank}
 use Rattle.fr_bytes.specs.Lines.{lines_left, lines_of}
-use Rattle.fr_bytes.proofs.Faults.{handed_on}
+use Rattle.fr_command.proofs.Faults.{handed_on}
 use Rattle.fr_command.specs.InLines.{IsAnsweringFault}
 use Rattle.fr_command.proofs.Progress.{HasAnswered, at_start, next_line, one_line_more, line_failed, all_answered, weight-le}
 use Rattle.fr_command.proofs.answers.answer_each.Goals as goal

@@ -1,8 +1,7 @@
 use Rattle.std.proofs.Common.{List, ℕ, drop, string_bytes, subst, sym, take}
 use Rattle.std.proofs.lemmas.List.{take-append-drop}
-use Rattle.fr_bytes.proofs.Faults.{handed_on}
+use Rattle.fr_command.proofs.Faults.{handed_on}
 use Rattle.fr_command.specs.InLines.{BeginsAnswer, IsLineFault}
-use Rattle.fr_command.proofs.Stopping.{not_finished, unwritten}
 use Rattle.fr_command.proofs.answers.answer_one.Goals as goal
 
 pub returns-in_err-write_whole-in-Ok-Some-clause-fault : goal.returns-in_err-write_whole-in-Ok-Some-clause-fault
@@ -23,8 +22,3 @@ returns-in_err-write_whole-in-Ok-Some-clause-fault g c =
     let why = IsLineFault c.args.session.now c.args.line.now old new in
     handed_on c.from_residual.result c.in_err-write_whole-in-Ok-Some.field-0.0 why c.from_residual.ensures.1
     (subst why (sym c.in_err-write_whole-in-Ok-Some.ensures.kind) begun)
-
-pub returns-in-Err-clause-fault : goal.returns-in-Err-clause-fault
-returns-in-Err-clause-fault g c =
-    unwritten c.args.session.now c.args.line.now (g.W.Write.contents c.args.writer.now) c.run_fault.result
-    (not_finished c.args.line.now c.run_fault.result c.run_fault.ensures.either c.in-Err.ensures.asks)

@@ -1,19 +1,9 @@
 use Rattle.std.proofs.Common.{string_bytes, subst, sym}
-use Rattle.fr_bytes.proofs.Faults.{handed_on}
+use Rattle.fr_command.proofs.Faults.{handed_on}
 use Rattle.fr_command.specs.Faults.{IsDrawnPlayFault}
 use Rattle.fr_command.specs.Plays.{IsPlayOutput}
 use Rattle.fr_command.proofs.PlayEnds.{play_written, play_unflushed, play_begun}
-use Rattle.fr_command.proofs.Stopping.{input_unplayed}
 use Rattle.fr_command.proofs.play.play_drawn.Goals as goal
-
-pub returns-in_err-input-clause-fault : goal.returns-in_err-input-clause-fault
-returns-in_err-input-clause-fault g c =
-    let before = g.R.Read.remaining c.args.reader.now in
-    let after = g.R.Read.remaining c.read_input.new.reader in
-    let written = g.W.Write.contents c.args.writer.now in
-    let fault = c.in_err-input.field-0.0 in
-    handed_on c.from_residual.result fault (IsDrawnPlayFault c.args.draw before after written written) c.from_residual.ensures.1
-    (input_unplayed c.args.draw before after written fault c.in_err-input.ensures.fault)
 
 pub returns-in_err-write_whole-clause-fault : goal.returns-in_err-write_whole-clause-fault
 returns-in_err-write_whole-clause-fault g c =

@@ -1,7 +1,7 @@
 use Rattle.std.proofs.Common.{◌≡◌, ◌-◌, List, ℕ, length-drop, length, take, drop, sym, subst, arith}
 use Rattle.std.proofs.Math.Seq.{take-add}
 use Rattle.std.proofs.lemmas.List.{take_all}
-use Rattle.fr_bytes.proofs.Faults.{handed_on, only_fault}
+use Rattle.fr_command.proofs.Faults.{handed_on, only_fault}
 use Rattle.fr_bytes.specs.declared.fault.RunFault.TheVariants.{Write}
 use Rattle.fr_command.specs.Conversations.{Says, line_size}
 use Rattle.fr_command.specs.InPieces.{IsPieceFault}

@@ -1,9 +1,8 @@
-use Rattle.std.proofs.Common.{◌<◌, ◌≤◌, ◌+◌, ◌++◌, ℕ, List, length, length-append, length-drop, length-take, take, drop, ap, refl, subst, sym, arith}
-use Rattle.std.proofs.KnownBytes.{Consumes-kept}
+use Rattle.std.proofs.Common.{◌<◌, ◌≤◌, ◌+◌, ◌++◌, ℕ, List, length, length-append, length-drop, length-take, take, drop, ap, refl, arith}
 use Rattle.std.proofs.lemmas.Result.{IfErr-weaker, on_ok_weaker}
 use Rattle.std.specs.Io.KnownBytes.{Appends}
 use Rattle.fr_bytes.specs.Bytes.{most_bytes}
-use Rattle.fr_bytes.proofs.Faults.{handed_on}
+use Rattle.fr_command.proofs.Faults.{handed_on}
 use Rattle.fr_command.specs.Conversations.{Ends, silence}
 use Rattle.fr_command.specs.Faults.{IsServeFault}
 use Rattle.fr_command.specs.InLines.{IsLineFault}
@@ -43,16 +42,6 @@ returns-then-count-eq0-clause-fault g c =
     let talk = c.reads.conversation in
     IfErr-weaker c.answer_end.result (IsLineFault talk.state talk.begun v w) (IsServeFault r s u w)
     (λ fault why. end_failed h.bytes talk u v h.says r s w fault reads why) c.answer_end.ensures.fault
-
-pub returns-in_err-count-clause-fault : goal.returns-in_err-count-clause-fault
-returns-in_err-count-clause-fault g c =
-    let h = c.reads.invariant.served in
-    let r = g.R.Read.remaining c.args.reader.now in
-    let s = g.R.Read.remaining c.read_piece.new.reader in
-    let reads = Consumes-kept r (g.R.Read.remaining c.reads.reader) s h.bytes h.reads c.in_err-count.ensures.kept in
-    let why = IsServeFault r s (g.W.Write.contents c.args.writer.now) (g.W.Write.contents c.reads.writer) in
-    handed_on c.from_residual.result c.in_err-count.field-0.0 why c.from_residual.ensures.1
-    (subst why (sym c.in_err-count.ensures.fault) (h.bytes, c.reads.conversation, reads, h.says))
 
 pub reads-preserved : goal.reads-preserved
 reads-preserved g c =

@@ -2,21 +2,9 @@ use Rattle.std.proofs.Common.{List, string_bytes, ℕ}
 use Rattle.std.proofs.lemmas.Result.{IfErr-at_err, on_ok_weaker}
 use Rattle.std.specs.Io.KnownBytes.{Appends}
 use Rattle.fr_bytes.specs.Bytes.{IsBeginning}
-use Rattle.fr_bytes.specs.Faults.{IsInputFault}
-use Rattle.fr_bytes.proofs.Faults.{handed_on}
 use Rattle.revdot.specs.Drawings.{IsDrawing, IsOnly}
 use Rattle.revdot.proofs.OneDrawing.{drawing_unique}
 use Rattle.revdot.proofs.drawing.draw.Goals as goal
-
-pub returns-in_err-input-clause-too_long : goal.returns-in_err-input-clause-too_long
-returns-in_err-input-clause-too_long g c e =
-    let why = IsInputFault (g.R.Read.remaining c.args.reader.now) (g.R.Read.remaining c.read_input.new.reader) in
-    IfErr-at_err why e (handed_on c.from_residual.result c.in_err-input.field-0.0 why c.from_residual.ensures.1 c.in_err-input.ensures.fault)
-
-pub returns-in_err-input-clause-no_start : goal.returns-in_err-input-clause-no_start
-returns-in_err-input-clause-no_start g c e =
-    let why = IsInputFault (g.R.Read.remaining c.args.reader.now) (g.R.Read.remaining c.read_input.new.reader) in
-    IfErr-at_err why e (handed_on c.from_residual.result c.in_err-input.field-0.0 why c.from_residual.ensures.1 c.in_err-input.ensures.fault)
 
 pub returns-clause-ok : goal.returns-clause-ok
 returns-clause-ok g c =

@@ -1,7 +1,6 @@
 use Rattle.std.proofs.Common.{◌≡◌, ◌∙◌, ◌+◌, ◌<◌, ◌≤◌, ◌++◌, ◌∷◌, [], Bool, List, ℕ, false, true, length, length-append, not, take, refl, ap, sym, subst, arith, ⊎_elim}
 use Rattle.std.proofs.lemmas.Bool.{cases_lt}
 use Rattle.std.proofs.lemmas.List.Sums.{prefix_len-le-length}
-use Rattle.std.proofs.lemmas.Result.{IfErr-at_err}
 use Rattle.std.specs.List.{before_first, position_or_len}
 use Rattle.fr_route.specs.Blank.{is_blank}
 use Rattle.fr_bytes.specs.Bytes.{most_bytes}
@@ -9,11 +8,10 @@ use Rattle.fr_bytes.specs.Lines.{lines_of}
 use Rattle.fr_bytes.specs.declared.fault.RunFault.{RunFault}
 use Rattle.fr_bytes.specs.declared.fault.RunFault.TheVariants.{Read, Write, TooLong, Start, Memory}
 use Rattle.fr_bytes.proofs.Ending.{ends_line, first_line_ends, front_alone, one_line}
-use Rattle.fr_bytes.proofs.Faults.{handed_on}
+use Rattle.fr_command.proofs.Faults.{handed_on}
 use Rattle.fr_command.specs.Conversations.{Talk, carried, text_of}
-use Rattle.fr_command.specs.Faults.{IsTakeFault, IsFinishFault}
+use Rattle.fr_command.specs.Faults.{IsTakeFault}
 use Rattle.fr_command.specs.InPieces.{IsHoldFault}
-use Rattle.fr_command.proofs.Stopping.{not_taken}
 use Rattle.fr_command.proofs.Taking.{blank_ends, takes_none, takes_line}
 use Rattle.fr_command.proofs.conversation.Conversation.take.Goals as goal
 
@@ -72,11 +70,6 @@ returns-in_err-hold-clause-fault g c =
     handed_on c.from_residual.result fault (IsTakeFault (carried old piece) piece) c.from_residual.ensures.1
     (not_held old.begun piece c.front_size-end.result c.ends_blank.result fault c.front_size-end.ensures c.if-ends_blank.false c.ends_blank.ensures.1 c.in_err-hold.ensures.fault)
 
-pub returns-in_err-hold-clause-no_start : goal.returns-in_err-hold-clause-no_start
-returns-in_err-hold-clause-no_start g c _ e =
-    let never = IsHoldFault c.args.self.now.begun (take c.front_size-end.result c.args.piece.now) in
-    IfErr-at_err never e (handed_on c.from_residual.result c.in_err-hold.field-0.0 never c.from_residual.ensures.1 c.in_err-hold.ensures.fault)
-
 pub returns-then-end-piece-clause-takes : goal.returns-then-end-piece-clause-takes
 returns-then-end-piece-clause-takes g c =
     let piece : List ℕ = c.args.piece.now in
@@ -94,10 +87,3 @@ returns-in-Ok-clause-takes g c =
     let ended = subst (λ (n : ℕ). lines_of (take (n + 1) piece) ≡ take n piece ∷ [] ∷ []) (sym c.front_size-end.ensures) (first_line_ends piece (omega (arith, prefix_len-le-length (λ x. not (ends_line x)) piece))) in
     let held = c.in_ok-hold.ensures.ok in
     takes_line c.args.self.now c.hold.new.self c.finish.new.self (take (end + 1) piece) (take end piece) (text_of c.in-Ok.answer) alone ended held.0 held.1 c.in-Ok.ensures.ends
-
-pub returns-in-Err-clause-fault : goal.returns-in-Err-clause-fault
-returns-in-Err-clause-fault g c =
-    let piece : List ℕ = c.args.piece.now in
-    let old : Talk = c.args.self.now in
-    let line : c.hold.new.self.begun ≡ carried old piece = c.in_ok-hold.ensures.ok.0 ∙ ap (λ (n : ℕ). old.begun ++ take n piece) c.front_size-end.ensures in
-    not_taken (carried old piece) piece c.in-Err.fault (subst (λ (l : List ℕ). IsFinishFault l c.in-Err.fault) line c.in-Err.ensures.fault)
