@@ -24,14 +24,3 @@ pub enum RunFault {
     #[error("no memory")]
     Memory,
 }
-
-/// The exit status of a fault, and its line on standard error. It has no clause, and is only tested. `O(1)`.
-pub fn run_end(fault: &RunFault) -> (u8, &'static str) {
-    match fault {
-        RunFault::Read => (1, "revroute: read fault"),
-        RunFault::Write => (1, "revroute: write fault"),
-        RunFault::TooLong => (1, "revroute: input too long"),
-        RunFault::Start => (1, "revroute: no thread"),
-        RunFault::Memory => (1, "revroute: no memory"),
-    }
-}

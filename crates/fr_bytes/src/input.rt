@@ -1,9 +1,10 @@
 //! Reading the whole input.
 
 ghost use Rattle.fr_bytes.specs.declared.input.TheConstants.{MAX_BYTES};
-ghost use Rattle.std.specs.Prelude.{◌≡◌, ◌≢◌, ◌<◌, ◌≤◌, length, take, IfOk, IfErr, OnErr};
+ghost use Rattle.std.specs.Prelude.{◌≡◌, ◌<◌, ◌≤◌, length, take, IfOk, IfErr, OnErr};
 ghost use Rattle.std.specs.Io.KnownBytes.{Consumes, Keeps, IsAtEnd};
-ghost use Rattle.fr_bytes.specs.Bytes.{ReadsInput, ReadsSome, ReadsOneTooMany, ReadsAtMostOneTooMany};
+ghost use Rattle.fr_bytes.specs.Bytes.{ReadsInput, ReadsAtMostOneTooMany};
+ghost use Rattle.fr_bytes.specs.Faults.{IsInputFault};
 
 use crate::fault::RunFault;
 use std::alloc::Global;
@@ -21,10 +22,7 @@ pub const PIECE: usize = 65_536;
 pub fn read_input<R: Read>(alloc: Global, reader: &mut R) -> Result<Vec<u8>, RunFault>
     ensures ok { IfOk result (λ input. ReadsInput (R.remaining reader.old) (R.remaining reader.new) input.items) }
     ensures limit { ReadsAtMostOneTooMany (R.remaining reader.old) (R.remaining reader.new) }
-    ensures too_long { result ≡ Err RunFault.TooLong → ReadsOneTooMany (R.remaining reader.old) (R.remaining reader.new) }
-    ensures memory { result ≡ Err RunFault.Memory → ReadsSome (R.remaining reader.old) (R.remaining reader.new) }
-    ensures no_write { result ≢ Err RunFault.Write }
-    ensures no_start { result ≢ Err RunFault.Start }
+    ensures fault { IfErr result (IsInputFault (R.remaining reader.old) (R.remaining reader.new)) }
 {
     let mut piece = [0u8; PIECE];
     read_by_pieces(alloc, reader, &mut piece)
@@ -39,10 +37,7 @@ fn read_by_pieces<R: Read>(
     requires { 0 < length piece.old }
     ensures ok { IfOk result (λ input. ReadsInput (R.remaining reader.old) (R.remaining reader.new) input.items) }
     ensures limit { ReadsAtMostOneTooMany (R.remaining reader.old) (R.remaining reader.new) }
-    ensures too_long { result ≡ Err RunFault.TooLong → ReadsOneTooMany (R.remaining reader.old) (R.remaining reader.new) }
-    ensures memory { result ≡ Err RunFault.Memory → ReadsSome (R.remaining reader.old) (R.remaining reader.new) }
-    ensures no_write { result ≢ Err RunFault.Write }
-    ensures no_start { result ≢ Err RunFault.Start }
+    ensures fault { IfErr result (IsInputFault (R.remaining reader.old) (R.remaining reader.new)) }
 {
     let mut input = Vec::new(alloc);
     'reads: while input.len() <= MAX_BYTES {

@@ -10,7 +10,7 @@ mod input;
 mod lines;
 mod output;
 
-pub use fault::{RunFault, run_end};
+pub use fault::RunFault;
 pub use input::{MAX_BYTES, PIECE, read_input, read_piece};
 pub use lines::{Lines, first_line, front_size};
 pub use output::write_whole;

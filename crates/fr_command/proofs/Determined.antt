@@ -37,3 +37,7 @@ output_begins_with bytes a b lines p h k =
 -- what begins a beginning
 pub begins-trans : (a b c : List ℕ) → IsBeginning a b → IsBeginning b c → IsBeginning a c
 begins-trans a b c h k = (h.0 ++ k.0, k.1 ∙ (ap (λ (o : List ℕ). o ++ k.0) h.1 ∙ append_assoc a h.0 k.0))
+
+-- a beginning of what comes behind
+pub begins_behind : (front out whole : List ℕ) → IsBeginning out whole → IsBeginning (front ++ out) (front ++ whole)
+begins_behind front out whole h = (h.0, ap (λ (l : List ℕ). front ++ l) h.1 ∙ sym (append_assoc front out h.0))

@@ -1,3 +1,4 @@
+pub mod Faults
 pub mod Taking
 pub mod Served
 pub mod Determined

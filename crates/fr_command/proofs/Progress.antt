@@ -1,5 +1,5 @@
 -- How far the answering of an input has come.
-use Rattle.std.proofs.Common.{◌≡◌, ◌∙◌, ℕ, ◌+◌, ◌≤◌, ◌==◌, Bool, true, false, cond, not, List, [], ◌∷◌, ◌++◌, length, take, Option, Some, None, append_assoc, append-nil, refl, sym, ap, subst, arith}
+use Rattle.std.proofs.Common.{◌≡◌, ◌∙◌, ℕ, ◌+◌, ◌≤◌, ◌==◌, Bool, true, false, cond, not, List, [], ◌∷◌, ◌++◌, length, take, Option, Some, None, append-nil, refl, sym, ap, subst, arith}
 use Rattle.std.specs.Prelude.{slice_get}
 use Rattle.std.proofs.lemmas.List.Splits.{length-slice_split}
 use Rattle.std.proofs.lemmas.List.Sums.{count_by-le-length, sum_by-append, sum_by-cons}
@@ -13,8 +13,11 @@ use Rattle.fr_command.specs.Outputs.{asking_count, IsOutput, WritesOutput, Write
 use Rattle.fr_route.specs.Answers.{AreAnswers}
 use Rattle.fr_route.proofs.Asking.{HasAsked, none_asked, asked_more}
 use Rattle.fr_command.proofs.EachOutput.{each_output}
-use Rattle.fr_command.proofs.Determined.{output_unique, output_begins_with, begins-trans}
+use Rattle.fr_command.proofs.Determined.{output_unique, output_begins_with, begins-trans, begins_behind}
 use Rattle.fr_bytes.specs.Bytes.{IsBeginning}
+use Rattle.fr_bytes.specs.declared.fault.RunFault.{RunFault}
+use Rattle.fr_bytes.specs.declared.fault.RunFault.TheVariants.{Read, Write, TooLong, Start, Memory}
+use Rattle.fr_command.specs.InLines.{BeginsAnswer, IsLineFault, IsAnsweringFault}
 
 -- the lines of the whole input up to those that are left are answered
 pub record HasAnswered (whole : List ℕ) (left : List (List ℕ)) (now : Option State) (old new : Option (List ℕ)) (count : ℕ) : Type 0 where
@@ -70,25 +73,25 @@ module _ (whole line : List ℕ) (left : List (List ℕ)) (now : Option State) (
   }
 
   -- a write failed within the line's answer
-  pub stops_writing : (last : Option State) (new : Option (List ℕ)) (answer out : List ℕ) → AreAnswers now (line ∷ []) answer last → IsBeginning out answer → Appends mid new out → WritesBeginning whole old new
-  stops_writing last new answer out are begins more =
-      let more_asked = asked_more (lines_of whole) line left now last h.out answer h.asked are in
+  stops_writing : (new : Option (List ℕ)) → BeginsAnswer now line mid new → WritesBeginning whole old new
+  stops_writing new part =
+      let more_asked = asked_more (lines_of whole) line left now part.last h.out part.answer h.asked part.are_answers in
       let front : take (length more_asked.done) (lines_of whole) ≡ more_asked.done = ap (take (length more_asked.done)) more_asked.cut ∙ take-append_seam more_asked.done left in
-      let answers : AreAnswers None (take (length more_asked.done) (lines_of whole)) (h.out ++ answer) last =
-      subst (λ (ls : List (List ℕ)). AreAnswers None ls (h.out ++ answer) last) (sym front) more_asked.are_answers in
-      let part : IsBeginning (h.out ++ out) (h.out ++ answer) = (begins.0, ap (λ (o : List ℕ). h.out ++ o) begins.1 ∙ sym (append_assoc h.out out begins.0)) in
+      let answers : AreAnswers None (take (length more_asked.done) (lines_of whole)) (h.out ++ part.answer) part.last =
+      subst (λ (ls : List (List ℕ)). AreAnswers None ls (h.out ++ part.answer) part.last) (sym front) more_asked.are_answers in
+      let begins : IsBeginning (h.out ++ part.out) (h.out ++ part.answer) = begins_behind h.out part.out part.answer part.begins in
       let all = each_output whole in
       record {
         whole = all.0;
-        out = h.out ++ out;
+        out = h.out ++ part.out;
         output = all.1;
         only = λ other is. output_unique whole other all.0 is all.1;
-        begins = begins-trans (h.out ++ out) (h.out ++ answer) all.0 part (output_begins_with whole (h.out ++ answer) all.0 (length more_asked.done) last answers all.1);
-        writes = Appends-trans old mid new h.out out h.writes more;
+        begins = begins-trans (h.out ++ part.out) (h.out ++ part.answer) all.0 begins (output_begins_with whole (h.out ++ part.answer) all.0 (length more_asked.done) part.last answers all.1);
+        writes = Appends-trans old mid new h.out part.out h.writes part.writes;
       }
 
   -- the line failed
-  pub stops_at_line : (new : Option (List ℕ)) → is_blank line ≡ false → Keeps mid new → StopsAtLine whole old new
+  stops_at_line : (new : Option (List ℕ)) → is_blank line ≡ false → Keeps mid new → StopsAtLine whole old new
   stops_at_line new asks kept =
       let done = h.asked.done in
       let front : take (length done) (lines_of whole) ≡ done = rw h.asked.cut (take-append_seam done (line ∷ left)) in
@@ -104,6 +107,15 @@ module _ (whole line : List ℕ) (left : List (List ℕ)) (now : Option State) (
         begins = λ all is. output_begins_with whole h.out all (length done) now answers is;
         writes = Appends-kept old mid new h.out h.writes kept;
       }
+
+  -- the line was not answered
+  pub line_failed : (new : Option (List ℕ)) (fault : RunFault) → IsLineFault now line mid new fault
+      → IsAnsweringFault whole old new fault
+  line_failed new Read why = why
+  line_failed new Write why = stops_writing new why
+  line_failed new TooLong why = why
+  line_failed new Start why = stops_at_line new why.0 why.1
+  line_failed new Memory why = stops_at_line new why.0 why.1
 
 -- no line is left
 pub all_answered : (whole : List ℕ) (now : Option State) (old new : Option (List ℕ)) (count : ℕ) → HasAnswered whole [] now old new count → WritesOutput whole old new count

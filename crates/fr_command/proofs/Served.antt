@@ -1,5 +1,5 @@
 -- How far an input was served.
-use Rattle.std.proofs.Common.{◌≡◌, ◌≢◌, ◌∙◌, ℕ, ◌+◌, ◌<◌, ◌≤◌, List, [], ◌∷◌, ◌++◌, length, take, drop, take-append-drop, length-append, append_assoc, append-nil, refl, sym, ap, subst, Option, Result, Ok, Err, OnOk, OnErr, false, not, arith}
+use Rattle.std.proofs.Common.{◌≡◌, ◌≢◌, ◌∙◌, ℕ, ◌+◌, ◌<◌, ◌≤◌, List, [], ◌∷◌, ◌++◌, length, take, drop, take-append-drop, length-append, append_assoc, append-nil, refl, sym, ap, subst, Option, Result, Ok, Err, OnOk, OnErr, true, false, not, arith}
 use Rattle.std.proofs.Math.Seq.{take-add}
 use Rattle.std.proofs.lemmas.List.{take-append-le}
 use Rattle.std.proofs.lemmas.List.Folds.{length-prefix_len}
@@ -9,11 +9,15 @@ use Rattle.std.specs.Io.KnownBytes.{Appends, Consumes, Keeps}
 use Rattle.std.specs.List.{before_first}
 use Rattle.fr_route.specs.Blank.{is_blank}
 use Rattle.fr_bytes.specs.Lines.{lines_of}
+use Rattle.fr_bytes.specs.Bytes.{IsBeginning, most_bytes}
+use Rattle.fr_bytes.specs.declared.fault.RunFault.{RunFault}
+use Rattle.fr_bytes.specs.declared.fault.RunFault.TheVariants.{Read, Write, TooLong, Start, Memory}
 use Rattle.fr_command.specs.Outputs.{asking_count, IsOutput, WritesOutput, WritesBeginning}
 use Rattle.fr_command.specs.Conversations.{Talk, Takes, Ends, Says, AnswersBefore, silence, carried}
-use Rattle.fr_command.specs.InPieces.{StopsInPiece, BeginsInPiece}
-use Rattle.fr_bytes.specs.Bytes.{IsBeginning, most_bytes}
-use Rattle.fr_command.proofs.Determined.{output_unique, begins-trans}
+use Rattle.fr_command.specs.Faults.{IsServeFault, IsTakeFault}
+use Rattle.fr_command.specs.InLines.{BeginsAnswer, IsLineFault}
+use Rattle.fr_command.specs.InPieces.{StopsInPiece, BeginsInPiece, IsFrontFault, IsPieceFault}
+use Rattle.fr_command.proofs.Determined.{output_unique, begins-trans, begins_behind}
 use Rattle.fr_command.proofs.EachOutput.{each_output}
 use Rattle.fr_bytes.proofs.Ending.{lines_go_on, line_goes_on, begun_alone, begun_short, first_line_is, one_line, ends_line}
 use Rattle.fr_command.proofs.Taking.{takes_on, takes_none, answer_stands, output_ends}
@@ -51,10 +55,6 @@ says_kept first last xs u v w h kept = record {
   writes = Appends-kept u v w h.text h.writes kept;
 }
 
--- a beginning of what comes behind
-begins_behind : (front out whole : List ℕ) → IsBeginning out whole → IsBeginning (front ++ out) (front ++ whole)
-begins_behind front out whole h = (h.0, ap (λ (l : List ℕ). front ++ l) h.1 ∙ sym (append_assoc front out h.0))
-
 -- all that was written is a beginning too
 pub says_begins : (first last : Talk) (piece : List ℕ) (done : ℕ) (u v : Option (List ℕ)) → Says first (take done piece) last u v → BeginsInPiece first piece u v
 says_begins first last piece done u v h = record {
@@ -67,6 +67,18 @@ says_begins first last piece done u v h = record {
   writes = h.writes;
 }
 
+-- a beginning of the answer to the line that the end of the input ends
+pub ends_begun : (old last : Talk) (text out : List ℕ) (before after : Option (List ℕ)) → Ends old text last
+    → IsBeginning out text → Appends before after out → BeginsAnswer old.state old.begun before after
+ends_begun old last text out before after end begins writes = record {
+  answer = text;
+  last = last.state;
+  out = out;
+  are_answers = end.0;
+  begins = begins;
+  writes = writes;
+}
+
 -- of a text and its end
 pub text_begun : (text end : List ℕ) (n : ℕ) → IsBeginning (take n text) (text ++ end)
 text_begun text end n = (drop n text ++ end, ap (λ (l : List ℕ). l ++ end) (sym (take-append-drop n text)) ∙ append_assoc (take n text) (drop n text) end)
@@ -76,7 +88,7 @@ end_begun text end n = begins_behind text (take n end) end (drop n end, sym (tak
 
 module _ (first mid : Talk) (piece : List ℕ) (done : ℕ) (u v : Option (List ℕ)) (h : Says first (take done piece) mid u v) where
   -- the answer to more bytes of a piece was begun
-  pub begins_later : (w : Option (List ℕ)) → BeginsInPiece mid (drop done piece) v w → BeginsInPiece first piece u w
+  begins_later : (w : Option (List ℕ)) → BeginsInPiece mid (drop done piece) v w → BeginsInPiece first piece u w
   begins_later w k = record {
     count = done + k.count;
     new = k.new;
@@ -89,12 +101,22 @@ module _ (first mid : Talk) (piece : List ℕ) (done : ℕ) (u v : Option (List 
   }
 
   -- or it stops there
-  pub stops_later : (Holds : List ℕ → List ℕ → Type 0) (new : Talk) (w : Option (List ℕ)) → new ≡ mid → Keeps v w → Holds (carried mid (drop done piece)) (drop done piece) → StopsInPiece Holds first piece new u w
-  stops_later Holds new w same kept holds = record {
+  stops_later : (fault : RunFault) (new : Talk) (w : Option (List ℕ)) → new ≡ mid → Keeps v w
+      → IsTakeFault (carried mid (drop done piece)) (drop done piece) fault → StopsInPiece fault first piece new u w
+  stops_later fault new w same kept why = record {
     count = done;
     says = subst (λ (t : Talk). Says first (take done piece) t u w) (sym same) (says_kept first mid (take done piece) u v w h kept);
-    holds = subst (λ (t : Talk). Holds (carried t (drop done piece)) (drop done piece)) (sym same) holds;
+    untaken = subst (λ (t : Talk). IsTakeFault (carried t (drop done piece)) (drop done piece) fault) (sym same) why;
   }
+
+  -- why the front of what is left of a piece is not answered is why the piece is not
+  pub fails_later : (new : Talk) (w : Option (List ℕ)) (fault : RunFault)
+      → IsFrontFault mid (drop done piece) new v w fault → IsPieceFault first piece new u w fault
+  fails_later new w Read why = stops_later Read new w why.0 why.1 why.2
+  fails_later new w Write why = begins_later w why
+  fails_later new w TooLong why = stops_later TooLong new w why.0 why.1 why.2
+  fails_later new w Start why = stops_later Start new w why.0 why.1 why.2
+  fails_later new w Memory why = stops_later Memory new w why.0 why.1 why.2
 
 -- a line that is not blank has a byte
 pub blank_or_some : (line : List ℕ) → is_blank line ≡ false → line ≢ []
@@ -126,7 +148,7 @@ read_on r s t bytes piece room count few h k = Consumes-trans r s t bytes (take 
 
 module _ (bytes : List ℕ) (talk : Talk) (u v : Option (List ℕ)) (h : Says silence bytes talk u v) where
   -- the answers to the lines before the one that has begun
-  pub before_begun : (w : Option (List ℕ)) → Keeps v w → AnswersBefore bytes talk.begun u w
+  before_begun : (w : Option (List ℕ)) → Keeps v w → AnswersBefore bytes talk.begun u w
   before_begun w kept = record {
     before = h.takes.ended;
     behind = [];
@@ -149,22 +171,32 @@ module _ (bytes : List ℕ) (talk : Talk) (u v : Option (List ℕ)) (h : Says si
         counted = refl;
       }
 
-  -- or a beginning of it
-  pub output_begun : (last : Talk) (text out : List ℕ) (w : Option (List ℕ)) → Ends talk text last → IsBeginning out text → Appends v w out → WritesBeginning bytes u w
-  output_begun last text out w end begins more =
-      let output = output_ends bytes h.text text talk last h.takes end in
+  -- or a beginning of it,
+  output_begun : (w : Option (List ℕ)) → BeginsAnswer talk.state talk.begun v w → WritesBeginning bytes u w
+  output_begun w part =
+      let last : Talk = record { state = part.last; begun = [] } in
+      let output = output_ends bytes h.text part.answer talk last h.takes (part.are_answers, refl) in
       record {
-        whole = h.text ++ text;
-        out = h.text ++ out;
+        whole = h.text ++ part.answer;
+        out = h.text ++ part.out;
         output = output;
-        only = λ other is. output_unique bytes other (h.text ++ text) is output;
-        begins = begins_behind h.text out text begins;
-        writes = Appends-trans u v w h.text out h.writes more;
+        only = λ other is. output_unique bytes other (h.text ++ part.answer) is output;
+        begins = begins_behind h.text part.out part.answer part.begins;
+        writes = Appends-trans u v w h.text part.out h.writes part.writes;
       }
+
+  -- or it was not answered
+  pub end_failed : (r s w : Option (List ℕ)) (fault : RunFault) → Consumes r s bytes
+      → IsLineFault talk.state talk.begun v w fault → IsServeFault r s u w fault
+  end_failed r s w Read reads why = absurd why
+  end_failed r s w Write reads why = (bytes, reads, output_begun w why)
+  end_failed r s w TooLong reads why = absurd why
+  end_failed r s w Start reads why = (bytes, talk.begun, reads, before_begun w why.1, why.0)
+  end_failed r s w Memory reads why = (bytes, talk.begun, reads, before_begun w why.1, blank_or_some talk.begun why.0, λ blank. let bad : true ≡ false = sym blank ∙ why.0 in cc)
 
   module _ (piece : List ℕ) (w : Option (List ℕ)) where
     -- the answer to a piece behind was begun,
-    pub piece_begun : BeginsInPiece talk piece v w → WritesBeginning (bytes ++ piece) u w
+    piece_begun : BeginsInPiece talk piece v w → WritesBeginning (bytes ++ piece) u w
     piece_begun k =
         let output = each_output (bytes ++ piece) in
         let front = take k.count piece in
@@ -180,9 +212,9 @@ module _ (bytes : List ℕ) (talk : Talk) (u v : Option (List ℕ)) (h : Says si
           writes = Appends-trans u v w h.text k.out h.writes k.writes;
         }
 
-    module _ (Holds : List ℕ → List ℕ → Type 0) (new : Talk) (k : StopsInPiece Holds talk piece new v w) where
+    module _ (fault : RunFault) (new : Talk) (k : StopsInPiece fault talk piece new v w) where
       -- or it stops at a line, behind which there is none where what is left of the piece does not end it
-      pub piece_stopped : (line : List ℕ) × (stop : AnswersBefore (bytes ++ piece) line u w) × Holds line (drop k.count piece)
+      piece_stopped : (line : List ℕ) × (stop : AnswersBefore (bytes ++ piece) line u w) × IsTakeFault line (drop k.count piece) fault
           × (lines_of (drop k.count piece) ≡ drop k.count piece ∷ [] → stop.behind ≡ [])
       piece_stopped =
           let front = take k.count piece in
@@ -202,10 +234,10 @@ module _ (bytes : List ℕ) (talk : Talk) (u v : Option (List ℕ)) (h : Says si
             are_answers = said.takes.are_answers;
             writes = said.writes;
           } in
-          (carried new rest, answers, k.holds, λ one. ap (λ (ls : List (List ℕ)). drop 1 ls) (sym first.1 ∙ one))
+          (carried new rest, answers, k.untaken, λ one. ap (λ (ls : List (List ℕ)). drop 1 ls) (sym first.1 ∙ one))
 
       -- which is all that the bytes have behind the last end, where these were few
-      pub stopped_at_last : length talk.begun + length piece ≤ most_bytes + 1 → most_bytes < length (carried new (drop k.count piece))
+      stopped_at_last : length talk.begun + length piece ≤ most_bytes + 1 → most_bytes < length (carried new (drop k.count piece))
           → (last : Talk) × Says silence (bytes ++ piece) last u w × (length last.begun ≡ most_bytes + 1)
       stopped_at_last few long =
           let front = take k.count piece in
@@ -220,3 +252,19 @@ module _ (bytes : List ℕ) (talk : Talk) (u v : Option (List ℕ)) (h : Says si
           let said = says_on silence talk last bytes (front ++ rest) u v w h (says_on talk new last front rest v w w k.says tail) in
           let exact : length (new.begun ++ rest) ≡ most_bytes + 1 = omega (arith, length-append new.begun rest, length-append new.begun (before_first ends_line rest), length-prefix_len (λ x. not (ends_line x)) rest, prefix_len-le-length (λ x. not (ends_line x)) rest) in
           (last, subst (λ (l : List ℕ). Says silence (bytes ++ l) last u w) (take-append-drop k.count piece) said, exact)
+
+    -- the piece was not answered to its end
+    pub piece_failed : (r s : Option (List ℕ)) (new : Talk) (fault : RunFault) → Consumes r s (bytes ++ piece)
+        → length talk.begun + length piece ≤ most_bytes + 1 → IsPieceFault talk piece new v w fault
+        → IsServeFault r s u w fault
+    piece_failed r s new Read reads few why = absurd why.untaken
+    piece_failed r s new Write reads few why = (bytes ++ piece, reads, piece_begun why)
+    piece_failed r s new TooLong reads few why =
+        let last = stopped_at_last TooLong new why few why.untaken in
+        (bytes ++ piece, last.0, reads, last.1, last.2)
+    piece_failed r s new Start reads few why =
+        let stopped = piece_stopped Start new why in
+        (bytes ++ piece, stopped.0, reads, stopped.1, stopped.2)
+    piece_failed r s new Memory reads few why =
+        let stopped = piece_stopped Memory new why in
+        (bytes ++ piece, stopped.0, reads, stopped.1, stopped.2.0, λ blank. stopped.3 (stopped.2.1 blank))

@@ -1,15 +1,18 @@
 -- How far a piece of an input was answered where something failed.
-use Rattle.std.specs.Prelude.{ℕ, List, take, drop, Option}
-use Rattle.std.specs.Io.KnownBytes.{Appends}
+use Rattle.std.specs.Prelude.{◌≡◌, ◌≢◌, ℕ, ◌+◌, ◌<◌, ◌≤◌, List, [], length, take, drop, Option}
+use Rattle.std.specs.Io.KnownBytes.{Appends, Keeps}
+use Rattle.fr_bytes.specs.Bytes.{most_bytes, IsBeginning}
+use Rattle.fr_bytes.specs.declared.fault.RunFault.{RunFault}
+use Rattle.fr_bytes.specs.declared.fault.RunFault.TheVariants.{Read, Write, TooLong, Start, Memory}
 use Rattle.fr_command.specs.Conversations.{Talk, Takes, Says, carried}
-use Rattle.fr_bytes.specs.Bytes.{IsBeginning}
+use Rattle.fr_command.specs.Faults.{IsTakeFault}
 
--- some bytes of the piece were taken, and the answer to them was written; and this holds of the line behind them, as far as the
--- piece has it, and of what is left of the piece
-pub record StopsInPiece (Holds : List ℕ → List ℕ → Type 0) (old : Talk) (piece : List ℕ) (new : Talk) (before after : Option (List ℕ)) : Type 0 where
+-- some bytes of the piece were taken, and the answer to them was written; for this fault nothing was taken of what
+-- is left of it
+pub record StopsInPiece (fault : RunFault) (old : Talk) (piece : List ℕ) (new : Talk) (before after : Option (List ℕ)) : Type 0 where
   pub count : ℕ
   pub says : Says old (take count piece) new before after
-  pub holds : Holds (carried new (drop count piece)) (drop count piece)
+  pub untaken : IsTakeFault (carried new (drop count piece)) (drop count piece) fault
 
 -- what was written is a beginning of the answer to some bytes of the piece
 pub record BeginsInPiece (old : Talk) (piece : List ℕ) (before after : Option (List ℕ)) : Type 0 where
@@ -20,3 +23,23 @@ pub record BeginsInPiece (old : Talk) (piece : List ℕ) (before after : Option 
   pub takes : Takes old (take count piece) whole new
   pub begins : IsBeginning out whole
   pub writes : Appends before after out
+
+-- why a piece is not answered to its end: a write failed, or the conversation could not take a line
+abbrev pub IsPieceFault : (old : Talk) (piece : List ℕ) (new : Talk) (before after : Option (List ℕ)) → RunFault → Type 0
+IsPieceFault old piece new before after Write = BeginsInPiece old piece before after
+IsPieceFault old piece new before after fault = StopsInPiece fault old piece new before after
+
+-- why the front of a piece is not answered: a write failed, or the conversation could not take it, and nothing was
+-- written
+abbrev pub IsFrontFault : (old : Talk) (piece : List ℕ) (new : Talk) (before after : Option (List ℕ)) → RunFault → Type 0
+IsFrontFault old piece new before after Write = BeginsInPiece old piece before after
+IsFrontFault old piece new before after fault =
+    (new ≡ old) × Keeps before after × IsTakeFault (carried old piece) piece fault
+
+-- why a line that has begun cannot go on with these bytes: it is too long, or memory was missing for one of them
+abbrev pub IsHoldFault : (begun bytes : List ℕ) → RunFault → Type 0
+IsHoldFault begun bytes Read = ⊥
+IsHoldFault begun bytes Write = ⊥
+IsHoldFault begun bytes TooLong = most_bytes < length begun + length bytes
+IsHoldFault begun bytes Start = ⊥
+IsHoldFault begun bytes Memory = (bytes ≢ []) × (length begun + length bytes ≤ most_bytes)

@@ -1,12 +1,11 @@
 //! Answering the lines of an input.
 
-ghost use Rattle.std.specs.Prelude.{◌≡◌, ◌≢◌, [], ◌∷◌, List, ℕ, IfErr, IfNone, IfOk, IfSome, None, Option, false, if◌then◌else◌, not, string_bytes, true};
-ghost use Rattle.std.specs.Io.KnownBytes.{Appends, Keeps};
+ghost use Rattle.std.specs.Prelude.{◌≡◌, ◌≢◌, [], ◌∷◌, List, ℕ, IfErr, IfNone, IfOk, IfSome, None, false, if◌then◌else◌, not, string_bytes, true};
+ghost use Rattle.std.specs.Io.KnownBytes.{Appends};
 ghost use Rattle.fr_route.specs.Blank.{is_blank};
-ghost use Rattle.fr_route.specs.States.{State};
 ghost use Rattle.fr_route.specs.Answers.{AreAnswers};
-ghost use Rattle.fr_bytes.specs.Bytes.{IsBeginning};
-ghost use Rattle.fr_command.specs.Outputs.{WritesOutput, WritesBeginning, StopsAtLine};
+ghost use Rattle.fr_command.specs.InLines.{IsAnsweringFault, IsLineFault};
+ghost use Rattle.fr_command.specs.Outputs.{WritesOutput};
 
 use crate::fault::run_fault;
 use fr_bytes::{Lines, RunFault, write_whole};
@@ -27,11 +26,7 @@ pub(crate) fn answer_all<T: Threads + Wait + Sync, W: Write, G: Gate + Sync>(
     gate: &G,
 ) -> Result<u64, RunFault>
     ensures ok { IfOk result (WritesOutput input.now (W.contents writer.old) (W.contents writer.new)) }
-    ensures write { result ≡ Err RunFault.Write → WritesBeginning input.now (W.contents writer.old) (W.contents writer.new) }
-    ensures start { result ≡ Err RunFault.Start → StopsAtLine input.now (W.contents writer.old) (W.contents writer.new) }
-    ensures memory { result ≡ Err RunFault.Memory → StopsAtLine input.now (W.contents writer.old) (W.contents writer.new) }
-    ensures no_read { result ≢ Err RunFault.Read }
-    ensures no_length { result ≢ Err RunFault.TooLong }
+    ensures fault { IfErr result (IsAnsweringFault input.now (W.contents writer.old) (W.contents writer.new)) }
     ensures no_start { plan.now.budget ≡ 0 → result ≢ Err RunFault.Start }
 {
     let mut session = Session::new();
@@ -50,11 +45,7 @@ fn answer_each<T: Threads + Wait + Sync, W: Write, G: Gate + Sync>(
 ) -> Result<u64, RunFault>
     requires { session.old ≡ None }
     ensures ok { IfOk result (WritesOutput input.now (W.contents writer.old) (W.contents writer.new)) }
-    ensures write { result ≡ Err RunFault.Write → WritesBeginning input.now (W.contents writer.old) (W.contents writer.new) }
-    ensures start { result ≡ Err RunFault.Start → StopsAtLine input.now (W.contents writer.old) (W.contents writer.new) }
-    ensures memory { result ≡ Err RunFault.Memory → StopsAtLine input.now (W.contents writer.old) (W.contents writer.new) }
-    ensures no_read { result ≢ Err RunFault.Read }
-    ensures no_length { result ≢ Err RunFault.TooLong }
+    ensures fault { IfErr result (IsAnsweringFault input.now (W.contents writer.old) (W.contents writer.new)) }
     ensures no_start { plan.now.budget ≡ 0 → result ≢ Err RunFault.Start }
 {
     let mut count = 0;
@@ -78,13 +69,7 @@ fn answer_one<T: Threads + Wait + Sync, W: Write, G: Gate + Sync>(
     ensures asks { IfOk result (λ answered. answered ≡ (if not (is_blank line.now) then 1 else 0)) }
     ensures ok { IfOk result (λ asks. (out : List ℕ) × AreAnswers session.old (line.now ∷ []) out session.new
         × Appends (W.contents writer.old) (W.contents writer.new) out) }
-    ensures write { result ≡ Err RunFault.Write → (answer : List ℕ) × (last : Option State) × (out : List ℕ)
-        × AreAnswers session.old (line.now ∷ []) answer last × IsBeginning out answer
-        × Appends (W.contents writer.old) (W.contents writer.new) out }
-    ensures start { result ≡ Err RunFault.Start → (is_blank line.now ≡ false) × Keeps (W.contents writer.old) (W.contents writer.new) }
-    ensures memory { result ≡ Err RunFault.Memory → (is_blank line.now ≡ false) × Keeps (W.contents writer.old) (W.contents writer.new) }
-    ensures no_read { result ≢ Err RunFault.Read }
-    ensures no_length { result ≢ Err RunFault.TooLong }
+    ensures fault { IfErr result (IsLineFault session.old line.now (W.contents writer.old) (W.contents writer.new)) }
     ensures no_start { plan.now.budget ≡ 0 → result ≢ Err RunFault.Start }
 {
     match answer_text(rt, alloc, session, line, plan, gate) {

@@ -1,10 +1,12 @@
 //! A conversation: the bytes of an input come in pieces that are cut anywhere, and each line is answered once its end has come.
 
-ghost use Rattle.std.specs.Prelude.{◌≡◌, ◌≢◌, ◌<◌, ◌≤◌, ◌+◌, ◌++◌, ◌↔◌, ◌∷◌, [], length, take, false, true, IfOk, OnOk, OnErr};
+ghost use Rattle.std.specs.Prelude.{◌≡◌, ◌≢◌, ◌<◌, ◌≤◌, ◌+◌, ◌++◌, ◌↔◌, ◌∷◌, [], length, take, true, IfErr, IfOk, OnOk, OnErr};
 ghost use Rattle.fr_route.specs.Blank.{is_blank as is_blank_line};
 ghost use Rattle.fr_bytes.specs.Lines.{lines_of};
 ghost use Rattle.fr_bytes.specs.Bytes.{most_bytes};
-ghost use Rattle.fr_command.specs.Conversations.{Takes, Ends, MayWantMemory, silence, carried, line_size, text_of};
+ghost use Rattle.fr_command.specs.Conversations.{Takes, Ends, silence, carried, line_size, text_of};
+ghost use Rattle.fr_command.specs.Faults.{IsTakeFault, IsFinishFault};
+ghost use Rattle.fr_command.specs.InPieces.{IsHoldFault};
 
 use crate::fault::run_fault;
 use fr_bytes::{MAX_BYTES, RunFault, front_size};
@@ -88,12 +90,8 @@ impl Conversation {
         ensures takes { IfOk result (λ taken. Takes self.old (take taken.count piece.now) (text_of taken.answer) self.new) }
         ensures within { OnOk result (length (carried self.old piece.now) ≤ most_bytes) }
         ensures unchanged { OnErr result (self.new ≡ self.old) }
-        ensures too_long { result ≡ Err RunFault.TooLong → most_bytes < length (carried self.old piece.now) }
-        ensures start { result ≡ Err RunFault.Start → is_blank_line (carried self.old piece.now) ≡ false }
-        ensures memory { result ≡ Err RunFault.Memory → MayWantMemory (carried self.old piece.now) piece.now }
+        ensures fault { IfErr result (IsTakeFault (carried self.old piece.now) piece.now) }
         ensures no_start { plan.now.budget ≡ 0 → result ≢ Err RunFault.Start }
-        ensures no_read { result ≢ Err RunFault.Read }
-        ensures no_write { result ≢ Err RunFault.Write }
     {
         let kept = self.begun.len();
         let end = front_size(piece);
@@ -134,11 +132,9 @@ impl Conversation {
         gate: &G,
     ) -> Result<Option<String>, RunFault>
         ensures ends { IfOk result (λ answer. Ends self.old (text_of answer) self.new) }
-        ensures unchanged { OnErr result ((is_blank_line self.old.begun ≡ false) × (self.new ≡ self.old)) }
+        ensures unchanged { OnErr result (self.new ≡ self.old) }
+        ensures fault { IfErr result (IsFinishFault self.old.begun) }
         ensures no_start { plan.now.budget ≡ 0 → result ≢ Err RunFault.Start }
-        ensures no_read { result ≢ Err RunFault.Read }
-        ensures no_write { result ≢ Err RunFault.Write }
-        ensures no_length { result ≢ Err RunFault.TooLong }
     {
         match self.session.answer_line(rt, alloc, &self.begun, plan, gate) {
             Ok(answer) => {
@@ -167,11 +163,7 @@ impl Conversation {
         ensures ok { OnOk result ((self.new.begun ≡ self.old.begun ++ bytes.now) × (self.new.state ≡ self.old.state)) }
         ensures within { OnOk result (length self.old.begun + length bytes.now ≤ most_bytes) }
         ensures unchanged { OnErr result (self.new ≡ self.old) }
-        ensures too_long { result ≡ Err RunFault.TooLong → most_bytes < length self.old.begun + length bytes.now }
-        ensures memory { result ≡ Err RunFault.Memory → (bytes.now ≢ []) × (length self.old.begun + length bytes.now ≤ most_bytes) }
-        ensures no_read { result ≢ Err RunFault.Read }
-        ensures no_write { result ≢ Err RunFault.Write }
-        ensures no_start { result ≢ Err RunFault.Start }
+        ensures fault { IfErr result (IsHoldFault self.old.begun bytes.now) }
     {
         if bytes.len() > MAX_BYTES - self.begun.len() {
             return Err(RunFault::TooLong);

@@ -1,9 +1,20 @@
-//! Why a run, or a conversation, stops at a line.
+//! What a session's fault is to a run, and how the program ends for a fault.
 
 ghost use Rattle.std.specs.Prelude.{◌≡◌, ◌⊎◌, ◌↔◌};
 
 use fr_bytes::RunFault;
 use fr_route::AnswerFault;
+
+/// The exit status of a fault, and its line on standard error. It has no clause, and is only tested. `O(1)`.
+pub fn run_end(fault: &RunFault) -> (u8, &'static str) {
+    match fault {
+        RunFault::Read => (1, "revroute: read fault"),
+        RunFault::Write => (1, "revroute: write fault"),
+        RunFault::TooLong => (1, "revroute: input too long"),
+        RunFault::Start => (1, "revroute: no thread"),
+        RunFault::Memory => (1, "revroute: no memory"),
+    }
+}
 
 /// The fault of a run whose session gives no answer for this one.
 pub(crate) fn run_fault(fault: AnswerFault) -> RunFault

@@ -19,7 +19,8 @@ mod serving;
 mod words;
 
 pub use conversation::{Conversation, Taken};
-pub use fr_bytes::{Lines, MAX_BYTES, RunFault, first_line, read_input, run_end, write_whole};
+pub use fault::run_end;
+pub use fr_bytes::{Lines, MAX_BYTES, RunFault, first_line, read_input, write_whole};
 pub use fr_words::{Draw, MAX_STEPS, Task, TaskFault, task_end};
 pub use play::play_drawn;
 pub use runs::run;

@@ -1,15 +1,15 @@
 //! A play: the network of an input, turned by single steps of workers under a drawn schedule.
 
-ghost use Rattle.std.specs.Prelude.{◌≡◌, ◌≢◌, ◌<◌, List, ℕ, not, replicate, string_bytes, find, IfOk};
-ghost use Rattle.std.specs.Io.KnownBytes.{Keeps};
+ghost use Rattle.std.specs.Prelude.{◌≡◌, ◌<◌, List, ℕ, not, replicate, string_bytes, find, IfErr, IfOk};
 ghost use Rattle.std.specs.Option.{option_copied};
 ghost use Rattle.fr_lines.specs.Requests.{new_network};
 ghost use Rattle.fr_core.specs.Played.{IsPlay};
 ghost use Rattle.fr_route.specs.Blank.{is_blank as is_blank_line};
 ghost use Rattle.fr_bytes.specs.Lines.{lines_of};
-ghost use Rattle.fr_bytes.specs.Bytes.{ReadsInput, ReadsOneTooMany, ReadsAtMostOneTooMany};
+ghost use Rattle.fr_bytes.specs.Bytes.{ReadsInput, ReadsAtMostOneTooMany};
 ghost use Rattle.fr_words.specs.Draws.{drawn};
-ghost use Rattle.fr_command.specs.Plays.{targets_for, IsRefusal, IsPlayText, IsPlayOf, IsPlayOutput, WritesPlay, WritesPlayBeginning};
+ghost use Rattle.fr_command.specs.Faults.{IsDrawnPlayFault};
+ghost use Rattle.fr_command.specs.Plays.{targets_for, IsRefusal, IsPlayText, IsPlayOf, IsPlayOutput, WritesPlay};
 
 use crate::entries::{end_text, push_count, targets_of};
 use fr_bytes::{Lines, RunFault, read_input, write_whole};
@@ -41,14 +41,8 @@ pub fn play_drawn<R: Read, W: Write>(
         × ReadsInput (R.remaining reader.old) (R.remaining reader.new) bytes
         × WritesPlay draw bytes (W.contents writer.old) (W.contents writer.new) count) }
     ensures limit { ReadsAtMostOneTooMany (R.remaining reader.old) (R.remaining reader.new) }
-    ensures read { result ≡ Err RunFault.Read → Keeps (W.contents writer.old) (W.contents writer.new) }
-    ensures too_long { result ≡ Err RunFault.TooLong → Keeps (W.contents writer.old) (W.contents writer.new)
-        × ReadsOneTooMany (R.remaining reader.old) (R.remaining reader.new) }
-    ensures write { result ≡ Err RunFault.Write → (bytes : List ℕ)
-        × ReadsInput (R.remaining reader.old) (R.remaining reader.new) bytes
-        × WritesPlayBeginning draw bytes (W.contents writer.old) (W.contents writer.new) }
-    ensures no_start { result ≢ Err RunFault.Start }
-    ensures memory { result ≡ Err RunFault.Memory → Keeps (W.contents writer.old) (W.contents writer.new) }
+    ensures fault { IfErr result (IsDrawnPlayFault draw (R.remaining reader.old) (R.remaining reader.new)
+        (W.contents writer.old) (W.contents writer.new)) }
 {
     let input = read_input(alloc, reader)?;
     let Ok((text, count)) = play_input(alloc, &input, draw) else {

@@ -1,9 +1,9 @@
 //! A run: reads the whole input, and answers its lines one after another.
 
-ghost use Rattle.std.specs.Prelude.{◌≡◌, ◌≢◌, ◌⊎◌, List, ℕ, IfOk};
-ghost use Rattle.std.specs.Io.KnownBytes.{Keeps};
-ghost use Rattle.fr_bytes.specs.Bytes.{ReadsInput, ReadsSome, ReadsOneTooMany, ReadsAtMostOneTooMany};
-ghost use Rattle.fr_command.specs.Outputs.{WritesOutput, WritesBeginning, StopsAtLine};
+ghost use Rattle.std.specs.Prelude.{◌≡◌, ◌≢◌, List, ℕ, IfErr, IfOk};
+ghost use Rattle.fr_bytes.specs.Bytes.{ReadsInput, ReadsAtMostOneTooMany};
+ghost use Rattle.fr_command.specs.Faults.{IsRunFault};
+ghost use Rattle.fr_command.specs.Outputs.{WritesOutput};
 
 use crate::answers::answer_all;
 use fr_bytes::{RunFault, read_input};
@@ -35,24 +35,9 @@ pub fn run<T: Threads + Wait + Sync, R: Read, W: Write, G: Gate + Sync>(
         × ReadsInput (R.remaining reader.old) (R.remaining reader.new) bytes
         × WritesOutput bytes (W.contents writer.old) (W.contents writer.new) count) }
     ensures limit { ReadsAtMostOneTooMany (R.remaining reader.old) (R.remaining reader.new) }
-    ensures read { result ≡ Err RunFault.Read → Keeps (W.contents writer.old) (W.contents writer.new) }
-    ensures too_long { result ≡ Err RunFault.TooLong → Keeps (W.contents writer.old) (W.contents writer.new)
-        × ReadsOneTooMany (R.remaining reader.old) (R.remaining reader.new) }
-    ensures write { result ≡ Err RunFault.Write → (bytes : List ℕ)
-        × ReadsInput (R.remaining reader.old) (R.remaining reader.new) bytes
-        × WritesBeginning bytes (W.contents writer.old) (W.contents writer.new) }
-
-    // A thread was missing at a line.
-    ensures start { result ≡ Err RunFault.Start → (bytes : List ℕ)
-        × ReadsInput (R.remaining reader.old) (R.remaining reader.new) bytes
-        × StopsAtLine bytes (W.contents writer.old) (W.contents writer.new) }
+    ensures fault { IfErr result (IsRunFault (R.remaining reader.old) (R.remaining reader.new)
+        (W.contents writer.old) (W.contents writer.new)) }
     ensures no_start { plan.now.budget ≡ 0 → result ≢ Err RunFault.Start }
-
-    // Memory ran out while reading, once a byte had come, or at a line.
-    ensures memory { result ≡ Err RunFault.Memory →
-        (Keeps (W.contents writer.old) (W.contents writer.new) × ReadsSome (R.remaining reader.old) (R.remaining reader.new))
-        ⊎ ((bytes : List ℕ) × ReadsInput (R.remaining reader.old) (R.remaining reader.new) bytes
-        × StopsAtLine bytes (W.contents writer.old) (W.contents writer.new)) }
 {
     let input = read_input(alloc, reader)?;
     let count = answer_all(rt, alloc, &input, writer, plan, gate)?;

@@ -1,13 +1,14 @@
 //! Serving: each line of an input is answered before more is read.
 
-ghost use Rattle.std.specs.Prelude.{◌≡◌, ◌≢◌, ◌<◌, ◌≤◌, ◌+◌, ◌++◌, ◌∷◌, [], ℕ, List, length, take, false, true, IfOk, OnOk, OnErr, IfErr};
+ghost use Rattle.std.specs.Prelude.{◌≡◌, ◌≢◌, ◌∷◌, [], ℕ, List, take, IfOk, OnOk, OnErr, IfErr};
 ghost use Rattle.std.specs.Io.KnownBytes.{Appends, Consumes, IsAtEnd, Keeps};
-ghost use Rattle.fr_route.specs.Blank.{is_blank};
-ghost use Rattle.fr_command.specs.Outputs.{asking_count, WritesOutput, WritesBeginning};
 ghost use Rattle.fr_bytes.specs.Lines.{lines_of};
-ghost use Rattle.fr_bytes.specs.Bytes.{most_bytes, IsBeginning};
-ghost use Rattle.fr_command.specs.Conversations.{Talk, Takes, Ends, Says, AnswersBefore, MayWantMemory, silence, carried, line_size, text_of};
-ghost use Rattle.fr_command.specs.InPieces.{StopsInPiece, BeginsInPiece};
+ghost use Rattle.fr_bytes.specs.Bytes.{IsBeginning};
+ghost use Rattle.fr_command.specs.Outputs.{asking_count, WritesOutput};
+ghost use Rattle.fr_command.specs.Conversations.{Ends, Says, silence, line_size, text_of};
+ghost use Rattle.fr_command.specs.Faults.{IsServeFault};
+ghost use Rattle.fr_command.specs.InLines.{IsLineFault};
+ghost use Rattle.fr_command.specs.InPieces.{IsFrontFault, IsPieceFault};
 
 use crate::conversation::Conversation;
 use fr_bytes::{MAX_BYTES, PIECE, RunFault, read_piece, write_whole};
@@ -35,29 +36,9 @@ pub fn serve<T: Threads + Wait + Sync, R: Read, W: Write, G: Gate + Sync>(
     ensures ok { OnOk result ((bytes : List ℕ)
         × Consumes (R.remaining reader.old) (R.remaining reader.new) bytes × IsAtEnd (R.remaining reader.new)
         × WritesOutput bytes (W.contents writer.old) (W.contents writer.new) (asking_count (lines_of bytes))) }
-
-    // Whichever read failed, the lines that had ended by then were answered, and no other.
-    ensures read { result ≡ Err RunFault.Read → (bytes : List ℕ) × (talk : Talk)
-        × Consumes (R.remaining reader.old) (R.remaining reader.new) bytes
-        × Says silence bytes talk (W.contents writer.old) (W.contents writer.new) }
-    ensures too_long { result ≡ Err RunFault.TooLong → (bytes : List ℕ) × (talk : Talk)
-        × Consumes (R.remaining reader.old) (R.remaining reader.new) bytes
-        × Says silence bytes talk (W.contents writer.old) (W.contents writer.new)
-        × (length talk.begun ≡ most_bytes + 1) }
-    ensures write { result ≡ Err RunFault.Write → (bytes : List ℕ)
-        × Consumes (R.remaining reader.old) (R.remaining reader.new) bytes
-        × WritesBeginning bytes (W.contents writer.old) (W.contents writer.new) }
-
-    // A thread was missing at this line, or memory.
-    ensures start { result ≡ Err RunFault.Start → (bytes : List ℕ) × (line : List ℕ)
-        × Consumes (R.remaining reader.old) (R.remaining reader.new) bytes
-        × AnswersBefore bytes line (W.contents writer.old) (W.contents writer.new)
-        × (is_blank line ≡ false) }
+    ensures fault { IfErr result (IsServeFault (R.remaining reader.old) (R.remaining reader.new)
+        (W.contents writer.old) (W.contents writer.new)) }
     ensures no_start { plan.now.budget ≡ 0 → result ≢ Err RunFault.Start }
-    ensures memory { result ≡ Err RunFault.Memory → (bytes : List ℕ) × (line : List ℕ)
-        × Consumes (R.remaining reader.old) (R.remaining reader.new) bytes
-        × (stop : AnswersBefore bytes line (W.contents writer.old) (W.contents writer.new))
-        × (line ≢ []) × (is_blank line ≡ true → stop.behind ≡ []) }
 {
     let mut conversation = Conversation::new(alloc);
     converse(rt, alloc, &mut conversation, reader, writer, plan, gate)
@@ -77,25 +58,9 @@ fn converse<T: Threads + Wait + Sync, R: Read, W: Write, G: Gate + Sync>(
     ensures ok { OnOk result ((bytes : List ℕ)
         × Consumes (R.remaining reader.old) (R.remaining reader.new) bytes × IsAtEnd (R.remaining reader.new)
         × WritesOutput bytes (W.contents writer.old) (W.contents writer.new) (asking_count (lines_of bytes))) }
-    ensures read { result ≡ Err RunFault.Read → (bytes : List ℕ) × (talk : Talk)
-        × Consumes (R.remaining reader.old) (R.remaining reader.new) bytes
-        × Says silence bytes talk (W.contents writer.old) (W.contents writer.new) }
-    ensures too_long { result ≡ Err RunFault.TooLong → (bytes : List ℕ) × (talk : Talk)
-        × Consumes (R.remaining reader.old) (R.remaining reader.new) bytes
-        × Says silence bytes talk (W.contents writer.old) (W.contents writer.new)
-        × (length talk.begun ≡ most_bytes + 1) }
-    ensures write { result ≡ Err RunFault.Write → (bytes : List ℕ)
-        × Consumes (R.remaining reader.old) (R.remaining reader.new) bytes
-        × WritesBeginning bytes (W.contents writer.old) (W.contents writer.new) }
-    ensures start { result ≡ Err RunFault.Start → (bytes : List ℕ) × (line : List ℕ)
-        × Consumes (R.remaining reader.old) (R.remaining reader.new) bytes
-        × AnswersBefore bytes line (W.contents writer.old) (W.contents writer.new)
-        × (is_blank line ≡ false) }
+    ensures fault { IfErr result (IsServeFault (R.remaining reader.old) (R.remaining reader.new)
+        (W.contents writer.old) (W.contents writer.new)) }
     ensures no_start { plan.now.budget ≡ 0 → result ≢ Err RunFault.Start }
-    ensures memory { result ≡ Err RunFault.Memory → (bytes : List ℕ) × (line : List ℕ)
-        × Consumes (R.remaining reader.old) (R.remaining reader.new) bytes
-        × (stop : AnswersBefore bytes line (W.contents writer.old) (W.contents writer.new))
-        × (line ≢ []) × (is_blank line ≡ true → stop.behind ≡ []) }
 {
     let mut piece = [0u8; PIECE];
     'reads: for _ in rt.forever() {
@@ -121,15 +86,9 @@ fn answer_piece<T: Threads + Wait + Sync, W: Write, G: Gate + Sync>(
 ) -> Result<(), RunFault>
     requires { lines_of conversation.old.begun ≡ conversation.old.begun ∷ [] }
     ensures ok { OnOk result (Says conversation.old piece.now conversation.new (W.contents writer.old) (W.contents writer.new)) }
-    ensures write { result ≡ Err RunFault.Write → BeginsInPiece conversation.old piece.now (W.contents writer.old) (W.contents writer.new) }
-    ensures too_long { result ≡ Err RunFault.TooLong →
-        StopsInPiece (λ line _. most_bytes < length line) conversation.old piece.now conversation.new (W.contents writer.old) (W.contents writer.new) }
-    ensures start { result ≡ Err RunFault.Start →
-        StopsInPiece (λ line _. is_blank line ≡ false) conversation.old piece.now conversation.new (W.contents writer.old) (W.contents writer.new) }
-    ensures memory { result ≡ Err RunFault.Memory →
-        StopsInPiece MayWantMemory conversation.old piece.now conversation.new (W.contents writer.old) (W.contents writer.new) }
+    ensures fault { IfErr result (IsPieceFault conversation.old piece.now conversation.new
+        (W.contents writer.old) (W.contents writer.new)) }
     ensures no_start { plan.now.budget ≡ 0 → result ≢ Err RunFault.Start }
-    ensures no_read { result ≢ Err RunFault.Read }
 {
     let mut done = 0;
     while done < piece.len() {
@@ -151,15 +110,9 @@ fn answer_front<T: Threads + Wait + Sync, W: Write, G: Gate + Sync>(
 ) -> Result<usize, RunFault>
     ensures count { IfOk result (λ count. count ≡ line_size piece.now) }
     ensures ok { IfOk result (λ count. Says conversation.old (take count piece.now) conversation.new (W.contents writer.old) (W.contents writer.new)) }
-    ensures write { result ≡ Err RunFault.Write → BeginsInPiece conversation.old piece.now (W.contents writer.old) (W.contents writer.new) }
-    ensures too_long { result ≡ Err RunFault.TooLong → (conversation.new ≡ conversation.old)
-        × Keeps (W.contents writer.old) (W.contents writer.new) × (most_bytes < length (carried conversation.old piece.now)) }
-    ensures start { result ≡ Err RunFault.Start → (conversation.new ≡ conversation.old)
-        × Keeps (W.contents writer.old) (W.contents writer.new) × (is_blank (carried conversation.old piece.now) ≡ false) }
-    ensures memory { result ≡ Err RunFault.Memory → (conversation.new ≡ conversation.old)
-        × Keeps (W.contents writer.old) (W.contents writer.new) × MayWantMemory (carried conversation.old piece.now) piece.now }
+    ensures fault { IfErr result (IsFrontFault conversation.old piece.now conversation.new
+        (W.contents writer.old) (W.contents writer.new)) }
     ensures no_start { plan.now.budget ≡ 0 → result ≢ Err RunFault.Start }
-    ensures no_read { result ≢ Err RunFault.Read }
 {
     let taken = conversation.take(rt, alloc, piece, plan, gate)?;
     write_answer(writer, taken.answer)?;
@@ -177,14 +130,9 @@ fn answer_end<T: Threads + Wait + Sync, W: Write, G: Gate + Sync>(
 ) -> Result<(), RunFault>
     ensures ok { OnOk result ((text : List ℕ) × Ends conversation.old text conversation.new
         × Appends (W.contents writer.old) (W.contents writer.new) text) }
-    ensures write { result ≡ Err RunFault.Write → (text : List ℕ) × (last : Talk) × (out : List ℕ)
-        × Ends conversation.old text last × IsBeginning out text
-        × Appends (W.contents writer.old) (W.contents writer.new) out }
-    ensures start { result ≡ Err RunFault.Start → (is_blank conversation.old.begun ≡ false) × Keeps (W.contents writer.old) (W.contents writer.new) }
-    ensures memory { result ≡ Err RunFault.Memory → (is_blank conversation.old.begun ≡ false) × Keeps (W.contents writer.old) (W.contents writer.new) }
+    ensures fault { IfErr result (IsLineFault conversation.old.state conversation.old.begun
+        (W.contents writer.old) (W.contents writer.new)) }
     ensures no_start { plan.now.budget ≡ 0 → result ≢ Err RunFault.Start }
-    ensures no_read { result ≢ Err RunFault.Read }
-    ensures no_length { result ≢ Err RunFault.TooLong }
 {
     let answer = conversation.finish(rt, alloc, plan, gate)?;
     write_answer(writer, answer)?;

@@ -16,7 +16,7 @@ same_order : (old new before after : List Hop) (a b : List ℕ) → old ≡ befo
     → IsPushOrder old new a → IsPushOrder before after b → a ≡ b
 same_order old new before after a b e f h k =
     let order : IsPushOrder before after a =
-        subst (λ (hops : List Hop). IsPushOrder hops after a) e (subst (λ (hops : List Hop). IsPushOrder old hops a) f h) in
+    subst (λ (hops : List Hop). IsPushOrder hops after a) e (subst (λ (hops : List Hop). IsPushOrder old hops a) f h) in
     order_unique before after a b order k
 
 rerouted_unique : (old new : State) (a b : List ℕ) → AreRerouted old new a → AreRerouted old new b → a ≡ b

@@ -12,8 +12,8 @@ returns-then-is_err-clause-limit g c =
     (c.reads.input.items ++ last, Consumes-trans _ _ _ _ _ c.reads.invariant.taken c.in_ok-count.ensures.bytes, few)
 
 -- and there were some
-pub returns-then-is_err-clause-memory : goal.returns-then-is_err-clause-memory
-returns-then-is_err-clause-memory g c _ =
+pub returns-then-is_err-clause-fault : goal.returns-then-is_err-clause-fault
+returns-then-is_err-clause-fault g c =
     let last : List ℕ = take c.in_ok-count.count c.read_piece.new.piece in
     let some : 0 < length (c.reads.input.items ++ last) = simp (length-append, length-take) (omega (arith, c.in_ok-count.ensures.bound, length-take c.min-room.result c.reads.piece)) in
     (c.reads.input.items ++ last, Consumes-trans _ _ _ _ _ c.reads.invariant.taken c.in_ok-count.ensures.bytes, some)

@@ -1,7 +1,9 @@
-use Rattle.std.proofs.Common.{Err, List, ℕ, ap, not, subst, sym, ◌∙◌, ◌≡◌, arith}
+use Rattle.std.proofs.Common.{List, ℕ, ap, not, subst, ◌∙◌, ◌≡◌, arith}
 use Rattle.fr_route.specs.Blank.{is_blank}
 use Rattle.fr_bytes.specs.Lines.{lines_left, lines_of}
-use Rattle.fr_command.proofs.Progress.{HasAnswered, at_start, next_line, one_line_more, stops_writing, stops_at_line, all_answered, weight-le}
+use Rattle.fr_command.proofs.Faults.{handed_on}
+use Rattle.fr_command.specs.InLines.{IsAnsweringFault}
+use Rattle.fr_command.proofs.Progress.{HasAnswered, at_start, next_line, one_line_more, line_failed, all_answered, weight-le}
 use Rattle.fr_command.proofs.answers.answer_each.Goals as goal
 
 pub loop-line-init : goal.loop-line-init
@@ -22,29 +24,16 @@ loop-line-preserved g c =
     let are = c.in_ok-answered.ensures.ok in
     one_line_more c.args.input.now c.in-Some.line.now left c.loop-line.session (g.W.Write.contents c.args.writer.now) (g.W.Write.contents c.loop-line.writer) c.loop-line.count h c.answer_one.new.session (g.W.Write.contents c.answer_one.new.writer) are.0 c.in_ok-answered.answered c.in_ok-answered.ensures.asks are.1 are.2
 
-pub returns-in_err-answered-clause-write : goal.returns-in_err-answered-clause-write
-returns-in_err-answered-clause-write g c e =
+pub returns-in_err-answered-clause-fault : goal.returns-in_err-answered-clause-fault
+returns-in_err-answered-clause-fault g c =
     let left : List (List ℕ) = lines_left c.next.new.self in
     let h = next_line c.args.input.now c.in-Some.line.now (lines_left c.loop-line.line-iterator) left c.loop-line.session (g.W.Write.contents c.args.writer.now) (g.W.Write.contents c.loop-line.writer) c.loop-line.count c.in-Some.ensures.steps c.loop-line.invariant in
-    let same = rw e at c.from_residual.ensures in
-    let part = c.in_err-answered.ensures.write (ap Err (sym same.1)) in
-    stops_writing c.args.input.now c.in-Some.line.now left c.loop-line.session (g.W.Write.contents c.args.writer.now) (g.W.Write.contents c.loop-line.writer) c.loop-line.count h part.1 (g.W.Write.contents c.answer_one.new.writer) part.0 part.2 part.3 part.4 part.5
-
-pub returns-in_err-answered-clause-start : goal.returns-in_err-answered-clause-start
-returns-in_err-answered-clause-start g c e =
-    let left : List (List ℕ) = lines_left c.next.new.self in
-    let h = next_line c.args.input.now c.in-Some.line.now (lines_left c.loop-line.line-iterator) left c.loop-line.session (g.W.Write.contents c.args.writer.now) (g.W.Write.contents c.loop-line.writer) c.loop-line.count c.in-Some.ensures.steps c.loop-line.invariant in
-    let same = rw e at c.from_residual.ensures in
-    let part = c.in_err-answered.ensures.start (ap Err (sym same.1)) in
-    stops_at_line c.args.input.now c.in-Some.line.now left c.loop-line.session (g.W.Write.contents c.args.writer.now) (g.W.Write.contents c.loop-line.writer) c.loop-line.count h (g.W.Write.contents c.answer_one.new.writer) part.0 part.1
-
-pub returns-in_err-answered-clause-memory : goal.returns-in_err-answered-clause-memory
-returns-in_err-answered-clause-memory g c e =
-    let left : List (List ℕ) = lines_left c.next.new.self in
-    let h = next_line c.args.input.now c.in-Some.line.now (lines_left c.loop-line.line-iterator) left c.loop-line.session (g.W.Write.contents c.args.writer.now) (g.W.Write.contents c.loop-line.writer) c.loop-line.count c.in-Some.ensures.steps c.loop-line.invariant in
-    let same = rw e at c.from_residual.ensures in
-    let part = c.in_err-answered.ensures.memory (ap Err (sym same.1)) in
-    stops_at_line c.args.input.now c.in-Some.line.now left c.loop-line.session (g.W.Write.contents c.args.writer.now) (g.W.Write.contents c.loop-line.writer) c.loop-line.count h (g.W.Write.contents c.answer_one.new.writer) part.0 part.1
+    let old = g.W.Write.contents c.args.writer.now in
+    let new = g.W.Write.contents c.answer_one.new.writer in
+    let fault = c.in_err-answered.field-0.0 in
+    handed_on c.from_residual.result fault (IsAnsweringFault c.args.input.now old new) c.from_residual.ensures.1
+    (line_failed c.args.input.now c.in-Some.line.now left c.loop-line.session old (g.W.Write.contents c.loop-line.writer) c.loop-line.count h
+    new fault c.in_err-answered.ensures.fault)
 
 pub returns-clause-ok : goal.returns-clause-ok
 returns-clause-ok g c =

@@ -1,10 +1,11 @@
-use Rattle.std.proofs.Common.{◌≡◌, ◌-◌, ◌<◌, Err, List, ℕ, length, length-drop, take, drop, ap, sym, subst, false, arith}
+use Rattle.std.proofs.Common.{◌≡◌, ◌-◌, List, ℕ, length-drop, length, take, drop, sym, subst, arith}
 use Rattle.std.proofs.Math.Seq.{take-add}
 use Rattle.std.proofs.lemmas.List.{take_all}
-use Rattle.fr_route.specs.Blank.{is_blank}
-use Rattle.fr_command.specs.Conversations.{MayWantMemory, Says, line_size}
-use Rattle.fr_bytes.specs.Bytes.{most_bytes}
-use Rattle.fr_command.proofs.Served.{says_nothing, says_on, says_kept, says_begins, begins_later, stops_later, on_ok}
+use Rattle.fr_command.proofs.Faults.{handed_on, only_fault}
+use Rattle.fr_bytes.specs.declared.fault.RunFault.TheVariants.{Write}
+use Rattle.fr_command.specs.Conversations.{Says, line_size}
+use Rattle.fr_command.specs.InPieces.{IsPieceFault}
+use Rattle.fr_command.proofs.Served.{says_nothing, says_on, says_kept, says_begins, fails_later, on_ok}
 use Rattle.fr_command.proofs.serving.answer_piece.Goals as goal
 
 -- what is left of a piece
@@ -32,33 +33,18 @@ loop-done-preserved g c =
           (sym (take-add done count piece)) said;
     }
 
-pub returns-in_err-count-clause-write : goal.returns-in_err-count-clause-write
-returns-in_err-count-clause-write g c e =
-    let same = rw e at c.from_residual.ensures in
-    let part = rw (rest_is c.args.piece.now c.loop-done.done) at c.in_err-count.ensures.write (ap Err (sym same.1)) in
-    begins_later c.args.conversation.now c.loop-done.conversation c.args.piece.now c.loop-done.done (g.W.Write.contents c.args.writer.now) (g.W.Write.contents c.loop-done.writer)
-    c.loop-done.invariant.says (g.W.Write.contents c.answer_front.new.writer) part
-
-pub returns-in_err-count-clause-too_long : goal.returns-in_err-count-clause-too_long
-returns-in_err-count-clause-too_long g c e =
-    let same = rw e at c.from_residual.ensures in
-    let part = rw (rest_is c.args.piece.now c.loop-done.done) at c.in_err-count.ensures.too_long (ap Err (sym same.1)) in
-    stops_later c.args.conversation.now c.loop-done.conversation c.args.piece.now c.loop-done.done (g.W.Write.contents c.args.writer.now) (g.W.Write.contents c.loop-done.writer)
-    c.loop-done.invariant.says (λ (line rest : List ℕ). most_bytes < length line) c.answer_front.new.conversation (g.W.Write.contents c.answer_front.new.writer) part.0 part.1 part.2
-
-pub returns-in_err-count-clause-start : goal.returns-in_err-count-clause-start
-returns-in_err-count-clause-start g c e =
-    let same = rw e at c.from_residual.ensures in
-    let part = rw (rest_is c.args.piece.now c.loop-done.done) at c.in_err-count.ensures.start (ap Err (sym same.1)) in
-    stops_later c.args.conversation.now c.loop-done.conversation c.args.piece.now c.loop-done.done (g.W.Write.contents c.args.writer.now) (g.W.Write.contents c.loop-done.writer)
-    c.loop-done.invariant.says (λ (line rest : List ℕ). is_blank line ≡ false) c.answer_front.new.conversation (g.W.Write.contents c.answer_front.new.writer) part.0 part.1 part.2
-
-pub returns-in_err-count-clause-memory : goal.returns-in_err-count-clause-memory
-returns-in_err-count-clause-memory g c e =
-    let same = rw e at c.from_residual.ensures in
-    let part = rw (rest_is c.args.piece.now c.loop-done.done) at c.in_err-count.ensures.memory (ap Err (sym same.1)) in
-    stops_later c.args.conversation.now c.loop-done.conversation c.args.piece.now c.loop-done.done (g.W.Write.contents c.args.writer.now) (g.W.Write.contents c.loop-done.writer)
-    c.loop-done.invariant.says MayWantMemory c.answer_front.new.conversation (g.W.Write.contents c.answer_front.new.writer) part.0 part.1 part.2
+pub returns-in_err-count-clause-fault : goal.returns-in_err-count-clause-fault
+returns-in_err-count-clause-fault g c =
+    let first = c.args.conversation.now in
+    let last = c.answer_front.new.conversation in
+    let piece = c.args.piece.now in
+    let done = c.loop-done.done in
+    let old = g.W.Write.contents c.args.writer.now in
+    let new = g.W.Write.contents c.answer_front.new.writer in
+    let fault = c.in_err-count.field-0.0 in
+    let why = rw (rest_is piece done) at c.in_err-count.ensures.fault in
+    handed_on c.from_residual.result fault (IsPieceFault first piece last old new) c.from_residual.ensures.1
+    (fails_later first c.loop-done.conversation piece done old (g.W.Write.contents c.loop-done.writer) c.loop-done.invariant.says last new fault why)
 
 pub returns-clause-ok : goal.returns-clause-ok
 returns-clause-ok g c =
@@ -68,8 +54,13 @@ returns-clause-ok g c =
     (g.W.Write.contents c.flush.new.writer) c.loop-done.invariant.says c.flush.ensures.kept in
     on_ok c.flush.result _ (subst (λ (l : List ℕ). Says c.args.conversation.now l c.loop-done.conversation (g.W.Write.contents c.args.writer.now) (g.W.Write.contents c.flush.new.writer)) all said)
 
-pub returns-clause-write : goal.returns-clause-write
-returns-clause-write g c _ =
-    let said = says_kept c.args.conversation.now c.loop-done.conversation (take c.loop-done.done c.args.piece.now) (g.W.Write.contents c.args.writer.now) (g.W.Write.contents c.loop-done.writer)
-    (g.W.Write.contents c.flush.new.writer) c.loop-done.invariant.says c.flush.ensures.kept in
-    says_begins c.args.conversation.now c.loop-done.conversation c.args.piece.now c.loop-done.done (g.W.Write.contents c.args.writer.now) (g.W.Write.contents c.flush.new.writer) said
+pub returns-clause-fault : goal.returns-clause-fault
+returns-clause-fault g c =
+    let first = c.args.conversation.now in
+    let last = c.loop-done.conversation in
+    let piece = c.args.piece.now in
+    let done = c.loop-done.done in
+    let old = g.W.Write.contents c.args.writer.now in
+    let new = g.W.Write.contents c.flush.new.writer in
+    let said = says_kept first last (take done piece) old (g.W.Write.contents c.loop-done.writer) new c.loop-done.invariant.says c.flush.ensures.kept in
+    only_fault c.flush.result Write (IsPieceFault first piece last old new) c.flush.ensures.kind (says_begins first last piece done old new said)

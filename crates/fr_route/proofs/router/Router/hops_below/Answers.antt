@@ -1,13 +1,10 @@
 use Rattle.std.proofs.Common.{IfOk, length, replicate, subst, sym, take, ℕ, ◌++◌, ◌-◌, ◌≡◌, ◌≤◌}
 use Rattle.std.proofs.lemmas.Result.{IfOk-weaker}
-use Rattle.std.specs.declared.alloc.Global.{Global}
-use Rattle.std.specs.declared.vec.Vec.{Vec}
 use Rattle.fr_route.specs.Outcomes.{IsSettledTable}
 use Rattle.fr_route.specs.RouterInside.{state_of}
 use Rattle.fr_route.specs.Routes.{AreHops}
 use Rattle.fr_route.specs.States.{State}
 use Rattle.fr_route.proofs.SettledHops.{resized_table}
-use Rattle.fr_tables.specs.declared.hop.Hop.{Hop}
 use Rattle.fr_tables.specs.declared.hop.Hop.TheVariants.{CutOff}
 use Rattle.fr_route.proofs.router.Router.hops_below.Goals as goal
 
@@ -21,4 +18,4 @@ returns c =
     let made = resized_table s c.self.invariant.round table n hops enough in
     subst (λ (now : State). IfOk c.resized.result (λ r. IsSettledTable now n r.items)) c.self.view_is
     (IfOk-weaker c.resized.result (λ r. r.items ≡ take n table ++ replicate (n - length table) CutOff) (λ r. IsSettledTable s n r.items)
-        (λ r is. subst (IsSettledTable s n) (sym is) made) c.resized.ensures)
+    (λ r is. subst (IsSettledTable s n) (sym is) made) c.resized.ensures)

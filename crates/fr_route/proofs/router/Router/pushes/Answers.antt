@@ -14,7 +14,7 @@ hops_are c = rw c.deref.ensures.value c.self.invariant.hops
 tables_are : (c : After-deref) → AreTables c.args.table.now c.deref.result.now
 tables_are c =
     let same : length c.args.table.now ≡ length c.deref.result.now =
-        omega (arith, c.if-table-len.false, c.len.ensures, c.deref.ensures.len) in
+    omega (arith, c.if-table-len.false, c.len.ensures, c.deref.ensures.len) in
     record {
       one_length = record { same = same; few = omega (arith, (hops_are c).one_each, c.network_law.ensures.limits.nodes_few) };
       old_range = c.in_default.ensures;
@@ -34,12 +34,12 @@ returns-clause-pushes c =
     let at = goal.at.returns-clause-pushes c in
     let nodes : List ℕ = c.in_ok-known_push_order.field-0.items in
     let found : ArePushes s c.args.table.now nodes = record {
-          hops = c.deref.result.now;
-          are = hops_are at.After-deref;
-          order = record {
-            tables = tables_are at.After-deref;
-            loop_free = settled_loop_free s c.deref.result.now c.self.invariant.round (hops_are at.After-deref);
-            is_order = c.in_ok-known_push_order.ensures;
-          };
-        } in
+      hops = c.deref.result.now;
+      are = hops_are at.After-deref;
+      order = record {
+        tables = tables_are at.After-deref;
+        loop_free = settled_loop_free s c.deref.result.now c.self.invariant.round (hops_are at.After-deref);
+        is_order = c.in_ok-known_push_order.ensures;
+      };
+    } in
     subst (λ (now : State). ArePushes now c.args.table.now nodes) c.self.view_is found

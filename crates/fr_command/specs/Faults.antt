@@ -1,0 +1,71 @@
+-- Why a run, a service, a play and a conversation stop, and what was read and written by then.
+use Rattle.std.specs.Prelude.{◌≡◌, ◌≢◌, ℕ, ◌+◌, ◌<◌, ◌⊎◌, true, false, List, [], length, Option}
+use Rattle.std.specs.Io.KnownBytes.{Consumes, Keeps}
+use Rattle.fr_route.specs.Blank.{is_blank}
+use Rattle.fr_bytes.specs.Bytes.{most_bytes, ReadsInput, ReadsSome, ReadsOneTooMany}
+use Rattle.fr_bytes.specs.declared.fault.RunFault.{RunFault}
+use Rattle.fr_bytes.specs.declared.fault.RunFault.TheVariants.{Read, Write, TooLong, Start, Memory}
+use Rattle.fr_words.specs.declared.draws.Draw.{Draw}
+use Rattle.fr_command.specs.Outputs.{WritesBeginning, StopsAtLine}
+use Rattle.fr_command.specs.Conversations.{Talk, Says, AnswersBefore, MayWantMemory, silence}
+use Rattle.fr_command.specs.Plays.{WritesPlayBeginning}
+
+-- the whole input was read, and what was written is the answers to the lines before one that is not blank
+abbrev pub StopsAfterReading : (before after old new : Option (List ℕ)) → Type 0
+StopsAfterReading before after old new = (bytes : List ℕ) × ReadsInput before after bytes × StopsAtLine bytes old new
+
+-- why a run stops. If a read failed or the input is too long, nothing was written. If a write failed, what went
+-- out is a beginning of the output. If a thread was missing, or memory, it was at a line; or memory was missing
+-- for a byte of the input, and nothing was written
+abbrev pub IsRunFault : (before after old new : Option (List ℕ)) → RunFault → Type 0
+IsRunFault before after old new Read = Keeps old new
+IsRunFault before after old new Write = (bytes : List ℕ) × ReadsInput before after bytes × WritesBeginning bytes old new
+IsRunFault before after old new TooLong = Keeps old new × ReadsOneTooMany before after
+IsRunFault before after old new Start = StopsAfterReading before after old new
+IsRunFault before after old new Memory =
+    (Keeps old new × ReadsSome before after) ⊎ StopsAfterReading before after old new
+
+-- why a service stops. If a read failed, whichever it was, the lines that had ended were answered, and no other;
+-- so too if the last byte read makes a line too long. If a write failed, what went out is a beginning of the
+-- output. If a thread was missing at a line, or memory, the lines before it were answered
+abbrev pub IsServeFault : (before after old new : Option (List ℕ)) → RunFault → Type 0
+IsServeFault before after old new Read =
+    (bytes : List ℕ) × (talk : Talk) × Consumes before after bytes × Says silence bytes talk old new
+IsServeFault before after old new Write = (bytes : List ℕ) × Consumes before after bytes × WritesBeginning bytes old new
+IsServeFault before after old new TooLong =
+    (bytes : List ℕ) × (talk : Talk) × Consumes before after bytes × Says silence bytes talk old new
+    × (length talk.begun ≡ most_bytes + 1)
+IsServeFault before after old new Start =
+    (bytes : List ℕ) × (line : List ℕ) × Consumes before after bytes × AnswersBefore bytes line old new
+    × (is_blank line ≡ false)
+IsServeFault before after old new Memory =
+    (bytes : List ℕ) × (line : List ℕ) × Consumes before after bytes × (stop : AnswersBefore bytes line old new)
+    × (line ≢ []) × (is_blank line ≡ true → stop.behind ≡ [])
+
+-- why a play of a drawn schedule stops. If a write failed, what went out is a beginning of the output; else
+-- nothing was written. It starts no thread
+abbrev pub IsDrawnPlayFault : (draw : Draw) (before after old new : Option (List ℕ)) → RunFault → Type 0
+IsDrawnPlayFault draw before after old new Read = Keeps old new
+IsDrawnPlayFault draw before after old new Write =
+    (bytes : List ℕ) × ReadsInput before after bytes × WritesPlayBeginning draw bytes old new
+IsDrawnPlayFault draw before after old new TooLong = Keeps old new × ReadsOneTooMany before after
+IsDrawnPlayFault draw before after old new Start = ⊥
+IsDrawnPlayFault draw before after old new Memory = Keeps old new
+
+-- why a conversation takes nothing of a piece, which carries its line on to this one: the line is too long, or it
+-- is not blank and there was no thread for its answer, or memory was missing. A conversation reads and writes
+-- nothing
+abbrev pub IsTakeFault : (line piece : List ℕ) → RunFault → Type 0
+IsTakeFault line piece Read = ⊥
+IsTakeFault line piece Write = ⊥
+IsTakeFault line piece TooLong = most_bytes < length line
+IsTakeFault line piece Start = is_blank line ≡ false
+IsTakeFault line piece Memory = MayWantMemory line piece
+
+-- why a conversation does not end this line: it is not blank, and a thread or memory was missing for its answer
+abbrev pub IsFinishFault : (line : List ℕ) → RunFault → Type 0
+IsFinishFault line Read = ⊥
+IsFinishFault line Write = ⊥
+IsFinishFault line TooLong = ⊥
+IsFinishFault line Start = is_blank line ≡ false
+IsFinishFault line Memory = is_blank line ≡ false
