@@ -33,7 +33,7 @@ turn_by_turn_unique s rerouted a b h k =
     let turns : h.turns ≡ k.turns = all_turns_unique most_told_turns s.nodes s.dest (beginning s) h.turns k.turns h.are_all k.are_all in
     let left : h.left ≡ k.left = settled_unique (Some s) h.left k.left h.settled k.settled in
     let texts : beginning_text s h.turns ++ (h.left ++ pushes) ≡ beginning_text s k.turns ++ (k.left ++ pushes) =
-        (λ i. beginning_text s (turns i) ++ (left i ++ pushes)) in
+    (λ i. beginning_text s (turns i) ++ (left i ++ pushes)) in
     h.text ∙ (texts ∙ sym k.text)
 
 told_round_unique : (s : State) (rerouted a b : List ℕ) → IsToldRound s rerouted a → IsToldRound s rerouted b → a ≡ b
@@ -57,13 +57,13 @@ answered_unique s number line a b p q h k =
     let one = line_unique s (reading line) h.answer k.answer p q h.is_answer k.is_answer in
     let are_rerouted = subst (λ (t : Option State). IsLineTold s (reading line) t [] h.rerouted) one.1 h.are_rerouted in
     let same : h.rerouted ≡ k.rerouted =
-        line_told_unique s (reading line) q [] h.rerouted k.rerouted are_rerouted k.are_rerouted in
+    line_told_unique s (reading line) q [] h.rerouted k.rerouted are_rerouted k.are_rerouted in
     let of_round : IsRoundStory (reports_round k.answer) q k.rerouted h.told =
-        subst (λ (t : List ℕ). IsRoundStory (reports_round k.answer) q t h.told) same
-        (subst (λ (t : Option State). IsRoundStory (reports_round k.answer) t h.rerouted h.told) one.1
-        (subst (λ (t : List ℕ). IsRoundStory (reports_round t) p h.rerouted h.told) one.0 h.of_round)) in
+    subst (λ (t : List ℕ). IsRoundStory (reports_round k.answer) q t h.told) same
+    (subst (λ (t : Option State). IsRoundStory (reports_round k.answer) t h.rerouted h.told) one.1
+    (subst (λ (t : List ℕ). IsRoundStory (reports_round t) p h.rerouted h.told) one.0 h.of_round)) in
     let told : h.told ≡ k.told =
-        round_story_unique (reports_round k.answer) q k.rerouted h.told k.told of_round k.of_round in
+    round_story_unique (reports_round k.answer) q k.rerouted h.told k.told of_round k.of_round in
     let texts : (answer_text number h.answer ++ asked_text (reading line)) ++ h.told ≡ (answer_text number k.answer ++ asked_text (reading line)) ++ k.told = (λ i. (answer_text number (one.0 i) ++ asked_text (reading line)) ++ told i) in
     (h.text ∙ (texts ∙ sym k.text), one.1)
 

@@ -94,7 +94,7 @@ round_told s session turns settled rerouted old one two more new some short are_
     let net = net_text s.nodes s.dest in
     let pushes = nodes_line (codes "pushes") rerouted in
     let end : new ≡ two ++ (settled ++ pushes) =
-        k ∙ (ap (λ (t : List ℕ). t ++ pushes) g ∙ append_assoc two settled pushes) in
+    k ∙ (ap (λ (t : List ℕ). t ++ pushes) g ∙ append_assoc two settled pushes) in
     let rest = beginning_text s turns ++ (settled ++ pushes) in
     let told : IsTurnByTurn s rerouted rest = record {
       begins = λ first net below round. begins s.nodes s.dest first s net below round;

@@ -18,12 +18,12 @@ returns c =
     let rerouted = c.answer_to.new.rerouted.items in
     let between = c.answer_to.new.session in
     let are : IsLineTold s (reading line) between [] rerouted =
-        rw (c.in-Some.is, c.new-rerouted.ensures.items) at c.in_ok-answer.ensures.told in
+    rw (c.in-Some.is, c.new-rerouted.ensures.items) at c.in_ok-answer.ensures.told in
     let answered = string_bytes c.push_answered.new.story in
     let last = string_bytes c.push_report.new.story in
     on_ok_both c.push_report.result
     (λ (told : (out : List ℕ) × IsRoundStory (reports_round c.deref-2.result.now) between c.deref-3.result.now out
-        × (last ≡ answered ++ out))
+    × (last ≡ answered ++ out))
     (same : c.push_report.new.session ≡ between).
     line_told s c.push_report.new.session c.args.number line answer rerouted told.0
     (string_bytes c.args.story.now) answered last
