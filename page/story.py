@@ -1,8 +1,11 @@
 """The story that a page tells of an input: a second reading of it, by other means than the program's.
 
-Which lines are accepted is taken from the answers of `revroute run`; the turns are made anew here, link by link, and every answer that
-this gives is compared with the one that came. The text is what `revdot --page` has to write between the fixed parts of a page.
+Which lines are accepted is taken from the answers of `revroute run`. The turns are made here link by link; those of a
+larger network follow from the steps that lead to each node. The order of pushes is found by following the new hops. Every
+answer that this gives is compared with the one that came. The text is what `revdot --page` has to write between the fixed
+parts of a page.
 """
+import collections
 import heapq
 import json
 
@@ -83,6 +86,23 @@ class Network:
                     heapq.heappush(sinks, other)
         return turns
 
+    def settle_by_steps(self):
+        """Makes a round at once. A node turns as often as the fewest steps from tail to head on any walk to it."""
+        fewest, near = {self.destination: 0}, collections.deque([self.destination])
+        while near:
+            node = near.popleft()
+            for others, step in ((self.tails[node], 0), (self.heads[node], 1)):
+                for other in others:
+                    if fewest[node] + step < fewest.get(other, self.nodes):
+                        fewest[other] = fewest[node] + step
+                        (near.append if step else near.appendleft)(other)
+        self.counts = [fewest.get(node, self.nodes if self.heads[node] or self.tails[node] else 0)
+                       for node in range(self.nodes)]
+        for tail, head in self.links():
+            if self.counts[tail] != self.counts[head]:
+                self.cut(tail, head)
+                self.add(head, tail)
+
     def hops(self):
         joined = self.joined()
         return ['here' if node == self.destination else str(min(self.heads[node])) if node in joined else 'cut'
@@ -93,6 +113,24 @@ class Network:
         while hops[route[-1]].isdigit():
             route.append(int(hops[route[-1]]))
         return words('walk', route) + (' cut' if hops[node] == 'cut' else '')
+
+
+def push_order(old, new):
+    """The nodes at which two tables differ, by how many of them each has on its new walk, and then by number."""
+    wave = {}
+    for start in range(len(new)):
+        walk = [start]
+        while walk[-1] not in wave and new[walk[-1]].isdigit():
+            walk.append(int(new[walk[-1]]))
+        for node in reversed(walk):
+            if node not in wave:
+                wave[node] = (old[node] != new[node]) + (wave[int(new[node])] if new[node].isdigit() else 0)
+    return sorted((node for node in wave if old[node] != new[node]), key=lambda node: (wave[node], node))
+
+
+def padded(table, nodes):
+    """A table with a hop for so many nodes: those beyond it have none."""
+    return table + ['cut'] * (nodes - len(table))
 
 
 def words(name, items):
@@ -125,26 +163,26 @@ def answered(network, request):
     return words('hops', network.hops()) if request[0] == 'hops' else network.walk(request[1])
 
 
-def round_of(network, number):
-    """The lines behind the answer of an accepted round, and the answer that it has to be."""
+def round_of(network, old):
+    """The answer that a round has to get, and the lines after it. Before the round the table was `old`."""
     first = {frozenset(link): link for link in network.links()}
-    turns = network.settle()
-    answer = f'turned {len(turns)} cut {network.nodes - len(network.joined())}'
+    turns = network.settle() if network.nodes <= NODES else network.settle_by_steps()
+    answer = f'turned {sum(network.counts)} cut {network.nodes - len(network.joined())}'
     lines = [f'net {network.nodes} {network.destination}']
-    if len(turns) > TURNS:
+    if network.nodes > NODES or len(turns) > TURNS:
         return answer, lines + ['omitted']
-    links = network.links()
+    links, hops = network.links(), network.hops()
+    pushes = push_order(padded(old, len(hops)), padded(hops, len(old)))
     return answer, lines + [words('first', texts(first[frozenset(link)] for link in links)), words('turns', turns),
-                            words('links', texts(links)), words('counts', network.counts), words('hops', network.hops())]
+                            words('links', texts(links)), words('counts', network.counts), words('hops', hops),
+                            words('pushes', pushes)]
 
 
 def changed(network, request):
     """The network that an accepted request leaves before its round."""
     name = request[0]
     if name == 'net':
-        return Network(*request[1:]) if request[1] <= NODES else request[1:3]
-    if isinstance(network, list):
-        return [network[0], request[1]] if name == 'dest' else network
+        return Network(*request[1:])
     if name == 'dest':
         network.destination = request[1]
     for edit in request[1] if name == 'batch' else [request] if name in ('add', 'cut', 'join') else []:
@@ -154,7 +192,7 @@ def changed(network, request):
 
 def story(data, answers):
     """The story of this input, of which these are the answers of `run`, one a line."""
-    network, out = None, []
+    network, table, out = None, [], []
     for (number, line), answer in zip(request_lines(data), answers, strict=True):
         out += [f'line {number}', answer]
         if answer in NO_REQUEST:
@@ -164,11 +202,9 @@ def story(data, answers):
         if answer.startswith('refused'):
             continue
         network = changed(network, request)
-        if isinstance(network, list):
-            out += [words('net', network), 'omitted'] if answer.startswith('turned') else []
-            continue
         if answer.startswith('turned'):
-            expected, lines = round_of(network, number)
+            expected, lines = round_of(network, table)
+            table = network.hops()
             out += lines
         else:
             expected = answered(network, request)

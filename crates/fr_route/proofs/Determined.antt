@@ -122,7 +122,7 @@ accepted_unique (Some s) (move_dest d) a b h g = round_unique s.nodes d s.links 
 accepted_unique (Some s) (walk_from x) a b h g = h.1 ∙ sym g.1
 accepted_unique (Some s) (ask q) a b h g = h ∙ sym g
 
-not_both : (s : Option State) (r : PlainRequest) (k : ℕ) (new : State) → IsRefused s r k → ¬ IsAccepted s r new
+pub not_both : (s : Option State) (r : PlainRequest) (k : ℕ) (new : State) → IsRefused s r k → ¬ IsAccepted s r new
 not_both s (new_network n d links) k new (inl a) h = no_first_fault n links a.0 h.0 a.1
 not_both s (new_network n d links) k new (inr a) h = let l = h.1 in omega (arith, a.1, l)
 not_both None (cut_link u v) k new a h = h

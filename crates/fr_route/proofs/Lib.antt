@@ -6,6 +6,7 @@ pub mod Walking
 pub mod Changing
 pub mod Opening
 pub mod Determined
+pub mod OneTelling
 pub mod Asking
 pub mod FirstFaults
 pub mod EachAnswer

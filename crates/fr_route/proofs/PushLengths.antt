@@ -1,5 +1,5 @@
 -- How many nodes a push order has: as many as the list that is put in order.
-use Rattle.std.proofs.Common.{Bool, Contains, List, arith, eqb, false, get_or, inl, inr, length, subst, sym, true, ℕ, ⊎_elim, ◌<◌, ◌∙◌, ◌≡◌, ◌≤◌}
+use Rattle.std.proofs.Common.{Contains, List, arith, eqb, get_or, length, subst, sym, ℕ, ⊎_elim, ◌∙◌, ◌≡◌, ◌≤◌}
 use Rattle.std.specs.Cmp.{nat_eq_equiv}
 use Rattle.std.specs.List.{IsDistinct}
 use Rattle.std.proofs.lemmas.Bool.{cases_Bool, eqb-true}

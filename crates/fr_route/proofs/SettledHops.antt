@@ -1,5 +1,5 @@
 -- The hops of a settled network as a table: it has no loop, and each hop names a node. Which nodes are told, by such tables.
-use Rattle.std.proofs.Common.{Contains, Err, IfErr, IfOk, List, Ok, Result, Some, [], ap, arith, get_or, inl, inr, le_refl, length, refl, replicate, slice_get, subst, sym, take, ℕ, ⊎_elim, ◌+◌, ◌++◌, ◌-◌, ◌<◌, ◌≤◌, ◌∙◌, ◌∷◌, ◌≡◌, ◌↔◌}
+use Rattle.std.proofs.Common.{Contains, Err, IfErr, List, Ok, Result, Some, [], ap, arith, get_or, inl, inr, le_refl, length, refl, replicate, slice_get, subst, sym, take, ℕ, ⊎_elim, ◌+◌, ◌++◌, ◌-◌, ◌<◌, ◌≤◌, ◌∙◌, ◌∷◌, ◌≡◌, ◌↔◌}
 use Rattle.std.proofs.Math.ListN.{get_or-append}
 use Rattle.std.proofs.lemmas.Bool.{cases_lt}
 use Rattle.std.proofs.lemmas.List.{get_or-append-add, get_or-replicate, length-append, length-replicate, take_all}
@@ -12,7 +12,7 @@ use Rattle.fr_route.specs.Outcomes.{IsSettledTable}
 use Rattle.fr_route.specs.Routes.{AreHops, IsHop}
 use Rattle.fr_route.specs.States.{State, IsAfterRound, IsCutOff}
 use Rattle.fr_tables.specs.Faults.{IsFaultOf}
-use Rattle.fr_tables.specs.Tables.{IsInRange, IsLoop, IsLoopFree, IsWalk, SendsOn}
+use Rattle.fr_tables.specs.Tables.{IsInRange, IsLoop, IsLoopFree, IsWalk}
 use Rattle.fr_tables.specs.declared.fault.TableFault.{TableFault}
 use Rattle.fr_tables.specs.declared.fault.TableFault.TheVariants.{Length, Range, Loop, Memory}
 use Rattle.fr_tables.specs.declared.hop.Hop.{Hop}
@@ -76,25 +76,25 @@ module _ (s : State) (after : IsAfterRound s) where
       let whole : take n hops ≡ hops = take_all n hops (omega (arith, are.one_each, enough)) in
       let fill = replicate (n - length hops) CutOff in
       let long : length (hops ++ fill) ≡ n =
-          omega (arith, length-append hops fill, length-replicate (n - length hops) CutOff, are.one_each, enough) in
+      omega (arith, length-append hops fill, length-replicate (n - length hops) CutOff, are.one_each, enough) in
       let below : (x : ℕ) (hop : Hop) → x < length hops → slice_get (hops ++ fill) x ≡ Some hop → IsHop s x hop =
-          λ x hop low is. are.each x hop (slice_get-get_or hops x hop low ∙ ap Some (sym (get_or-append hops fill hop x low)
-              ∙ get_or_from_slice_get (hops ++ fill) x hop hop is)) in
+      λ x hop low is. are.each x hop (slice_get-get_or hops x hop low ∙ ap Some (sym (get_or-append hops fill hop x low)
+      ∙ get_or_from_slice_get (hops ++ fill) x hop hop is)) in
       let past : (x : ℕ) (hop : Hop) → length hops ≤ x → slice_get (hops ++ fill) x ≡ Some hop → IsHop s x hop =
-          λ x hop high is.
-          let at = x - length hops in
-          let place : x ≡ length hops + at = omega (arith, high) in
-          let inside : at < n - length hops = omega (arith, high, long, slice_get_within (hops ++ fill) x hop is) in
-          let filled : hop ≡ CutOff =
-              sym (get_or_from_slice_get (hops ++ fill) x hop hop is) ∙ (ap (λ (k : ℕ). get_or (hops ++ fill) k hop) place
-              ∙ (get_or-append-add hops fill at hop ∙ get_or-replicate (n - length hops) at CutOff hop inside)) in
-          subst (IsHop s x) (sym filled) (outside_cut x (omega (arith, high, are.one_each))) in
+      λ x hop high is.
+      let at = x - length hops in
+      let place : x ≡ length hops + at = omega (arith, high) in
+      let inside : at < n - length hops = omega (arith, high, long, slice_get_within (hops ++ fill) x hop is) in
+      let filled : hop ≡ CutOff =
+      sym (get_or_from_slice_get (hops ++ fill) x hop hop is) ∙ (ap (λ (k : ℕ). get_or (hops ++ fill) k hop) place
+      ∙ (get_or-append-add hops fill at hop ∙ get_or-replicate (n - length hops) at CutOff hop inside)) in
+      subst (IsHop s x) (sym filled) (outside_cut x (omega (arith, high, are.one_each))) in
       let are_all : AreHops s n (hops ++ fill) = record {
-            one_each = long;
-            each = λ x hop is. ⊎_elim (λ low. below x hop low is) (λ high. past x hop high is) (cases_lt x (length hops));
-          } in
+        one_each = long;
+        each = λ x hop is. ⊎_elim (λ low. below x hop low is) (λ high. past x hop high is) (cases_lt x (length hops));
+      } in
       subst (λ (front : List Hop). IsSettledTable s n (front ++ fill)) (sym whole)
-          (settled_table s n (hops ++ fill) are_all after enough)
+      (settled_table s n (hops ++ fill) are_all after enough)
 
 -- the faults of a table that is compared with them
 push_fault_is : (s : State) (hops table : List Hop) → IsAfterRound s → AreHops s s.nodes hops → s.nodes ≤ most_nodes → (fault : TableFault) → IsFaultOf table hops fault → IsPushesFault s table fault

@@ -503,7 +503,7 @@ impl Router {
         alloc: Global,
         before: Option<&Router>,
     ) -> Result<Vec<u32>, RouteFault>
-        ensures changed { IfOk result (λ nodes. AreReplaced (option_copied before) self.now nodes.items) }
+        ensures changed { IfOk result (λ nodes. AreReplaced (option_copied before.entry) self.now nodes.items) }
         ensures memory { IfErr result (λ fault. fault ≡ Memory) }
     {
         let nodes = self.net.nodes();

@@ -458,7 +458,7 @@ fn changed_hops(
     before: Option<&Router>,
     router: &Router,
 ) -> Result<Vec<u32>, AnswerFault>
-    ensures changed { IfOk result (λ nodes. AreReplaced (option_copied before) router.now nodes.items) }
+    ensures changed { IfOk result (λ nodes. AreReplaced (option_copied before.entry) router.now nodes.items) }
     ensures memory { IfErr result (λ fault. fault ≡ Memory) }
 {
     match router.changed_since(alloc, before) {

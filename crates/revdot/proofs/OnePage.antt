@@ -7,10 +7,12 @@ use Rattle.fr_lines.specs.declared.requests.Question.TheVariants.{Links, Counts,
 use Rattle.fr_route.specs.Blank.{is_blank}
 use Rattle.fr_route.specs.States.{State}
 use Rattle.fr_route.proofs.Determined.{answer_unique, line_unique}
+use Rattle.fr_route.proofs.OneTelling.{line_told_unique}
+use Rattle.fr_route.specs.Told.{IsLineTold}
 use Rattle.fr_bytes.specs.Lines.{lines_of}
 use Rattle.revdot.specs.Pages.{IsPage}
 use Rattle.revdot.specs.Asked.{asked_text}
-use Rattle.revdot.specs.Stories.{AreBlocks, AreSettledLines, IsAnswerLine, IsAnswered, IsBlock, IsRoundStory, IsToldRound, IsTurnByTurn, answer_text, beginning_text, is_short, most_told_turns, net_text, reports_round}
+use Rattle.revdot.specs.Stories.{AreBlocks, AreSettledLines, IsAnswerLine, IsAnswered, IsBlock, IsRoundStory, IsToldRound, IsTurnByTurn, answer_text, beginning_text, is_short, most_told_turns, net_text, nodes_line, reports_round}
 use Rattle.revdot.specs.Strips.{beginning}
 use Rattle.revdot.proofs.OneDrawing.{all_turns_unique}
 
@@ -25,31 +27,43 @@ settled_unique s a b h k =
     let texts : h.links ++ (h.counts ++ h.hops) ≡ k.links ++ (k.counts ++ k.hops) = (λ i. links i ++ (counts i ++ hops i)) in
     h.text ∙ (texts ∙ sym k.text)
 
-turn_by_turn_unique : (s : State) (a b : List ℕ) → IsTurnByTurn s a → IsTurnByTurn s b → a ≡ b
-turn_by_turn_unique s a b h k =
+turn_by_turn_unique : (s : State) (rerouted a b : List ℕ) → IsTurnByTurn s rerouted a → IsTurnByTurn s rerouted b → a ≡ b
+turn_by_turn_unique s rerouted a b h k =
+    let pushes = nodes_line (codes "pushes") rerouted in
     let turns : h.turns ≡ k.turns = all_turns_unique most_told_turns s.nodes s.dest (beginning s) h.turns k.turns h.are_all k.are_all in
     let left : h.left ≡ k.left = settled_unique (Some s) h.left k.left h.settled k.settled in
-    let texts : beginning_text s h.turns ++ h.left ≡ beginning_text s k.turns ++ k.left = (λ i. beginning_text s (turns i) ++ left i) in
+    let texts : beginning_text s h.turns ++ (h.left ++ pushes) ≡ beginning_text s k.turns ++ (k.left ++ pushes) =
+        (λ i. beginning_text s (turns i) ++ (left i ++ pushes)) in
     h.text ∙ (texts ∙ sym k.text)
 
-told_round_unique : (s : State) (a b : List ℕ) → IsToldRound s a → IsToldRound s b → a ≡ b
-told_round_unique s a b h k = of (is_short s) h k
+told_round_unique : (s : State) (rerouted a b : List ℕ) → IsToldRound s rerouted a → IsToldRound s rerouted b → a ≡ b
+told_round_unique s rerouted a b h k = of (is_short s) h k
   where
-    of : (short : Bool) → MatchBool short (IsTurnByTurn s a) (a ≡ codes "omitted\n") → MatchBool short (IsTurnByTurn s b) (b ≡ codes "omitted\n") → a ≡ b
-    of true h k = turn_by_turn_unique s a b h k
+    of : (short : Bool) → MatchBool short (IsTurnByTurn s rerouted a) (a ≡ codes "omitted\n")
+        → MatchBool short (IsTurnByTurn s rerouted b) (b ≡ codes "omitted\n") → a ≡ b
+    of true h k = turn_by_turn_unique s rerouted a b h k
     of false h k = h ∙ sym k
 
-round_story_unique : (reports : Bool) (s : Option State) (a b : List ℕ) → IsRoundStory reports s a → IsRoundStory reports s b → a ≡ b
-round_story_unique true (Some s) a b h k = h.2 ∙ (ap (λ (t : List ℕ). net_text s.nodes s.dest ++ t) (told_round_unique s h.0 k.0 h.1 k.1) ∙ sym k.2)
-round_story_unique true None a b h k = h ∙ sym k
-round_story_unique false s a b h k = h ∙ sym k
+round_story_unique : (reports : Bool) (s : Option State) (rerouted a b : List ℕ)
+    → IsRoundStory reports s rerouted a → IsRoundStory reports s rerouted b → a ≡ b
+round_story_unique true (Some s) rerouted a b h k =
+    let one = told_round_unique s rerouted h.0 k.0 h.1 k.1 in
+    h.2 ∙ (ap (λ (t : List ℕ). net_text s.nodes s.dest ++ t) one ∙ sym k.2)
+round_story_unique true None rerouted a b h k = h ∙ sym k
+round_story_unique false s rerouted a b h k = h ∙ sym k
 
 answered_unique : (s : Option State) (number : ℕ) (line a b : List ℕ) (p q : Option State) → IsAnswered s number line a p → IsAnswered s number line b q → (a ≡ b) × (p ≡ q)
 answered_unique s number line a b p q h k =
     let one = line_unique s (reading line) h.answer k.answer p q h.is_answer k.is_answer in
-    let of_round : IsRoundStory (reports_round k.answer) q h.told =
-    subst (λ (t : Option State). IsRoundStory (reports_round k.answer) t h.told) one.1 (subst (λ (t : List ℕ). IsRoundStory (reports_round t) p h.told) one.0 h.of_round) in
-    let told : h.told ≡ k.told = round_story_unique (reports_round k.answer) q h.told k.told of_round k.of_round in
+    let are_rerouted = subst (λ (t : Option State). IsLineTold s (reading line) t [] h.rerouted) one.1 h.are_rerouted in
+    let same : h.rerouted ≡ k.rerouted =
+        line_told_unique s (reading line) q [] h.rerouted k.rerouted are_rerouted k.are_rerouted in
+    let of_round : IsRoundStory (reports_round k.answer) q k.rerouted h.told =
+        subst (λ (t : List ℕ). IsRoundStory (reports_round k.answer) q t h.told) same
+        (subst (λ (t : Option State). IsRoundStory (reports_round k.answer) t h.rerouted h.told) one.1
+        (subst (λ (t : List ℕ). IsRoundStory (reports_round t) p h.rerouted h.told) one.0 h.of_round)) in
+    let told : h.told ≡ k.told =
+        round_story_unique (reports_round k.answer) q k.rerouted h.told k.told of_round k.of_round in
     let texts : (answer_text number h.answer ++ asked_text (reading line)) ++ h.told ≡ (answer_text number k.answer ++ asked_text (reading line)) ++ k.told = (λ i. (answer_text number (one.0 i) ++ asked_text (reading line)) ++ told i) in
     (h.text ∙ (texts ∙ sym k.text), one.1)
 

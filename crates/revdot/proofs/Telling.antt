@@ -9,8 +9,9 @@ use Rattle.fr_lines.specs.declared.requests.Question.TheVariants.{Links, Counts,
 use Rattle.fr_lines.specs.Requests.{reading}
 use Rattle.fr_route.specs.Answers.{IsLineAnswer}
 use Rattle.fr_route.specs.Blank.{is_blank}
+use Rattle.fr_route.specs.Told.{IsLineTold}
 use Rattle.revdot.specs.Asked.{asked_text}
-use Rattle.revdot.specs.Stories.{AreBlocks, AreSettledLines, IsAnswerLine, IsAnswered, IsBlock, IsRoundStory, IsStory, IsTurnByTurn, answer_text, beginning_text, is_short, most_told_turns, net_text, reports_round}
+use Rattle.revdot.specs.Stories.{AreBlocks, AreSettledLines, IsAnswerLine, IsAnswered, IsBlock, IsRoundStory, IsStory, IsTurnByTurn, answer_text, beginning_text, is_short, most_told_turns, net_text, nodes_line, reports_round}
 use Rattle.revdot.specs.Strips.{AreAllTurns, beginning}
 use Rattle.revdot.proofs.Beginnings.{begins}
 
@@ -83,12 +84,19 @@ settled_told s links counts hops old one two new are_links are_counts are_hops e
     } in
     (links ++ (counts ++ hops), lines, three old links counts hops one two new e f g)
 
--- a short round, with its net, its beginning and what it left behind one another
-pub round_told : (s : State) (session : Option State) (turns settled old one two new : List ℕ) → Some s ≡ session → is_short s ≡ true → AreAllTurns most_told_turns s.nodes s.dest (beginning s) turns
-    → AreSettledLines session settled → one ≡ old ++ net_text s.nodes s.dest → two ≡ one ++ beginning_text s turns → new ≡ two ++ settled
-    → (out : List ℕ) × IsRoundStory true session out × (new ≡ old ++ out)
-round_told s session turns settled old one two new some short are_all are e f g =
-    let told : IsTurnByTurn s (beginning_text s turns ++ settled) = record {
+-- a short round: its net, its beginning, what it left, and the nodes that it reroutes, one after the other
+pub round_told : (s : State) (session : Option State) (turns settled rerouted old one two more new : List ℕ)
+    → Some s ≡ session → is_short s ≡ true → AreAllTurns most_told_turns s.nodes s.dest (beginning s) turns
+    → AreSettledLines session settled → one ≡ old ++ net_text s.nodes s.dest → two ≡ one ++ beginning_text s turns
+    → more ≡ two ++ settled → new ≡ more ++ nodes_line (codes "pushes") rerouted
+    → (out : List ℕ) × IsRoundStory true session rerouted out × (new ≡ old ++ out)
+round_told s session turns settled rerouted old one two more new some short are_all are e f g k =
+    let net = net_text s.nodes s.dest in
+    let pushes = nodes_line (codes "pushes") rerouted in
+    let end : new ≡ two ++ (settled ++ pushes) =
+        k ∙ (ap (λ (t : List ℕ). t ++ pushes) g ∙ append_assoc two settled pushes) in
+    let rest = beginning_text s turns ++ (settled ++ pushes) in
+    let told : IsTurnByTurn s rerouted rest = record {
       begins = λ first net below round. begins s.nodes s.dest first s net below round;
       turns = turns;
       are_all = are_all;
@@ -96,9 +104,10 @@ round_told s session turns settled old one two new some short are_all are e f g 
       settled = subst (λ (t : Option State). AreSettledLines t settled) (sym some) are;
       text = refl;
     } in
-    let rest = beginning_text s turns ++ settled in
-    let story : IsRoundStory true (Some s) (net_text s.nodes s.dest ++ rest) = (rest, short_told (is_short s) (IsTurnByTurn s rest) (rest ≡ codes "omitted\n") short told, refl) in
-    (net_text s.nodes s.dest ++ rest, subst (λ (t : Option State). IsRoundStory true t (net_text s.nodes s.dest ++ rest)) some story, three old (net_text s.nodes s.dest) (beginning_text s turns) settled one two new e f g)
+    let whole = short_told (is_short s) (IsTurnByTurn s rerouted rest) (rest ≡ codes "omitted\n") short told in
+    let story : IsRoundStory true (Some s) rerouted (net ++ rest) = (rest, whole, refl) in
+    let in_session = subst (λ (t : Option State). IsRoundStory true t rerouted (net ++ rest)) some story in
+    (net ++ rest, in_session, three old net (beginning_text s turns) (settled ++ pushes) one two new e f end)
 
 -- what two facts of a good end make
 pub on_ok_both : {T E P Q R : Type 0} (r : Result T E) → (P → Q → R) → OnOk r P → OnOk r Q → OnOk r R
@@ -113,14 +122,18 @@ asked true P Q e q = absurd (true_is_not_false e)
     true_is_not_false e = cc
 
 -- what is told of an answer, and of its round, behind one another
-pub line_told : (s next : Option State) (number : ℕ) (line answer told old one new : List ℕ) → is_blank line ≡ false → IsLineAnswer s (reading line) answer next
-    → IsRoundStory (reports_round answer) next told → one ≡ old ++ (answer_text number answer ++ asked_text (reading line)) → new ≡ one ++ told
+pub line_told : (s next : Option State) (number : ℕ) (line answer rerouted told old one new : List ℕ)
+    → is_blank line ≡ false → IsLineAnswer s (reading line) answer next → IsLineTold s (reading line) next [] rerouted
+    → IsRoundStory (reports_round answer) next rerouted told
+    → one ≡ old ++ (answer_text number answer ++ asked_text (reading line)) → new ≡ one ++ told
     → (block : List ℕ) × IsBlock s number line block next × (new ≡ old ++ block)
-line_told s next number line answer told old one new asks is_answer of_round e f =
+line_told s next number line answer rerouted told old one new asks is_answer are_rerouted of_round e f =
     let first = answer_text number answer ++ asked_text (reading line) in
     let block : IsAnswered s number line (first ++ told) next = record {
       answer = answer;
       is_answer = is_answer;
+      rerouted = rerouted;
+      are_rerouted = are_rerouted;
       told = told;
       of_round = of_round;
       text = refl;

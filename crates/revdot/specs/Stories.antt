@@ -1,4 +1,4 @@
--- The story of an input: the answer to each line, and each round turn by turn.
+-- The story of an input: the answer to each line, and each round turn by turn, with the nodes that get new hops.
 use Rattle.std.specs.Prelude.{◌≡◌, ℕ, ◌+◌, nat_le, eqb, ◌&&◌, Bool, true, false, List, [], ◌∷◌, ◌++◌, Option, Some, None, MatchBool, codes, decimal, sum}
 use Rattle.std.specs.List.{starts_with}
 use Rattle.fr_lines.specs.Requests.{ask, reading}
@@ -8,6 +8,7 @@ use Rattle.fr_route.specs.Answers.{IsAnswer, IsLineAnswer}
 use Rattle.fr_route.specs.Blank.{is_blank}
 use Rattle.fr_route.specs.States.{State}
 use Rattle.fr_route.specs.Texts.{spaced, spaced_links}
+use Rattle.fr_route.specs.Told.{IsLineTold}
 use Rattle.fr_bytes.specs.Lines.{lines_of}
 use Rattle.revdot.specs.Asked.{asked_text}
 use Rattle.revdot.specs.Strips.{AreAllTurns, BeginsTheRound, beginning}
@@ -28,12 +29,13 @@ net_text n d = codes "net " ++ (decimal n ++ (codes " " ++ (decimal d ++ codes "
 abbrev pub first_text : List (ℕ × ℕ) → List ℕ
 first_text links = codes "first" ++ (spaced_links links ++ codes "\n")
 
-abbrev pub turns_line : List ℕ → List ℕ
-turns_line turns = codes "turns" ++ (spaced turns ++ codes "\n")
+-- a word and nodes, as a line
+abbrev pub nodes_line : List ℕ → List ℕ → List ℕ
+nodes_line word nodes = word ++ (spaced nodes ++ codes "\n")
 
 -- the links as they began the round, in the order in which they stand now, and its turns
 abbrev pub beginning_text : State → List ℕ → List ℕ
-beginning_text s turns = first_text (beginning s).links ++ turns_line turns
+beginning_text s turns = first_text (beginning s).links ++ nodes_line (codes "turns") turns
 
 -- the answer to a question, as a line
 abbrev pub IsAnswerLine : Option State → Question → List ℕ → Type 0
@@ -49,24 +51,25 @@ pub record AreSettledLines (s : Option State) (out : List ℕ) : Type 0 where
   pub are_hops : IsAnswerLine s Hops hops
   pub text : out ≡ links ++ (counts ++ hops)
 
--- how a round began, its turns one by one, and what it left
-pub record IsTurnByTurn (s : State) (out : List ℕ) : Type 0 where
+-- how a round began, its turns one by one, what it left, and the nodes that get new hops
+pub record IsTurnByTurn (s : State) (rerouted out : List ℕ) : Type 0 where
   pub begins : BeginsTheRound s
   pub turns : List ℕ
   pub are_all : AreAllTurns most_told_turns s.nodes s.dest (beginning s) turns
   pub left : List ℕ
   pub settled : AreSettledLines (Some s) left
-  pub text : out ≡ beginning_text s turns ++ left
+  pub text : out ≡ beginning_text s turns ++ (left ++ nodes_line (codes "pushes") rerouted)
 
 -- what is told behind the net of a round: the whole where it is short
-abbrev pub IsToldRound : State → List ℕ → Type 0
-IsToldRound s out = MatchBool (is_short s) (IsTurnByTurn s out) (out ≡ codes "omitted\n")
+abbrev pub IsToldRound : State → List ℕ → List ℕ → Type 0
+IsToldRound s rerouted out = MatchBool (is_short s) (IsTurnByTurn s rerouted out) (out ≡ codes "omitted\n")
 
 -- what is told behind an answer, by the state after it: of a round, if it reports one
-abbrev pub IsRoundStory : Bool → Option State → List ℕ → Type 0
-IsRoundStory true (Some s) told = (out : List ℕ) × IsToldRound s out × (told ≡ net_text s.nodes s.dest ++ out)
-IsRoundStory true None told = told ≡ []
-IsRoundStory false s told = told ≡ []
+abbrev pub IsRoundStory : Bool → Option State → List ℕ → List ℕ → Type 0
+IsRoundStory true (Some s) rerouted told =
+    (out : List ℕ) × IsToldRound s rerouted out × (told ≡ net_text s.nodes s.dest ++ out)
+IsRoundStory true None rerouted told = told ≡ []
+IsRoundStory false s rerouted told = told ≡ []
 
 -- an answer that reports a round, and no other, begins so
 abbrev pub reports_round : List ℕ → Bool
@@ -76,12 +79,14 @@ reports_round answer = starts_with eqb answer (codes "turned")
 abbrev pub answer_text : ℕ → List ℕ → List ℕ
 answer_text number answer = codes "line " ++ (decimal number ++ (codes "\n" ++ (answer ++ codes "\n")))
 
--- what is told of a line that is not blank
+-- what is told of a line that is not blank: its answer, what it asks, and its round, if it makes one
 pub record IsAnswered (s : Option State) (number : ℕ) (line block : List ℕ) (next : Option State) : Type 0 where
   pub answer : List ℕ
   pub is_answer : IsLineAnswer s (reading line) answer next
+  pub rerouted : List ℕ
+  pub are_rerouted : IsLineTold s (reading line) next [] rerouted
   pub told : List ℕ
-  pub of_round : IsRoundStory (reports_round answer) next told
+  pub of_round : IsRoundStory (reports_round answer) next rerouted told
   pub text : block ≡ (answer_text number answer ++ asked_text (reading line)) ++ told
 
 -- what is told of a line, and the state after it: a blank line has no answer

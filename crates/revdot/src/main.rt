@@ -34,7 +34,7 @@ usage: revdot [--turns] < LINES | dot -Tsvg > PICTURE
        revdot --page < LINES > PAGE
 
   --turns        a graph for each turn of the last round, and then the network (dot -Tsvg -O FILE makes a picture of each)
-  --page         a page for a browser, which tells the answer to each line, and each round turn by turn
+  --page         a page for a browser: the answer to each line, and each round turn by turn and push by push
   -h, --help     this text
   -V, --version  the version
 ";

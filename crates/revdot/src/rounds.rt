@@ -1,4 +1,4 @@
-//! What a story tells of a round: how it began, its turns one by one, and what it left.
+//! What a story tells of a round: how it began, its turns one by one, what it left, and the nodes that get new hops.
 
 ghost use Rattle.std.specs.Prelude.{◌≡◌, ◌++◌, ℕ, List, true, Some, IfOk, OnOk, codes, decimal, length, string_bytes};
 ghost use Rattle.fr_graph.specs.Links.{AreBelow};
@@ -6,7 +6,7 @@ ghost use Rattle.fr_lines.specs.Requests.{ask};
 ghost use Rattle.fr_route.specs.Answers.{IsAnswer};
 ghost use Rattle.revdot.specs.Strips.{AreAllTurns, beginning};
 ghost use Rattle.fr_route.specs.Texts.{spaced, spaced_links};
-ghost use Rattle.revdot.specs.Stories.{IsRoundStory, AreSettledLines, IsAnswerLine, beginning_text, first_text, is_short, most_told_turns, net_text, turns_line};
+ghost use Rattle.revdot.specs.Stories.{IsRoundStory, AreSettledLines, IsAnswerLine, beginning_text, first_text, is_short, most_told_turns, net_text, nodes_line};
 
 use crate::turns::{first_links, links_of, next_to_turn, turn_node};
 use fr_lines::{Question, Request};
@@ -20,13 +20,14 @@ const MOST_NODES: u32 = 256;
 /// The most turns of a round that is told turn by turn.
 const MOST_TURNS: u64 = 4_096;
 
-/// Adds what is told of the round that led to where a session stands.
+/// Adds what is told of the last round of a session, which gave these nodes new hops.
 pub fn push_round(
     story: &mut String,
     alloc: Global,
     session: &mut Session,
+    rerouted: &[u32],
 ) -> Result<(), AllocError>
-    ensures told { OnOk result ((told : List ℕ) × IsRoundStory true session.old told
+    ensures told { OnOk result ((told : List ℕ) × IsRoundStory true session.old rerouted.now told
         × (string_bytes story.new ≡ string_bytes story.old ++ told)) }
     ensures same { OnOk result (session.new ≡ session.old) }
 {
@@ -38,7 +39,8 @@ pub fn push_round(
         return story.push_str("omitted\n");
     }
     push_beginning(story, alloc, router)?;
-    push_settled_lines(story, alloc, session)
+    push_settled_lines(story, alloc, session)?;
+    push_nodes_line(story, "pushes", rerouted)
 }
 
 /// Adds how many nodes there are, and which is the destination.
@@ -66,7 +68,7 @@ fn push_beginning(story: &mut String, alloc: Global, router: &Router) -> Result<
     let first = first_links(alloc, &settled, router.counts())?;
     push_first(story, &first)?;
     let turns = turns_of(alloc, router, first)?;
-    push_turns(story, &turns)
+    push_nodes_line(story, "turns", &turns)
 }
 
 /// Adds the links as they began a round.
@@ -93,12 +95,12 @@ fn push_link(story: &mut String, link: (u32, u32)) -> Result<(), AllocError>
     write!(story, " {}>{}", link.0, link.1)
 }
 
-/// Adds the nodes that turn.
-fn push_turns(story: &mut String, turns: &[u32]) -> Result<(), AllocError>
-    ensures { OnOk result (string_bytes story.new ≡ string_bytes story.old ++ turns_line turns.now) }
+/// Adds a line: a word, and these nodes.
+fn push_nodes_line(story: &mut String, word: &str, nodes: &[u32]) -> Result<(), AllocError>
+    ensures { OnOk result (string_bytes story.new ≡ string_bytes story.old ++ nodes_line word.now nodes.now) }
 {
-    story.push_str("turns")?;
-    push_nodes(story, turns)?;
+    story.push_str(word)?;
+    push_nodes(story, nodes)?;
     story.push_str("\n")
 }
 

@@ -1,9 +1,10 @@
-//! The story of an input: the answer to each line, and each round turn by turn.
+//! The story of an input: the answer to each line, and each round turn by turn, with the nodes that get new hops.
 
 ghost use Rattle.std.specs.Prelude.{◌≡◌, ◌++◌, ℕ, List, None, IfNone, IfOk, IfSome, OnOk, false, true, codes, string_bytes};
 ghost use Rattle.fr_lines.specs.Requests.{ask, reading};
 ghost use Rattle.fr_route.specs.Answers.{IsAnswer, IsLineAnswer};
 ghost use Rattle.fr_route.specs.Blank.{is_blank};
+ghost use Rattle.fr_route.specs.Told.{IsLineTold};
 ghost use Rattle.revdot.specs.Asked.{asked_text};
 ghost use Rattle.revdot.specs.Stories.{IsBlock, IsRoundStory, IsStory, answer_text, reports_round as reports_a_round};
 
@@ -50,24 +51,28 @@ fn push_line(
     ensures { OnOk result ((block : List ℕ) × IsBlock session.old number line.now block session.new
         × (string_bytes story.new ≡ string_bytes story.old ++ block)) }
 {
-    let Some(answer) = answer_to(alloc, session, line)? else {
+    let mut rerouted = Vec::new(alloc);
+    let Some(answer) = answer_to(alloc, session, line, &mut rerouted)? else {
         return Ok(());
     };
     push_answered(story, alloc, number, &answer, line)?;
-    push_report(story, alloc, session, &answer)
+    push_report(story, alloc, session, &answer, &rerouted)
 }
 
-/// The answer to a line, if it is not blank.
+/// The answer to a line, if it is not blank. The nodes that the line reroutes are then in the list.
 fn answer_to(
     alloc: Global,
     session: &mut Session,
     line: &[u8],
+    rerouted: &mut Vec<u32>,
 ) -> Result<Option<String>, AllocError>
     ensures blank { IfOk result (λ answer. IfNone answer ((is_blank line.now ≡ true) × (session.new ≡ session.old))) }
     ensures text { IfOk result (λ answer. IfSome answer (λ text. (is_blank line.now ≡ false)
         × IsLineAnswer session.old (reading line.now) (string_bytes text) session.new)) }
+    ensures told { IfOk result (λ answer. IfSome answer (λ _.
+        IsLineTold session.old (reading line.now) session.new rerouted.old.items rerouted.new.items)) }
 {
-    match session.answer_line_alone(alloc, line) {
+    match session.answer_line_telling_alone(alloc, line, rerouted) {
         Ok(answer) => Ok(answer),
         Err(_) => Err(AllocError),
     }
@@ -102,13 +107,15 @@ fn push_report(
     alloc: Global,
     session: &mut Session,
     answer: &str,
+    rerouted: &[u32],
 ) -> Result<(), AllocError>
-    ensures told { OnOk result ((told : List ℕ) × IsRoundStory (reports_a_round answer.now) session.old told
+    ensures told { OnOk result ((told : List ℕ)
+        × IsRoundStory (reports_a_round answer.now) session.old rerouted.now told
         × (string_bytes story.new ≡ string_bytes story.old ++ told)) }
     ensures same { OnOk result (session.new ≡ session.old) }
 {
     if reports_round(answer) {
-        push_round(story, alloc, session)
+        push_round(story, alloc, session, rerouted)
     } else {
         Ok(())
     }

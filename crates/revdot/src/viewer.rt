@@ -11,9 +11,9 @@ pub const FIRST_PART: &str = "\
 <title>revroute: a network at work</title>
 <style>
 :root{--back:#fbfbf9;--panel:#fff;--ink:#1d2329;--soft:#5c6670;--edge:#d5d9dd;--link:#39434d;--hop:#1259b5;--turn:#b35c00;--gold:#ffd24d;
---grey:#b9bfc5;--route:#0b7a4b;--face:#eef3f9;--bad:#a8261c}
+--grey:#b9bfc5;--route:#0b7a4b;--face:#eef3f9;--bad:#a8261c;--push:#c4dcfb}
 @media (prefers-color-scheme:dark){:root{--back:#14181c;--panel:#1b2126;--ink:#e8ecef;--soft:#a0abb5;--edge:#343c44;--link:#d3dae0;--hop:#76b2ff;
---turn:#ffab4a;--gold:#7a5c00;--grey:#4f5962;--route:#4fd39a;--face:#26303a;--bad:#ff8a80}}
+--turn:#ffab4a;--gold:#7a5c00;--grey:#4f5962;--route:#4fd39a;--face:#26303a;--bad:#ff8a80;--push:#1b477d}}
 *{box-sizing:border-box}
 body{margin:0;background:var(--back);color:var(--ink);font:15px/1.45 system-ui,sans-serif;min-height:100vh;display:grid;
 grid-template:auto 1fr auto auto/22rem minmax(0,1fr);height:100vh}
@@ -52,6 +52,7 @@ footer{grid-column:1/3;border-top:1px solid var(--edge);padding:.45rem 1rem;colo
 .link .tip{fill:var(--link);stroke:none}
 .link.hop path{stroke:var(--hop);stroke-width:3.2}
 .link.hop .tip{fill:var(--hop);stroke:none}
+.link.old path{stroke-dasharray:2 4}
 .link.out path{stroke:var(--grey)}
 .link.out .tip{fill:var(--grey);stroke:none}
 .link.now path{stroke:var(--turn);stroke-width:2.6}
@@ -71,6 +72,7 @@ footer{grid-column:1/3;border-top:1px solid var(--edge);padding:.45rem 1rem;colo
 .node.out text{fill:var(--soft)}
 .node.now .face{fill:var(--gold);stroke:var(--turn);stroke-width:2.6}
 .node.new .ring{stroke:var(--hop);stroke-width:1.6;stroke-dasharray:3 3}
+.node.push .face{fill:var(--push);stroke:var(--hop);stroke-width:2.6}
 .node.way .face{stroke:var(--route);stroke-width:3}
 .node.pick .face{stroke-width:3.4}
 .node:focus-visible .ring{stroke:var(--hop);stroke-width:3}
@@ -106,12 +108,18 @@ main{order:1;max-height:75vh}#bar{order:2;position:sticky;bottom:0}aside{order:3
 <li><svg width='64' height='26' aria-hidden='true'><g class='node now' transform='translate(13 13)'><circle r='12' class='ring'/><circle r='9.5' class='face'/></g><g class='link now'><path d='M28 13H54'/><path class='tip' d='M62 13L53 8.4V17.6Z'/></g></svg>turns next</li>
 <li><svg width='64' height='26' aria-hidden='true'><g class='node out' transform='translate(13 13)'><circle r='12' class='ring'/><circle r='9.5' class='face'/></g><g class='link out'><path d='M28 13H54'/><path class='tip' d='M62 13L53 8.4V17.6Z'/></g></svg>cut off</li>
 <li><svg width='26' height='26' aria-hidden='true'><g class='node new' transform='translate(13 13)'><circle r='12' class='ring'/><circle r='9.5' class='face'/></g></svg>has a new next hop</li>
+<li><svg width='26' height='26' aria-hidden='true'><g class='node push' transform='translate(13 13)'>
+<circle r='12' class='ring'/><circle r='9.5' class='face'/></g></svg>gets its next hop now</li>
+<li><svg width='38' height='26' aria-hidden='true'><g class='link hop old'><path d='M2 13H28'/>
+<path class='tip' d='M36 13L27 8.4V17.6Z'/></g></svg>to an old next hop</li>
 <li><svg width='64' height='26' aria-hidden='true'><g class='node way' transform='translate(13 13)'><circle r='12' class='ring'/><circle r='9.5' class='face'/></g><g class='link way'><path d='M28 13H54'/><path class='tip' d='M62 13L53 8.4V17.6Z'/></g></svg>a route</li>
-<li><svg width='38' height='26' aria-hidden='true'><g class='link closed'><path d='M2 13H28'/><path class='tip' d='M36 13L27 8.4V17.6Z'/></g></svg>a closed walk that was refused</li>
+<li><svg width='38' height='26' aria-hidden='true'><g class='link closed'><path d='M2 13H28'/>
+<path class='tip' d='M36 13L27 8.4V17.6Z'/></g></svg>a closed walk that was refused, or a loop in the tables</li>
 <li><svg width='38' height='26' aria-hidden='true'><g class='link closed asked'><path d='M2 13H28'/><path class='tip' d='M36 13L27 8.4V17.6Z'/></g></svg>its link that was asked for</li>
 <li>below a number: how often the node has turned</li>
 </ul>
-<b>Proved:</b> the data of this page, which is the text that the definitions give for the lines that were read: each request, answer, link, turn, count and next hop.
+<b>Proved:</b> the data of this page, which is the text that the definitions give for the lines that were read:
+each request, answer, link, turn, count, next hop and push.
 <b>Not proved:</b> the drawing, which is made of it by a script here and tested in a browser.
 Keys: left and right, a step; up and down, a line; space, play; n and p, a node.</footer>
 <script type='text/plain' id='story'>
@@ -126,7 +134,7 @@ const by = id => document.getElementById(id), SVG = 'http://www.w3.org/2000/svg'
 const meanings = {1: 'the line is no JSON', 2: 'the value is no request', 3: 'there is no network yet',
   4: 'a node that is named is none of the network, or there is no node', 5: 'a link joins a node with itself', 6: 'more than one link joins two nodes',
   7: 'the links would close a walk', 8: 'no link joins the two nodes', 9: 'there are more nodes, links or edits than the limits'};
-const settledLines = ['first', 'turns', 'links', 'counts', 'hops'];
+const settledLines = ['first', 'turns', 'links', 'counts', 'hops', 'pushes'];
 const listed = (text, item) => text.split(' ').slice(1).map(item);
 const linkOf = word => word.split('>').map(Number);
 const stepsOf = walk => new Set(walk.slice(1).map((node, at) => walk[at] + '>' + node));
@@ -385,7 +393,8 @@ function build(view) {
     view.shapes.set(key, {a, b, bend: bendOf(view, a, b), g, line: make(g, 'path', {}), tip: make(g, 'path', {class: 'tip'})});
   }
   makeRoom(view);
-  view.asked = make(view.group, 'g', {});
+  view.more = make(view.group, 'g', {class: 'more'});
+  view.bends = new Map();
   view.spots = view.place.map(([x, y], node) => {
     const g = make(view.group, 'g', {class: 'node', role: 'button', tabindex: -1, transform: 'translate(' + x.toFixed(1) + ' ' + y.toFixed(1) + ')'});
     make(g, 'circle', {r: 22, class: 'ring'});
@@ -403,7 +412,13 @@ const blocks = readStory(by('story').textContent);
 layOut(blocks);
 const starts = [];
 let steps = 0, now = 0, picked = null, shown = null, timer = null;
-for (const block of blocks) { starts.push(steps); steps += block.own && block.round.drawn ? block.round.turns.length + 1 : 1; }
+for (const block of blocks) { starts.push(steps); steps += stepsIn(block); }
+
+// How many steps a line has: a round has one before each turn, one after them, and one for each push.
+function stepsIn(block) {
+  const round = block.round;
+  return block.own && round.drawn ? round.turns.length + 1 + (tableBefore(round) ? round.pushes.length : 0) : 1;
+}
 
 function blockAt(step) {
   let low = 0, high = blocks.length;
@@ -412,36 +427,82 @@ function blockAt(step) {
 }
 
 // A round after some of its turns. A link points as at first where both its ends have turned equally often, and else the other way.
-function stateOf(round, turn) {
-  if (turn === round.turns.length) return {settled: true, links: round.links, counts: round.counts, sink: null};
+// After all turns, the hops are those of the tables after so many pushes, or the settled ones.
+function stateOf(round, turn, push) {
+  if (turn === round.turns.length) {
+    const hops = push ? tableAfter(round, push) : round.hops, node = push ? round.pushes[push - 1] : null;
+    return {links: round.links, counts: round.counts, sink: null, hops, push, node, loop: push ? loopIn(hops) : []};
+  }
   const counts = Array(round.nodes).fill(0);
   for (let k = 0; k < turn; k++) counts[round.turns[k]]++;
   const links = round.first.map(([tail, head]) => counts[tail] === counts[head] ? [tail, head] : [head, tail]);
-  return {settled: false, links, counts, sink: round.turns[turn]};
+  return {links, counts, sink: round.turns[turn], hops: null, push: 0, node: null, loop: []};
 }
 
-function routeOf(round, node) {
+// The routers' tables before the first push, or null where they are not known. They have a hop for each node of this
+// network and of the one before it. A node that is not in a network has no hop there.
+function tableBefore(round) {
+  const before = round.before;
+  if (before && !before.drawn) return null;
+  const nodes = Math.max(round.nodes, before ? before.nodes : 0);
+  return Array.from({length: nodes}, (_, node) => before && before.hops[node] || 'cut');
+}
+
+function tableAfter(round, pushed) {
+  const table = tableBefore(round);
+  for (const node of round.pushes.slice(0, pushed)) table[node] = hopAfter(round, node);
+  return table;
+}
+
+const hopAfter = (round, node) => round.hops[node] || 'cut';
+const nextIn = (table, node) => table[node] === 'here' || table[node] === 'cut' ? null : Number(table[node]);
+
+// A loop of a table, from a node back to itself, or no nodes. Each hop is followed once.
+function loopIn(table) {
+  const from = [];
+  for (const start of table.keys()) {
+    let node = start;
+    while (node !== null && from[node] === undefined) { from[node] = start; node = nextIn(table, node); }
+    if (node === null || from[node] !== start) continue;
+    const loop = [node];
+    do loop.push(nextIn(table, loop.at(-1))); while (loop.at(-1) !== node);
+    return loop;
+  }
+  return [];
+}
+
+function routeOf(table, node) {
   const route = [node];
-  while (route.length <= round.nodes && round.hops[route.at(-1)] !== 'here' && round.hops[route.at(-1)] !== 'cut') route.push(Number(round.hops[route.at(-1)]));
+  while (route.length <= table.length && nextIn(table, route.at(-1)) !== null) route.push(nextIn(table, route.at(-1)));
   return route;
 }
 
-// The nodes whose next hop this round changed.
+// The nodes whose next hop this round changed, in push order; those of a new network are no news.
 function changedHops(round) {
-  const old = round.before && round.before.drawn && round.before.nodes === round.nodes ? round.before.hops : null;
-  return old ? [...round.hops.keys()].filter(node => old[node] !== round.hops[node]) : [];
+  return round.before && round.before.drawn && round.before.nodes === round.nodes ? round.pushes : [];
 }
 
 function routeShown(block, state) {
-  if (!state.settled) return [];
+  if (!state.hops) return [];
   if (block.answer.startsWith('walk ')) return block.answer.split(' ').slice(1).filter(word => word !== 'cut').map(Number);
-  return picked !== null && picked < block.round.nodes ? routeOf(block.round, picked) : [];
+  return picked !== null && picked < block.round.nodes ? routeOf(state.hops, picked) : [];
+}
+
+// The hops of a table between nodes of the network, as steps.
+function hopsIn(table, nodes) {
+  const hops = new Set();
+  for (const node of table.keys()) {
+    const next = nextIn(table, node);
+    if (next !== null && node < nodes && next < nodes) hops.add(node + '>' + next);
+  }
+  return hops;
 }
 
 function drawLinks(view, round, state, way, walk) {
-  const there = new Set(), steps = stepsOf(way), closed = stepsOf(walk);
+  const there = new Set(), steps = stepsOf(way), closed = stepsOf(walk), hops = hopsIn(state.hops || [], round.nodes);
+  const marks = step => (steps.has(step) ? ' way' : '') + (closed.delete(step) ? ' closed' : '');
   for (const [tail, head] of state.links) {
-    const key = keyOf(tail, head), shape = view.shapes.get(key);
+    const key = keyOf(tail, head), shape = view.shapes.get(key), step = tail + '>' + head;
     there.add(key);
     if (shape.tail !== tail) {
       const drawn = curve(view, shape, tail, head);
@@ -449,30 +510,33 @@ function drawLinks(view, round, state, way, walk) {
       shape.tip.setAttribute('d', drawn.tip);
       shape.tail = tail;
     }
-    const hop = state.settled && round.hops[tail] === String(head), out = round.hops[tail] === 'cut';
-    const kind = (hop ? ' hop' : head === state.sink ? ' now' : out ? ' out' : '') + (steps.has(tail + '>' + head) ? ' way' : '') + (closed.delete(tail + '>' + head) ? ' closed' : '');
-    mark(shape.g, {class: 'link' + kind, 'data-tail': tail, 'data-head': head, 'data-hop': hop ? 1 : null, visibility: null});
+    const hop = hops.delete(step), old = round.hops[tail] !== String(head), out = round.hops[tail] === 'cut';
+    const kind = hop ? (old ? ' hop old' : ' hop') : head === state.sink ? ' now' : out ? ' out' : '';
+    mark(shape.g, {class: 'link' + kind + marks(step), 'data-tail': tail, 'data-head': head, 'data-hop': hop ? 1 : null,
+      visibility: null});
   }
   for (const [key, shape] of view.shapes) {
     if (!there.has(key)) mark(shape.g, {class: 'link', visibility: 'hidden', 'data-tail': null, 'data-head': null, 'data-hop': null});
   }
-  drawAsked(view, [...closed].map(linkOf));
+  // What is left of both is no link: old next hops, and links that a refused line asked for.
+  view.more.replaceChildren();
+  for (const step of hops) mark(arrowMore(view, there, step, 'link hop old' + marks(step)), {'data-hop': 1});
+  for (const step of state.push ? [] : closed) arrowMore(view, there, step, 'link closed asked');
 }
 
-// Links of a closed walk that do not stand, since the refused line asked for them.
-function drawAsked(view, links) {
-  view.asked.replaceChildren();
-  for (const [tail, head] of links) {
-    const a = Math.min(tail, head), b = Math.max(tail, head);
-    arrow(view, view.asked, view.shapes.get(keyOf(a, b)) || {a, b, bend: bendOf(view, a, b)}, tail, head);
-  }
+// An arrow that is no link of the network, beside the link of its ends where there is one.
+function arrowMore(view, there, step, kinds) {
+  const [tail, head] = linkOf(step), a = Math.min(tail, head), b = Math.max(tail, head), key = keyOf(a, b);
+  if (!view.bends.has(key)) view.bends.set(key, view.shapes.has(key) ? view.shapes.get(key).bend : bendOf(view, a, b));
+  return arrow(view, view.more, {a, b, bend: view.bends.get(key) + (there.has(key) ? 36 : 0)}, tail, head, kinds);
 }
 
-// An arrow of a closed walk that is no link of the network drawn.
-function arrow(view, group, shape, tail, head) {
-  const drawn = curve(view, shape, tail, head), g = make(group, 'g', {class: 'link closed asked', 'data-tail': tail, 'data-head': head});
+function arrow(view, group, shape, tail, head, kinds) {
+  const drawn = curve(view, shape, tail, head);
+  const g = make(group, 'g', {class: kinds, 'data-tail': tail, 'data-head': head});
   make(g, 'path', {d: drawn.line});
   make(g, 'path', {class: 'tip', d: drawn.tip});
+  return g;
 }
 
 // The closed walk of a network that is refused, where it is short: its nodes in a circle.
@@ -484,7 +548,9 @@ function drawRing(walk) {
   const wide = 2 * far + 52, turn = 2 * Math.PI / nodes.length, view = {place: {}, round: {home: null}};
   nodes.forEach((node, at) => { view.place[node] = [wide / 2 + far * Math.sin(at * turn), wide / 2 - far * Math.cos(at * turn)]; });
   mark(ring, {viewBox: '0 0 ' + wide + ' ' + wide, width: Math.min(wide, 300), 'aria-label': 'The closed walk ' + walk.join(' ')});
-  for (const [tail, head] of [...stepsOf(walk)].map(linkOf)) arrow(view, ring, {a: tail, b: head, bend: 0}, tail, head);
+  for (const [tail, head] of [...stepsOf(walk)].map(linkOf)) {
+    arrow(view, ring, {a: tail, b: head, bend: 0}, tail, head, 'link closed asked');
+  }
   for (const node of nodes) {
     const g = make(ring, 'g', {class: 'node', 'data-node': node, transform: 'translate(' + view.place[node].map(at => at.toFixed(1)).join(' ') + ')'});
     make(g, 'circle', {r: 18, class: 'face'});
@@ -494,15 +560,18 @@ function drawRing(walk) {
 
 function drawNodes(view, round, state, way, news) {
   view.spots.forEach((spot, node) => {
-    const count = state.counts[node], hop = round.hops[node], isHome = node === round.home;
-    const kinds = [['home', isHome], ['out', hop === 'cut'], ['now', node === state.sink], ['new', news.includes(node)],
-      ['way', way.includes(node)], ['pick', node === picked]];
+    const count = state.counts[node], isCut = round.hops[node] === 'cut', isHome = node === round.home;
+    const hop = state.hops && state.hops[node], isSaid = hop === 'here' ? isHome : hop === 'cut' && isCut;
+    const kinds = [['home', isHome], ['out', isCut], ['now', node === state.sink], ['new', news.includes(node)],
+      ['push', node === state.node], ['way', way.includes(node)], ['pick', node === picked]];
     if (spot.count.textContent !== String(count)) spot.count.textContent = count;
     const label = 'node ' + node + (isHome ? ', the destination' : '') + ', turned ' + count + (count === 1 ? ' time' : ' times') +
-      (node === state.sink ? ', turns next' : '') + (hop === 'cut' ? ', cut off' : state.settled && !isHome ? ', next hop ' + hop : '');
+      (node === state.sink ? ', turns next' : '') + (node === state.node ? ', gets its next hop now' : '') +
+      (isCut ? ', cut off' : '') + (hop && !isSaid ? ', ' + hopText(hop) : '');
     mark(spot.g, {class: 'node' + kinds.filter(kind => kind[1]).map(kind => ' ' + kind[0]).join(''), 'aria-label': label,
-      'aria-pressed': node === picked, 'data-node': node, 'data-count': count, 'data-hop': state.settled ? hop : null,
-      'data-cut': hop === 'cut' ? 1 : null, 'data-turns': node === state.sink ? 1 : null, tabindex: node === (picked ?? round.home) ? 0 : -1});
+      'aria-pressed': node === picked, 'data-node': node, 'data-count': count,
+      'data-hop': hop, 'data-cut': isCut ? 1 : null,
+      'data-turns': node === state.sink ? 1 : null, tabindex: node === (picked ?? round.home) ? 0 : -1});
   });
 }
 
@@ -533,25 +602,55 @@ function tellNode(block, round, state) {
   const known = state && picked !== null && picked < round.nodes;
   by('picked').textContent = known ? 'Node ' + picked + (picked === round.home ? ', the destination' : '') + ': turned ' + state.counts[picked] + ' in this round.'
     : 'Choose a node to see its route and its count over time.';
-  const route = known && state.settled ? routeOf(round, picked) : null;
-  const text = !known ? '' : !route ? 'Its route stands once the round has ended.' : 'walk ' + route.join(' ') + (round.hops[picked] === 'cut' ? ' cut' : '');
+  const route = known && state.hops ? routeOf(state.hops, picked) : null;
+  const text = !known ? '' : !route ? 'It has a route once the round has ended.'
+    : 'walk ' + route.join(' ') + (state.hops[route.at(-1)] === 'cut' ? ' cut' : '');
   by('route').textContent = text;
   mark(by('route'), {'data-route': route ? text : null});
   if (known) drawChart(picked); else by('chart').setAttribute('hidden', '');
 }
 
+const hopText = hop => hop === 'here' ? 'is the destination' : hop === 'cut' ? 'has no next hop' : 'sends to ' + hop;
+const hopName = hop => hop === 'here' ? 'the destination' : hop === 'cut' ? 'no next hop' : hop;
+
+// A turn, the end of the turns, or a push, in words; and what is pushed next.
+function roundText(round, turn, state) {
+  const turned = 'turn ' + turn + ' of ' + round.turns.length;
+  if (!state.hops) return turned + '. Node ' + state.sink + ' is a sink, and turns next.';
+  if (state.push) return pushText(round, state) + nextText(round, state.push);
+  return (round.turns.length ? turned + ', the round has ended.' : 'no node turns.') + nextText(round, 0);
+}
+
+function pushText(round, {push, node, hops, loop}) {
+  const gone = node < round.nodes ? '' : ', which is gone,', before = hopName(tableBefore(round)[node]);
+  return 'push ' + push + ' of ' + round.pushes.length + '. Node ' + node + gone + ' now ' + hopText(hops[node]) +
+    ' (before: ' + before + '). ' +
+    (loop.length ? 'A loop is in the tables: ' + loop.join(' ') + '.' : 'No loop is in the tables.');
+}
+
+// The push after so many, where there is one.
+function nextText(round, pushed) {
+  const table = tableBefore(round), node = round.pushes[pushed];
+  if (!table) return ' The hops before it are not known, so no push is shown.';
+  if (node === undefined) return '';
+  return ' Next push: node ' + node + ' (' + hopName(table[node]) + ' to ' + hopName(hopAfter(round, node)) + ').';
+}
+
 function tellStep(block, turn, state, news) {
-  const round = block.round, total = block.own && round.drawn ? round.turns.length : 0;
+  const round = block.round;
   const refusal = block.answer.startsWith('refused ') ? meanings[block.answer.slice(8)] || 'refused' : null;
-  by('say').textContent = 'Line ' + block.line + ': ' + (total ? 'turn ' + turn + ' of ' + total + (state.settled ? ', the round has ended.' : '. Node ' + state.sink + ' is a sink, and turns next.')
-    : refusal ? 'refused, since ' + refusal + '.' : block.own ? (round.drawn ? 'no node turns.' : 'told by its answer alone.') : 'a question; the network stays as it was.');
+  by('say').textContent = 'Line ' + block.line + ': ' + (refusal ? 'refused, since ' + refusal + '.'
+    : !block.own ? 'a question; the network stays as it was.'
+    : !round.drawn ? 'told by its answer alone.' : roundText(round, turn, state));
   const request = requestOf(block), walk = walkOf(block);
   by('request').textContent = short(request);
   mark(by('request'), {'data-request': request});
   by('answer').textContent = block.answer;
   by('more').textContent = refusal ? 'Refused: ' + refusal + '. Nothing has changed.' + (walk.length ? ' The closed walk: ' + walk.join(' ') + '.' : '') : '';
   mark(by('more'), {'data-closed': walk.length ? walk.join(' ') : null});
-  by('changed').textContent = news.length ? 'Next hops that the round changed: ' + news.map(node => node + ' (' + round.before.hops[node] + ' to ' + round.hops[node] + ')').join(', ') + '.' : '';
+  const change = node => node + ' (' + hopName(round.before.hops[node]) + ' to ' + hopName(round.hops[node]) + ')';
+  by('changed').textContent =
+    news.length ? 'Next hops that the round changed, in push order: ' + news.map(change).join(', ') + '.' : '';
   mark(by('changed'), {'data-changed': news.join(' ')});
   by('at').textContent = (now + 1) + ' / ' + steps;
   by('slide').value = now;
@@ -583,28 +682,33 @@ function fit(view) {
 function show(step, keep) {
   now = Math.max(0, Math.min(steps - 1, step));
   const at = blockAt(now), block = blocks[at], round = block.round, drawn = round && round.drawn;
-  const turn = block.own ? now - starts[at] : drawn ? round.turns.length : 0;
-  const state = drawn ? stateOf(round, turn) : null, net = by('net'), none = by('none');
-  const news = drawn && block.own && state.settled ? changedHops(round) : [];
+  const place = now - starts[at], last = drawn ? round.turns.length : 0;
+  const turn = block.own ? Math.min(place, last) : last, push = block.own ? place - turn : 0;
+  const state = drawn ? stateOf(round, turn, push) : null, net = by('net'), none = by('none');
+  const changes = drawn && block.own && state.hops ? changedHops(round) : [];
+  const news = push ? round.pushes.slice(0, push - 1) : changes;
   const walk = walkOf(block), isNetwork = walk.length > 0 && block.asks.startsWith('net ');
   net.toggleAttribute('hidden', !drawn);
   none.toggleAttribute('hidden', Boolean(drawn));
-  mark(net, {'data-line': block.line, 'data-turn': block.own ? turn : 0});
+  mark(net, {'data-line': block.line, 'data-turn': block.own ? turn : 0, 'data-push': push});
+  mark(net, {'data-loop': push ? state.loop.join(' ') : null});
   if (drawn) {
     const view = round.view, way = routeShown(block, state);
     if (!view.built) build(view);
     if (shown !== view) { net.replaceChildren(view.group); shown = view; fit(view); keepInSight(view, round.home); }
     mark(net, {'aria-label': 'A network of ' + round.nodes + ' nodes, destination ' + round.home});
-    drawLinks(view, round, state, way, isNetwork ? [] : walk);
+    drawLinks(view, round, state, way, push ? state.loop : isNetwork ? [] : walk);
     drawNodes(view, round, state, way, news);
-    if (state.sink !== null) keepInSight(view, state.sink);
+    const moved = state.sink ?? state.node;
+    if (moved !== null && moved < round.nodes) keepInSight(view, moved);
   } else none.textContent = !round ? 'There is no network yet.' : 'This network, or its round, is larger than what a page shows (256 nodes, 4,096 turns): it is told by the answers alone.';
   drawRing(isNetwork ? walk : []);
   tellNode(block, round, state);
-  tellStep(block, turn, state || {settled: true}, news);
+  tellStep(block, turn, state, changes);
   currentButton(at);
   clearTimeout(show.later);
-  if (!keep) show.later = setTimeout(() => history.replaceState(null, '', '#line=' + block.line + (block.own ? '&turn=' + turn : '')), 400);
+  const named = '#line=' + block.line + (push ? '&push=' + push : block.own ? '&turn=' + turn : '');
+  if (!keep) show.later = setTimeout(() => history.replaceState(null, '', named), 400);
 }
 
 function pick(node) {
@@ -640,12 +744,15 @@ function play(on) {
   timer = setTimeout(tick, Number(by('speed').value));
 }
 
-// Goes to the step that the fragment names, as #line=3&turn=2; a line alone is its end.
+// Goes to the step that the fragment names, as #line=3&turn=2 or #line=3&push=1; a line alone is the end of its turns.
 function goFragment() {
   const words = new URLSearchParams(location.hash.slice(1)), at = blocks.findIndex(block => block.line === Number(words.get('line')));
   if (at < 0) return false;
-  const last = (starts[at + 1] ?? steps) - 1, turn = words.has('turn') ? Number(words.get('turn')) : last - starts[at];
-  show(Math.max(starts[at], Math.min(last, starts[at] + turn)), true);
+  const block = blocks[at], turns = block.own && block.round.drawn ? block.round.turns.length : 0;
+  const number = name => Math.max(0, Number(words.get(name)) || 0);
+  const turn = words.has('turn') ? Math.min(turns, number('turn')) : turns;
+  const place = words.has('push') ? turns + number('push') : turn;
+  show(Math.min((starts[at + 1] ?? steps) - 1, starts[at] + place), true);
   return true;
 }
 

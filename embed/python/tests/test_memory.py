@@ -155,7 +155,7 @@ class MemoryTest(unittest.TestCase):
                 number += 1
                 left.value = number
                 try:
-                    found = network.pushes({1: 2, 2: 1})
+                    found = network.pushes({1: 2, 2: 3, 3: 1})
                 except MemoryError:
                     self.assertEqual(left.value, 0)
                 left.value = 0

@@ -80,7 +80,7 @@ fn made_poor(
 fn without_memory_pushes_change_nothing() -> Result<(), Refused> {
     let _held = COUNTER.lock().unwrap_or_else(PoisonError::into_inner);
     let network = Network::new(4, 0, &[(0, 1), (1, 2), (2, 3)])?;
-    let table = [Hop::Here, Hop::To(2), Hop::To(1), Hop::CutOff];
+    let table = [Hop::Here, Hop::To(2), Hop::To(3), Hop::To(1)];
     let mut number = 1;
     let pushes = loop {
         match poor(number, || network.pushes(&table)) {

@@ -412,14 +412,26 @@ fn a_wrong_table_has_no_pushes() -> Result<(), Box<dyn Error>> {
         (&[here, to(0)], TableFault::Length),
         (&[here, to(0), cut, to(9)], TableFault::Length),
         (&[here, to(3), to(4)], TableFault::NoSuchNode(3)),
-        (&[to(u32::MAX), to(0), cut], TableFault::NoSuchNode(u32::MAX)),
-        (&[here, to(0), to(u32::MAX - 1)], TableFault::NoSuchNode(u32::MAX - 1)),
+        (
+            &[to(u32::MAX), to(0), cut],
+            TableFault::NoSuchNode(u32::MAX),
+        ),
+        (
+            &[here, to(0), to(u32::MAX - 1)],
+            TableFault::NoSuchNode(u32::MAX - 1),
+        ),
     ] {
         assert_eq!(network.pushes(table), Err(fault), "{table:?}");
     }
     for (fault, said) in [
-        (TableFault::Length, "the table does not have one hop for each node"),
-        (TableFault::NoSuchNode(7), "a hop of the table names 7, which is no node"),
+        (
+            TableFault::Length,
+            "the table does not have one hop for each node",
+        ),
+        (
+            TableFault::NoSuchNode(7),
+            "a hop of the table names 7, which is no node",
+        ),
         (TableFault::NoMemory, "no memory"),
     ] {
         assert_eq!(fault.to_string(), said);

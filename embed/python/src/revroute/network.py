@@ -11,7 +11,7 @@ from typing import TypeVar, Union
 
 from . import _calls
 from ._calls import library
-from .session import NoHop, NoSuchNode, Report, Session, Size, _hop, _node, _packed_table, _Why
+from .session import NoHop, NoSuchNode, Report, Session, Size, _hop, _packed_table, _Why
 
 if TYPE_CHECKING:
     import networkx
@@ -94,8 +94,6 @@ class Network(Generic[Name]):
         self._numbers = None if names is None else {name: at for at, name in enumerate(names)}
         if self._numbers is not None and len(self._numbers) != count:
             raise ValueError("two nodes have one name")
-        # what None means as a hop: a node of that name, or that there is none
-        self._none = (self._numbers or {}).get(None, _calls.CUT_OFF)  # type: ignore[call-overload]
         # the nodes in their order, and those that next_hop asks for at once: none where they have names
         self._nodes: Sequence[Name] = range(count) if self._names is None else self._names  # type: ignore[assignment]
         self._bound = count if names is None else 0
@@ -229,8 +227,8 @@ class Network(Generic[Name]):
         Raises NoSuchNode if a node or a hop of it is no node of the network, and ValueError if a sequence has more
         hops than the network has nodes.
         """
-        values = _packed_table(table, len(self._nodes), self._place, self._none)
-        return self._told(self._session._pushes(values, len(self._nodes)))
+        count = len(self._nodes)
+        return self._told(self._session._pushes(_packed_table(table, count, self._numbers), count))
 
     def counts(self) -> list[int]:
         """How often each node turned in the last round, in order."""
@@ -310,10 +308,6 @@ class Network(Generic[Name]):
 
     def _name(self, number: int) -> Name:
         return self._names[number] if self._names is not None else number  # type: ignore[return-value]
-
-    def _place(self, node: Name) -> int:
-        """The number of a node."""
-        return self._number(node) if self._numbers is not None else _node(node, self._bound)  # type: ignore[arg-type]
 
     def _told(self, hops: list[tuple[int, int]]) -> list[tuple[Name, Union[Name, NoHop]]]:
         """Nodes with their hops, by their names."""

@@ -105,31 +105,35 @@ def _hop(value: int) -> Union[int, NoHop]:
     return NoHop.HERE if value == _calls.HERE else NoHop.CUT_OFF if value == _calls.CUT_OFF else value
 
 
-def _node(number: int, count: int) -> int:
-    """The number of one of so many nodes."""
-    node = index(number)
-    if not 0 <= node < count:
-        raise NoSuchNode(number)
-    return node
+def _packed_table(table: Any, count: int, numbers: Optional[dict[Any, int]] = None) -> bytes:
+    """The hops of a caller's table as the library has them, one for each of so many nodes. `numbers` has the number
+    of each name, where nodes have names."""
 
+    def number_of(node: Any) -> int:
+        if numbers is not None:
+            if node in numbers:
+                return numbers[node]
+        elif 0 <= (number := index(node)) < count:
+            return number
+        raise NoSuchNode(node)
 
-def _packed_table(table: Any, count: int, node_of: Callable[[Any], int], none: int = _calls.CUT_OFF) -> bytes:
-    """The hops of a caller's table as the library has them, one for each of so many nodes. `node_of` has the number
-    of a node or raises NoSuchNode, and `none` is what the hop None means."""
+    def value_of(hop: Any) -> int:
+        if isinstance(hop, NoHop):
+            return _VALUES[hop]
+        is_node = hop is not None or (numbers is not None and None in numbers)
+        return number_of(hop) if is_node else _calls.CUT_OFF
+
+    values = array("I", [_calls.CUT_OFF]) * count
     if isinstance(table, Mapping):
-        hops = [(node_of(node), hop) for node, hop in table.items()]
+        for node, hop in table.items():
+            values[number_of(node)] = value_of(hop)
     elif not hasattr(table, "__getitem__"):
         raise TypeError(f"a table is a mapping from nodes to hops or a sequence of hops, and no {type(table).__name__}")
     elif len(table) > count:
         raise ValueError(f"the table has {len(table)} hops, and the network {count} nodes")
     else:
-        hops = [*enumerate(table)]
-    values = array("I", [_calls.CUT_OFF]) * count
-    for node, hop in hops:
-        if isinstance(hop, NoHop):
-            values[node] = _VALUES[hop]
-        else:
-            values[node] = none if hop is None else node_of(hop)
+        for at, hop in enumerate(table):
+            values[at] = value_of(hop)
     return values.tobytes()
 
 
@@ -424,8 +428,8 @@ class Session:
         """
         size = self.size()
         count = size.nodes if size else 0
-        values = _packed_table(table, count, lambda node: _node(node, count))
-        return [(node, _hop(hop)) for node, hop in self._pushes(values, count)]
+        hops = self._pushes(_packed_table(table, count), count)
+        return [(node, _hop(hop)) for node, hop in hops]
 
     def counts(self) -> list[int]:
         """How often each node turned in the last round, in the order of the nodes; nothing before the first network."""

@@ -1,6 +1,6 @@
-use Rattle.std.proofs.Common.{◌≡◌, ◌∙◌, ◌++◌, List, string_bytes, sym, true, ℕ}
+use Rattle.std.proofs.Common.{◌≡◌, ◌∙◌, ◌++◌, codes, string_bytes, sym, true}
 use Rattle.std.proofs.lemmas.Result.{on_ok_weaker}
-use Rattle.revdot.specs.Stories.{AreSettledLines, is_short, net_text}
+use Rattle.revdot.specs.Stories.{is_short, net_text, nodes_line}
 use Rattle.revdot.proofs.Telling.{round_told}
 use Rattle.revdot.proofs.rounds.push_round.Goals as goal
 
@@ -11,8 +11,13 @@ returns-clause-told c =
     let net : string_bytes c.push_net.new.story ≡ string_bytes c.args.story.now ++ net_text s.nodes s.dest = rw (nodes, c.dest.ensures.value) at c.in_ok-push_net.ensures in
     let short : is_short s ≡ true = sym c.is_short_round.ensures ∙ c.if-not-is_short_round.false in
     let turns = c.in_ok-push_beginning.ensures in
-    on_ok_weaker c.push_settled_lines.result
-    (λ (settled : (out : List ℕ) × AreSettledLines c.args.session.now out × (string_bytes c.push_settled_lines.new.story ≡ string_bytes c.push_beginning.new.story ++ out)).
-    round_told s c.args.session.now turns.0 settled.0 (string_bytes c.args.story.now) (string_bytes c.push_net.new.story) (string_bytes c.push_beginning.new.story) (string_bytes c.push_settled_lines.new.story)
-    c.in-Some.ensures short turns.1 settled.1 net turns.2 settled.2)
-    c.push_settled_lines.ensures.told
+    let settled = c.in_ok-push_settled_lines.ensures.told in
+    let rerouted = c.args.rerouted.now in
+    let left = string_bytes c.push_settled_lines.new.story in
+    let last = string_bytes c.push_nodes_line.new.story in
+    on_ok_weaker c.push_nodes_line.result
+    (λ (pushes : last ≡ left ++ nodes_line (codes "pushes") rerouted).
+    round_told s c.args.session.now turns.0 settled.0 rerouted (string_bytes c.args.story.now)
+    (string_bytes c.push_net.new.story) (string_bytes c.push_beginning.new.story) left last
+    c.in-Some.ensures short turns.1 settled.1 net turns.2 settled.2 pushes)
+    c.push_nodes_line.ensures

@@ -1,6 +1,6 @@
 use Rattle.std.proofs.Common.{rules, ◌≡◌, ◌∙◌, ◌+◌, ◌++◌, ℕ, List, ap, refl, sym, take}
 use Rattle.revroute_c.specs.Engines.{Held}
-use Rattle.revroute_c.specs.declared.pieces.TheConstants.{BEGUN}
+use Rattle.revroute_c.specs.declared.statuses.TheConstants.{BEGUN}
 use Rattle.revroute_c.proofs.pieces.take_front.Goals as goal
 
 pub returns-then-status-le-BLANK-clause-answered : goal.returns-then-status-le-BLANK-clause-answered
