@@ -39,9 +39,9 @@ not_held begun piece end found TooLong is missed all why =
     subst (λ (l : List ℕ). most_bytes < length l) (ap (λ (n : ℕ). begun ++ take n piece) is) (omega (arith, why, length-append begun (take end piece)))
 not_held begun piece end found Start is missed all why = absurd why
 not_held begun piece end found Memory is missed all why = (
-      λ nothing. why.0 (ap (λ (n : ℕ). take n piece) is ∙ nothing_behind begun (before_first ends_line piece) nothing),
-      blank_goes_on begun piece end found is missed all why.1,
-    )
+  λ nothing. why.0 (ap (λ (n : ℕ). take n piece) is ∙ nothing_behind begun (before_first ends_line piece) nothing),
+  blank_goes_on begun piece end found is missed all why.1,
+)
 
 pub hold-requires : goal.hold-requires
 hold-requires g c = subst (λ (n : ℕ). lines_of (take n c.args.piece.now) ≡ take n c.args.piece.now ∷ []) (sym c.front_size-end.ensures) (front_alone c.args.piece.now)
