@@ -541,10 +541,13 @@ class Session:
             self._begin_call()
             try:
                 nodes = self._places(ctypes.c_uint32, lambda *places: question(self._at, *words, *places), room)
-                hops = [_calls.next_hop(self._at, node) for node in nodes]
+                return [(node, self._hop_or_none(node)) for node in nodes]
             finally:
                 self._caller = None
-        return [(node, _calls.CUT_OFF if hop == _calls.NO_SUCH_NODE else hop) for node, hop in zip(nodes, hops)]
+
+    def _hop_or_none(self, node: int) -> int:
+        hop: int = _calls.next_hop(self._at, node)
+        return _calls.CUT_OFF if hop == _calls.NO_SUCH_NODE else hop
 
     def close(self) -> None:
         """Ends the session, and gives its memory back. A second call does nothing."""
