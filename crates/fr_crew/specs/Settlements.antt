@@ -1,5 +1,6 @@
 -- What it is to have settled a network.
-use Rattle.std.specs.Prelude.{◌≡◌, ℕ, ◌<◌, ◌≤◌, ◌+◌, ◌*◌, List, sum}
+use Rattle.std.specs.Prelude.{◌≡◌, ℕ, ◌<◌, ◌≤◌, ◌+◌, ◌*◌, List, Option, IfSome, replicate, sum}
+use Rattle.std.specs.Borrow.{Bor}
 use Rattle.std.specs.List.{All, Contains}
 use Rattle.fr_graph.specs.Network.{Network, net_of}
 use Rattle.fr_graph.specs.Counts.{links_at}
@@ -30,3 +31,8 @@ pub record IsCounted (n d : ℕ) (first : List (ℕ × ℕ)) (counts : List ℕ)
 pub record HoldsSinks (net : Network) (d : ℕ) (from : List ℕ) : Type 0 where
   pub nodes : All (λ (x : ℕ). x < net.nodes) from
   pub sinks : (x : ℕ) → IsSink net.links x → ¬ (x ≡ d) → Contains from x
+
+-- what a settlement begins with: a table in which no node has turned, and where nodes are given, such among which each sink is but d
+pub record CanBegin (net : Network) (d : ℕ) (from : Option (Bor (List ℕ))) (turns : List ℕ) : Type 0 where
+  pub from_sinks : IfSome from (λ from. HoldsSinks net d from.now)
+  pub none : turns ≡ replicate net.nodes 0

@@ -9,7 +9,6 @@
 //! Costs are told for n nodes, m links, and d links at a node, as read off the code.
 #![tactic(auto)]
 
-mod crew;
 mod deques;
 mod fault;
 mod gate;
@@ -19,12 +18,11 @@ mod naming;
 mod plan;
 mod settlement;
 mod standing;
+mod threads;
 mod unshared;
-mod ways;
 
 pub use fault::CrewFault;
 pub use gate::{Gate, OpenGate};
 pub use live_walks::{LiveEnd, LiveFault, LiveWalk, live_walk};
-pub use plan::Plan;
+pub use plan::{Crew, Plan};
 pub use settlement::{Settled, settle, settle_alone, settled_counts, settled_counts_alone};
-pub use ways::settled_counts_by;

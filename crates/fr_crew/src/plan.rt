@@ -1,9 +1,10 @@
-//! How a crew is to work: how many workers, where they look first for work, and how many calls each may make.
+//! A crew, and how it is to work: how many workers, where they look first for work, and how many calls each may make.
 
 ghost use Rattle.std.specs.Prelude.{◌≡◌, ◌≤◌, ◌<◌, ◌⊎◌, ◌↔◌, IsNone, IfSome};
 ghost use Rattle.fr_core.specs.Limits.{most_workers};
 
 use fr_core::MAX_WORKERS;
+use std::alloc::Global;
 
 /// How many workers turn a network, a seed for their draws, and how many calls each of them may make. It says who does the work
 /// and changes no link and no count. Whoever only wants these is served fastest by a budget of 0, or by a call that takes no plan, as
@@ -67,4 +68,17 @@ impl Plan {
     {
         self.budget
     }
+}
+
+/// A crew: what its threads are started by, the memory of its rounds, its plan, and the gate of its workers' calls.
+#[derive(Drop)]
+pub struct Crew<'a, R, G> {
+    /// Starts threads, and waits for them.
+    pub rt: &'a R,
+    /// Where rounds take their memory.
+    pub alloc: Global,
+    /// How many workers there are, and how many calls each may make.
+    pub plan: &'a Plan,
+    /// What is called round each call of a worker.
+    pub gate: &'a G,
 }

@@ -4,13 +4,13 @@ ghost use Rattle.std.specs.Prelude.{◌≡◌, ◌≢◌, ℕ, ◌<◌, ◌≤�
 ghost use Rattle.fr_graph.specs.Counts.{AreLawful};
 ghost use Rattle.fr_core.specs.Finish.{HoldsAllThatCanTurn};
 ghost use Rattle.fr_core.specs.Settled.{AreSettled};
-ghost use Rattle.fr_crew.specs.Settlements.{HoldsSinks, IsCounted, IsSettlement};
+ghost use Rattle.fr_crew.specs.Settlements.{CanBegin, IsCounted, IsSettlement};
 ghost use Rattle.fr_crew.specs.declared.fault.CrewFault.TheVariants.{Range, Start, Memory};
 
-use crate::crew::run_crew;
 use crate::fault::CrewFault;
 use crate::gate::Gate;
-use crate::plan::Plan;
+use crate::plan::{Crew, Plan};
+use crate::threads::run_crew;
 use fr_core::{are_settled, finish_from, finish_soon, finish_turns};
 use fr_graph::{Net, Turns};
 use fr_round::{Closed, Round};
@@ -72,7 +72,13 @@ pub fn settle<R: Threads + Wait + Sync, G: Gate + Sync>(
     if are_settled(&net, dest, turns.counts()) {
         return Ok(finished(net, dest, turns, 0));
     }
-    settled_by_crew(rt, alloc, net, dest, turns, plan, gate)
+    let crew = Crew {
+        rt,
+        alloc,
+        plan,
+        gate,
+    };
+    settled_by(&crew, net, dest, turns)
 }
 
 /// Turns a network until no node can turn, on the thread that calls: by [`finish_turns`](fr_core::finish_turns) alone. The answer is that
@@ -90,8 +96,8 @@ pub fn settle_alone(alloc: Global, net: Net, dest: u32) -> Result<Settled, CrewF
     Ok(finished(net, dest, turns, 0))
 }
 
-/// The settled counts of a network, which stays as it is: where a node can turn at all, by the crew of the plan on a copy of
-/// the network, and what they leave by [`finish_turns`](fr_core::finish_turns). Whatever the plan, the gate and the schedule, they are the
+/// The settled counts of a network, which stays as it is: where a node can turn at all, by the crew on a copy of the network,
+/// and what they leave by [`finish_turns`](fr_core::finish_turns). Whatever the plan, the gate and the schedule, they are the
 /// counts of [`settle`]. They are made in `turns`, a table in which no node has turned yet, so that who settles a network again and again
 /// can use one table for all rounds.
 ///
@@ -106,24 +112,20 @@ pub fn settle_alone(alloc: Global, net: Net, dest: u32) -> Result<Settled, CrewF
 /// turn; else `Memory` may come, and `Start` as by `settle`. It costs what [`settled_counts_alone`] does with the budget 0, and where
 /// a few turns settle the network; else a copy of it, and what [`settle`] does.
 pub fn settled_counts<R: Threads + Wait + Sync, G: Gate + Sync>(
-    rt: &R,
-    alloc: Global,
+    crew: &Crew<'_, R, G>,
     net: &Net,
     dest: u32,
     from: Option<&[u32]>,
-    plan: &Plan,
-    gate: &G,
     mut turns: Turns,
 ) -> Result<Turns, CrewFault>
-    requires from { IfSome from (λ from. HoldsSinks net.now dest from.now) }
-    requires none { turns ≡ replicate net.now.nodes 0 }
+    requires { CanBegin net.now dest from turns }
     ensures settled { IfOk result (IsCounted net.now.nodes dest net.now.links) }
     ensures range { IfErr result (λ fault. (fault ≡ Range) ↔ (net.now.nodes ≤ dest)) }
-    ensures alone { plan.now.budget ≡ 0 → IfErr result (λ fault. fault ≡ Range) }
-    ensures no_start { (plan.now.budget ≡ 0) ⊎ (plan.now.workers ≡ 1) → IfErr result (λ fault. fault ≢ Start) }
+    ensures alone { crew.now.plan.now.budget ≡ 0 → IfErr result (λ fault. fault ≡ Range) }
+    ensures no_start { (crew.now.plan.now.budget ≡ 0) ⊎ (crew.now.plan.now.workers ≡ 1) → IfErr result (λ fault. fault ≢ Start) }
     ensures still { AreSettled net.now.nodes dest net.now.links (replicate net.now.nodes 0) → IfErr result (λ fault. fault ≡ Range) }
 {
-    if plan.budget() == 0 {
+    if crew.plan.budget() == 0 {
         return settled_counts_alone(net, dest, from, turns);
     }
     test_node(net, dest)?;
@@ -132,7 +134,9 @@ pub fn settled_counts<R: Threads + Wait + Sync, G: Gate + Sync>(
     if turn_few(net, dest, from, &mut turns) {
         return Ok(turns);
     }
-    counts_by_crew(rt, alloc, net, dest, from, plan, gate, turns)
+    let counts = counts_by(crew, net, dest, from)?;
+    turns.copy_from(&counts);
+    Ok(finished_counts(net, dest, turns, None))
 }
 
 /// The settled counts of a network, which stays as it is, on the thread that calls: by [`finish_turns`](fr_core::finish_turns) alone, or
@@ -146,8 +150,7 @@ pub fn settled_counts_alone(
     from: Option<&[u32]>,
     turns: Turns,
 ) -> Result<Turns, CrewFault>
-    requires from { IfSome from (λ from. HoldsSinks net.now dest from.now) }
-    requires none { turns ≡ replicate net.now.nodes 0 }
+    requires { CanBegin net.now dest from turns }
     ensures settled { IfOk result (IsCounted net.now.nodes dest net.now.links) }
     ensures range { IfErr result (λ fault. (fault ≡ Range) × (net.now.nodes ≤ dest)) }
 {
@@ -182,8 +185,7 @@ fn none_yet(alloc: Global, net: &Net, dest: u32) -> Result<Turns, CrewFault>
 /// settled now.
 fn turn_few(net: &Net, dest: u32, from: Option<&[u32]>, turns: &mut Turns) -> bool
     requires node { dest < net.now.nodes }
-    requires from { IfSome from (λ from. HoldsSinks net.now dest from.now) }
-    requires none { turns.old ≡ replicate net.now.nodes 0 }
+    requires begin { CanBegin net.now dest from turns.old }
     ensures one_each { length turns.new ≡ net.now.nodes }
     ensures settled { IsTrue result ↔ AreSettled net.now.nodes dest net.now.links turns.new }
     ensures still { AreSettled net.now.nodes dest net.now.links (replicate net.now.nodes 0) → IsTrue result }
@@ -196,107 +198,81 @@ fn turn_few(net: &Net, dest: u32, from: Option<&[u32]>, turns: &mut Turns) -> bo
 }
 
 /// Settles a network by a crew, and what that leaves on the thread that calls. The table has a count for each node.
-fn settled_by_crew<R: Threads + Wait, G: Gate + Sync>(
-    rt: &R,
-    alloc: Global,
+fn settled_by<R: Threads + Wait, G: Gate + Sync>(
+    crew: &Crew<'_, R, G>,
     net: Net,
     dest: u32,
     mut turns: Turns,
-    plan: &Plan,
-    gate: &G,
 ) -> Result<Settled, CrewFault>
     requires node { dest < net.nodes }
     requires one_each { length turns ≡ net.nodes }
     ensures settled { IfOk result (IsSettlement net.nodes dest net.links) }
     ensures fault { IfErr result (λ fault. fault ≢ Range) }
-    ensures no_start { plan.now.workers ≡ 1 → IfErr result (λ fault. fault ≢ Start) }
+    ensures no_start { crew.now.plan.now.workers ≡ 1 → IfErr result (λ fault. fault ≢ Start) }
 {
     let Closed {
         net,
         counts,
         turned,
-    } = turned_by_crew(rt, alloc, net, dest, None, plan, gate)?;
+    } = turned_by(crew, net, dest, None)?;
     net.network_law();
-    let by_workers = turns_of(&turned);
+    let by_workers = sum_of_turns(&turned);
     turns.copy_from(&counts);
     Ok(finished(net, dest, turns, by_workers))
 }
 
-/// The settled counts of a network by a crew on a copy of it, and what that leaves on the thread that calls. The table has a count for
-/// each node.
-fn counts_by_crew<R: Threads + Wait, G: Gate + Sync>(
-    rt: &R,
-    alloc: Global,
-    net: &Net,
-    dest: u32,
-    from: Option<&[u32]>,
-    plan: &Plan,
-    gate: &G,
-    mut turns: Turns,
-) -> Result<Turns, CrewFault>
-    requires node { dest < net.now.nodes }
-    requires one_each { length turns ≡ net.now.nodes }
-    ensures settled { IfOk result (IsCounted net.now.nodes dest net.now.links) }
-    ensures fault { IfErr result (λ fault. fault ≢ Range) }
-    ensures no_start { plan.now.workers ≡ 1 → IfErr result (λ fault. fault ≢ Start) }
-{
-    let counts = counts_of_crew(rt, alloc, net, dest, from, plan, gate)?;
-    turns.copy_from(&counts);
-    Ok(finished_counts(net, dest, turns, None))
-}
-
 /// The counts that a crew leaves on a copy of a network. Where it is known which nodes can turn, each worker makes no more calls than
 /// there are nodes: more would take longer than to search.
-fn counts_of_crew<R: Threads + Wait, G: Gate + Sync>(
-    rt: &R,
-    alloc: Global,
+fn counts_by<R: Threads + Wait, G: Gate + Sync>(
+    crew: &Crew<'_, R, G>,
     net: &Net,
     dest: u32,
     from: Option<&[u32]>,
-    plan: &Plan,
-    gate: &G,
 ) -> Result<Vec<u64>, CrewFault>
     requires { dest < net.now.nodes }
     ensures lawful { IfOk result (λ counts. AreLawful net.now.nodes dest net.now.links counts.items) }
     ensures fault { IfErr result (λ fault. fault ≢ Range) }
-    ensures no_start { plan.now.workers ≡ 1 → IfErr result (λ fault. fault ≢ Start) }
+    ensures no_start { crew.now.plan.now.workers ≡ 1 → IfErr result (λ fault. fault ≢ Start) }
 {
     let plan = match from {
-        Some(_) => plan.with_at_most(u64::from(net.nodes())),
-        None => *plan,
+        Some(_) => crew.plan.with_at_most(u64::from(net.nodes())),
+        None => *crew.plan,
     };
-    let copy = net.copied(alloc)?;
-    let closed = turned_by_crew(rt, alloc, copy, dest, from, &plan, gate)?;
+    let crew = Crew {
+        rt: crew.rt,
+        alloc: crew.alloc,
+        plan: &plan,
+        gate: crew.gate,
+    };
+    let copy = net.copied(crew.alloc)?;
+    let closed = turned_by(&crew, copy, dest, from)?;
     Ok(closed.counts)
 }
 
-/// Opens a round, lets a crew of threads turn its nodes, and closes it. Its workers try the nodes of `from` first, where it is
+/// Opens a round, lets a crew turn its nodes, and closes it. Its workers try the nodes of `from` first, where it is
 /// given, and else all. The network that it gives back has its first links.
-fn turned_by_crew<R: Threads + Wait, G: Gate + Sync>(
-    rt: &R,
-    alloc: Global,
+fn turned_by<R: Threads + Wait, G: Gate + Sync>(
+    crew: &Crew<'_, R, G>,
     net: Net,
     dest: u32,
     from: Option<&[u32]>,
-    plan: &Plan,
-    gate: &G,
 ) -> Result<Closed, CrewFault>
     requires { dest < net.nodes }
     ensures net { IfOk result (λ closed. closed.net ≡ net) }
     ensures lawful { IfOk result (λ closed. AreLawful net.nodes dest net.links closed.counts.items) }
     ensures turned { IfOk result (λ closed. sum_by (λ (p : ℕ × ℕ). p.1) closed.turned.items ≡ sum closed.counts.items) }
     ensures fault { IfErr result (λ fault. fault ≢ Range) }
-    ensures no_start { plan.now.workers ≡ 1 → IfErr result (λ fault. fault ≢ Start) }
+    ensures no_start { crew.now.plan.now.workers ≡ 1 → IfErr result (λ fault. fault ≢ Start) }
 {
-    let Ok((round, workers)) = Round::open(alloc, net, dest, plan.workers()) else {
+    let Ok((round, workers)) = Round::open(crew.alloc, net, dest, crew.plan.workers()) else {
         return Err(CrewFault::Memory);
     };
-    let (round, workers) = run_crew::<Brand, R, G>(rt, alloc, round, workers, from, plan, gate)?;
+    let (round, workers) = run_crew::<Brand, R, G>(crew, round, workers, from)?;
     Ok(round.close(workers))
 }
 
 /// How many turns the workers made together, each told with its number.
-fn turns_of(turned: &[(u32, u64)]) -> u64
+fn sum_of_turns(turned: &[(u32, u64)]) -> u64
     requires { sum_by (λ (p : ℕ × ℕ). p.1) turned.now < 2 ^ 64 }
     ensures { result ≡ sum_by (λ (p : ℕ × ℕ). p.1) turned.now }
 {

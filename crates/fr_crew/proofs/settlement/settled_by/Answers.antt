@@ -1,10 +1,10 @@
 use Rattle.std.proofs.Common.{arith, ap}
 use Rattle.fr_core.proofs.SettledRuns.{lawful_sum_fits}
 use Rattle.fr_graph.specs.Network.{Network}
-use Rattle.fr_crew.proofs.settlement.settled_by_crew.Goals as goal
+use Rattle.fr_crew.proofs.settlement.settled_by.Goals as goal
 
-pub turns_of-by_workers-requires : goal.turns_of-by_workers-requires
-turns_of-by_workers-requires g c =
+pub sum_of_turns-by_workers-requires : goal.sum_of_turns-by_workers-requires
+sum_of_turns-by_workers-requires g c =
     let few = c.network_law.ensures.limits.nodes_few in
     let nodes = ap (λ (net : Network). net.nodes) c.in_ok-net.ensures.net in
     let fits = lawful_sum_fits _ _ _ _ (omega (arith, few, nodes)) c.in_ok-net.ensures.lawful in

@@ -1,6 +1,6 @@
 use Rattle.std.proofs.Common.{arith}
 use Rattle.std.proofs.lemmas.List.{with_items_is}
-use Rattle.fr_crew.proofs.crew.run_crew.Goals as goal
+use Rattle.fr_crew.proofs.threads.run_crew.Goals as goal
 
 pub run_threads-requires-clause-own : goal.run_threads-requires-clause-own
 run_threads-requires-clause-own g c κs within =

@@ -1,5 +1,5 @@
 use Rattle.fr_crew.specs.Crews.{IsSameWorker}
-use Rattle.fr_crew.proofs.crew.work.Given as goal
+use Rattle.fr_crew.proofs.threads.work.Given as goal
 
 abbrev pub invariant-loop-made : goal.invariant-loop-made
 invariant-loop-made g l = IsSameWorker l.fn.member.worker l.member.worker

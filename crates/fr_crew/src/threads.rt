@@ -1,10 +1,10 @@
 //! Workers in threads of their own. Nothing here waits but the joining of the threads.
 
-ghost use Rattle.std.specs.Prelude.{◌≡◌, ◌≢◌, ◌+◌, ◌<◌, ◌≤◌, true, IfOk, IfErr, IfSome, IsSome, vec_len, vec_capacity};
+ghost use Rattle.std.specs.Prelude.{◌≡◌, ◌≢◌, ◌<◌, ◌≤◌, IfOk, IfErr, IfSome, vec_len, vec_capacity};
 ghost use Rattle.std.specs.List.{AllByRecursion as Each};
 ghost use Rattle.fr_round.specs.Knowledge.{IsOwn, OpenRound};
 ghost use Rattle.fr_crew.specs.Candidates.{IsCandidate};
-ghost use Rattle.fr_crew.specs.Crews.{IsSameWorker, IsOwnMember, IsOwnThread};
+ghost use Rattle.fr_crew.specs.Crews.{AreStarted, ComeBack, IsSameWorker, IsOwnMember, IsOwnThread};
 ghost use Rattle.fr_crew.specs.declared.fault.CrewFault.TheVariants.{Range, Start};
 
 use crate::deques::{Deque, Stealer};
@@ -12,7 +12,7 @@ use crate::fault::CrewFault;
 use crate::gate::Gate;
 use crate::members::{Member, Members, deal, equip, room_for};
 use crate::naming::Naming;
-use crate::plan::Plan;
+use crate::plan::Crew;
 use crate::standing::Standing;
 use fr_core::Reply;
 use fr_round::{Round, Worker};
@@ -124,10 +124,7 @@ fn start_each<'s, 'e, J: Naming + Send + Sync, G: Gate + Sync>(
     requires named { job.now.round.setup ≡ J.setup }
     requires own { Each (IsOwnMember job.now.round) members.items }
     requires room { (vec_len threads ≡ 0) × (vec_len members ≤ vec_capacity threads) }
-    ensures own { Each (IsOwnThread job.now.round) result.threads.items }
-    ensures all { result.all ≡ true → vec_len result.threads ≡ vec_len members }
-    ensures few { vec_len result.threads ≤ vec_len members }
-    ensures none { vec_len members ≡ 0 → result.all ≡ true }
+    ensures { AreStarted job.now.round (vec_len members) result }
 {
     for member in members {
         let promise = GivesBack(Snapshot::of(&member.worker));
@@ -166,46 +163,13 @@ fn make_room(alloc: Global, members: usize) -> Result<Rooms, AllocError>
     })
 }
 
-/// The last member works on this thread, and each of the others in a thread of its own. All workers come back, or none where a
-/// thread cannot be started: those that were started are joined then, and the last member does nothing.
-fn work_beside<'s, 'e, J: Naming + Send + Sync, R: Threads, G: Gate + Sync>(
-    scope: &'s Scope<'s, &'e ()>,
-    rt: &R,
-    job: &'e Job<J>,
-    gate: &'e G,
-    rooms: Rooms,
-    members: Vec<Member<J>>,
-    last: Member<J>,
-) -> Option<Vec<Worker>>
-    requires named { job.now.round.setup ≡ J.setup }
-    requires own { Each (IsOwnMember job.now.round) members.items }
-    requires last { IsOwnMember job.now.round last }
-    requires back { (vec_len rooms.back ≡ 0) × (vec_len members < vec_capacity rooms.back) }
-    requires threads { (vec_len rooms.threads ≡ 0) × (vec_len members ≤ vec_capacity rooms.threads) }
-    ensures own { IfSome result (λ back. Each (IsOwn job.now.round) back.items) }
-    ensures len { IfSome result (λ back. vec_len back ≡ vec_len members + 1) }
-    ensures some { vec_len members ≡ 0 → IsSome result }
-{
-    let Rooms { back, threads } = rooms;
-    let Started { threads, all } = start_each(scope, job, gate, threads, members);
-    if !all {
-        join_each(rt, threads, back);
-        return None;
-    }
-    let last = work(job, gate, last);
-    let mut back = join_each(rt, threads, back);
-    back.push_reserved(last);
-    Some(back)
-}
-
-/// The whole life of the threads. The room for all of them is taken before the first is started. The last member works on
-/// the thread that called, which would only wait for the others.
+/// The whole life of the threads. The room for all of them is taken before the first is started. The last member works on the thread that
+/// called, which would only wait for the others. Where a thread cannot be started, those that were started are joined, and the last
+/// member does nothing.
 fn run_each<'s, 'e, J: Naming + Send + Sync, R: Threads, G: Gate + Sync>(
     scope: &'s Scope<'s, &'e ()>,
-    rt: &R,
-    alloc: Global,
+    crew: &'e Crew<'e, R, G>,
     job: &'e Job<J>,
-    gate: &'e G,
     mut members: Vec<Member<J>>,
 ) -> Result<Vec<Worker>, CrewFault>
     requires named { job.now.round.setup ≡ J.setup }
@@ -215,19 +179,25 @@ fn run_each<'s, 'e, J: Naming + Send + Sync, R: Threads, G: Gate + Sync>(
     ensures fault { IfErr result (λ fault. fault ≢ Range) }
     ensures no_start { vec_len members ≡ 1 → IfErr result (λ fault. fault ≢ Start) }
 {
-    let rooms = make_room(alloc, members.len())?;
+    let Rooms { back, threads } = make_room(crew.alloc, members.len())?;
     let Some(last) = members.pop() else {
-        return Ok(rooms.back);
+        return Ok(back);
     };
-    work_beside(scope, rt, job, gate, rooms, members, last).ok_or(CrewFault::Start)
+    let Started { threads, all } = start_each(scope, job, crew.gate, threads, members);
+    if !all {
+        join_each(crew.rt, threads, back);
+        return Err(CrewFault::Start);
+    }
+    let last = work(job, crew.gate, last);
+    let mut back = join_each(crew.rt, threads, back);
+    back.push_reserved(last);
+    Ok(back)
 }
 
 /// Starts the threads in a scope, which ends when all of them have.
 fn run_threads<J: Naming + Send + Sync, R: Threads + Wait, G: Gate + Sync>(
-    rt: &R,
-    alloc: Global,
+    crew: &Crew<'_, R, G>,
     job: &Job<J>,
-    gate: &G,
     members: Vec<Member<J>>,
 ) -> Result<Vec<Worker>, CrewFault>
     requires named { job.now.round.setup ≡ J.setup }
@@ -239,14 +209,14 @@ fn run_threads<J: Naming + Send + Sync, R: Threads + Wait, G: Gate + Sync>(
 {
     thread::scope(
         thread::scope_env(),
-        rt,
+        crew.rt,
         |scope| -> Result<Vec<Worker>, CrewFault>
             requires { (job.now.round.setup ≡ J.setup) × Each (IsOwnMember job.now.round) members.items }
             ensures own { IfOk result (λ back. Each (IsOwn job.entry.now.round) back.items) }
             ensures len { IfOk result (λ back. vec_len back ≡ vec_len members) }
             ensures fault { IfErr result (λ fault. fault ≢ Range) }
             ensures no_start { vec_len members ≡ 1 → IfErr result (λ fault. fault ≢ Start) }
-        { run_each(scope, rt, alloc, job, gate, members) },
+        { run_each(scope, crew, job, members) },
     )
 }
 
@@ -255,20 +225,15 @@ fn run_threads<J: Naming + Send + Sync, R: Threads + Wait, G: Gate + Sync>(
 /// have room for all that are dealt before the first thread is started. Where a thread cannot be started, those that were started
 /// are joined first, and the last worker does nothing.
 pub(crate) fn run_crew<J: Naming + Send + Sync, R: Threads + Wait, G: Gate + Sync>(
-    rt: &R,
-    alloc: Global,
+    crew: &Crew<'_, R, G>,
     round: Round,
     workers: Vec<Worker>,
     from: Option<&[u32]>,
-    plan: &Plan,
-    gate: &G,
 ) -> Result<(Round, Vec<Worker>), CrewFault>
     requires named { round.setup ≡ J.setup }
     requires own { Each (IsOwn round) workers.items }
     requires some { 0 < vec_len workers }
-    ensures round { IfOk result (λ back. back.0 ≡ round) }
-    ensures own { IfOk result (λ back. Each (IsOwn round) back.1.items) }
-    ensures len { IfOk result (λ back. vec_len back.1 ≡ vec_len workers) }
+    ensures back { IfOk result (ComeBack round (vec_len workers)) }
     ensures fault { IfErr result (λ fault. fault ≢ Range) }
     ensures no_start { vec_len workers ≡ 1 → IfErr result (λ fault. fault ≢ Start) }
 {
@@ -276,16 +241,16 @@ pub(crate) fn run_crew<J: Naming + Send + Sync, R: Threads + Wait, G: Gate + Syn
     let Members {
         mut members,
         stealers,
-    } = equip::<J>(alloc, &round, workers, room, plan.seed())?;
-    let standing = Standing::none(alloc, &round)?;
+    } = equip::<J>(crew.alloc, &round, workers, room, crew.plan.seed())?;
+    let standing = Standing::none(crew.alloc, &round)?;
     deal(&round, &standing, &mut members, from);
     let job = Job {
         round,
         stealers,
         standing,
-        budget: plan.budget(),
+        budget: crew.plan.budget(),
     };
-    let workers = run_threads(rt, alloc, &job, gate, members)?;
+    let workers = run_threads(crew, &job, members)?;
     let Job { round, .. } = job;
     Ok((round, workers))
 }

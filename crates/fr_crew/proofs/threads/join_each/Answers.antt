@@ -4,7 +4,7 @@ use Rattle.fr_round.specs.Knowledge.{IsOwn}
 use Rattle.fr_round.proofs.Keeping.{each_snoc}
 use Rattle.fr_crew.specs.Crews.{IsOwnThread}
 use Rattle.fr_crew.proofs.Workers.{own_again}
-use Rattle.fr_crew.proofs.crew.join_each.Goals as goal
+use Rattle.fr_crew.proofs.threads.join_each.Goals as goal
 
 pub loop-thread-preserved : goal.loop-thread-preserved
 loop-thread-preserved g c =

@@ -1,9 +1,9 @@
 use Rattle.std.proofs.Common.{arith, length, rules, ◌<◌, ◌∙◌, ◌≡◌}
 use Rattle.std.proofs.lemmas.Result.{err_from_is_err_and}
 use Rattle.fr_crew.proofs.Workers.{all_came_back, as_many_as_asked, new_workers_own, some_worker}
-use Rattle.fr_crew.proofs.settlement.turned_by_crew.Given.{Over}
-use Rattle.fr_crew.proofs.settlement.turned_by_crew.Goals as goal
-use Rattle.fr_crew.proofs.settlement.turned_by_crew.Goals.{In_ok-round}
+use Rattle.fr_crew.proofs.settlement.turned_by.Given.{Over}
+use Rattle.fr_crew.proofs.settlement.turned_by.Goals as goal
+use Rattle.fr_crew.proofs.settlement.turned_by.Goals.{In_ok-round}
 
 pub run_crew-requires-clause-own : goal.run_crew-requires-clause-own
 run_crew-requires-clause-own g c κs within = rw c.in-Ok.ensures.workers (new_workers_own c.in-Ok.round c.workers.result)
@@ -17,7 +17,7 @@ run_crew-requires-clause-some g c κs within =
 all_back : (g : Over) (c : In_ok-round g) → length c.in_ok-round.workers.items ≡ c.in_ok-round.round.setup.workers
 all_back g c =
     let same : length c.in_ok-round.workers.items ≡ length c.in-Ok.workers.items = search rules in
-    all_came_back c.in-Ok.round c.in_ok-round.round _ _ _ _ c.in-Ok.workers.items c.in_ok-round.workers.items c.in-Ok.ensures.setup c.in-Ok.ensures.workers c.in_ok-round.ensures.round same
+    all_came_back c.in-Ok.round c.in_ok-round.round _ _ _ _ c.in-Ok.workers.items c.in_ok-round.workers.items c.in-Ok.ensures.setup c.in-Ok.ensures.workers c.in_ok-round.ensures.back.round_is same
 
 pub close-requires-clause-few : goal.close-requires-clause-few
 close-requires-clause-few g c = omega (arith, all_back g (goal.at.close-requires-clause-few g c).In_ok-round)

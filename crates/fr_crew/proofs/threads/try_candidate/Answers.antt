@@ -2,7 +2,7 @@ use Rattle.std.proofs.Common.{subst, sym}
 use Rattle.fr_round.specs.declared.view.Setup.{Setup}
 use Rattle.fr_crew.specs.Candidates.{IsCandidate}
 use Rattle.fr_crew.proofs.Candidates.{candidate_not_refused}
-use Rattle.fr_crew.proofs.crew.try_candidate.Goals as goal
+use Rattle.fr_crew.proofs.threads.try_candidate.Goals as goal
 
 pub unreachable-requires-in-Err : goal.unreachable-requires-in-Err
 unreachable-requires-in-Err g c =

@@ -3,7 +3,7 @@ use Rattle.std.specs.List.{AllByRecursion as Each}
 use Rattle.std.specs.Vec.Iter.{into_iter_items, into_iter_len}
 use Rattle.fr_round.specs.Knowledge.{OpenRound, IsOwn}
 use Rattle.fr_crew.specs.Crews.{IsOwnThread}
-use Rattle.fr_crew.proofs.crew.join_each.Given as goal
+use Rattle.fr_crew.proofs.threads.join_each.Given as goal
 
 abbrev pub invariant-loop-thread : goal.invariant-loop-thread
 invariant-loop-thread g l = record {

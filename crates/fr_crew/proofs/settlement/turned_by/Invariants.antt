@@ -1,4 +1,4 @@
-use Rattle.fr_crew.proofs.settlement.turned_by_crew.Given as goal
+use Rattle.fr_crew.proofs.settlement.turned_by.Given as goal
 
 -- the deques are those of this round
 abbrev pub ghosts-run_crew : goal.ghosts-run_crew

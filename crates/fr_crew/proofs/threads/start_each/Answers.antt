@@ -3,7 +3,7 @@ use Rattle.std.specs.List.{AllByRecursion as Each}
 use Rattle.fr_round.specs.Knowledge.{IsOwn}
 use Rattle.fr_round.proofs.Keeping.{each_snoc}
 use Rattle.fr_crew.specs.Crews.{IsOwnMember, IsOwnThread}
-use Rattle.fr_crew.proofs.crew.start_each.Goals as goal
+use Rattle.fr_crew.proofs.threads.start_each.Goals as goal
 
 pub loop-member-preserved : goal.loop-member-preserved
 loop-member-preserved g c =

@@ -2,7 +2,7 @@ use Rattle.std.proofs.Common.{◌≡◌, ◌+◌, ◌≤◌, vec_len, vec_capaci
 use Rattle.std.specs.List.{AllByRecursion as Each}
 use Rattle.std.specs.Vec.Iter.{into_iter_items, into_iter_len}
 use Rattle.fr_crew.specs.Crews.{IsOwnMember, IsOwnThread}
-use Rattle.fr_crew.proofs.crew.start_each.Given as goal
+use Rattle.fr_crew.proofs.threads.start_each.Given as goal
 
 abbrev pub invariant-loop-member : goal.invariant-loop-member
 invariant-loop-member g l = record {
