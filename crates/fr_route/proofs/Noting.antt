@@ -1,9 +1,7 @@
 -- Which hops are other ones once some are made anew, and the list that notes where.
-use Rattle.std.proofs.Common.{Contains, false, true, List, [], Some, ap, arith, eqb, get_or, inl, inr, length, length-set, refl, set, slice_get, subst, sym, vec_capacity, ℕ, ⊎_elim, ◌++◌, ◌<◌, ◌∙◌, ◌∷◌, ◌≡◌, ◌⊎◌}
+use Rattle.std.proofs.Common.{Contains, false, true, List, [], Some, ap, arith, eqb, get_or, inl, inr, length, length-set, refl, set, slice_get, subst, sym, ℕ, ⊎_elim, ◌++◌, ◌<◌, ◌∙◌, ◌∷◌, ◌≡◌, ◌⊎◌}
 use Rattle.std.specs.List.{IsDistinct, list_any}
 use Rattle.std.specs.Cmp.{nat_eq_equiv}
-use Rattle.std.specs.declared.alloc.Global.{Global}
-use Rattle.std.specs.declared.vec.Vec.{Vec}
 use Rattle.std.proofs.lemmas.Bool.{cases_Bool, cases_eq, cases_lt, eqb-true}
 use Rattle.std.proofs.lemmas.List.{get_or-set_other, get_or-set_same, length_push}
 use Rattle.std.proofs.lemmas.List.Elements.{All-contains_itself, All-weaker, Contains-append_left, Contains-push, Contains-push_cases}
@@ -12,21 +10,24 @@ use Rattle.std.proofs.lemmas.Map.Steps.{length-le_from_distinct_below}
 use Rattle.std.proofs.lemmas.Map.Views.{Contains-from_any}
 use Rattle.std.proofs.lemmas.Option.{get_or_from_slice_get, slice_get-get_or, slice_get_past, slice_get_within}
 use Rattle.fr_graph.proofs.Members.{Contains-none, cases_some}
+use Rattle.fr_route.specs.Listing.{HasPlaces, IsListing, KeepsPlaces, nodes_told}
 use Rattle.fr_route.specs.Outcomes.{AreNoted, AreOthers, NotesMore}
 use Rattle.fr_route.specs.Routes.{IsHop}
 use Rattle.fr_route.specs.States.{State}
+use Rattle.fr_route.specs.declared.told.Told.{Told}
+use Rattle.fr_route.specs.declared.told.Told.TheVariants.{Nobody, Nodes}
 use Rattle.fr_tables.specs.declared.hop.Hop.{Hop}
 use Rattle.fr_route.proofs.Determined.{one_hop}
 
 -- no hop is made anew
-pub notes_none : (s : State) (hops : List Hop) (nodes : Vec ℕ Global) → NotesMore s hops nodes hops nodes
-notes_none s hops nodes = record { room = refl; noted = λ room before noted. noted }
+pub notes_none : (s : State) (hops : List Hop) (told : Told) → NotesMore s hops told hops told
+notes_none s hops told = record { keeps = record { places = λ n has. has; listing = λ is. is }; noted = λ room before noted. noted }
 
 -- one after the other
-pub notes_then : (s : State) (a b c : List Hop) (l m n : Vec ℕ Global) → length b ≡ length a → NotesMore s a l b m → NotesMore s b m c n → NotesMore s a l c n
+pub notes_then : (s : State) (a b c : List Hop) (l m n : Told) → length b ≡ length a → NotesMore s a l b m → NotesMore s b m c n → NotesMore s a l c n
 notes_then s a b c l m n same h g = record {
-  room = g.room ∙ h.room;
-  noted = λ room before noted. g.noted (omega (arith, same, room, h.room)) before (h.noted room before noted);
+  keeps = record { places = λ k has. g.keeps.places k (h.keeps.places k has); listing = λ is. h.keeps.listing (g.keeps.listing is) };
+  noted = λ room before noted. g.noted (subst (λ (k : ℕ). HasPlaces k m) (sym same) (h.keeps.places (length a) room)) before (h.noted room before noted);
 }
 
 -- no hop is another one yet
@@ -88,14 +89,15 @@ module _ (s : State) (x : ℕ) (hop : Hop) (right : IsHop s x hop) (old : List H
   }
 
 -- the hop of x is made anew and noted
-pub notes_one : (s : State) (x : ℕ) (hop d : Hop) (old : List Hop) (nodes more : Vec ℕ Global) → IsHop s x hop → x < length old → ¬ (get_or old x d ≡ hop)
-    → vec_capacity more ≡ vec_capacity nodes → (length nodes.items < vec_capacity nodes → more.items ≡ nodes.items ++ x ∷ []) → NotesMore s old nodes (set old x hop) more
-notes_one s x hop d old nodes more right low apart same put = record {
-  room = same;
+pub notes_one : (s : State) (x : ℕ) (hop d : Hop) (old : List Hop) (told more : Told) → IsHop s x hop → x < length old → ¬ (get_or old x d ≡ hop)
+    → KeepsPlaces told more → ((n : ℕ) → HasPlaces n told → length (nodes_told told) < n → nodes_told more ≡ nodes_told told ++ x ∷ [])
+    → NotesMore s old told (set old x hop) more
+notes_one s x hop d old told more right low apart keeps put = record {
+  keeps = keeps;
   noted = λ room before noted.
       let another : ¬ (slice_get old x ≡ Some hop) = λ is. apart (get_or_from_slice_get old x hop d is) in
-      let left = place_left s x hop right old low another before nodes.items noted in
-      subst (AreNoted s before (set old x hop)) (sym (put (omega (arith, left, room)))) (noted_also s x hop right old low another before nodes.items noted);
+      let left = place_left s x hop right old low another before (nodes_told told) noted in
+      subst (AreNoted s before (set old x hop)) (sym (put (length old) room left)) (noted_also s x hop right old low another before (nodes_told told) noted);
 }
 
 -- the noted nodes are those with another hop
@@ -109,3 +111,8 @@ others_noted s before hops nodes noted = record {
     λ differ. ⊎_elim (λ found. found) (λ out. absurd (differ (sym (noted.others x out)))) (in_or_out x nodes),
   );
 }
+
+-- where there is a place, somebody is told
+pub listing_has : (n : ℕ) (told : Told) → HasPlaces n told → IsListing told
+listing_has n Nobody has = has
+listing_has n (Nodes list) has = tt

@@ -8,6 +8,7 @@ use Rattle.fr_graph.specs.declared.fault.NetFault.TheVariants as net
 use Rattle.fr_route.specs.Answers.{IsAnswer, fault_number}
 use Rattle.fr_route.specs.Changes.{IsOpenFault, IsStill}
 use Rattle.fr_route.specs.Faults.{of_net_fault}
+use Rattle.fr_route.specs.Outcomes.{IsRoundFault}
 use Rattle.fr_route.specs.Refusals.{IsNewFault, IsRefusalOf}
 use Rattle.fr_route.specs.States.{State}
 use Rattle.fr_route.specs.declared.fault.RouteFault.{RouteFault}
@@ -30,10 +31,10 @@ open_fault n d links net Range made why moves = (made.faultless, omega (arith, a
 open_fault n d links net Start made why moves = (omega (arith, ap (λ (m : Network). m.nodes) made.is, why), (net, (made, λ still. moves still refl)))
 open_fault n d links net Memory made why moves = tt
 
-pub opening_fault : (n d : ℕ) (links : List (ℕ × ℕ)) (net : Network) (opened : Result State RouteFault) → IsNetworkOf n links net → IfErr opened (IsOpenFault net.nodes d)
-    → (IsStill net d → IfErr opened (λ fault. fault ≢ Start)) → IfErr opened (IsNewFault n d links)
-opening_fault n d links net (Ok router) made why moves = tt
-opening_fault n d links net (Err fault) made why moves = open_fault n d links net fault made why moves
+pub opening_fault : (never : Type 0) (n d : ℕ) (links : List (ℕ × ℕ)) (net : Network) (opened : Result State RouteFault)
+    → IsNetworkOf n links net → IfErr opened (IsRoundFault never net d) → IfErr opened (IsNewFault n d links)
+opening_fault never n d links net (Ok router) made why = tt
+opening_fault never n d links net (Err fault) made why = open_fault n d links net fault made why.why why.still
 
 pub refused_network : (s : Option State) (n d : ℕ) (links : List (ℕ × ℕ)) (fault : RouteFault) (text : List ℕ) → IsNewFault n d links fault → IsRefusalOf fault text → IsAnswer s (new_network n d links) text s
 refused_network s n d links (Net fault) text why is = inl (fault_number fault, inl (fault, why, refl), is, refl)

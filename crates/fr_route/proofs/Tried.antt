@@ -1,26 +1,27 @@
 -- What is tried may be said in other words.
-use Rattle.std.proofs.Common.{Err, Ok, Result, ℕ}
-use Rattle.std.specs.declared.alloc.Global.{Global}
-use Rattle.std.specs.declared.vec.Vec.{Vec}
+use Rattle.std.proofs.Common.{Err, Ok, Result}
 use Rattle.fr_route.specs.States.{State}
-use Rattle.fr_route.specs.Tries.{IsTried}
+use Rattle.fr_route.specs.Tries.{IsTried, Trial}
 use Rattle.fr_route.specs.declared.change.Report.{Report}
 use Rattle.fr_route.specs.declared.fault.RouteFault.{RouteFault}
+use Rattle.fr_route.specs.declared.told.Told.{Told}
 
-pub tried_as : {T : Type 0} (never : Type 0) (s : State) (Made Made' : State → Type 0) (Undone Undone' : RouteFault → Type 0) (Told : Report → T → Type 0) (list : Vec ℕ Global) (answer : Result T RouteFault) (next : State) (after : Vec ℕ Global)
-    → ((new : State) → Made new → Made' new) → ((fault : RouteFault) → Undone fault → Undone' fault) → IsTried never s Made Undone Told list answer next after → IsTried never s Made' Undone' Told list answer next after
-tried_as never s Made Made' Undone Undone' Told list (Ok told) next after made undone is = record {
+pub tried_as : {T : Type 0} (never : Type 0) (trial other : Trial) (Tells : Report → T → Type 0) (s : State) (told : Told)
+    (answer : Result T RouteFault) (next : State) (more : Told)
+    → ((new : State) → trial.Made new → other.Made new) → ((fault : RouteFault) → trial.Undone fault → other.Undone fault)
+    → IsTried never trial Tells s told answer next more → IsTried never other Tells s told answer next more
+tried_as never trial other Tells s told (Ok it) next more made undone is = record {
   made = made next is.made;
-  told = is.told;
+  told_of = is.told_of;
   rerouted = is.rerouted;
   fault = tt;
   unchanged = tt;
   untold = tt;
   no_start = λ h. tt;
 }
-tried_as never s Made Made' Undone Undone' Told list (Err fault) next after made undone is = record {
+tried_as never trial other Tells s told (Err fault) next more made undone is = record {
   made = tt;
-  told = tt;
+  told_of = tt;
   rerouted = tt;
   fault = undone fault is.fault;
   unchanged = is.unchanged;

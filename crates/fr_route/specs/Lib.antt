@@ -3,6 +3,8 @@ pub mod Routes
 pub mod Reroutes
 pub mod Faults
 pub mod Changes
+pub mod Listing
+pub mod Ways
 pub mod Outcomes
 pub mod RouterInside
 pub mod Blank

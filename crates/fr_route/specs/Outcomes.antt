@@ -1,8 +1,6 @@
 -- What a round on a network comes to, and the nodes at which edits change links.
-use Rattle.std.specs.Prelude.{◌≡◌, ℕ, ◌<◌, ◌≤◌, ◌⊎◌, ◌↔◌, not, ◌==◌, ◌&&◌, List, [], ◌∷◌, ◌++◌, count_by, length, nat_eq, slice_get, slice_index, vec_capacity, Some}
+use Rattle.std.specs.Prelude.{◌≡◌, ℕ, ◌<◌, ◌≤◌, ◌⊎◌, ◌↔◌, not, ◌==◌, ◌&&◌, List, [], ◌∷◌, ◌++◌, count_by, length, nat_eq, slice_get, slice_index, Some, ◌≢◌}
 use Rattle.std.specs.List.{All, Contains, IsDistinct, filter, range_with_len}
-use Rattle.std.specs.declared.alloc.Global.{Global}
-use Rattle.std.specs.declared.vec.Vec.{Vec}
 use Rattle.fr_graph.specs.Batches.{AreMade, IsBatchFault}
 use Rattle.fr_graph.specs.Counts.{links_at}
 use Rattle.fr_graph.specs.Limits.{most_edits}
@@ -14,7 +12,8 @@ use Rattle.fr_graph.specs.declared.edit.Edit.{Edit}
 use Rattle.fr_graph.specs.declared.edit.Edit.TheVariants.{Cut, Add, Join}
 use Rattle.fr_crew.specs.Settlements.{IsCounted}
 use Rattle.fr_route.specs.Routes.{AreHops, IsHop}
-use Rattle.fr_route.specs.Changes.{CanTurnAfter}
+use Rattle.fr_route.specs.Changes.{CanTurnAfter, IsOpenFault, IsStill}
+use Rattle.fr_route.specs.Listing.{HasPlaces, KeepsPlaces, nodes_told}
 use Rattle.fr_route.specs.States.{State, IsReport, IsRound, net_at, state_with}
 use Rattle.fr_route.specs.declared.fault.RouteFault.{RouteFault}
 use Rattle.fr_route.specs.declared.fault.RouteFault.TheVariants.{Net, Range, Start, Memory}
@@ -22,16 +21,30 @@ use Rattle.fr_tables.specs.Pushes.{DifferAt}
 use Rattle.fr_tables.specs.Tables.{IsInRange, IsLoopFree}
 use Rattle.fr_tables.specs.declared.hop.Hop.{Hop}
 use Rattle.fr_tables.specs.declared.hop.Hop.TheVariants.{To}
+use Rattle.fr_route.specs.declared.hops.AfterRound.{AfterRound}
 use Rattle.fr_route.specs.declared.outcome.Outcome.{Outcome}
+use Rattle.fr_route.specs.declared.told.Told.{Told}
 
 -- the state after a round with these counts on a network
 abbrev pub settled_state : Network → ℕ → List ℕ → State
 settled_state net d counts = state_with (net_of net.nodes (links_at net.links counts)) d counts
 
--- the settled counts of a network, and the report of the round on it
+-- the destination, the settled counts of a network, and the report of the round on it
 pub record IsOutcome (net : Network) (d : ℕ) (outcome : Outcome) : Type 0 where
+  pub dest : outcome.dest ≡ d
   pub counts : IsCounted net.nodes d net.links outcome.turns
   pub report : IsReport (settled_state net d outcome.turns) outcome.report.turned outcome.report.cut
+
+-- why no round on a network is made: the destination is no node, or there was no thread or no memory for it. No thread is wanted where no
+-- node can turn, or by a way that never starts one
+pub record IsRoundFault (never : Type 0) (net : Network) (d : ℕ) (fault : RouteFault) : Type 0 where
+  pub why : IsOpenFault net.nodes d fault
+  pub still : IsStill net d → fault ≢ Start
+  pub no_start : never → fault ≢ Start
+
+-- the state after a round, by its links as they point now
+abbrev pub state_after : AfterRound → State
+state_after round = state_with round.net.now round.dest round.turns.now
 
 -- how many of n nodes other than d have no neighbour
 abbrev pub lone_count : ℕ → List (ℕ × ℕ) → ℕ → ℕ
@@ -80,9 +93,9 @@ pub record AreNoted (s : State) (before hops : List Hop) (nodes : List ℕ) : Ty
   pub others : (x : ℕ) → ¬ Contains nodes x → slice_get hops x ≡ slice_get before x
 
 -- as hops are made anew the list goes on to note where, if it has a place for each: whatever the hops were that it began with
-pub record NotesMore (s : State) (old : List Hop) (nodes : Vec ℕ Global) (new : List Hop) (more : Vec ℕ Global) : Type 0 where
-  pub room : vec_capacity more ≡ vec_capacity nodes
-  pub noted : length old ≤ vec_capacity nodes → (before : List Hop) → AreNoted s before old nodes.items → AreNoted s before new more.items
+pub record NotesMore (s : State) (old : List Hop) (told : Told) (new : List Hop) (more : Told) : Type 0 where
+  pub keeps : KeepsPlaces told more
+  pub noted : HasPlaces (length old) told → (before : List Hop) → AreNoted s before old (nodes_told told) → AreNoted s before new (nodes_told more)
 
 -- these are the places at which the hops differ, each once
 pub record AreOthers (old new : List Hop) (nodes : List ℕ) : Type 0 where
@@ -90,10 +103,10 @@ pub record AreOthers (old new : List Hop) (nodes : List ℕ) : Type 0 where
   pub below : All (λ x. x < length new) nodes
   pub just : (x : ℕ) → Contains nodes x ↔ DifferAt old new x
 
--- the list has just these places, if it has room for each
-pub record ListsOthers (old new : List Hop) (before after : Vec ℕ Global) : Type 0 where
-  pub room : vec_capacity after ≡ vec_capacity before
-  pub others : length old ≤ vec_capacity before → AreOthers old new after.items
+-- whoever is told has just these places in the list, if it has a place for each
+pub record ListsOthers (old new : List Hop) (told more : Told) : Type 0 where
+  pub keeps : KeepsPlaces told more
+  pub others : HasPlaces (length old) told → AreOthers old new (nodes_told more)
 
 -- the hops of the numbers below n in a state after a round, as a table
 pub record IsSettledTable (s : State) (n : ℕ) (hops : List Hop) : Type 0 where

@@ -1,6 +1,6 @@
 -- Which nodes a round reroutes, those that send on to another node than before it, in the order in which their hops are pushed; the same
 -- for a new network; and which nodes of a caller's table have to be pushed.
-use Rattle.std.specs.Prelude.{◌≡◌, ◌≢◌, ℕ, max, List, Option, Some, None, length, replicate}
+use Rattle.std.specs.Prelude.{◌≡◌, ◌≢◌, ℕ, max, List, Option, Some, None, Result, IfOk, OnErr, length, replicate}
 use Rattle.fr_route.specs.Routes.{AreHops, IsHop}
 use Rattle.fr_route.specs.States.{State}
 use Rattle.fr_tables.specs.Faults.{IsOrdered}
@@ -26,6 +26,12 @@ pub record AreRerouted (old new : State) (nodes : List ℕ) : Type 0 where
   pub were : AreHops old old.nodes before
   pub are : AreHops new new.nodes after
   pub order : IsPushOrder before after nodes
+
+module _ {T E : Type 0} where
+  -- a change that was made tells which nodes it reroutes, and one that was not leaves the list
+  pub record TellsRerouted (old : State) (answer : Result T E) (new : State) (before after : List ℕ) : Type 0 where
+    pub rerouted : IfOk answer (λ _. AreRerouted old new after)
+    pub untold : OnErr answer (after ≡ before)
 
 -- how many nodes the network has that a session holds, if it holds one
 abbrev pub nodes_in : Option State → ℕ

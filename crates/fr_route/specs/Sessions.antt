@@ -1,21 +1,34 @@
 -- What a session makes of a request, whatever the way by which networks are settled.
-use Rattle.std.specs.Prelude.{◌≡◌, ◌≢◌, ℕ, ◌≤◌, ◌⊎◌, length, true, Bool, List, Option, Result, String, IfOk, IfErr, OnErr, string_bytes}
+use Rattle.std.specs.Prelude.{◌≡◌, ◌≢◌, ℕ, ◌≤◌, ◌⊎◌, true, false, length, List, Option, Result, String, IfOk, IfErr, IfSome, IfNone, OnErr, string_bytes}
 use Rattle.std.specs.declared.alloc.Global.{Global}
-use Rattle.fr_lines.specs.Requests.{PlainRequest}
-use Rattle.fr_route.specs.Answers.{IsAnswer, MayStartFor}
+use Rattle.fr_lines.specs.Requests.{PlainRequest, reading}
+use Rattle.fr_lines.specs.declared.requests.LineFault.{LineFault}
+use Rattle.fr_route.specs.Answers.{IsLineAnswer, MayStartForLine}
+use Rattle.fr_route.specs.Blank.{is_blank}
+use Rattle.fr_route.specs.Listing.{IsListing, nodes_told}
 use Rattle.fr_route.specs.States.{State}
 use Rattle.fr_route.specs.Texts.{longest_report}
-use Rattle.fr_route.specs.Told.{IsTold}
+use Rattle.fr_route.specs.Told.{IsLineTold}
 use Rattle.fr_route.specs.declared.fault.AnswerFault.{AnswerFault}
 use Rattle.fr_route.specs.declared.fault.AnswerFault.TheVariants.{Start}
+use Rattle.fr_route.specs.declared.told.Told.{Told}
 
--- the request is answered in this state, with a list of these nodes before it, where the way may never start a thread; then come the
--- answer, the state after it and the nodes that the list has then: those that are told, if that is asked
-pub record IsAnswered (never : Type 0) (s : Option State) (request : PlainRequest) (telling : Bool) (before : List ℕ) (answer : Result (String Global) AnswerFault) (next : Option State) (after : List ℕ) : Type 0 where
-  pub text : IfOk answer (λ text. IsAnswer s request (string_bytes text) next)
-  pub told : telling ≡ true → IfOk answer (λ _. IsTold s request next before after)
-  pub unchanged : OnErr answer (next ≡ s)
-  pub untold : OnErr answer (after ≡ before)
-  pub short : IfOk answer (λ text. ((next ≡ s) × (after ≡ before)) ⊎ (length (string_bytes text) ≤ longest_report))
-  pub start : IfErr answer (λ fault. fault ≡ Start → MayStartFor s request)
+-- what was read of a line is answered in this state, where the way may never start a thread; then come the answer, the state after it, and
+-- whoever is told, with the nodes in the list
+pub record IsAnswered (never : Type 0) (s : Option State) (asked : Result PlainRequest LineFault) (told : Told) (answer : Result (String Global) AnswerFault) (next : Option State) (more : Told) : Type 0 where
+  pub text : IfOk answer (λ text. IsLineAnswer s asked (string_bytes text) next)
+  pub tells : IsListing told → IfOk answer (λ _. IsLineTold s asked next (nodes_told told) (nodes_told more))
+  pub unchanged : OnErr answer ((next ≡ s) × (nodes_told more ≡ nodes_told told))
+  pub short : IfOk answer (λ text. ((next ≡ s) × (nodes_told more ≡ nodes_told told)) ⊎ (length (string_bytes text) ≤ longest_report))
+  pub start : IfErr answer (λ fault. fault ≡ Start → MayStartForLine s asked)
+  pub no_start : never → IfErr answer (λ fault. fault ≢ Start)
+
+-- and of a line: a blank one has no answer, and changes nothing
+pub record IsLineAnswered (never : Type 0) (s : Option State) (line : List ℕ) (told : Told) (answer : Result (Option (String Global)) AnswerFault) (next : Option State) (more : Told) : Type 0 where
+  pub blank : IfOk answer (λ a. IfNone a ((is_blank line ≡ true) × (next ≡ s) × (nodes_told more ≡ nodes_told told)))
+  pub text : IfOk answer (λ a. IfSome a (λ text. (is_blank line ≡ false) × IsLineAnswer s (reading line) (string_bytes text) next))
+  pub tells : IsListing told → IfOk answer (λ a. IfSome a (λ _. IsLineTold s (reading line) next (nodes_told told) (nodes_told more)))
+  pub unchanged : OnErr answer ((is_blank line ≡ false) × (next ≡ s) × (nodes_told more ≡ nodes_told told))
+  pub short : IfOk answer (λ a. IfSome a (λ text. ((next ≡ s) × (nodes_told more ≡ nodes_told told)) ⊎ (length (string_bytes text) ≤ longest_report)))
+  pub start : IfErr answer (λ fault. fault ≡ Start → MayStartForLine s (reading line))
   pub no_start : never → IfErr answer (λ fault. fault ≢ Start)

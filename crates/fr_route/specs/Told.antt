@@ -1,10 +1,12 @@
 -- Which nodes an answered request tells of, to a caller that keeps the hops of all nodes.
-use Rattle.std.specs.Prelude.{◌≡◌, ℕ, ◌⊎◌, List, Option, Some, None, Result, Ok, Err}
+use Rattle.std.specs.Prelude.{◌≡◌, ℕ, ◌⊎◌, List, Option, Some, None, Result, Ok, Err, String, IfOk, IfSome, IfNone, OnErr}
+use Rattle.std.specs.declared.alloc.Global.{Global}
 use Rattle.fr_lines.specs.Requests.{PlainRequest, new_network, cut_link, add_link, join_nodes, make_edits, move_dest, walk_from, ask}
 use Rattle.fr_lines.specs.declared.requests.LineFault.{LineFault}
 use Rattle.fr_route.specs.Answers.{IsAccepted, IsRefused}
 use Rattle.fr_route.specs.Reroutes.{AreReplaced, AreRerouted}
 use Rattle.fr_route.specs.States.{State}
+use Rattle.fr_route.specs.declared.fault.AnswerFault.{AnswerFault}
 
 -- an accepted request tells of these nodes, where the list had others before: a network and a change of those that it reroutes, in push
 -- order, and all else leaves the list
@@ -29,3 +31,9 @@ IsTold s request next before after =
 abbrev pub IsLineTold : Option State → Result PlainRequest LineFault → Option State → List ℕ → List ℕ → Type 0
 IsLineTold s (Ok request) next before after = IsTold s request next before after
 IsLineTold s (Err fault) next before after = (next ≡ s) × (after ≡ before)
+
+-- what a caller is told in a list of its own: of an answered line, and nothing of a blank one or at a fault
+pub record TellsOfLine (s : Option State) (asked : Result PlainRequest LineFault) (answer : Result (Option (String Global)) AnswerFault) (next : Option State) (before after : List ℕ) : Type 0 where
+  pub answered : IfOk answer (λ a. IfSome a (λ _. IsLineTold s asked next before after))
+  pub blank : IfOk answer (λ a. IfNone a (after ≡ before))
+  pub fault : OnErr answer (after ≡ before)

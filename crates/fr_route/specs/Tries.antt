@@ -1,21 +1,49 @@
 -- What a router makes of edits or of a change, whatever the way by which it is settled.
-use Rattle.std.specs.Prelude.{◌≡◌, ◌≢◌, ℕ, ◌≤◌, Result, IfOk, IfErr, OnErr, vec_capacity}
-use Rattle.std.specs.declared.alloc.Global.{Global}
-use Rattle.std.specs.declared.vec.Vec.{Vec}
+use Rattle.std.specs.Prelude.{◌≡◌, ◌≢◌, [], ◌∷◌, Result, IfOk, IfErr, OnErr}
+use Rattle.fr_graph.specs.declared.edit.Edit.{Edit}
+use Rattle.fr_route.specs.Changes.{IsChanged, IsRouteFault}
+use Rattle.fr_route.specs.Listing.{IsListing, nodes_told}
+use Rattle.fr_route.specs.Outcomes.{IsEdited, IsEditingFault}
 use Rattle.fr_route.specs.Reroutes.{AreRerouted}
 use Rattle.fr_route.specs.States.{State, IsReport}
+use Rattle.fr_route.specs.declared.change.Change.{Change}
 use Rattle.fr_route.specs.declared.change.Report.{Report}
 use Rattle.fr_route.specs.declared.fault.RouteFault.{RouteFault}
 use Rattle.fr_route.specs.declared.fault.RouteFault.TheVariants.{Start}
+use Rattle.fr_route.specs.declared.revision.Revision.{Revision}
+use Rattle.fr_route.specs.declared.told.Told.{Told}
+
+-- what is tried in a state: the states that may come of it, and why it may come to nothing
+pub record Trial : Type 1 where
+  pub Made : State → Type 0
+  pub Undone : RouteFault → Type 0
+
+-- edits, and a destination after them
+abbrev pub revision_of : State → Revision → Trial
+revision_of s revision = record {
+  Made = IsEdited s revision.edits.now revision.dest;
+  Undone = IsEditingFault s revision.edits.now revision.dest;
+}
+
+-- one edit, toward the destination as it is
+abbrev pub edit_of : State → Edit → Trial
+edit_of s edit = record {
+  Made = IsEdited s (edit ∷ []) s.dest;
+  Undone = IsEditingFault s (edit ∷ []) s.dest;
+}
+
+-- a change
+abbrev pub change_of : State → Change → Trial
+change_of s change = record { Made = IsChanged s change; Undone = IsRouteFault s change }
 
 module _ {T : Type 0} where
-  -- what is tried in this state makes one of which `Made` holds, and tells what `Told` says of its report, or comes to nothing for a fault
-  -- of which `Undone` holds. The way may never start a thread. The list tells which nodes are rerouted, if it has a place for each node
-  pub record IsTried (never : Type 0) (s : State) (Made : State → Type 0) (Undone : RouteFault → Type 0) (Told : Report → T → Type 0) (list : Vec ℕ Global) (answer : Result T RouteFault) (next : State) (after : Vec ℕ Global) : Type 0 where
-    pub made : IfOk answer (λ _. Made next)
-    pub told : IfOk answer (λ told. (report : Report) × IsReport next report.turned report.cut × Told report told)
-    pub rerouted : IfOk answer (λ _. s.nodes ≤ vec_capacity list → AreRerouted s next after.items)
-    pub fault : IfErr answer Undone
+  -- what was tried in this state came about, and the answer is what is told of its report; or it came to nothing for a fault, and nothing
+  -- has changed. By a way that never starts a thread no thread is wanted. Whoever is told learns which nodes are rerouted
+  pub record IsTried (never : Type 0) (trial : Trial) (Tells : Report → T → Type 0) (s : State) (told : Told) (answer : Result T RouteFault) (next : State) (more : Told) : Type 0 where
+    pub made : IfOk answer (λ _. trial.Made next)
+    pub told_of : IfOk answer (λ told. (report : Report) × IsReport next report.turned report.cut × Tells report told)
+    pub rerouted : IfOk answer (λ _. IsListing told → AreRerouted s next (nodes_told more))
+    pub fault : IfErr answer trial.Undone
     pub unchanged : OnErr answer (next ≡ s)
-    pub untold : OnErr answer (after.items ≡ list.items)
+    pub untold : OnErr answer (nodes_told more ≡ nodes_told told)
     pub no_start : never → IfErr answer (λ fault. fault ≢ Start)

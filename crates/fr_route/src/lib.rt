@@ -21,10 +21,13 @@ mod hops;
 pub mod laws;
 mod outcome;
 mod refusals;
+mod revision;
 mod router;
 mod session;
+mod settling;
 mod spare;
 mod texts;
+mod told;
 mod version;
 
 pub use blank::is_blank;

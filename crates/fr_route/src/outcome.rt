@@ -1,88 +1,37 @@
 //! What a round on a network comes to, before any of it is put in place.
 
-ghost use Rattle.std.specs.Prelude.{◌≡◌, ◌≢◌, ℕ, ◌<◌, ◌≤◌, ◌==◌, ◌↔◌, List, [], ◌∷◌, ◌++◌, All, Any, IsTrue, count_by, length, replicate, slice_index, sum, vec_capacity, IfOk, IfErr, OnOk};
+ghost use Rattle.std.specs.Prelude.{◌≡◌, ℕ, ◌<◌, ◌==◌, ◌↔◌, List, [], ◌∷◌, ◌++◌, All, Any, IsTrue, count_by, length, slice_index, sum, IfOk, OnOk};
 ghost use Rattle.std.specs.List.{filter, range_with_len};
 ghost use Rattle.fr_core.specs.History.{moment_of};
 ghost use Rattle.fr_core.specs.Legal.{CanTurn};
-ghost use Rattle.fr_crew.specs.Settlements.{HoldsSinks, IsCounted};
-ghost use Rattle.fr_crew.specs.Ways.{Settles, NeverStarts};
-ghost use Rattle.fr_crew.specs.declared.fault.CrewFault.TheVariants.{Range, Start as CrewStart};
+ghost use Rattle.fr_crew.specs.Settlements.{IsCounted};
 ghost use Rattle.fr_graph.specs.Counts.{AreLawful, links_at};
 ghost use Rattle.fr_graph.specs.Network.{net_of};
+ghost use Rattle.fr_route.specs.Outcomes.{HoldsMoved, ListsOthers, ends_of, lone_count, settled_state};
 ghost use Rattle.fr_route.specs.Routes.{AreHops};
 ghost use Rattle.fr_route.specs.States.{IsReport};
-ghost use Rattle.fr_route.specs.Changes.{IsOpenFault, IsStill};
-ghost use Rattle.fr_route.specs.Outcomes.{AreOthers, HoldsMoved, IsOutcome, ListsOthers, ends_of, lone_count, settled_state};
-ghost use Rattle.fr_route.specs.declared.fault.RouteFault.TheVariants.{Start};
-ghost use Rattle.fr_tables.specs.Pushes.{IsPushOrder};
-ghost use Rattle.fr_tables.specs.Tables.{IsInRange, IsLoopFree};
 
 use crate::change::Report;
-use crate::fault::RouteFault;
-use crate::hops::renew_hops;
+use crate::hops::{AfterRound, renew_hops};
+use crate::told::Told;
 use fr_core::can_turn;
-use fr_crew::{CrewFault, settled_counts_by};
 use fr_graph::{Edit, Net, Turns};
-use fr_tables::{Hop, PushRoom};
+use fr_tables::Hop;
 use std::alloc::{AllocError, Global};
 
 /// What a round on a network comes to.
 #[derive(Drop)]
 pub(crate) struct Outcome {
+    /// Where all nodes send to.
+    pub(crate) dest: u32,
     /// How often each node turns.
     pub(crate) turns: Turns,
     /// What the round reports.
     pub(crate) report: Report,
 }
 
-/// What a round on a network comes to, settled as the caller says, and told in a table in which no node has turned yet. Each
-/// node that can turn at first is among `from`.
-pub(crate) fn outcome_of<F: Fn(&Net, u32, Option<&[u32]>, Turns) -> Result<Turns, CrewFault>>(
-    net: &Net,
-    dest: u32,
-    from: &[u32],
-    settle: &F,
-    turns: Turns,
-) -> Result<Outcome, RouteFault>
-    requires settles { Settles F.pre F.post settle.now }
-    requires from { (dest < net.now.nodes) × HoldsSinks net.now dest from.now }
-    requires none { turns ≡ replicate net.now.nodes 0 }
-    ensures outcome { IfOk result (IsOutcome net.now dest) }
-    ensures fault { IfErr result (IsOpenFault net.now.nodes dest) }
-    ensures still { IsStill net.now dest → IfErr result (λ fault. fault ≢ Start) }
-    ensures no_start { NeverStarts F.post settle.now → IfErr result (λ fault. fault ≢ Start) }
-{
-    let turns = settled_from(net, dest, from, settle, turns)?;
-    let report = report_of(net, dest, &turns);
-    Ok(Outcome { turns, report })
-}
-
-/// The settled counts of a network as the caller says, or those of no turns where no node of `from` can turn: then that look
-/// is all.
-fn settled_from<F: Fn(&Net, u32, Option<&[u32]>, Turns) -> Result<Turns, CrewFault>>(
-    net: &Net,
-    dest: u32,
-    from: &[u32],
-    settle: &F,
-    turns: Turns,
-) -> Result<Turns, CrewFault>
-    requires settles { Settles F.pre F.post settle.now }
-    requires from { (dest < net.now.nodes) × HoldsSinks net.now dest from.now }
-    requires none { turns ≡ replicate net.now.nodes 0 }
-    ensures settled { IfOk result (IsCounted net.now.nodes dest net.now.links) }
-    ensures range { IfErr result (λ fault. (fault ≡ Range) ↔ (net.now.nodes ≤ dest)) }
-    ensures still { IsStill net.now dest → IfErr result (λ fault. fault ≢ CrewStart) }
-    ensures no_start { NeverStarts F.post settle.now → IfErr result (λ fault. fault ≢ CrewStart) }
-{
-    net.network_law();
-    if !any_can_turn(net, dest, turns.counts(), from) {
-        return Ok(turns);
-    }
-    settled_counts_by(settle, net, dest, Some(from), turns)
-}
-
 /// Whether one of these nodes can turn.
-fn any_can_turn(net: &Net, dest: u32, counts: &[u64], among: &[u32]) -> bool
+pub(crate) fn any_can_turn(net: &Net, dest: u32, counts: &[u64], among: &[u32]) -> bool
     requires lawful { AreLawful net.now.nodes dest net.now.links counts.now }
     requires nodes { All (λ (x : ℕ). x < net.now.nodes) among.now }
     ensures { IsTrue result ↔ Any (CanTurn net.now.nodes dest (moment_of net.now.links counts.now)) among.now }
@@ -135,42 +84,31 @@ fn capped_nodes(nodes: u32, counts: &[u64], turned: u64) -> u64
     counts.iter().filter(|count| **count == cap).count() as u64
 }
 
-/// Puts a round in place: turns the links as these turns leave them, and makes anew where the moved nodes send on to, and what
-/// turns have made stale. The list has then the nodes with another hop than before, if it has a place for each node.
+/// Puts a round in place: turns the links as its turns leave them, and makes anew where the moved nodes send on to, and what
+/// turns have made stale. Whoever is told learns which nodes have another hop than before.
 pub(crate) fn put_in_place(
     net: &mut Net,
     hops: &mut [Hop],
-    dest: u32,
-    turns: &Turns,
+    outcome: &Outcome,
     moved: &[u32],
-    rerouted: &mut Vec<u32>,
+    told: &mut Told,
 )
-    requires counted { IsCounted net.old.nodes dest net.old.links turns.now }
+    requires counted { IsCounted net.old.nodes outcome.now.dest net.old.links outcome.now.turns }
     requires one_each { length hops.old ≡ net.old.nodes }
-    requires moved { HoldsMoved (settled_state net.old dest turns.now) hops.old moved.now }
-    ensures net { net.new ≡ net_of net.old.nodes (links_at net.old.links turns.now) }
-    ensures hops { AreHops (settled_state net.old dest turns.now) net.old.nodes hops.new }
-    ensures rerouted { ListsOthers hops.old hops.new rerouted.old rerouted.new }
+    requires moved { HoldsMoved (settled_state net.old outcome.now.dest outcome.now.turns) hops.old moved.now }
+    ensures net { net.new ≡ net_of net.old.nodes (links_at net.old.links outcome.now.turns) }
+    ensures hops { AreHops (settled_state net.old outcome.now.dest outcome.now.turns) net.old.nodes hops.new }
+    ensures told { ListsOthers hops.old hops.new told.old told.new }
 {
     net.network_law();
-    net.turn(turns);
-    rerouted.clear();
-    renew_hops(hops, net, dest, turns, moved, rerouted);
-}
-
-/// Puts the nodes with another hop than before in push order. A list with no place for each node is for a caller that does not ask, and
-/// is left.
-pub(crate) fn put_in_order(room: &mut PushRoom, hops: &[Hop], rerouted: &mut Vec<u32>)
-    requires room { length hops.now ≡ room.old }
-    requires table { IsInRange hops.now × IsLoopFree hops.now }
-    requires others { (old : List Hop) × (length hops.now ≤ vec_capacity rerouted.old → AreOthers old hops.now rerouted.old.items) }
-    ensures order { (old : List Hop) → length old ≡ length hops.now → length hops.now ≤ vec_capacity rerouted.old
-        → AreOthers old hops.now rerouted.old.items → IsPushOrder old hops.now rerouted.new.items }
-    ensures kept { room.new ≡ room.old }
-{
-    if rerouted.capacity() >= hops.len() {
-        room.order(hops, rerouted);
-    }
+    net.turn(&outcome.turns);
+    told.clear();
+    let round = AfterRound {
+        net,
+        dest: outcome.dest,
+        turns: &outcome.turns,
+    };
+    renew_hops(hops, &round, moved, told);
 }
 
 /// The nodes that edits and a new destination touch: both destinations, and the ends of the links that are taken out or added.

@@ -1,26 +1,27 @@
 //! A router: a settled network with its next hops and routes, and the changes after which it is settled anew.
 
-ghost use Rattle.std.specs.Prelude.{◌≡◌, ◌≢◌, ◌<◌, ◌≤◌, [], ◌∷◌, length, replicate, Ok, Some, IfOk, IfErr, IfSome, OnErr, OnOk};
+ghost use Rattle.std.specs.Prelude.{◌≡◌, ◌≢◌, ◌<◌, ◌≤◌, ◌⊎◌, [], ◌∷◌, length, replicate, Ok, Some, IfOk, IfErr, IfSome, OnErr, OnOk};
 ghost use Rattle.std.specs.Option.{option_copied};
-ghost use Rattle.fr_crew.specs.Settlements.{HoldsSinks, IsCounted};
-ghost use Rattle.fr_crew.specs.Ways.{Settles, NeverStarts};
+ghost use Rattle.fr_crew.specs.Settlements.{CanBegin, HoldsSinks, IsCounted};
+ghost use Rattle.fr_route.specs.Ways.{Settles, NeverStarts};
 ghost use Rattle.fr_route.specs.declared.fault.RouteFault.TheVariants.{Start, Memory};
+ghost use Rattle.fr_route.specs.Listing.{nodes_told};
 ghost use Rattle.fr_route.specs.States.{IsRound, IsReport};
 ghost use Rattle.fr_route.specs.Routes.{IsHop, AreHops, IsWalked};
 ghost use Rattle.fr_route.specs.Changes.{IsOpenFault, IsChanged, IsRouteFault, IsStill};
-ghost use Rattle.fr_route.specs.Reroutes.{AreHopsIn, ArePushes, AreReplaced, AreRerouted, IsPushesFault};
-ghost use Rattle.fr_route.specs.Tries.{IsTried};
-ghost use Rattle.fr_route.specs.Outcomes.{IsEdited, IsEditingFault, IsOutcome, IsSettledTable, cut_off_nodes, movable};
+ghost use Rattle.fr_route.specs.Reroutes.{ArePushes, AreReplaced, IsPushesFault, TellsRerouted};
+ghost use Rattle.fr_route.specs.Tries.{IsTried, change_of, edit_of, revision_of};
+ghost use Rattle.fr_route.specs.Outcomes.{IsEditingFault, IsOutcome, IsRoundFault, IsSettledTable, cut_off_nodes, movable};
 
 use crate::change::{Change, Report};
 use crate::fault::RouteFault;
-use crate::hops::{Walked, hop_table, resized};
-use crate::outcome::{
-    Outcome, alone_nodes, outcome_of, push_capped, put_in_order, put_in_place, report_of,
-    touched_nodes,
-};
+use crate::hops::{AfterRound, Walked, hop_table, resized};
+use crate::outcome::{alone_nodes, push_capped, put_in_place, report_of, touched_nodes};
+use crate::revision::Revision;
+use crate::settling::Asking;
 use crate::spare::Spare;
-use fr_crew::{CrewFault, Gate, Plan, settled_counts, settled_counts_alone, settled_counts_by};
+use crate::told::Told;
+use fr_crew::{Crew, CrewFault, Gate, Plan, settled_counts, settled_counts_alone};
 use fr_graph::{Edit, MAX_EDITS, Net, NetFault, Turns};
 use fr_tables::{Hop, PushRoom, TableFault, first_outside, known_push_order};
 use std::alloc::{AllocError, Global};
@@ -54,32 +55,127 @@ impl Model for Router {
     ghost invariant = { IsSoundRouter };
 }
 
-/// The settled counts of a network, as the caller says. `Range` where the destination is no node, which is tested first.
-fn first_counts<F: Fn(&Net, u32, Option<&[u32]>, Turns) -> Result<Turns, CrewFault>>(
-    alloc: Global,
-    net: &Net,
-    dest: u32,
-    settle: &F,
-) -> Result<Turns, RouteFault>
-    requires { Settles F.pre F.post settle.now }
-    ensures counted { IfOk result (IsCounted net.now.nodes dest net.now.links) }
-    ensures fault { IfErr result (IsOpenFault net.now.nodes dest) }
-    ensures still { IsStill net.now dest → IfErr result (λ fault. fault ≢ Start) }
-    ensures no_start { NeverStarts F.post settle.now → IfErr result (λ fault. fault ≢ Start) }
-{
-    if dest >= net.nodes() {
-        return Err(RouteFault::Range);
-    }
-    net.network_law();
-    let turns = Turns::none(alloc, net.nodes())?;
-    Ok(settled_counts_by(settle, net, dest, None, turns)?)
-}
-
 /// Puts these turns in place of the last ones, whose table is kept for the next round.
 fn keep_turns(last: &mut Turns, spare: &mut Spare, turns: Turns)
     ensures { last.new ≡ turns }
 {
     spare.keep(mem::replace(last, turns));
+}
+
+impl<'a, F: Fn(&Net, u32, Option<&[u32]>, Turns) -> Result<Turns, CrewFault>> Asking<'a, F> {
+    /// Settles a network.
+    pub(crate) fn open(&self, net: Net, dest: u32) -> Result<Router, RouteFault>
+        requires { Settles F.pre F.post self.now.settle.now }
+        ensures opened { IfOk result (λ router. (dest < net.nodes) × IsRound net.nodes dest net.links router) }
+        ensures fault { IfErr result (IsRoundFault (NeverStarts F.post self.now.settle.now) net dest) }
+    {
+        let turns = self.first_counts(&net, dest)?;
+        Router::settled(self.alloc, net, dest, turns)
+    }
+
+    /// Changes the network or its destination where it stands, settles it anew, and answers what is told of the report. All that the
+    /// change needs is made before anything is put in place.
+    pub(crate) fn change<T, K: Fn(Report) -> Result<T, AllocError>>(
+        &self,
+        router: &mut Router,
+        change: &Change,
+        tell: &K,
+        told: &mut Told,
+    ) -> Result<T, RouteFault>
+        requires settles { Settles F.pre F.post self.now.settle.now }
+        requires tells { K.IsAlwaysCallable tell.now }
+        ensures { IsTried (NeverStarts F.post self.now.settle.now) (change_of router.old change.now) (λ report told. K.post tell.now report (Ok told)) router.old told.old result router.new told.new }
+    {
+        let here = router.dest;
+        match change {
+            Change::Cut { u, v } => self.edit_one(router, Edit::Cut { u: *u, v: *v }, tell, told),
+            Change::Add { u, v } => self.edit_one(router, Edit::Add { u: *u, v: *v }, tell, told),
+            Change::Join { u, v } => self.edit_one(router, Edit::Join { u: *u, v: *v }, tell, told),
+            Change::Batch(edits) => self.edit(router, &Revision { edits, dest: here }, tell, told),
+            Change::Destination { dest } => {
+                if *dest >= router.net.nodes() {
+                    return Err(RouteFault::Range);
+                }
+                self.edit(
+                    router,
+                    &Revision {
+                        edits: &[],
+                        dest: *dest,
+                    },
+                    tell,
+                    told,
+                )
+            }
+        }
+    }
+
+    /// Makes this edit where the network stands, and settles it anew toward its destination.
+    fn edit_one<T, K: Fn(Report) -> Result<T, AllocError>>(
+        &self,
+        router: &mut Router,
+        edit: Edit,
+        tell: &K,
+        told: &mut Told,
+    ) -> Result<T, RouteFault>
+        requires settles { Settles F.pre F.post self.now.settle.now }
+        requires tells { K.IsAlwaysCallable tell.now }
+        ensures { IsTried (NeverStarts F.post self.now.settle.now) (edit_of router.old edit) (λ report told. K.post tell.now report (Ok told)) router.old told.old result router.new told.new }
+    {
+        let dest = router.dest;
+        self.edit(
+            router,
+            &Revision {
+                edits: &[edit],
+                dest,
+            },
+            tell,
+            told,
+        )
+    }
+
+    /// Makes these edits where the network stands, and settles it anew toward the destination after them.
+    pub(crate) fn edit<T, K: Fn(Report) -> Result<T, AllocError>>(
+        &self,
+        router: &mut Router,
+        revision: &Revision<'_>,
+        tell: &K,
+        told: &mut Told,
+    ) -> Result<T, RouteFault>
+        requires settles { Settles F.pre F.post self.now.settle.now }
+        requires tells { K.IsAlwaysCallable tell.now }
+        requires node { revision.now.dest < router.old.nodes }
+        ensures { IsTried (NeverStarts F.post self.now.settle.now) (revision_of router.old revision.now) (λ report told. K.post tell.now report (Ok told)) router.old told.old result router.new told.new }
+    {
+        told.make_room(router.net.nodes())?;
+        let movable = router.movable(self.alloc, revision)?;
+        let from = movable.as_slice();
+        let dest = revision.dest;
+        let spare = &mut router.spare;
+        let (outcome, answer) = router.net.edit_if(
+            self.alloc,
+            revision.edits,
+            |net|
+                requires settles { Settles F.pre F.post self.now.settle.now }
+                requires tells { K.IsAlwaysCallable tell.now }
+                requires from { (dest < net.now.nodes) × HoldsSinks net.now dest from.now }
+                ensures outcome { IfOk result (λ made. IsOutcome net.entry.now dest made.0) }
+                ensures told { IfOk result (λ made. K.post tell.entry.now made.0.report (Ok made.1)) }
+                ensures fault { IfErr result (IsRoundFault (NeverStarts F.post self.entry.now.settle.now) net.entry.now dest) }
+            {
+                net.network_law();
+                let turns = spare.take(self.alloc, net.nodes())?;
+                let outcome = self.outcome(net, dest, from, turns)?;
+                let answer = tell(outcome.report)?;
+                Ok((outcome, answer))
+            },
+        )?;
+        put_in_place(&mut router.net, &mut router.hops, &outcome, from, told);
+        told.put_in_order(&mut router.room, &router.hops);
+        keep_turns(&mut router.turns, &mut router.spare, outcome.turns);
+        router.dest = dest;
+        router.report = outcome.report;
+        Ok(answer)
+    }
 }
 
 impl Router {
@@ -101,15 +197,19 @@ impl Router {
         ensures one_worker { plan.now.workers ≡ 1 → IfErr result (λ fault. fault ≢ Start) }
         ensures no_start { plan.now.budget ≡ 0 → IfErr result (λ fault. fault ≢ Start) }
     {
-        Router::open_by(
+        let crew = Crew {
+            rt,
             alloc,
-            net,
-            dest,
+            plan,
+            gate,
+        };
+        Asking::new(
+            alloc,
             &|net, dest, from, turns|
-                requires from { IfSome from (λ from. HoldsSinks net.now dest from.now) }
-                requires none { turns ≡ replicate net.now.nodes 0 }
-            { settled_counts(rt, alloc, net, dest, from, plan, gate, turns) },
+                requires { CanBegin net.now dest from turns }
+            { settled_counts(&crew, net, dest, from, turns) },
         )
+        .open(net, dest)
     }
 
     /// The same on the thread that calls, with no crew: it starts no thread, waits for nobody, and never answers `Start`. `O(n + m)`, and
@@ -119,29 +219,11 @@ impl Router {
         ensures fault { IfErr result (IsOpenFault net.nodes dest) }
         ensures no_start { IfErr result (λ fault. fault ≢ Start) }
     {
-        Router::open_by(
+        Asking::new(
             alloc,
-            net,
-            dest,
             &|net, dest, from, turns| settled_counts_alone(net, dest, from, turns),
         )
-    }
-
-    /// Settles a network as the caller says.
-    pub(crate) fn open_by<F: Fn(&Net, u32, Option<&[u32]>, Turns) -> Result<Turns, CrewFault>>(
-        alloc: Global,
-        net: Net,
-        dest: u32,
-        settle: &F,
-    ) -> Result<Router, RouteFault>
-        requires { Settles F.pre F.post settle.now }
-        ensures opened { IfOk result (λ router. (dest < net.nodes) × IsRound net.nodes dest net.links router) }
-        ensures fault { IfErr result (IsOpenFault net.nodes dest) }
-        ensures still { IsStill net dest → IfErr result (λ fault. fault ≢ Start) }
-        ensures no_start { NeverStarts F.post settle.now → IfErr result (λ fault. fault ≢ Start) }
-    {
-        let turns = first_counts(alloc, &net, dest, settle)?;
-        Router::settled(alloc, net, dest, turns)
+        .open(net, dest)
     }
 
     /// The router of a network whose settled counts are these.
@@ -154,7 +236,12 @@ impl Router {
         net.network_law();
         let report = report_of(&net, dest, &turns);
         net.turn(&turns);
-        let hops = hop_table(alloc, &net, dest, turns.counts())?;
+        let round = AfterRound {
+            net: &net,
+            dest,
+            turns: &turns,
+        };
+        let hops = hop_table(alloc, &round)?;
         let room = PushRoom::new(alloc, net.nodes())?;
         Ok(Router {
             net,
@@ -197,16 +284,19 @@ impl Router {
         ensures one_worker { plan.now.workers ≡ 1 → IfErr result (λ fault. fault ≢ Start) }
         ensures no_start { plan.now.budget ≡ 0 → IfErr result (λ fault. fault ≢ Start) }
     {
-        self.change_by(
+        let crew = Crew {
+            rt,
             alloc,
-            &change,
+            plan,
+            gate,
+        };
+        Asking::new(
+            alloc,
             &|net, dest, from, turns|
-                requires from { IfSome from (λ from. HoldsSinks net.now dest from.now) }
-                requires none { turns ≡ replicate net.now.nodes 0 }
-            { settled_counts(rt, alloc, net, dest, from, plan, gate, turns) },
-            &|report| Ok(report),
-            &mut Vec::new(alloc),
+                requires { CanBegin net.now dest from turns }
+            { settled_counts(&crew, net, dest, from, turns) },
         )
+        .change(self, &change, &|report| Ok(report), &mut Told::Nobody)
     }
 
     /// The same on the thread that calls, with no crew: it starts no thread, waits for nobody, and never answers `Start`. It costs
@@ -218,13 +308,11 @@ impl Router {
         ensures unchanged { OnErr result (self.new ≡ self.old) }
         ensures no_start { IfErr result (λ fault. fault ≢ Start) }
     {
-        self.change_by(
+        Asking::new(
             alloc,
-            &change,
             &|net, dest, from, turns| settled_counts_alone(net, dest, from, turns),
-            &|report| Ok(report),
-            &mut Vec::new(alloc),
         )
+        .change(self, &change, &|report| Ok(report), &mut Told::Nobody)
     }
 
     /// Changes the network as `change` does, and tells which nodes it reroutes, in a list of the caller's: those that send on to
@@ -237,31 +325,27 @@ impl Router {
     /// time pays for that once. It costs what `change` does, and `O(n)` more where it tells more than one node.
     pub fn change_telling<R: Threads + Wait + Sync, G: Gate + Sync>(
         &mut self,
-        rt: &R,
-        alloc: Global,
+        crew: &Crew<'_, R, G>,
         change: Change,
-        plan: &Plan,
-        gate: &G,
         rerouted: &mut Vec<u32>,
     ) -> Result<Report, RouteFault>
         ensures changed { IfOk result (λ _. IsChanged self.old change self.new) }
         ensures report { IfOk result (λ report. IsReport self.new report.turned report.cut) }
-        ensures rerouted { IfOk result (λ _. AreRerouted self.old self.new rerouted.new.items) }
+        ensures told { TellsRerouted self.old result self.new rerouted.old.items rerouted.new.items }
         ensures fault { IfErr result (IsRouteFault self.old change) }
         ensures unchanged { OnErr result (self.new ≡ self.old) }
-        ensures untold { OnErr result (rerouted.new.items ≡ rerouted.old.items) }
-        ensures one_worker { plan.now.workers ≡ 1 → IfErr result (λ fault. fault ≢ Start) }
-        ensures no_start { plan.now.budget ≡ 0 → IfErr result (λ fault. fault ≢ Start) }
+        ensures no_start { (crew.now.plan.now.budget ≡ 0) ⊎ (crew.now.plan.now.workers ≡ 1) → IfErr result (λ fault. fault ≢ Start) }
     {
-        self.change_telling_by(
-            alloc,
-            &change,
+        let mut told = Told::taken(rerouted, crew.alloc);
+        let report = Asking::new(
+            crew.alloc,
             &|net, dest, from, turns|
-                requires from { IfSome from (λ from. HoldsSinks net.now dest from.now) }
-                requires none { turns ≡ replicate net.now.nodes 0 }
-            { settled_counts(rt, alloc, net, dest, from, plan, gate, turns) },
-            rerouted,
+                requires { CanBegin net.now dest from turns }
+            { settled_counts(crew, net, dest, from, turns) },
         )
+        .change(self, &change, &|report| Ok(report), &mut told);
+        *rerouted = told.into_list(crew.alloc);
+        report
     }
 
     /// The same on the thread that calls, with no crew: it starts no thread, waits for nobody, and never answers `Start`. It costs
@@ -274,172 +358,33 @@ impl Router {
     ) -> Result<Report, RouteFault>
         ensures changed { IfOk result (λ _. IsChanged self.old change self.new) }
         ensures report { IfOk result (λ report. IsReport self.new report.turned report.cut) }
-        ensures rerouted { IfOk result (λ _. AreRerouted self.old self.new rerouted.new.items) }
+        ensures told { TellsRerouted self.old result self.new rerouted.old.items rerouted.new.items }
         ensures fault { IfErr result (IsRouteFault self.old change) }
         ensures unchanged { OnErr result (self.new ≡ self.old) }
-        ensures untold { OnErr result (rerouted.new.items ≡ rerouted.old.items) }
         ensures no_start { IfErr result (λ fault. fault ≢ Start) }
     {
-        self.change_telling_by(
+        let mut told = Told::taken(rerouted, alloc);
+        let report = Asking::new(
             alloc,
-            &change,
             &|net, dest, from, turns| settled_counts_alone(net, dest, from, turns),
-            rerouted,
         )
-    }
-
-    /// Changes the network as `change_by` does, and tells which nodes it reroutes.
-    fn change_telling_by<F: Fn(&Net, u32, Option<&[u32]>, Turns) -> Result<Turns, CrewFault>>(
-        &mut self,
-        alloc: Global,
-        change: &Change,
-        settle: &F,
-        rerouted: &mut Vec<u32>,
-    ) -> Result<Report, RouteFault>
-        requires settles { Settles F.pre F.post settle.now }
-        ensures changed { IfOk result (λ _. IsChanged self.old change.now self.new) }
-        ensures report { IfOk result (λ report. IsReport self.new report.turned report.cut) }
-        ensures rerouted { IfOk result (λ _. AreRerouted self.old self.new rerouted.new.items) }
-        ensures fault { IfErr result (IsRouteFault self.old change.now) }
-        ensures unchanged { OnErr result (self.new ≡ self.old) }
-        ensures untold { OnErr result (rerouted.new.items ≡ rerouted.old.items) }
-        ensures no_start { NeverStarts F.post settle.now → IfErr result (λ fault. fault ≢ Start) }
-    {
-        let nodes = self.net.nodes() as usize;
-        rerouted.reserve(nodes.saturating_sub(rerouted.len()))?;
-        self.change_by(alloc, change, settle, &|report| Ok(report), rerouted)
-    }
-
-    /// Changes the network or its destination where it stands, settled anew as the caller says, and answers what is told of
-    /// the report. All that the change needs is made before anything is put in place. The list tells then which nodes it reroutes, if it
-    /// has a place for each node; whoever does not ask gives one with no place.
-    pub(crate) fn change_by<
-        T,
-        F: Fn(&Net, u32, Option<&[u32]>, Turns) -> Result<Turns, CrewFault>,
-        K: Fn(Report) -> Result<T, AllocError>,
-    >(
-        &mut self,
-        alloc: Global,
-        change: &Change,
-        settle: &F,
-        tell: &K,
-        rerouted: &mut Vec<u32>,
-    ) -> Result<T, RouteFault>
-        requires settles { Settles F.pre F.post settle.now }
-        requires tells { K.IsAlwaysCallable tell.now }
-        ensures { IsTried (NeverStarts F.post settle.now) self.old (IsChanged self.old change.now) (IsRouteFault self.old change.now) (λ report told. K.post tell.now report (Ok told)) rerouted.old result self.new rerouted.new }
-    {
-        match change {
-            Change::Cut { u, v } => {
-                self.one_edit_by(alloc, Edit::Cut { u: *u, v: *v }, settle, tell, rerouted)
-            }
-            Change::Add { u, v } => {
-                self.one_edit_by(alloc, Edit::Add { u: *u, v: *v }, settle, tell, rerouted)
-            }
-            Change::Join { u, v } => {
-                self.one_edit_by(alloc, Edit::Join { u: *u, v: *v }, settle, tell, rerouted)
-            }
-            Change::Batch(edits) => self.edit_by(alloc, edits, self.dest, settle, tell, rerouted),
-            Change::Destination { dest } => {
-                if *dest >= self.net.nodes() {
-                    return Err(RouteFault::Range);
-                }
-                self.edit_by(alloc, &[], *dest, settle, tell, rerouted)
-            }
-        }
-    }
-
-    /// Makes this edit where the network stands, and settles it anew toward its destination.
-    fn one_edit_by<
-        T,
-        F: Fn(&Net, u32, Option<&[u32]>, Turns) -> Result<Turns, CrewFault>,
-        K: Fn(Report) -> Result<T, AllocError>,
-    >(
-        &mut self,
-        alloc: Global,
-        edit: Edit,
-        settle: &F,
-        tell: &K,
-        rerouted: &mut Vec<u32>,
-    ) -> Result<T, RouteFault>
-        requires settles { Settles F.pre F.post settle.now }
-        requires tells { K.IsAlwaysCallable tell.now }
-        ensures { IsTried (NeverStarts F.post settle.now) self.old (IsEdited self.old (edit ∷ []) self.old.dest) (IsEditingFault self.old (edit ∷ []) self.old.dest) (λ report told. K.post tell.now report (Ok told)) rerouted.old result self.new rerouted.new }
-    {
-        self.edit_by(alloc, &[edit], self.dest, settle, tell, rerouted)
-    }
-
-    /// Makes these edits where the network stands, and settles it anew toward `dest`.
-    pub(crate) fn edit_by<
-        T,
-        F: Fn(&Net, u32, Option<&[u32]>, Turns) -> Result<Turns, CrewFault>,
-        K: Fn(Report) -> Result<T, AllocError>,
-    >(
-        &mut self,
-        alloc: Global,
-        edits: &[Edit],
-        dest: u32,
-        settle: &F,
-        tell: &K,
-        rerouted: &mut Vec<u32>,
-    ) -> Result<T, RouteFault>
-        requires settles { Settles F.pre F.post settle.now }
-        requires tells { K.IsAlwaysCallable tell.now }
-        requires node { dest < self.old.nodes }
-        ensures { IsTried (NeverStarts F.post settle.now) self.old (IsEdited self.old edits.now dest) (IsEditingFault self.old edits.now dest) (λ report told. K.post tell.now report (Ok told)) rerouted.old result self.new rerouted.new }
-    {
-        let movable = self.before_edits(alloc, edits, dest)?;
-        let from = movable.as_slice();
-        let spare = &mut self.spare;
-        let (outcome, told) = self.net.edit_if(
-            alloc,
-            edits,
-            |net|
-                requires settles { Settles F.pre F.post settle.now }
-                requires tells { K.IsAlwaysCallable tell.now }
-                requires from { (dest < net.now.nodes) × HoldsSinks net.now dest from.now }
-                ensures outcome { IfOk result (λ made. IsOutcome net.entry.now dest made.0) }
-                ensures told { IfOk result (λ made. K.post tell.entry.now made.0.report (Ok made.1)) }
-                ensures fault { IfErr result (IsOpenFault net.entry.now.nodes dest) }
-                ensures still { IsStill net.entry.now dest → IfErr result (λ fault. fault ≢ Start) }
-                ensures no_start { NeverStarts F.post settle.entry.now → IfErr result (λ fault. fault ≢ Start) }
-            {
-                net.network_law();
-                let turns = spare.take(alloc, net.nodes())?;
-                let outcome = outcome_of(net, dest, from, settle, turns)?;
-                let told = tell(outcome.report)?;
-                Ok((outcome, told))
-            },
-        )?;
-        let Outcome { turns, report } = outcome;
-        put_in_place(&mut self.net, &mut self.hops, dest, &turns, from, rerouted);
-        put_in_order(&mut self.room, &self.hops, rerouted);
-        keep_turns(&mut self.turns, &mut self.spare, turns);
-        self.dest = dest;
-        self.report = report;
-        Ok(told)
-    }
-
-    /// The nodes that can be sinks after a change, which are listed before its edits are made. Too many edits are refused before they take
-    /// memory.
-    fn before_edits(&self, alloc: Global, edits: &[Edit], dest: u32) -> Result<Vec<u32>, RouteFault>
-        ensures movable { IfOk result (λ nodes. nodes.items ≡ movable self.now dest edits.now) }
-        ensures fault { IfErr result (IsEditingFault self.now edits.now dest) }
-        ensures no_start { IfErr result (λ fault. fault ≢ Start) }
-    {
-        if edits.len() > MAX_EDITS {
-            return Err(RouteFault::Net(NetFault::TooMany));
-        }
-        Ok(self.movable(alloc, edits, dest)?)
+        .change(self, &change, &|report| Ok(report), &mut told);
+        *rerouted = told.into_list(alloc);
+        report
     }
 
     /// The nodes that can be sinks once these edits are made and the destination has moved, and whose hops can be wrong though no
     /// node turns: those that the edits and the new destination touch, and those with a link that the last round cut off. Each other
-    /// node with a link has a way on that the edits leave.
-    fn movable(&self, alloc: Global, edits: &[Edit], dest: u32) -> Result<Vec<u32>, AllocError>
-        ensures { IfOk result (λ nodes. nodes.items ≡ movable self.now dest edits.now) }
+    /// node with a link has a way on that the edits leave. Too many edits are refused before they take memory.
+    fn movable(&self, alloc: Global, revision: &Revision<'_>) -> Result<Vec<u32>, RouteFault>
+        ensures movable { IfOk result (λ nodes. nodes.items ≡ movable self.now revision.now.dest revision.now.edits.now) }
+        ensures fault { IfErr result (IsEditingFault self.now revision.now.edits.now revision.now.dest) }
+        ensures no_start { IfErr result (λ fault. fault ≢ Start) }
     {
-        let mut nodes = touched_nodes(alloc, self.dest, dest, edits)?;
+        if revision.edits.len() > MAX_EDITS {
+            return Err(RouteFault::Net(NetFault::TooMany));
+        }
+        let mut nodes = touched_nodes(alloc, self.dest, revision.dest, revision.edits)?;
         let cut_off = self.linked_cut_off();
         if cut_off > 0 {
             nodes.reserve(cut_off as usize)?;

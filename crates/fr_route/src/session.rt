@@ -1,14 +1,15 @@
 //! What the requests so far have made, and the answer to the next one.
 
-ghost use Rattle.std.specs.Prelude.{◌≡◌, ◌≢◌, ◌<◌, ◌≤◌, ◌⊎◌, ◌↔◌, length, replicate, true, false, Some, None, IfOk, IfErr, OnErr, OnOk, IfSome, IfNone, MatchOption, string_bytes, vec_capacity};
+ghost use Rattle.std.specs.Prelude.{◌≡◌, ◌≢◌, ◌<◌, ◌≤◌, ◌⊎◌, ◌↔◌, length, replicate, true, false, Ok, Some, None, IfOk, IfErr, OnErr, OnOk, IfSome, IfNone, MatchOption, string_bytes, vec_capacity};
 ghost use Rattle.std.specs.Option.{option_copied};
 ghost use Rattle.fr_lines.specs.Requests.{ask, make_edits, new_network, walk_from, plain, reading};
-ghost use Rattle.fr_crew.specs.Settlements.{HoldsSinks};
-ghost use Rattle.fr_crew.specs.Ways.{Settles, NeverStarts};
+ghost use Rattle.fr_crew.specs.Settlements.{CanBegin};
+ghost use Rattle.fr_route.specs.Ways.{Settles, NeverStarts};
 ghost use Rattle.fr_route.specs.Blank.{is_blank as is_blank_line};
 ghost use Rattle.fr_route.specs.Answers.{IsAccepted, IsAnswer, IsLineAnswer, IsReportLine, MayStartFor, MayStartForLine};
-ghost use Rattle.fr_route.specs.Sessions.{IsAnswered};
-ghost use Rattle.fr_route.specs.Told.{IsLineTold};
+ghost use Rattle.fr_route.specs.Listing.{IsListing, nodes_told};
+ghost use Rattle.fr_route.specs.Sessions.{IsAnswered, IsLineAnswered};
+ghost use Rattle.fr_route.specs.Told.{TellsOfLine};
 ghost use Rattle.fr_route.specs.Reroutes.{AreReplaced};
 ghost use Rattle.fr_route.specs.Texts.{longest_report, refusal_text};
 ghost use Rattle.fr_route.specs.Faults.{of_route_fault};
@@ -21,14 +22,17 @@ use crate::change::Change;
 use crate::fault::{AnswerFault, RouteFault};
 use crate::hops::Walked;
 use crate::refusals::Refusal;
+use crate::revision::Revision;
 use crate::router::Router;
+use crate::settling::Asking;
 use crate::texts::{
     counts_line, hops_line, links_line, no_walk_line, refusal_line, report_line, walk_line,
 };
-use fr_crew::{CrewFault, Gate, Plan, settled_counts, settled_counts_alone};
+use crate::told::Told;
+use fr_crew::{Crew, CrewFault, Gate, Plan, settled_counts, settled_counts_alone};
 use fr_graph::{Edit, Net, Turns};
 use fr_lines::{LineFault, LineReader, Question, Request};
-use std::alloc::{AllocError, Global};
+use std::alloc::Global;
 use std::marker::Model;
 use std::sync::Wait;
 use std::thread::Threads;
@@ -111,16 +115,19 @@ impl Session {
         ensures one_worker { plan.now.workers ≡ 1 → IfErr result (λ fault. fault ≢ Start) }
         ensures no_start { plan.now.budget ≡ 0 → IfErr result (λ fault. fault ≢ Start) }
     {
-        self.answer_line_by(
+        let crew = Crew {
+            rt,
             alloc,
-            line,
+            plan,
+            gate,
+        };
+        Asking::new(
+            alloc,
             &|net, dest, from, turns|
-                requires from { IfSome from (λ from. HoldsSinks net.now dest from.now) }
-                requires none { turns ≡ replicate net.now.nodes 0 }
-            { settled_counts(rt, alloc, net, dest, from, plan, gate, turns) },
-            false,
-            &mut Vec::new(alloc),
+                requires { CanBegin net.now dest from turns }
+            { settled_counts(&crew, net, dest, from, turns) },
         )
+        .answer_line(self, line, &mut Told::Nobody)
     }
 
     /// The same on the thread that calls, with no crew: it starts no thread, waits for nobody, and never answers `Start`. It costs the
@@ -137,13 +144,11 @@ impl Session {
         ensures short { IfOk result (λ answer. IfSome answer (λ text. (self.new ≡ self.old) ⊎ (length (string_bytes text) ≤ longest_report))) }
         ensures no_start { IfErr result (λ fault. fault ≢ Start) }
     {
-        self.answer_line_by(
+        Asking::new(
             alloc,
-            line,
             &|net, dest, from, turns| settled_counts_alone(net, dest, from, turns),
-            false,
-            &mut Vec::new(alloc),
         )
+        .answer_line(self, line, &mut Told::Nobody)
     }
 
     /// The same, and tells in a list of the caller's which nodes the line reroutes, in push order: after a change as
@@ -156,90 +161,22 @@ impl Session {
         line: &[u8],
         rerouted: &mut Vec<u32>,
     ) -> Result<Option<String>, AnswerFault>
-        ensures blank { IfOk result (λ answer. IfNone answer ((is_blank_line line.now ≡ true) × (self.new ≡ self.old) × (rerouted.new.items ≡ rerouted.old.items))) }
-        ensures text { IfOk result (λ answer. IfSome answer (λ text. (is_blank_line line.now ≡ false)
-            × IsLineAnswer self.old (reading line.now) (string_bytes text) self.new)) }
-        ensures told { IfOk result (λ answer. IfSome answer (λ _. IsLineTold self.old (reading line.now) self.new rerouted.old.items rerouted.new.items)) }
-        ensures unchanged { OnErr result ((is_blank_line line.now ≡ false) × (self.new ≡ self.old)) }
-        ensures untold { OnErr result (rerouted.new.items ≡ rerouted.old.items) }
-        ensures short { IfOk result (λ answer. IfSome answer (λ text. ((self.new ≡ self.old) × (rerouted.new.items ≡ rerouted.old.items)) ⊎ (length (string_bytes text) ≤ longest_report))) }
-        ensures no_start { IfErr result (λ fault. fault ≢ Start) }
-    {
-        self.answer_line_by(
-            alloc,
-            line,
-            &|net, dest, from, turns| settled_counts_alone(net, dest, from, turns),
-            true,
-            rerouted,
-        )
-    }
-
-    /// The answer to a line, where networks are settled as the caller says.
-    fn answer_line_by<F: Fn(&Net, u32, Option<&[u32]>, Turns) -> Result<Turns, CrewFault>>(
-        &mut self,
-        alloc: Global,
-        line: &[u8],
-        settle: &F,
-        telling: bool,
-        rerouted: &mut Vec<u32>,
-    ) -> Result<Option<String>, AnswerFault>
-        requires { Settles F.pre F.post settle.now }
         ensures blank { IfOk result (λ answer. IfNone answer ((is_blank_line line.now ≡ true) × (self.new ≡ self.old))) }
         ensures text { IfOk result (λ answer. IfSome answer (λ text. (is_blank_line line.now ≡ false)
             × IsLineAnswer self.old (reading line.now) (string_bytes text) self.new)) }
-        ensures told { telling ≡ true → IfOk result (λ answer. IfSome answer (λ _. IsLineTold self.old (reading line.now) self.new rerouted.old.items rerouted.new.items)) }
-        ensures blank_told { IfOk result (λ answer. IfNone answer (rerouted.new.items ≡ rerouted.old.items)) }
+        ensures told { TellsOfLine self.old (reading line.now) result self.new rerouted.old.items rerouted.new.items }
         ensures unchanged { OnErr result ((is_blank_line line.now ≡ false) × (self.new ≡ self.old)) }
-        ensures untold { OnErr result (rerouted.new.items ≡ rerouted.old.items) }
         ensures short { IfOk result (λ answer. IfSome answer (λ text. ((self.new ≡ self.old) × (rerouted.new.items ≡ rerouted.old.items)) ⊎ (length (string_bytes text) ≤ longest_report))) }
-        ensures start { IfErr result (λ fault. fault ≡ Start → MayStartForLine self.old (reading line.now)) }
-        ensures no_start { NeverStarts F.post settle.now → IfErr result (λ fault. fault ≢ Start) }
+        ensures no_start { IfErr result (λ fault. fault ≢ Start) }
     {
-        if is_blank(line) {
-            return Ok(None);
-        }
-        Ok(Some(self.answer_words_by(alloc, line, settle, telling, rerouted)?))
-    }
-
-    /// The answer to a line that is not blank.
-    fn answer_words_by<F: Fn(&Net, u32, Option<&[u32]>, Turns) -> Result<Turns, CrewFault>>(
-        &mut self,
-        alloc: Global,
-        line: &[u8],
-        settle: &F,
-        telling: bool,
-        rerouted: &mut Vec<u32>,
-    ) -> Result<String, AnswerFault>
-        requires { Settles F.pre F.post settle.now }
-        ensures text { IfOk result (λ text. IsLineAnswer self.old (reading line.now) (string_bytes text) self.new) }
-        ensures told { telling ≡ true → IfOk result (λ _. IsLineTold self.old (reading line.now) self.new rerouted.old.items rerouted.new.items) }
-        ensures unchanged { OnErr result (self.new ≡ self.old) }
-        ensures untold { OnErr result (rerouted.new.items ≡ rerouted.old.items) }
-        ensures short { IfOk result (λ text. ((self.new ≡ self.old) × (rerouted.new.items ≡ rerouted.old.items)) ⊎ (length (string_bytes text) ≤ longest_report)) }
-        ensures start { IfErr result (λ fault. fault ≡ Start → MayStartForLine self.old (reading line.now)) }
-        ensures no_start { NeverStarts F.post settle.now → IfErr result (λ fault. fault ≢ Start) }
-    {
-        match self.reader.read(alloc, line) {
-            Ok(request) => self.answer_read_by(alloc, request, settle, telling, rerouted),
-            Err(LineFault::NotJson) => refuse(alloc, Refusal::NotJson),
-            Err(LineFault::NotRequest) => refuse(alloc, Refusal::NotRequest),
-            Err(LineFault::Memory) => Err(AnswerFault::Memory),
-        }
-    }
-
-    /// The answer to the request of a line.
-    fn answer_read_by<F: Fn(&Net, u32, Option<&[u32]>, Turns) -> Result<Turns, CrewFault>>(
-        &mut self,
-        alloc: Global,
-        request: Request,
-        settle: &F,
-        telling: bool,
-        rerouted: &mut Vec<u32>,
-    ) -> Result<String, AnswerFault>
-        requires { Settles F.pre F.post settle.now }
-        ensures { IsAnswered (NeverStarts F.post settle.now) self.old (plain request) telling rerouted.old.items result self.new rerouted.new.items }
-    {
-        self.answer_by(alloc, &request, settle, telling, rerouted)
+        let mut told = Told::taken(rerouted, alloc);
+        let answer = Asking::new(
+            alloc,
+            &|net, dest, from, turns| settled_counts_alone(net, dest, from, turns),
+        )
+        .answer_line(self, line, &mut told);
+        *rerouted = told.into_list(alloc);
+        answer
     }
 
     /// The answer to a request, as `answer_line` gives it to the line of the request, with the same faults. The text has no line end.
@@ -258,16 +195,19 @@ impl Session {
         ensures one_worker { plan.now.workers ≡ 1 → IfErr result (λ fault. fault ≢ Start) }
         ensures no_start { plan.now.budget ≡ 0 → IfErr result (λ fault. fault ≢ Start) }
     {
-        self.answer_by(
+        let crew = Crew {
+            rt,
             alloc,
-            request,
+            plan,
+            gate,
+        };
+        Asking::new(
+            alloc,
             &|net, dest, from, turns|
-                requires from { IfSome from (λ from. HoldsSinks net.now dest from.now) }
-                requires none { turns ≡ replicate net.now.nodes 0 }
-            { settled_counts(rt, alloc, net, dest, from, plan, gate, turns) },
-            false,
-            &mut Vec::new(alloc),
+                requires { CanBegin net.now dest from turns }
+            { settled_counts(&crew, net, dest, from, turns) },
         )
+        .answer(self, request, &mut Told::Nobody)
     }
 
     /// The same on the thread that calls, with no crew: it starts no thread, waits for nobody, and never answers `Start`. It costs the
@@ -278,142 +218,23 @@ impl Session {
         ensures short { IfOk result (λ text. (self.new ≡ self.old) ⊎ (length (string_bytes text) ≤ longest_report)) }
         ensures no_start { IfErr result (λ fault. fault ≢ Start) }
     {
-        self.answer_by(
+        Asking::new(
             alloc,
-            request,
             &|net, dest, from, turns| settled_counts_alone(net, dest, from, turns),
-            false,
-            &mut Vec::new(alloc),
         )
-    }
-
-    /// The answer to a request, where networks are settled as the caller says.
-    fn answer_by<F: Fn(&Net, u32, Option<&[u32]>, Turns) -> Result<Turns, CrewFault>>(
-        &mut self,
-        alloc: Global,
-        request: &Request,
-        settle: &F,
-        telling: bool,
-        rerouted: &mut Vec<u32>,
-    ) -> Result<String, AnswerFault>
-        requires { Settles F.pre F.post settle.now }
-        ensures { IsAnswered (NeverStarts F.post settle.now) self.old (plain request.now) telling rerouted.old.items result self.new rerouted.new.items }
-    {
-        match request {
-            Request::Network { nodes, dest, links } => self.open(
-                alloc, *nodes, *dest, links, settle, telling, rerouted,
-            ),
-            Request::Cut { u, v } => self.change(
-                alloc,
-                Change::Cut { u: *u, v: *v },
-                settle,
-                telling,
-                rerouted,
-            ),
-            Request::Add { u, v } => self.change(
-                alloc,
-                Change::Add { u: *u, v: *v },
-                settle,
-                telling,
-                rerouted,
-            ),
-            Request::Join { u, v } => self.change(
-                alloc,
-                Change::Join { u: *u, v: *v },
-                settle,
-                telling,
-                rerouted,
-            ),
-            Request::Batch { edits } => self.edit(alloc, edits, settle, telling, rerouted),
-            Request::Destination { dest } => {
-                self.change(
-                    alloc,
-                    Change::Destination { dest: *dest },
-                    settle,
-                    telling,
-                    rerouted,
-                )
-            }
-            Request::Walk { x } => self.walk(alloc, *x),
-            Request::Ask(question) => self.tell(alloc, *question),
-        }
-    }
-
-    /// Takes a network, or says for which fault it is refused.
-    fn open<F: Fn(&Net, u32, Option<&[u32]>, Turns) -> Result<Turns, CrewFault>>(
-        &mut self,
-        alloc: Global,
-        nodes: u32,
-        dest: u32,
-        links: &[(u32, u32)],
-        settle: &F,
-        telling: bool,
-        rerouted: &mut Vec<u32>,
-    ) -> Result<String, AnswerFault>
-        requires { Settles F.pre F.post settle.now }
-        ensures { IsAnswered (NeverStarts F.post settle.now) self.old (new_network nodes dest links.now) telling rerouted.old.items result self.new rerouted.new.items }
-    {
-        match opened(alloc, nodes, dest, links, settle) {
-            Ok(router) => self.put(alloc, router, telling, rerouted),
-            Err(fault) => refusal(alloc, fault),
-        }
-    }
-
-    /// Changes the network, or says for which fault the change is refused.
-    fn change<F: Fn(&Net, u32, Option<&[u32]>, Turns) -> Result<Turns, CrewFault>>(
-        &mut self,
-        alloc: Global,
-        change: Change,
-        settle: &F,
-        telling: bool,
-        rerouted: &mut Vec<u32>,
-    ) -> Result<String, AnswerFault>
-        requires { Settles F.pre F.post settle.now }
-        ensures { IsAnswered (NeverStarts F.post settle.now) self.old (request_of_change change) telling rerouted.old.items result self.new rerouted.new.items }
-    {
-        let Some(router) = &mut self.router else {
-            return refuse(alloc, Refusal::NoNetwork);
-        };
-        changed(alloc, router, &change, settle, telling, rerouted)
-    }
-
-    /// Makes these edits, or says for which fault one is refused.
-    fn edit<F: Fn(&Net, u32, Option<&[u32]>, Turns) -> Result<Turns, CrewFault>>(
-        &mut self,
-        alloc: Global,
-        edits: &[Edit],
-        settle: &F,
-        telling: bool,
-        rerouted: &mut Vec<u32>,
-    ) -> Result<String, AnswerFault>
-        requires { Settles F.pre F.post settle.now }
-        ensures { IsAnswered (NeverStarts F.post settle.now) self.old (make_edits edits.now) telling rerouted.old.items result self.new rerouted.new.items }
-    {
-        let Some(router) = &mut self.router else {
-            return refuse(alloc, Refusal::NoNetwork);
-        };
-        edited(alloc, router, edits, settle, telling, rerouted)
+        .answer(self, request, &mut Told::Nobody)
     }
 
     /// Puts a router in place, once the line that reports its round is made, and tells which nodes have another hop if that is asked.
-    fn put(
-        &mut self,
-        alloc: Global,
-        router: Router,
-        telling: bool,
-        rerouted: &mut Vec<u32>,
-    ) -> Result<String, AnswerFault>
+    fn put(&mut self, alloc: Global, router: Router, told: &mut Told) -> Result<String, AnswerFault>
         ensures text { IfOk result (λ text. IsReportLine router (string_bytes text) × (self.new ≡ Some router)) }
-        ensures told { telling ≡ true → OnOk result (AreReplaced self.old router rerouted.new.items) }
-        ensures unchanged { OnErr result (self.new ≡ self.old) }
-        ensures untold { OnErr result (rerouted.new.items ≡ rerouted.old.items) }
+        ensures told { IsListing told.old → OnOk result (AreReplaced self.old router (nodes_told told.new)) }
+        ensures unchanged { OnErr result ((self.new ≡ self.old) × (nodes_told told.new ≡ nodes_told told.old)) }
         ensures short { IfOk result (λ text. length (string_bytes text) ≤ longest_report) }
         ensures memory { IfErr result (λ fault. fault ≡ Memory) }
     {
         let text = report_line(alloc, router.report())?;
-        if telling {
-            *rerouted = changed_hops(alloc, self.router.as_ref(), &router)?;
-        }
+        tell_replaced(alloc, self.router.as_ref(), &router, told)?;
         self.put_router(router);
         Ok(text)
     }
@@ -452,30 +273,27 @@ impl Session {
     }
 }
 
-/// The nodes that a new router reroutes, in the place of the one before it, if there was one.
-fn changed_hops(
+/// Tells which nodes a new router reroutes, in the place of the one before it, if there was one.
+fn tell_replaced(
     alloc: Global,
     before: Option<&Router>,
     router: &Router,
-) -> Result<Vec<u32>, AnswerFault>
-    ensures changed { IfOk result (λ nodes. AreReplaced (option_copied before.entry) router.now nodes.items) }
+    told: &mut Told,
+) -> Result<(), AnswerFault>
+    ensures told { IsListing told.old → OnOk result (AreReplaced (option_copied before.entry) router.now (nodes_told told.new)) }
+    ensures untold { OnErr result (nodes_told told.new ≡ nodes_told told.old) }
     ensures memory { IfErr result (λ fault. fault ≡ Memory) }
 {
+    let Told::Nodes(list) = told else {
+        return Ok(());
+    };
     match router.changed_since(alloc, before) {
-        Ok(nodes) => Ok(nodes),
+        Ok(nodes) => {
+            *list = nodes;
+            Ok(())
+        }
         Err(_) => Err(AnswerFault::Memory),
     }
-}
-
-/// Makes room for all nodes in a list that is to tell some of them.
-fn make_room(list: &mut Vec<u32>, nodes: u32, telling: bool) -> Result<(), AllocError>
-    ensures room { telling ≡ true → OnOk result (nodes ≤ vec_capacity list.new) }
-    ensures same { list.new.items ≡ list.old.items }
-{
-    if !telling {
-        return Ok(());
-    }
-    list.reserve((nodes as usize).saturating_sub(list.len()))
 }
 
 /// The answer to a line that is refused.
@@ -508,71 +326,162 @@ fn refusal_for(fault: &RouteFault) -> Result<Refusal, AnswerFault>
     }
 }
 
-/// Changes the network of a router, or says for which fault the change is refused.
-fn changed<F: Fn(&Net, u32, Option<&[u32]>, Turns) -> Result<Turns, CrewFault>>(
-    alloc: Global,
-    router: &mut Router,
-    change: &Change,
-    settle: &F,
-    telling: bool,
-    rerouted: &mut Vec<u32>,
-) -> Result<String, AnswerFault>
-    requires { Settles F.pre F.post settle.now }
-    ensures { IsAnswered (NeverStarts F.post settle.now) (Some router.old) (request_of_change change.now) telling rerouted.old.items result (Some router.new) rerouted.new.items }
-{
-    make_room(rerouted, router.net().nodes(), telling)?;
-    match router.change_by(
-        alloc,
-        change,
-        settle,
-        &|report| report_line(alloc, report),
-        rerouted,
-    ) {
-        Ok(text) => Ok(text),
-        Err(fault) => refusal(alloc, fault),
+impl<'a, F: Fn(&Net, u32, Option<&[u32]>, Turns) -> Result<Turns, CrewFault>> Asking<'a, F> {
+    /// The answer to a line, or None for a blank one.
+    fn answer_line(
+        &self,
+        session: &mut Session,
+        line: &[u8],
+        told: &mut Told,
+    ) -> Result<Option<String>, AnswerFault>
+        requires { Settles F.pre F.post self.now.settle.now }
+        ensures { IsLineAnswered (NeverStarts F.post self.now.settle.now) session.old line.now told.old result session.new told.new }
+    {
+        if is_blank(line) {
+            return Ok(None);
+        }
+        Ok(Some(self.answer_read(session, line, told)?))
     }
-}
 
-/// Makes these edits in the network of a router, or says for which fault one is refused.
-fn edited<F: Fn(&Net, u32, Option<&[u32]>, Turns) -> Result<Turns, CrewFault>>(
-    alloc: Global,
-    router: &mut Router,
-    edits: &[Edit],
-    settle: &F,
-    telling: bool,
-    rerouted: &mut Vec<u32>,
-) -> Result<String, AnswerFault>
-    requires { Settles F.pre F.post settle.now }
-    ensures { IsAnswered (NeverStarts F.post settle.now) (Some router.old) (make_edits edits.now) telling rerouted.old.items result (Some router.new) rerouted.new.items }
-{
-    let dest = router.dest();
-    make_room(rerouted, router.net().nodes(), telling)?;
-    match router.edit_by(
-        alloc,
-        edits,
-        dest,
-        settle,
-        &|report| report_line(alloc, report),
-        rerouted,
-    ) {
-        Ok(line) => Ok(line),
-        Err(fault) => refusal(alloc, fault),
+    /// The answer to a line that is not blank.
+    fn answer_read(
+        &self,
+        session: &mut Session,
+        line: &[u8],
+        told: &mut Told,
+    ) -> Result<String, AnswerFault>
+        requires { Settles F.pre F.post self.now.settle.now }
+        ensures { IsAnswered (NeverStarts F.post self.now.settle.now) session.old (reading line.now) told.old result session.new told.new }
+    {
+        match session.reader.read(self.alloc, line) {
+            Ok(request) => self.answer(session, &request, told),
+            Err(LineFault::NotJson) => refuse(self.alloc, Refusal::NotJson),
+            Err(LineFault::NotRequest) => refuse(self.alloc, Refusal::NotRequest),
+            Err(LineFault::Memory) => Err(AnswerFault::Memory),
+        }
     }
-}
 
-/// The router of a network of these links, settled as the caller says.
-fn opened<F: Fn(&Net, u32, Option<&[u32]>, Turns) -> Result<Turns, CrewFault>>(
-    alloc: Global,
-    nodes: u32,
-    dest: u32,
-    links: &[(u32, u32)],
-    settle: &F,
-) -> Result<Router, RouteFault>
-    requires { Settles F.pre F.post settle.now }
-    ensures accepted { IfOk result (IsAccepted None (new_network nodes dest links.now)) }
-    ensures refused { IfErr result (IsNewFault nodes dest links.now) }
-    ensures no_start { NeverStarts F.post settle.now → IfErr result (λ fault. fault ≢ RouteStart) }
-{
-    let net = Net::new(alloc, nodes, links)?;
-    Router::open_by(alloc, net, dest, settle)
+    /// The answer to a request.
+    fn answer(
+        &self,
+        session: &mut Session,
+        request: &Request,
+        told: &mut Told,
+    ) -> Result<String, AnswerFault>
+        requires { Settles F.pre F.post self.now.settle.now }
+        ensures { IsAnswered (NeverStarts F.post self.now.settle.now) session.old (Ok (plain request.now)) told.old result session.new told.new }
+    {
+        match request {
+            Request::Network { nodes, dest, links } => {
+                match self.open_network(*nodes, *dest, links) {
+                    Ok(router) => session.put(self.alloc, router, told),
+                    Err(fault) => refusal(self.alloc, fault),
+                }
+            }
+            Request::Cut { u, v } => self.change_session(
+                session,
+                Change::Cut { u: *u, v: *v },
+                told,
+            ),
+            Request::Add { u, v } => self.change_session(
+                session,
+                Change::Add { u: *u, v: *v },
+                told,
+            ),
+            Request::Join { u, v } => self.change_session(
+                session,
+                Change::Join { u: *u, v: *v },
+                told,
+            ),
+            Request::Batch { edits } => self.edit_session(session, edits, told),
+            Request::Destination { dest } => {
+                self.change_session(session, Change::Destination { dest: *dest }, told)
+            }
+            Request::Walk { x } => session.walk(self.alloc, *x),
+            Request::Ask(question) => session.tell(self.alloc, *question),
+        }
+    }
+
+    /// The router of a network of these links.
+    fn open_network(
+        &self,
+        nodes: u32,
+        dest: u32,
+        links: &[(u32, u32)],
+    ) -> Result<Router, RouteFault>
+        requires { Settles F.pre F.post self.now.settle.now }
+        ensures accepted { IfOk result (IsAccepted None (new_network nodes dest links.now)) }
+        ensures refused { IfErr result (IsNewFault nodes dest links.now) }
+        ensures no_start { NeverStarts F.post self.now.settle.now → IfErr result (λ fault. fault ≢ RouteStart) }
+    {
+        let net = Net::new(self.alloc, nodes, links)?;
+        self.open(net, dest)
+    }
+
+    /// Changes the network, or says for which fault the change is refused.
+    fn change_session(
+        &self,
+        session: &mut Session,
+        change: Change,
+        told: &mut Told,
+    ) -> Result<String, AnswerFault>
+        requires { Settles F.pre F.post self.now.settle.now }
+        ensures { IsAnswered (NeverStarts F.post self.now.settle.now) session.old (Ok (request_of_change change)) told.old result session.new told.new }
+    {
+        let Some(router) = &mut session.router else {
+            return refuse(self.alloc, Refusal::NoNetwork);
+        };
+        self.answer_change(router, &change, told)
+    }
+
+    /// The answer to a change of a router's network.
+    fn answer_change(
+        &self,
+        router: &mut Router,
+        change: &Change,
+        told: &mut Told,
+    ) -> Result<String, AnswerFault>
+        requires { Settles F.pre F.post self.now.settle.now }
+        ensures { IsAnswered (NeverStarts F.post self.now.settle.now) (Some router.old) (Ok (request_of_change change.now)) told.old result (Some router.new) told.new }
+    {
+        let tell = |report| report_line(self.alloc, report);
+        match self.change(router, change, &tell, told) {
+            Ok(text) => Ok(text),
+            Err(fault) => refusal(self.alloc, fault),
+        }
+    }
+
+    /// Makes these edits, or says for which fault one is refused.
+    fn edit_session(
+        &self,
+        session: &mut Session,
+        edits: &[Edit],
+        told: &mut Told,
+    ) -> Result<String, AnswerFault>
+        requires { Settles F.pre F.post self.now.settle.now }
+        ensures { IsAnswered (NeverStarts F.post self.now.settle.now) session.old (Ok (make_edits edits.now)) told.old result session.new told.new }
+    {
+        let Some(router) = &mut session.router else {
+            return refuse(self.alloc, Refusal::NoNetwork);
+        };
+        self.answer_edits(router, edits, told)
+    }
+
+    /// The answer to edits of a router's network.
+    fn answer_edits(
+        &self,
+        router: &mut Router,
+        edits: &[Edit],
+        told: &mut Told,
+    ) -> Result<String, AnswerFault>
+        requires { Settles F.pre F.post self.now.settle.now }
+        ensures { IsAnswered (NeverStarts F.post self.now.settle.now) (Some router.old) (Ok (make_edits edits.now)) told.old result (Some router.new) told.new }
+    {
+        let dest = router.dest();
+        let tell = |report| report_line(self.alloc, report);
+        match self.edit(router, &Revision { edits, dest }, &tell, told) {
+            Ok(text) => Ok(text),
+            Err(fault) => refusal(self.alloc, fault),
+        }
+    }
 }

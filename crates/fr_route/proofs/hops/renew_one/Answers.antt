@@ -1,6 +1,7 @@
 use Rattle.std.proofs.Common.{Some, arith, inl, inr, slice_get, sym, ℕ, ◌∙◌, ◌≡◌, ◌⊎◌}
 use Rattle.std.proofs.lemmas.Bool.{false≢true}
-use Rattle.fr_route.specs.States.{State, state_with}
+use Rattle.fr_route.specs.Outcomes.{state_after}
+use Rattle.fr_route.specs.States.{State}
 use Rattle.fr_route.specs.Routes.{IsHop}
 use Rattle.fr_tables.specs.declared.hop.Hop.{Hop}
 use Rattle.fr_tables.specs.declared.hop.Hop.TheVariants.{Here}
@@ -11,15 +12,15 @@ use Rattle.fr_route.proofs.hops.renew_one.Goals as goal
 
 pub returns-then-is_same : goal.returns-then-is_same
 returns-then-is_same c =
-    let s : State = state_with c.args.net.now c.args.dest c.args.counts.now in
+    let s : State = state_after c.args.round.now in
     record {
       renewed = renewed_right s c.args.hops.now c.args.x c.hop_of-hop.result Here c.hop_of-hop.ensures (c.is_same.ensures.0 c.if-is_same.true);
-      noted = notes_none s c.args.hops.now c.args.rerouted.now;
+      noted = notes_none s c.args.hops.now c.args.told.now;
     }
 
 pub returns-clause-renewed : goal.returns-clause-renewed
 returns-clause-renewed c =
-    let s : State = state_with c.args.net.now c.args.dest c.args.counts.now in
+    let s : State = state_after c.args.round.now in
     let hops = c.args.hops.now in
     record {
       each = written (λ (y : ℕ) (hop : Hop). IsHop s y hop ⊎ ((slice_get hops y ≡ Some hop) × ¬ (y ≡ c.args.x))) hops c.args.x c.hop_of-hop.result (inl c.hop_of-hop.ensures) (λ y hop apart at. inr (at, apart));
@@ -27,7 +28,7 @@ returns-clause-renewed c =
 
 pub returns-clause-noted : goal.returns-clause-noted
 returns-clause-noted c =
-    let s : State = state_with c.args.net.now c.args.dest c.args.counts.now in
-    notes_one s c.args.x c.hop_of-hop.result Here c.args.hops.now c.args.rerouted.now c.note.new.rerouted c.hop_of-hop.ensures (omega (arith, c.requires.one_each, c.requires.node))
+    let s : State = state_after c.args.round.now in
+    notes_one s c.args.x c.hop_of-hop.result Here c.args.hops.now c.args.told.now c.note.new.self c.hop_of-hop.ensures (omega (arith, c.requires.one_each, c.requires.node))
     (λ same. false≢true (sym c.if-is_same.false ∙ c.is_same.ensures.1 same))
-    c.note.ensures.same_room c.note.ensures.noted
+    c.note.ensures.keeps c.note.ensures.noted

@@ -2,34 +2,31 @@ use Rattle.std.proofs.Common.{List, arith, get_or, subst, sym, ℕ, ⊎_elim, �
 use Rattle.std.proofs.lemmas.Bool.{cases_eq}
 use Rattle.std.proofs.lemmas.List.{get_or_default}
 use Rattle.fr_graph.proofs.TurnedNodes.{turned_below}
-use Rattle.fr_route.specs.Outcomes.{SendsTo}
-use Rattle.fr_route.specs.States.{State, state_with}
+use Rattle.fr_route.specs.Outcomes.{SendsTo, state_after}
+use Rattle.fr_route.specs.States.{State}
 use Rattle.fr_route.proofs.Noting.{notes_none, notes_then}
 use Rattle.fr_route.proofs.Renewing.{renewed_as, renewed_none, renewed_then}
 use Rattle.fr_route.proofs.hops.renew_turned.Goals as goal
 
 pub loop-x-init : goal.loop-x-init
 loop-x-init c =
-    let s : State = state_with c.args.net.now c.args.dest c.args.turns.now in
+    let s : State = state_after c.args.round.now in
     record {
       renewed = renewed_none s c.args.hops.now _ (λ y hop j low. absurd (omega arith));
-      noted = notes_none s c.args.hops.now c.args.rerouted.now;
+      noted = notes_none s c.args.hops.now c.args.told.now;
     }
 
 pub renew_near-requires-clause-node : goal.renew_near-requires-clause-node
 renew_near-requires-clause-node c =
-    omega (arith, c.requires.round.round.counts.one_each, turned_below c.args.turns.now c.nodes-x-items.result.now c.nodes-x-items.ensures c.loop-x.x-index 0 c.loop-x-test.true)
-
-pub renew_near-requires-clause-round : goal.renew_near-requires-clause-round
-renew_near-requires-clause-round c = rw c.counts.ensures c.requires.round
+    omega (arith, c.requires.round.round.counts.one_each, turned_below c.args.round.now.turns.now c.nodes-x-items.result.now c.nodes-x-items.ensures c.loop-x.x-index 0 c.loop-x-test.true)
 
 pub loop-x-preserved : goal.loop-x-preserved
 loop-x-preserved c =
-    let s : State = state_with c.args.net.now c.args.dest c.args.turns.now in
-    let links = c.args.net.now.links in
+    let s : State = state_after c.args.round.now in
+    let links = c.args.round.now.net.now.links in
     let nodes : List ℕ = c.nodes-x-items.result.now in
     let k = c.loop-x.x-index in
-    let near = rw c.counts.ensures at c.renew_near.ensures in
+    let near = c.renew_near.ensures in
     record {
       renewed = renewed_then s c.args.hops.now c.loop-x.hops c.renew_near.new.hops (λ y hop. (j : ℕ) → j < k → ¬ SendsTo links (get_or nodes j 0) y hop) (λ y hop. ¬ SendsTo links (get_or nodes k 0) y hop) (λ y hop. (j : ℕ) → j < k + 1 → ¬ SendsTo links (get_or nodes j 0) y hop)
           c.loop-x.invariant.renewed near.renewed
@@ -37,13 +34,13 @@ loop-x-preserved c =
           (λ e. subst (λ (i : ℕ). ¬ SendsTo links (get_or nodes i 0) y hop) (sym e) apart)
           (λ other. before j (omega arith))
           (cases_eq j k));
-      noted = notes_then s c.args.hops.now c.loop-x.hops c.renew_near.new.hops c.args.rerouted.now c.loop-x.rerouted c.renew_near.new.rerouted c.loop-x.auto.hops c.loop-x.invariant.noted near.noted;
+      noted = notes_then s c.args.hops.now c.loop-x.hops c.renew_near.new.hops c.args.told.now c.loop-x.told c.renew_near.new.told c.loop-x.auto.hops c.loop-x.invariant.noted near.noted;
     }
 
 pub returns-clause-renewed : goal.returns-clause-renewed
 returns-clause-renewed c =
-    let s : State = state_with c.args.net.now c.args.dest c.args.turns.now in
-    let links = c.args.net.now.links in
+    let s : State = state_after c.args.round.now in
+    let links = c.args.round.now.net.now.links in
     let nodes : List ℕ = c.nodes-x-items.result.now in
     renewed_as s c.args.hops.now c.loop-x.hops (λ y hop. (j : ℕ) → j < c.loop-x.x-index → ¬ SendsTo links (get_or nodes j 0) y hop) _ c.loop-x.invariant.renewed
     (λ y hop earlier (z, (some, sends)).

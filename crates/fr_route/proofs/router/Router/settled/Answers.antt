@@ -12,4 +12,5 @@ turn-requires-clause-kept c =
 
 pub hop_table-requires : goal.hop_table-requires
 hop_table-requires c =
-    rw c.counts.ensures (subst (λ (m : Network). IsAfterRound (state_with m c.args.dest c.args.turns)) (sym c.turn.ensures.is) (after_outcome c.args.net c.args.dest c.args.turns c.network_law.ensures.is_net c.requires))
+    subst (λ (m : Network). IsAfterRound (state_with m c.args.dest c.args.turns)) (sym c.turn.ensures.is)
+    (after_outcome c.args.net c.args.dest c.args.turns c.network_law.ensures.is_net c.requires)

@@ -6,10 +6,10 @@ use Rattle.fr_core.specs.History.{moment_of}
 use Rattle.fr_core.specs.Legal.{CanTurn, NoneCanTurn}
 use Rattle.fr_crew.proofs.Beginning.{counted, zeros_hold}
 use Rattle.fr_crew.specs.Settlements.{HoldsSinks}
-use Rattle.fr_route.proofs.outcome.settled_from.Goals as goal
+use Rattle.fr_route.proofs.settling.Asking.settled_from.Goals as goal
 
-pub returns-then-not-any_can_turn-clause-settled : goal.returns-then-not-any_can_turn-clause-settled
-returns-then-not-any_can_turn-clause-settled g c =
+pub returns-then-not-any_can_turn-clause-answer : goal.returns-then-not-any_can_turn-clause-answer
+returns-then-not-any_can_turn-clause-answer g c =
     let net = c.args.net.now in
     let n = net.nodes in
     let d = c.args.dest in
@@ -21,4 +21,8 @@ returns-then-not-any_can_turn-clause-settled g c =
     let (k, low, at) = (zeros_hold net d c.args.from.now from.1).all x can in
     false≢true (sym c.if-not-any_can_turn.true ∙ c.any_can_turn.ensures.1 (k, x, low, at, subst (λ (table : List ℕ). CanTurn n d (moment_of net.links table) x) (sym counts) can)) in
     let is_net = c.network_law.ensures.is_net in
-    rw c.requires.none (counted n d net.links is_net from.0 zeros (settled_from_none n d net.links is_net from.0 zeros (zeros_lawful n d net.links) none))
+    record {
+      settled = rw c.requires.none (counted n d net.links is_net from.0 zeros (settled_from_none n d net.links is_net from.0 zeros (zeros_lawful n d net.links) none));
+      range = tt;
+      still = λ _. tt;
+    }

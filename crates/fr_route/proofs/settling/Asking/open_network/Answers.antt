@@ -3,7 +3,7 @@ use Rattle.fr_graph.specs.Network.{Network}
 use Rattle.std.proofs.lemmas.Result.{IfOk-weaker, err_from_is_err_and}
 use Rattle.fr_route.proofs.Opening.{new_fault, opening_fault}
 use Rattle.fr_route.proofs.RoundEnds.{round_listed}
-use Rattle.fr_route.proofs.session.opened.Goals as goal
+use Rattle.fr_route.proofs.settling.Asking.open_network.Goals as goal
 
 pub returns-in_err-net-clause-refused : goal.returns-in_err-net-clause-refused
 returns-in_err-net-clause-refused g c =
@@ -14,12 +14,12 @@ pub returns-clause-accepted : goal.returns-clause-accepted
 returns-clause-accepted g c =
     let made = c.in_ok-net.ensures.ok in
     let net : Network = c.in_ok-net.net in
-    IfOk-weaker c.open_by.result _ _
+    IfOk-weaker c.open.result _ _
     (λ router opened.
     let below : c.args.dest < c.args.nodes = subst (λ (n : ℕ). c.args.dest < n) (ap (λ (m : Network). m.nodes) made.is) opened.0 in
     (made.faultless, below, round_listed c.args.nodes c.args.dest c.args.links.now net router made opened.1))
-    c.open_by.ensures.opened
+    c.open.ensures.opened
 
 pub returns-clause-refused : goal.returns-clause-refused
 returns-clause-refused g c =
-    opening_fault c.args.nodes c.args.dest c.args.links.now c.in_ok-net.net c.open_by.result c.in_ok-net.ensures.ok c.open_by.ensures.fault c.open_by.ensures.still
+    opening_fault _ c.args.nodes c.args.dest c.args.links.now c.in_ok-net.net c.open.result c.in_ok-net.ensures.ok c.open.ensures.fault

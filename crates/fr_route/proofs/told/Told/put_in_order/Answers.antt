@@ -2,12 +2,13 @@ use Rattle.std.proofs.Common.{Contains, List, arith, length, subst, sym, vec_len
 use Rattle.std.proofs.lemmas.List.{with_items_is}
 use Rattle.fr_tables.specs.Pushes.{DifferAt, IsPushOrder}
 use Rattle.fr_route.proofs.PushLengths.{order_length}
-use Rattle.fr_route.proofs.outcome.put_in_order.Goals as goal
+use Rattle.fr_route.proofs.told.Told.put_in_order.Goals as goal
 
-pub returns-then-capacity-hops-clause-order : goal.returns-then-capacity-hops-clause-order
-returns-then-capacity-hops-clause-order c = λ old same room others.
+pub returns-in-Nodes-clause-order : goal.returns-in-Nodes-clause-order
+returns-in-Nodes-clause-order c = λ old same listing noted.
+    let others = rw c.in-Nodes.is at noted in
     let hops = c.args.hops.now in
-    let list = c.args.rerouted.now in
+    let list = c.in-Nodes.list in
     let is : IsPushOrder old hops c.order.new.changed = c.order.ensures.order old same
     (subst (λ (nodes : List ℕ). (x : ℕ) → Contains nodes x ↔ DifferAt old hops x) (sym c.deref_mut.ensures.value) others.just) in
     let as_many : length c.order.new.changed ≡ vec_len list = omega (arith, order_length old hops list.items c.order.new.changed others is, list.ok.0) in

@@ -1,0 +1,239 @@
+use Rattle.std.proofs.Common.{◌≡◌, ◌≢◌, ◌∙◌, ◌<◌, List, ap, arith, length, refl, rules, subst, sym, vec_len, ℕ}
+use Rattle.std.proofs.lemmas.List.{with_items_is}
+use Rattle.std.proofs.lemmas.Result.{err_from_is_err_and}
+use Rattle.std.specs.Vec.{with_items}
+use Rattle.fr_graph.specs.Batches.{AreMade}
+use Rattle.fr_graph.specs.Network.{Network}
+use Rattle.fr_crew.specs.Settlements.{HoldsSinks}
+use Rattle.fr_graph.specs.declared.fault.NotEdited.{NotEdited}
+use Rattle.fr_graph.specs.declared.fault.NotEdited.TheVariants.{Fault, Refused}
+use Rattle.fr_route.specs.Changes.{IsOpenFault, IsStill}
+use Rattle.fr_route.specs.Faults.{of_not_edited}
+use Rattle.fr_route.specs.Listing.{HasPlaces, IsListing, nodes_told}
+use Rattle.fr_crew.specs.Settlements.{IsCounted}
+use Rattle.fr_route.specs.Outcomes.{AreOthers, HoldsMoved, IsEditingFault, IsOutcome, movable, settled_state}
+use Rattle.fr_route.specs.Reroutes.{AreRerouted}
+use Rattle.fr_route.specs.Routes.{AreHops}
+use Rattle.fr_route.specs.RouterInside.{state_of}
+use Rattle.fr_route.specs.States.{IsAfterRound, State, net_at}
+use Rattle.fr_route.specs.declared.fault.RouteFault.{RouteFault}
+use Rattle.fr_route.specs.declared.fault.RouteFault.TheVariants.{Start}
+use Rattle.std.specs.declared.alloc.Global.{Global}
+use Rattle.std.specs.declared.vec.Vec.{Vec}
+use Rattle.fr_tables.specs.Pushes.{IsPushOrder}
+use Rattle.fr_tables.specs.declared.hop.Hop.{Hop}
+use Rattle.fr_route.proofs.CutNodes.{after_outcome, ended}
+use Rattle.fr_route.proofs.Changing.{made_nodes, refused_fault, round_fault}
+use Rattle.fr_route.proofs.Inside.{sound_after}
+use Rattle.fr_route.proofs.Moving.{made_net, movable_sinks, unmoved_hops}
+use Rattle.fr_route.proofs.Noting.{listing_has}
+use Rattle.fr_route.proofs.SettledHops.{settled_in_range, settled_loop_free}
+use Rattle.fr_route.proofs.settling.Asking.edit.Given.{Over}
+use Rattle.fr_route.proofs.settling.Asking.edit.Goals as goal
+use Rattle.fr_route.proofs.settling.Asking.edit.Goals.{After-as_slice-from, After-put_in_place, After-router, In_ok-outcome}
+
+items_put : (v : Vec Hop Global) (hops : List Hop) → length hops ≡ length v.items → (with_items v hops).items ≡ hops
+items_put v hops as_many = with_items_is v hops (omega (arith, as_many, v.ok.0))
+
+-- the router is as it was when its network is edited
+now_is : (g : Over) (c : After-router g) → state_of c.router.inside ≡ c.args.router.now
+now_is g c = c.router.view_is
+
+-- the nodes from which the round begins are those that can move
+from_movable : (g : Over) (c : After-as_slice-from g) → c.as_slice-from.result.now ≡ movable (state_of c.router.inside) c.args.revision.now.dest c.args.revision.now.edits.now
+from_movable g c = c.as_slice-from.ensures.value ∙ subst (λ (now : State). c.in_ok-movable.movable.items ≡ movable now c.args.revision.now.dest c.args.revision.now.edits.now) (sym c.router.view_is) c.in_ok-movable.ensures.movable
+
+in_range : (g : Over) (c : After-router g) → c.args.revision.now.dest < (state_of c.router.inside).nodes
+in_range g c = subst (λ (now : State). c.args.revision.now.dest < now.nodes) (sym (now_is g c)) c.requires.node
+
+-- the edits are made, and the outcome is that of the network which they make
+edits_made : (g : Over) (c : In_ok-outcome g) → AreMade c.router.inside.net c.args.revision.now.edits.now c.edit_if.new.self
+edits_made g c = c.in_ok-outcome.ensures.ok.0
+
+outcome_is : (g : Over) (c : In_ok-outcome g) → IsOutcome c.edit_if.new.self c.args.revision.now.dest c.in_ok-outcome.outcome
+outcome_is g c =
+    let ok = c.in_ok-outcome.ensures.ok in
+    subst (λ (m : Network). IsOutcome m c.args.revision.now.dest c.in_ok-outcome.outcome) {y = c.edit_if.new.self} ok.1.2 ok.1.1.0
+
+pub edit_if-requires : goal.edit_if-requires
+edit_if-requires g c = record {
+  callable = λ made is. (
+    c.requires.settles,
+    (
+      c.requires.tells,
+      let at = goal.at.edit_if-requires g c in
+          let s : State = state_of c.router.inside in
+          let below = in_range g at.After-router in
+          let nodes = made_nodes c.router.inside.net c.args.revision.now.edits.now made.now is in (
+            omega (arith, below, nodes),
+            subst (HoldsSinks made.now c.args.revision.now.dest) (sym (from_movable g at.After-as_slice-from)) (movable_sinks s c.router.invariant.round c.args.revision.now.edits.now made.now c.args.revision.now.dest below is),
+          ),
+    ),
+  );
+}
+
+pub returns-in_err-make_room : goal.returns-in_err-make_room
+returns-in_err-make_room g c =
+    let p = err_from_is_err_and c.from_residual.result c.from_residual.ensures.1 in
+    rw (p.1, p.2) (record {
+      made = tt;
+      told_of = tt;
+      rerouted = tt;
+      fault = tt;
+      unchanged = refl;
+      untold = c.make_room.ensures.same;
+      no_start = λ _ e. absurd cc;
+    })
+
+pub returns-in_err-outcome : goal.returns-in_err-outcome
+returns-in_err-outcome g c =
+    let s : State = state_of c.router.inside in
+    let edits = c.args.revision.now.edits.now in
+    let at = (goal.at.returns-in_err-outcome g c).After-router in
+    let below = in_range g at in
+    let reason = c.in_err-outcome.field-0.0 in
+    let fault : (r : NotEdited RouteFault) → c.in_err-outcome.field-0.0 ≡ r → IsEditingFault s edits c.args.revision.now.dest (of_not_edited r) =
+    λ r. elim r as (λ (r : NotEdited RouteFault). c.in_err-outcome.field-0.0 ≡ r → IsEditingFault s edits c.args.revision.now.dest (of_not_edited r)) [
+      | Refused refused ↦ λ is. refused_fault s edits c.args.revision.now.dest refused (rw is at c.in_err-outcome.ensures.refused)
+      | Fault fault ↦ λ is.
+          let why = rw is at c.in_err-outcome.ensures.refused in
+          let told = why.1.1.1.1.1.1 in
+          round_fault s edits why.0 c.args.revision.now.dest fault below why.1.1.0 why.1.0
+          (subst (λ (m : Network). IsOpenFault m.nodes c.args.revision.now.dest fault) {y = why.0} why.1.1.1.2 told.why)
+          (subst (λ (m : Network). IsStill m c.args.revision.now.dest → fault ≢ Start) {y = why.0} why.1.1.1.2 told.still)
+    ] in
+    let p = err_from_is_err_and c.from_residual-in_err-outcome.result c.from_residual-in_err-outcome.ensures.1 in
+    rw (p.1, p.2) (record {
+      made = tt;
+      told_of = tt;
+      rerouted = tt;
+      fault = subst (λ (now : State). IsEditingFault now edits c.args.revision.now.dest (of_not_edited reason)) (now_is g at) (fault reason refl);
+      unchanged = search rules;
+      untold = c.make_room.ensures.same;
+      no_start = search rules;
+    })
+
+pub put_in_place-requires-clause-one_each : goal.put_in_place-requires-clause-one_each
+put_in_place-requires-clause-one_each g c =
+    let made = edits_made g (goal.at.put_in_place-requires-clause-one_each g c).In_ok-outcome in
+    rw c.deref_mut.ensures.value (c.router.invariant.hops.one_each ∙ sym (made_nodes c.router.inside.net c.args.revision.now.edits.now c.edit_if.new.self made))
+
+-- the outcome leads to the destination that was asked for
+same_dest : (g : Over) (c : In_ok-outcome g) → c.in_ok-outcome.outcome.dest ≡ c.args.revision.now.dest
+same_dest g c = (outcome_is g c).dest
+
+with_dest : (g : Over) (c : In_ok-outcome g) (hops : List Hop) → AreHops (settled_state c.edit_if.new.self c.in_ok-outcome.outcome.dest c.in_ok-outcome.outcome.turns) c.edit_if.new.self.nodes hops
+    → AreHops (settled_state c.edit_if.new.self c.args.revision.now.dest c.in_ok-outcome.outcome.turns) c.edit_if.new.self.nodes hops
+with_dest g c hops = subst (λ (d : ℕ). AreHops (settled_state c.edit_if.new.self d c.in_ok-outcome.outcome.turns) c.edit_if.new.self.nodes hops) (same_dest g c)
+
+pub put_in_place-requires-clause-counted : goal.put_in_place-requires-clause-counted
+put_in_place-requires-clause-counted g c =
+    let at = (goal.at.put_in_place-requires-clause-counted g c).In_ok-outcome in
+    subst (λ (d : ℕ). IsCounted c.edit_if.new.self.nodes d c.edit_if.new.self.links c.in_ok-outcome.outcome.turns) (sym (same_dest g at)) (outcome_is g at).counts
+
+pub put_in_place-requires-clause-moved : goal.put_in_place-requires-clause-moved
+put_in_place-requires-clause-moved g c =
+    let at = goal.at.put_in_place-requires-clause-moved g c in
+    let s : State = state_of c.router.inside in
+    let net : Network = c.edit_if.new.self in
+    let counts : List ℕ = c.in_ok-outcome.outcome.turns in
+    let hops : AreHops s s.nodes c.deref_mut.result.now = rw c.deref_mut.ensures.value c.router.invariant.hops in
+    subst (λ (d : ℕ). HoldsMoved (settled_state net d counts) c.deref_mut.result.now c.as_slice-from.result.now) (sym (same_dest g at.In_ok-outcome))
+    (subst (HoldsMoved (settled_state net c.args.revision.now.dest counts) c.deref_mut.result.now) (sym (from_movable g at.After-as_slice-from))
+    (unmoved_hops s c.router.invariant.round c.args.revision.now.edits.now net c.args.revision.now.dest (in_range g at.After-router) (edits_made g at.In_ok-outcome) counts (outcome_is g at.In_ok-outcome).counts c.deref_mut.result.now hops))
+
+pub put_in_order-requires-clause-table : goal.put_in_order-requires-clause-table
+put_in_order-requires-clause-table g c =
+    let at = goal.at.put_in_order-requires-clause-table g c in
+    let s : State = state_of c.router.inside in
+    let net : Network = c.edit_if.new.self in
+    let counts : List ℕ = c.in_ok-outcome.outcome.turns in
+    let after : State = settled_state net c.args.revision.now.dest counts in
+    let made = edits_made g at.In_ok-outcome in
+    let nodes : net.nodes ≡ s.nodes = made_nodes c.router.inside.net c.args.revision.now.edits.now net made in
+    let as_many : length c.put_in_place.new.hops ≡ length c.router.inside.hops.items =
+    omega (arith, c.put_in_place.ensures.hops.one_each, nodes, c.router.invariant.hops.one_each) in
+    let put : c.deref.result.now ≡ c.put_in_place.new.hops = c.deref.ensures.value ∙ items_put c.router.inside.hops c.put_in_place.new.hops as_many in
+    let hops : AreHops after net.nodes c.deref.result.now = subst (AreHops after net.nodes) (sym put) (with_dest g at.In_ok-outcome c.put_in_place.new.hops c.put_in_place.ensures.hops) in
+    let round : IsAfterRound after = after_outcome net c.args.revision.now.dest counts (made_net s c.args.revision.now.edits.now net c.router.invariant.round made) (outcome_is g at.In_ok-outcome).counts in
+    (settled_in_range after c.deref.result.now round hops, settled_loop_free after c.deref.result.now round hops)
+
+-- whoever is told has the nodes with another hop
+others_told : (g : Over) (c : After-put_in_place g) → IsListing c.args.told.now → AreOthers c.deref_mut.result.now c.put_in_place.new.hops (nodes_told c.put_in_place.new.told)
+others_told g c listing =
+    let before : AreHops (state_of c.router.inside) (state_of c.router.inside).nodes c.deref_mut.result.now = rw c.deref_mut.ensures.value c.router.invariant.hops in
+    let places = c.in_ok-make_room.ensures.room listing in
+    c.put_in_place.ensures.told.others (subst (λ (n : ℕ). HasPlaces n c.make_room.new.self) (omega (arith, before.one_each, c.nodes.ensures.value)) places)
+
+pub put_in_order-requires-clause-others : goal.put_in_order-requires-clause-others
+put_in_order-requires-clause-others g c =
+    let at = goal.at.put_in_order-requires-clause-others g c in
+    let s : State = state_of c.router.inside in
+    let nodes : c.edit_if.new.self.nodes ≡ s.nodes = made_nodes c.router.inside.net c.args.revision.now.edits.now c.edit_if.new.self (edits_made g at.In_ok-outcome) in
+    let as_many : length c.put_in_place.new.hops ≡ length c.router.inside.hops.items =
+    omega (arith, c.put_in_place.ensures.hops.one_each, nodes, c.router.invariant.hops.one_each) in
+    let put : c.deref.result.now ≡ c.put_in_place.new.hops = c.deref.ensures.value ∙ items_put c.router.inside.hops c.put_in_place.new.hops as_many in (
+      c.deref_mut.result.now,
+      λ listing.
+          let was = c.make_room.ensures.keeps.listing (c.put_in_place.ensures.told.keeps.listing listing) in
+          subst (λ (hops : List Hop). AreOthers c.deref_mut.result.now hops (nodes_told c.put_in_place.new.told)) (sym put) (others_told g at.After-put_in_place was),
+    )
+
+pub invariant_of-router-2 : goal.invariant_of-router-2
+invariant_of-router-2 g c =
+    let at = goal.at.invariant_of-router-2 g c in
+    let s : State = state_of c.router.inside in
+    let net : Network = c.edit_if.new.self in
+    let counts : List ℕ = c.in_ok-outcome.outcome.turns in
+    let made = edits_made g at.In_ok-outcome in
+    let outcome = outcome_is g at.In_ok-outcome in
+    let nodes : net.nodes ≡ c.router.inside.net.nodes = made_nodes c.router.inside.net c.args.revision.now.edits.now net made in
+    let same : length c.put_in_place.new.hops ≡ vec_len c.router.inside.hops =
+    omega (arith, c.put_in_place.ensures.hops.one_each, nodes, c.router.invariant.hops.one_each, c.router.inside.hops.ok.0) in
+    let items : (with_items c.router.inside.hops c.put_in_place.new.hops).items ≡ c.put_in_place.new.hops = with_items_is c.router.inside.hops c.put_in_place.new.hops same in
+    rw c.keep_turns.ensures
+    (sound_after c.args.revision.now.dest counts c.keep_turns.new.spare (with_items c.router.inside.hops c.put_in_place.new.hops) c.put_in_order.new.room c.in_ok-outcome.outcome.report net c.put_in_place.new.net
+    (made_net s c.args.revision.now.edits.now net c.router.invariant.round made)
+    outcome.counts outcome.report c.put_in_place.ensures.net
+    (subst (AreHops (settled_state net c.args.revision.now.dest counts) net.nodes) (sym items) (with_dest g at.In_ok-outcome c.put_in_place.new.hops c.put_in_place.ensures.hops))
+    (c.put_in_order.ensures.kept ∙ (c.router.invariant.room ∙ sym nodes)))
+
+pub returns : goal.returns
+returns g c =
+    let at = goal.at.returns g c in
+    let s : State = state_of c.router.inside in
+    let d = c.args.revision.now.dest in
+    let edits = c.args.revision.now.edits.now in
+    let net : Network = c.edit_if.new.self in
+    let after : State = settled_state net d c.in_ok-outcome.outcome.turns in
+    let made = edits_made g at.In_ok-outcome in
+    let outcome = outcome_is g at.In_ok-outcome in
+    let same = same_dest g at.In_ok-outcome in
+    let nodes : net.nodes ≡ s.nodes = made_nodes c.router.inside.net edits net made in
+    let before : AreHops s s.nodes c.deref_mut.result.now = rw c.deref_mut.ensures.value c.router.invariant.hops in
+    let hops : AreHops after s.nodes c.put_in_place.new.hops =
+    subst (λ (n : ℕ). AreHops after n c.put_in_place.new.hops) nodes (with_dest g at.In_ok-outcome c.put_in_place.new.hops c.put_in_place.ensures.hops) in
+    let as_many : s.nodes ≡ c.args.router.now.nodes = ap (λ (now : State). now.nodes) (now_is g at.After-router) in
+    let here : AreMade (net_at c.args.router.now) edits net = subst (λ (now : State). AreMade (net_at now) edits net) (now_is g at.After-router) made in
+    rw (c.keep_turns.ensures, c.put_in_place.ensures.net) (record {
+      made = (c.in_ok-outcome.ensures.few, (net, (here, ended net d c.in_ok-outcome.outcome.turns (made_net s edits net c.router.invariant.round made) outcome.counts)));
+      told_of = (c.in_ok-outcome.outcome.report, outcome.report, search rules);
+      rerouted = λ listing.
+          let others = others_told g at.After-put_in_place listing in
+          let places = c.put_in_place.ensures.told.keeps.places c.nodes.result (c.in_ok-make_room.ensures.room listing) in
+          let put : c.deref.result.now ≡ c.put_in_place.new.hops = c.deref.ensures.value ∙ items_put c.router.inside.hops c.put_in_place.new.hops (omega (arith, hops.one_each, c.router.invariant.hops.one_each)) in
+          let one_length : length c.deref_mut.result.now ≡ length c.put_in_place.new.hops = omega (arith, before.one_each, hops.one_each) in
+          let order : IsPushOrder c.deref_mut.result.now c.put_in_place.new.hops (nodes_told c.put_in_order.new.self) =
+          (rw put at c.put_in_order.ensures.order) c.deref_mut.result.now one_length (listing_has c.nodes.result c.put_in_place.new.told places) others in
+          subst (λ (now : State). AreRerouted now after (nodes_told c.put_in_order.new.self)) (now_is g at.After-router) (record {
+            before = c.deref_mut.result.now;
+            after = c.put_in_place.new.hops;
+            were = before;
+            are = with_dest g at.In_ok-outcome c.put_in_place.new.hops c.put_in_place.ensures.hops;
+            order = order;
+          });
+      fault = tt;
+      unchanged = tt;
+      untold = tt;
+      no_start = λ h. tt;
+    })

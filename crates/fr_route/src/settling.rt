@@ -1,0 +1,107 @@
+//! How a request is settled.
+
+ghost use Rattle.std.specs.Prelude.{◌≡◌, ◌≢◌, ℕ, ◌<◌, ◌≤◌, IfOk, IfErr, OnOk, Some, replicate};
+ghost use Rattle.fr_crew.specs.Settlements.{CanBegin, HoldsSinks, IsCounted};
+ghost use Rattle.fr_crew.specs.declared.fault.CrewFault.TheVariants.{Start as CrewStart};
+ghost use Rattle.fr_route.specs.Outcomes.{IsOutcome, IsRoundFault};
+ghost use Rattle.fr_route.specs.Ways.{IsCountAnswer, NeverStarts, Settles};
+ghost use Rattle.fr_route.specs.declared.fault.RouteFault.TheVariants.{Start};
+
+use crate::fault::RouteFault;
+use crate::outcome::{Outcome, any_can_turn, report_of};
+use fr_crew::CrewFault;
+use fr_graph::{Net, Turns};
+use std::alloc::Global;
+
+/// How a request is settled: where it takes memory, and its way to settled counts, which is a closure over
+/// [`settled_counts`](fr_crew::settled_counts) or [`settled_counts_alone`](fr_crew::settled_counts_alone). All that is the same by any way is
+/// a method of this.
+#[derive(Drop)]
+pub(crate) struct Asking<'a, F> {
+    pub(crate) alloc: Global,
+    settle: &'a F,
+}
+
+impl<'a, F: Fn(&Net, u32, Option<&[u32]>, Turns) -> Result<Turns, CrewFault>> Asking<'a, F> {
+    /// An asking that takes memory there, and settles this way.
+    pub(crate) fn new(alloc: Global, settle: &'a F) -> Asking<'a, F>
+        ensures { result.settle.now ≡ settle.now }
+    {
+        Asking { alloc, settle }
+    }
+
+    /// The settled counts of a network, by the way.
+    fn settled_counts(
+        &self,
+        net: &Net,
+        dest: u32,
+        from: Option<&[u32]>,
+        turns: Turns,
+    ) -> Result<Turns, CrewFault>
+        requires settles { Settles F.pre F.post self.now.settle.now }
+        requires begin { CanBegin net.now dest from turns }
+        ensures answer { IsCountAnswer net.now dest result }
+        ensures no_start { NeverStarts F.post self.now.settle.now → IfErr result (λ fault. fault ≢ CrewStart) }
+    {
+        (self.settle)(net, dest, from, turns)
+    }
+
+    /// The settled counts of a network, or those of no turns where no node of `from` can turn: then that look is all.
+    fn settled_from(
+        &self,
+        net: &Net,
+        dest: u32,
+        from: &[u32],
+        turns: Turns,
+    ) -> Result<Turns, CrewFault>
+        requires settles { Settles F.pre F.post self.now.settle.now }
+        requires from { (dest < net.now.nodes) × HoldsSinks net.now dest from.now }
+        requires none { turns ≡ replicate net.now.nodes 0 }
+        ensures answer { IsCountAnswer net.now dest result }
+        ensures no_start { NeverStarts F.post self.now.settle.now → IfErr result (λ fault. fault ≢ CrewStart) }
+    {
+        net.network_law();
+        if !any_can_turn(net, dest, turns.counts(), from) {
+            return Ok(turns);
+        }
+        self.settled_counts(net, dest, Some(from), turns)
+    }
+
+    /// The settled counts of a network whose sinks are not known. `Range` where the destination is no node, which is tested first.
+    pub(crate) fn first_counts(&self, net: &Net, dest: u32) -> Result<Turns, RouteFault>
+        requires { Settles F.pre F.post self.now.settle.now }
+        ensures counted { IfOk result (IsCounted net.now.nodes dest net.now.links) }
+        ensures fault { IfErr result (IsRoundFault (NeverStarts F.post self.now.settle.now) net.now dest) }
+    {
+        if dest >= net.nodes() {
+            return Err(RouteFault::Range);
+        }
+        net.network_law();
+        let turns = Turns::none(self.alloc, net.nodes())?;
+        Ok(self.settled_counts(net, dest, None, turns)?)
+    }
+
+    /// What a round on a network comes to, told in a table in which no node has turned yet. Each node that can turn at first is
+    /// among `from`.
+    pub(crate) fn outcome(
+        &self,
+        net: &Net,
+        dest: u32,
+        from: &[u32],
+        turns: Turns,
+    ) -> Result<Outcome, RouteFault>
+        requires settles { Settles F.pre F.post self.now.settle.now }
+        requires from { (dest < net.now.nodes) × HoldsSinks net.now dest from.now }
+        requires none { turns ≡ replicate net.now.nodes 0 }
+        ensures outcome { IfOk result (IsOutcome net.now dest) }
+        ensures fault { IfErr result (IsRoundFault (NeverStarts F.post self.now.settle.now) net.now dest) }
+    {
+        let turns = self.settled_from(net, dest, from, turns)?;
+        let report = report_of(net, dest, &turns);
+        Ok(Outcome {
+            dest,
+            turns,
+            report,
+        })
+    }
+}
