@@ -4,7 +4,7 @@ use Rattle.std.specs.List.{IsDistinct, count_by}
 use Rattle.std.specs.Cmp.{nat_eq_equiv}
 use Rattle.std.proofs.lemmas.Bool.{cases_eq, cases_lt, false≢true}
 use Rattle.std.proofs.lemmas.List.{get_or-replicate, get_or-set_other, get_or-set_same, get_or-take, get_or_default, get_or_past, length-replicate, length_push}
-use Rattle.std.proofs.lemmas.List.Elements.{Contains-append_left, Contains-push, Contains-push_cases}
+use Rattle.std.proofs.lemmas.List.Elements.{All-replicate, All-set, Contains-append_left, Contains-push, Contains-push_cases}
 use Rattle.std.proofs.lemmas.List.Folds.{sum_by-replicate}
 use Rattle.std.proofs.lemmas.List.Sums.{count_by-le-length, sum_by-set}
 use Rattle.std.proofs.lemmas.Map.Keys.{apart_from_distinct}
@@ -60,6 +60,7 @@ listed_none marks n = record {
     none = none_at (n + 2) 0;
     each = λ k low. none_at (n + 2) (k + 1) ∙ sym (count_none (is_key k) n refl);
   };
+  low = All-replicate (λ (k : ℕ). k ≤ length {A = ℕ} (replicate n 0)) n 0 (omega arith);
   number = sym (count_none (is_key_below (length {A = ℕ} (replicate n 0) + 1)) n refl);
   these = λ x found. absurd (Contains-none x found);
   others = λ x out. none_at n x;
@@ -100,6 +101,7 @@ module _ (marks : List Mark) (done keys counts : List ℕ) (x k : ℕ) (before :
               omega (arith, at, before.counted.each j (omega (arith, le, length-set keys x k)), count_key j, ap weigh (key_no j k (λ e. apart (sym e))))
         ];
       };
+      low = λ i d inside. rw (length-set keys x k) (All-set (λ (v : ℕ). v ≤ length keys) keys x k few before.low i d inside);
       number =
           let p : ℕ → Bool = is_key_below (length keys + 1) in
           rw (length-set keys x k) (omega (

@@ -9,6 +9,7 @@
 #![tactic(auto)]
 
 mod fault;
+mod few;
 mod hop;
 pub mod laws;
 mod loops;

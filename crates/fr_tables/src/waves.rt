@@ -2,7 +2,7 @@
 //! its nodes get their waves on the way back, so each hop is read once.
 
 ghost use Rattle.std.specs.Prelude.{◌≡◌, ℕ, ◌<◌, ◌+◌, ◌^◌, [], All, Contains, IsTrue, MatchOption, length};
-ghost use Rattle.fr_tables.specs.Inside.{HasMet, HasWave, IsBack, IsKept, IsMet, IsSound, IsStop, IsWalking};
+ghost use Rattle.fr_tables.specs.Inside.{HasMet, HasWave, IsBack, IsFollowed, IsMet, IsSound, IsStop, IsWalking};
 ghost use Rattle.fr_tables.specs.Tables.{IsLoopFree};
 
 use crate::hop::Hop;
@@ -74,10 +74,7 @@ fn follow(new: &[Hop], marks: &mut [Mark], walk: &mut Vec<u32>, x: u32) -> Stop
     requires walking { IsWalking new.now marks.old walk.old }
     requires empty { walk.old.items ≡ [] }
     requires node { x < length new.now }
-    ensures walking { IsWalking new.now marks.new walk.new }
-    ensures kept { IsKept marks.old marks.new }
-    ensures met { IsMet marks.new walk.new.items x }
-    ensures stop { IsStop new.now marks.new walk.new.items result }
+    ensures { IsFollowed new.now marks.old marks.new walk.new x result }
 {
     let mut at = x;
     loop {
@@ -111,7 +108,7 @@ fn give_waves(differ: &[bool], _new: &[Hop], marks: &mut [Mark], walk: &mut Vec<
 }
 
 /// The wave of a node, by that of the node to which it sends on.
-fn wave_after(differs: bool, below: u32) -> u32
+pub(crate) fn wave_after(differs: bool, below: u32) -> u32
     requires { IsTrue differs → below + 1 < 2 ^ 32 }
     ensures differ { IsTrue differs → result ≡ below + 1 }
     ensures same { ¬ IsTrue differs → result ≡ below }
