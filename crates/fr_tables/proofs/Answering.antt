@@ -145,9 +145,6 @@ module _ (differ : List Bool) (new : List Hop) (changed : List ℕ) (marked : Ar
       pub order_from_listed : (nodes : List ℕ) → IsByKey keys nodes → IsPutInOrder new changed nodes
       order_from_listed nodes is = put_in_order nodes (order_from_keys (changed_at differ new) new keys (length_changed differ new) keys_are nodes is)
 
-pub order_of_few : (old new : List Hop) (nodes : List ℕ) → length nodes < 2 → ((x : ℕ) → Contains nodes x ↔ DifferAt old new x) → IsPushOrder old new nodes
-order_of_few old new nodes few at = record { these = at; sorted = λ i j lt low. absurd (omega (arith, few, lt, low)) }
-
 -- the nodes below this one at which the tables differ
 pub record AreChangedBelow (old new : List Hop) (below : ℕ) (nodes : List ℕ) : Type 0 where
   pub these : (x : ℕ) → Contains nodes x ↔ ((x < below) × DifferAt old new x)
