@@ -1,5 +1,5 @@
 -- From the waves of all nodes to the answers.
-use Rattle.std.proofs.Common.{All, Bool, Contains, List, [], arith, eqb, false, get_or, inl, inr, length, slice_get, subst, sym, true, ℕ, ⊎_elim, ◌++◌, ◌+◌, ◌^◌, ◌<◌, ◌∙◌, ◌∷◌, ◌≡◌, ◌≤◌, ◌↔◌}
+use Rattle.std.proofs.Common.{All, Bool, Contains, List, [], arith, eqb, false, get_or, inl, inr, length, slice_get, subst, sym, true, ℕ, ⊎_elim, ◌++◌, ◌+◌, ◌<◌, ◌∙◌, ◌∷◌, ◌≡◌, ◌≤◌, ◌↔◌}
 use Rattle.std.specs.List.{IsDistinct}
 use Rattle.std.specs.Cmp.{nat_eq_equiv}
 use Rattle.std.proofs.lemmas.Bool.{cases_Bool, cases_eq, cases_lt, false≢true}
@@ -9,7 +9,7 @@ use Rattle.std.specs.List.Sorted.{IsNonDecreasingBy, IsPermutation}
 use Rattle.std.proofs.lemmas.List.Sorted.{Contains-permutation, IsPermutation-sym}
 use Rattle.std.proofs.lemmas.Map.Keys.{IsDistinct-IsPermutation, IsDistinct-push, apart_from_distinct}
 use Rattle.std.proofs.lemmas.Option.{slice_get_past, slice_get_within}
-use Rattle.fr_tables.specs.Inside.{AreAllKnown, AreKeys, AreKnown, AreListed, AreMarked, HasWave, HasWaveUpTo, IsPutInOrder, changed_at, place_by_wave}
+use Rattle.fr_tables.specs.Inside.{AreAllKnown, AreKeys, AreKnown, AreListed, AreMarked, AreWaves, HasWave, HasWaveUpTo, IsPutInOrder, changed_at, place_by_wave}
 use Rattle.fr_tables.specs.Pushes.{DifferAt, IsPushOrder, IsWave}
 use Rattle.fr_tables.specs.Sorting.{IsByKey}
 use Rattle.fr_tables.specs.Tables.{IsInRange, IsLoopFree}
@@ -96,9 +96,9 @@ module _ (differ : List Bool) (new : List Hop) (changed : List ℕ) (marked : Ar
       order
 
   -- few of them, sorted by their waves
-  pub order_from_waves : (waves nodes : List ℕ) → length new < 2 ^ 32 → ((x : ℕ) → Contains changed x → IsWave (changed_at differ new) new x (get_or waves x 0))
+  pub order_from_waves : (waves nodes : List ℕ) → AreWaves (changed_at differ new) new changed waves
       → IsPermutation changed nodes → IsNonDecreasingBy (place_by_wave waves) nodes → IsPutInOrder new changed nodes
-  order_from_waves waves nodes few wave same rising = put_in_order nodes (record {
+  order_from_waves waves nodes wave same rising = put_in_order nodes (record {
     these = λ x. (
       λ found. (noted_differs x).0 (from x found),
       λ differs. Contains-permutation changed nodes x same ((noted_differs x).1 differs),
@@ -115,7 +115,7 @@ module _ (differ : List Bool) (new : List Hop) (changed : List ℕ) (marked : Ar
           wave_y = get_or waves y 0;
           of_x = wave x of_x;
           of_y = wave y of_y;
-          earlier = omega (arith, le, low x of_x, low y of_y, few);
+          earlier = omega (arith, le, low x of_x, low y of_y, marked.table.few);
           lower = λ e. elim (cases_eq x y) [
             | inl twice ↦ absurd (false≢true (sym (apart_from_distinct eqb nodes i j 0 once lt inside) ∙ subst (λ (z : ℕ). eqb x z ≡ true) twice (nat_eq_equiv.refl x)))
             | inr apart ↦ omega (arith, le, e, apart)

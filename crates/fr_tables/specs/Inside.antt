@@ -115,13 +115,17 @@ pub record IsChange (new : List Hop) (changed : List ℕ) : Type 0 where
 
 -- of which nodes the marks are set
 pub record AreMarked (differ : List Bool) (new : List Hop) (changed : List ℕ) : Type 0 where
-  pub one_each : length differ ≡ length new
+  pub table : HasTable differ new
   pub noted : AreNoted changed differ
   pub change : IsChange new changed
 
 -- for each old table that differs at the nodes before, the nodes after are the push order
 abbrev pub IsPutInOrder : List Hop → List ℕ → List ℕ → Type 0
 IsPutInOrder new before after = (old : List Hop) → ((x : ℕ) → Contains before x ↔ DifferAt old new x) → IsPushOrder old new after
+
+-- the waves of these nodes
+abbrev pub AreWaves : List Hop → List Hop → List ℕ → List ℕ → Type 0
+AreWaves old new nodes waves = (x : ℕ) → Contains nodes x → IsWave old new x (slice_index waves x)
 
 -- rises with the wave of x, and within a wave with x
 abbrev pub place_by_wave : List ℕ → ℕ → ℕ

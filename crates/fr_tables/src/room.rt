@@ -14,8 +14,8 @@ use crate::waves::{Mark, mark_waves};
 use std::alloc::{AllocError, Global};
 use std::marker::Model;
 
-/// Up to so many changed nodes are ordered each by a walk of its own. All walks together have at most n steps, and sorting so few takes
-/// less than clearing the lists of a room.
+/// Up to this many changed nodes are ordered by their own walks, if these are short. They are sorted by insertion, in at most 120
+/// comparisons. For more nodes it is better to go over the whole table.
 const FEW: usize = 16;
 
 /// Room to put the nodes of one table in push order. It is taken ahead, so that ordering takes no memory. Contracts see for how many nodes.
