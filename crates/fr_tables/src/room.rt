@@ -14,19 +14,19 @@ use crate::waves::{Mark, mark_waves};
 use std::alloc::{AllocError, Global};
 use std::marker::Model;
 
-/// Up to this many changed nodes are ordered by their own walks, if these are short. They are sorted by insertion, in at most 120
-/// comparisons. For more nodes it is better to go over the whole table.
+/// Up to this many changed nodes are ordered by their own walks, if these are short. So few are sorted by insertion, with at most 120
+/// comparisons. For more nodes, `order_many` goes over the whole table once.
 const FEW: usize = 16;
 
 /// Room to put the nodes of one table in push order. It is taken ahead, so that ordering takes no memory. Contracts see for how many nodes.
 #[derive(Debug, Drop)]
 pub struct PushRoom {
-    // Whether the hop of each node has changed. Between calls, none has.
+    // Whether the hop of each node has changed. Between calls all are `false`.
     differ: Vec<bool>,
     marks: Vec<Mark>,
     // It has a place for each node.
     walk: Vec<u32>,
-    // The wave of each node whose hop has changed. For many nodes: and 0 for each other node.
+    // The wave of each node whose hop has changed. `order_many` has 0 for each other node.
     keys: Vec<u32>,
     places: Vec<u32>,
 }
@@ -61,8 +61,8 @@ impl PushRoom {
     /// Puts the nodes whose hop has changed in push order, as [`push_order`](crate::push_order) does. `new` is the table as it is now, with
     /// as many nodes as there is room for. It takes no memory.
     ///
-    /// O(1) for one node or none. For k nodes, up to 16, O(k + s), where s is the number of steps on their walks, as long as no walk has
-    /// n / k steps or more. Else O(n).
+    /// O(1) for one node or none. For k nodes, up to 16, it takes as long as their walks, if none of these has more than n / k nodes.
+    /// Else O(n).
     pub fn order(&mut self, new: &[Hop], changed: &mut [u32])
         requires room { length new.now ≡ self.old }
         requires new { IsInRange new.now × IsLoopFree new.now }
@@ -79,7 +79,8 @@ impl PushRoom {
         }
     }
 
-    /// Orders few nodes whose walks are short, and touches only those. `false`: they are more, or a walk is longer, and nothing is ordered.
+    /// Orders few nodes with short walks, and reads only these walks. `false`: there are too many nodes, or a walk is too long, and no node
+    /// has moved.
     fn order_few(&mut self, new: &[Hop], changed: &mut [u32]) -> bool
         requires room { length new.now ≡ self.old }
         requires change { IsChange new.now changed.old }
@@ -127,7 +128,7 @@ fn note(differ: &mut [bool], changed: &[u32])
     }
 }
 
-/// Takes back what was noted.
+/// Clears the notes of these nodes. No other node is noted.
 fn forget(differ: &mut [bool], changed: &[u32])
     requires nodes { All (λ (x : ℕ). x < length differ.old) changed.now }
     requires noted { AreNoted changed.now differ.old }
