@@ -14,11 +14,12 @@ use crate::waves::{Mark, mark_waves};
 use std::alloc::{AllocError, Global};
 use std::marker::Model;
 
-/// Up to this many changed nodes are ordered by their own walks, if these are short. So few are sorted by insertion, with at most 120
-/// comparisons. For more nodes, `order_many` goes over the whole table once.
+/// Up to this many changed nodes are ordered by their own walks, if these are short. So few are sorted by insertion,
+/// with at most 120 comparisons. For more nodes, `order_many` goes over the whole table once.
 const FEW: usize = 16;
 
-/// Room to put the nodes of one table in push order. It is taken ahead, so that ordering takes no memory. Contracts see for how many nodes.
+/// Room to put the nodes of one table in push order. It is taken ahead, so that ordering takes no memory. Contracts
+/// see for how many nodes.
 #[derive(Debug, Drop)]
 pub struct PushRoom {
     // Whether the hop of each node has changed. Between calls all are `false`.
@@ -58,17 +59,17 @@ impl PushRoom {
         })
     }
 
-    /// Puts the nodes whose hop has changed in push order, as [`push_order`](crate::push_order) does. `new` is the table as it is now, with
-    /// as many nodes as there is room for. It takes no memory.
+    /// Puts the nodes whose hop has changed in push order, as [`push_order`](crate::push_order) does. `new` is the
+    /// table as it is now, with as many nodes as there is room for. It takes no memory.
     ///
-    /// O(1) for one node or none. For k nodes, up to 16, it takes as long as their walks, if none of these has more than n / k nodes.
-    /// Else O(n).
+    /// O(1) for one node or none. For k nodes, up to 16, it takes as long as their walks, if none of these has more
+    /// than n / k nodes. Else O(n).
     pub fn order(&mut self, new: &[Hop], changed: &mut [u32])
         requires room { length new.now ≡ self.old }
         requires new { IsInRange new.now × IsLoopFree new.now }
         requires changed { IsDistinct nat_eq changed.old × All (λ (x : ℕ). x < length new.now) changed.old }
-        ensures order { (old : List Hop) → length old ≡ length new.now → ((x : ℕ) → Contains changed.old x ↔ DifferAt old new.now x)
-            → IsPushOrder old new.now changed.new }
+        ensures order { (old : List Hop) → length old ≡ length new.now
+            → ((x : ℕ) → Contains changed.old x ↔ DifferAt old new.now x) → IsPushOrder old new.now changed.new }
         ensures kept { self.new ≡ self.old }
     {
         if changed.len() < 2 {
@@ -79,8 +80,8 @@ impl PushRoom {
         }
     }
 
-    /// Orders few nodes with short walks, and reads only these walks. `false`: there are too many nodes, or a walk is too long, and no node
-    /// has moved.
+    /// Orders few nodes with short walks, and reads only these walks. `false`: there are too many nodes, or a walk is
+    /// too long, and no node has moved.
     fn order_few(&mut self, new: &[Hop], changed: &mut [u32]) -> bool
         requires room { length new.now ≡ self.old }
         requires change { IsChange new.now changed.old }

@@ -1,5 +1,5 @@
-//! The waves of nodes: how many nodes of a node's walk in the new table differ. Each walk is followed up to a node whose wave is known, and
-//! its nodes get their waves on the way back, so each hop is read once.
+//! The waves of nodes: how many nodes of a node's walk in the new table differ. Each walk is followed up to a node
+//! whose wave is known, and its nodes get their waves on the way back, so each hop is read once.
 
 ghost use Rattle.std.specs.Prelude.{◌≡◌, ℕ, ◌<◌, ◌+◌, ◌^◌, [], All, Contains, IsTrue, MatchOption, length};
 ghost use Rattle.fr_tables.specs.Inside.{HasMet, HasWave, IsBack, IsFollowed, IsMet, IsSound, IsStop, IsWalking};
@@ -47,7 +47,8 @@ pub(crate) fn mark_waves(
     }
 }
 
-/// Marks node `x` with its wave. `Some`: its walk comes back to this node, and the list is left as the walk up to there.
+/// Marks node `x` with its wave. `Some`: its walk comes back to this node, and the list is left as the walk up to
+/// there.
 pub(crate) fn mark_wave(
     differ: &[bool],
     new: &[Hop],
@@ -58,7 +59,8 @@ pub(crate) fn mark_wave(
     requires sound { IsSound differ.now new.now marks.old walk.old }
     requires empty { walk.old.items ≡ [] }
     requires node { x < length new.now }
-    ensures { MatchOption result (HasMet differ.now new.now marks.old marks.new walk.new x) (IsBack new.now walk.new.items) }
+    ensures { MatchOption result (HasMet differ.now new.now marks.old marks.new walk.new x)
+        (IsBack new.now walk.new.items) }
 {
     match follow(new, marks, walk, x) {
         Stop::Known(wave) => {
