@@ -60,16 +60,21 @@ changed_at [] new = new
 changed_at (b ∷ differ) [] = []
 changed_at (b ∷ differ) (hop ∷ new) = cond b (other_hop hop) hop ∷ changed_at differ new
 
+-- a table, and a mark for each of its nodes
+pub record HasTable (differ : List Bool) (new : List Hop) : Type 0 where
+  pub one_each : length differ ≡ length new
+  pub few : length new < 2 ^ 32
+  pub range : IsInRange new
+
 -- the walk that is being followed, in a list with a place for each node
 pub record IsWalking (new : List Hop) (marks : List Mark) (walk : Vec ℕ Global) : Type 0 where
   pub range : IsInRange new
   pub room : length new ≤ vec_capacity walk
   pub stacked : IsStacked new marks walk.items
 
--- and the waves that are known
+-- the same with the waves that are known
 pub record IsSound (differ : List Bool) (new : List Hop) (marks : List Mark) (walk : Vec ℕ Global) : Type 0 where
-  pub one_each : length differ ≡ length new
-  pub few : length new < 2 ^ 32
+  pub table : HasTable differ new
   pub walking : IsWalking new marks walk
   pub known : AreKnown (changed_at differ new) new marks
 
@@ -99,12 +104,6 @@ pub record IsBack (new : List Hop) (walk : List ℕ) (y : ℕ) : Type 0 where
 -- these nodes are marked, and no others
 abbrev pub AreNoted : List ℕ → List Bool → Type 0
 AreNoted changed differ = (x : ℕ) → Contains changed x ↔ (slice_index_or differ x false ≡ true)
-
--- a table, and a mark for each of its nodes
-pub record HasTable (differ : List Bool) (new : List Hop) : Type 0 where
-  pub one_each : length differ ≡ length new
-  pub few : length new < 2 ^ 32
-  pub range : IsInRange new
 
 -- nodes of a table without loops, each once
 pub record IsChange (new : List Hop) (changed : List ℕ) : Type 0 where

@@ -18,7 +18,7 @@ list_keys-requires-clause-waves c = λ k d low.
     let sound = c.mark_waves.ensures.sound in
     let differ_is = c.deref.ensures.value ∙ take_at c.note.new.differ _ _ (omega (arith, c.note.ensures.one_each, c.deref_mut.ensures.len)) in
     let marks_are = c.deref-2.ensures.value ∙ take_at c.mark_waves.new.marks _ _ (omega (arith, c.mark_waves.auto.marks, c.deref_mut-2.ensures.len)) in
-    let marked : AreMarked c.deref.result.now new changed = record { table = record { one_each = sound.one_each; few = sound.few; range = c.requires.change.range }; noted = rw differ_is c.note.ensures.noted; change = c.requires.change } in
+    let marked : AreMarked c.deref.result.now new changed = record { table = sound.table; noted = rw differ_is c.note.ensures.noted; change = c.requires.change } in
     let long : length c.deref_mut-3.result.now ≡ length new = search rules in
     let found = Contains-get_or changed k d low in
     rw (long, marks_are) (waves_up_to c.deref.result.now new changed marked c.mark_waves.new.marks sound.known (get_or changed k d) found (c.mark_waves.ensures.waves (get_or changed k d) found))
@@ -33,7 +33,7 @@ returns-clause-order c =
     let differ_is = c.deref.ensures.value ∙ take_at c.note.new.differ _ _ (omega (arith, c.note.ensures.one_each, c.deref_mut.ensures.len)) in
     let marks_are = c.deref-2.ensures.value ∙ take_at c.mark_waves.new.marks _ _ (omega (arith, c.mark_waves.auto.marks, c.deref_mut-2.ensures.len)) in
     let keys_are = c.deref-3.ensures.value ∙ take_at keys _ _ (omega (arith, c.list_keys.ensures.one_each, c.deref_mut-3.ensures.len)) in
-    let marked : AreMarked c.deref.result.now new changed = record { table = record { one_each = sound.one_each; few = sound.few; range = c.requires.change.range }; noted = rw differ_is c.note.ensures.noted; change = c.requires.change } in
+    let marked : AreMarked c.deref.result.now new changed = record { table = sound.table; noted = rw differ_is c.note.ensures.noted; change = c.requires.change } in
     let long : length c.deref_mut-3.result.now ≡ length new = search rules in
     let listed : AreListed c.mark_waves.new.marks changed keys counts = rw marks_are at c.list_keys.ensures.listed in
     let is : IsByKey keys c.by_key.new.nodes = rw keys_are at c.by_key.ensures.by_key in
