@@ -1,13 +1,15 @@
 -- From the waves of all nodes to the answers.
-use Rattle.std.proofs.Common.{All, Bool, Contains, List, [], arith, eqb, false, get_or, inl, inr, length, slice_get, subst, sym, ℕ, ⊎_elim, ◌++◌, ◌+◌, ◌<◌, ◌∙◌, ◌∷◌, ◌≡◌, ◌≤◌, ◌↔◌}
+use Rattle.std.proofs.Common.{All, Bool, Contains, List, [], arith, eqb, false, get_or, inl, inr, length, slice_get, subst, sym, true, ℕ, ⊎_elim, ◌++◌, ◌+◌, ◌<◌, ◌∙◌, ◌∷◌, ◌≡◌, ◌≤◌, ◌↔◌}
 use Rattle.std.specs.List.{IsDistinct}
 use Rattle.std.specs.Cmp.{nat_eq_equiv}
-use Rattle.std.proofs.lemmas.Bool.{cases_Bool, cases_eq, cases_lt}
+use Rattle.std.proofs.lemmas.Bool.{cases_Bool, cases_eq, cases_lt, false≢true}
 use Rattle.std.proofs.lemmas.List.{get_or_default, get_or_past}
-use Rattle.std.proofs.lemmas.List.Elements.{All-contains, Contains-append_left, Contains-push, Contains-push_cases}
-use Rattle.std.proofs.lemmas.Map.Keys.{IsDistinct-push}
+use Rattle.std.proofs.lemmas.List.Elements.{All-contains, Contains-append_left, Contains-get_or, Contains-push, Contains-push_cases}
+use Rattle.std.specs.List.Sorted.{IsNonDecreasingBy, IsPermutation}
+use Rattle.std.proofs.lemmas.List.Sorted.{Contains-permutation, IsPermutation-sym}
+use Rattle.std.proofs.lemmas.Map.Keys.{IsDistinct-IsPermutation, IsDistinct-push, apart_from_distinct}
 use Rattle.std.proofs.lemmas.Option.{slice_get_past, slice_get_within}
-use Rattle.fr_tables.specs.Inside.{AreAllKnown, AreKeys, AreKnown, AreListed, AreNoted, HasWave, HasWaveUpTo, changed_at}
+use Rattle.fr_tables.specs.Inside.{AreAllKnown, AreKeys, AreKnown, AreListed, AreMarked, AreWaves, HasWave, HasWaveUpTo, IsPutInOrder, changed_at, place_by_wave}
 use Rattle.fr_tables.specs.Pushes.{DifferAt, IsPushOrder, IsWave}
 use Rattle.fr_tables.specs.Sorting.{IsByKey}
 use Rattle.fr_tables.specs.Tables.{IsInRange, IsLoopFree}
@@ -73,44 +75,75 @@ module _ (old new : List Hop) (keys : List ℕ) (same_length : length old ≡ le
           let some : 0 < get_or keys x 0 = (is.these x).0 (i, inside, get_or_default nodes i x 0 inside) in
           are.differ x (keyed_inside x some) (keyed_differs x some)
 
--- from the waves of the nodes that are noted as changed to a push order
-module _ (differ : List Bool) (new : List Hop) (marks : List Mark) (changed : List ℕ) (one_each : length differ ≡ length new) (range : IsInRange new)
-    (inside : All (λ (x : ℕ). x < length new) changed) (noted : AreNoted changed differ) (known : AreKnown (changed_at differ new) new marks) where
+-- nodes that are noted as changed are put in push order
+module _ (differ : List Bool) (new : List Hop) (changed : List ℕ) (marked : AreMarked differ new changed) where
+  low : (x : ℕ) → Contains changed x → x < length new
+  low x found = All-contains (λ (y : ℕ). y < length new) changed x marked.change.inside found
+
   noted_differs : (x : ℕ) → Contains changed x ↔ DifferAt (changed_at differ new) new x
   noted_differs x = (
-    λ found. marked_differs differ new x (All-contains (λ (y : ℕ). y < length new) changed x inside found) ((noted x).0 found),
+    λ found. marked_differs differ new x (low x found) ((marked.noted x).0 found),
     λ differs. ⊎_elim
-        (λ t. (noted x).1 t)
+        (λ t. (marked.noted x).1 t)
         (λ f. absurd (differs (unmarked_same differ new x (differs_inside (changed_at differ new) new (length_changed differ new) x differs) f)))
         (cases_Bool (get_or differ x false)),
   )
 
-  pub waves_up_to : (x : ℕ) → Contains changed x → HasWave marks x → (x < length new) × HasWaveUpTo (length new) marks x
-  waves_up_to x found (k, is) =
-      let low : x < length new = All-contains (λ (y : ℕ). y < length new) changed x inside found in
-      let wave = known x k is in
-      let old = changed_at differ new in
-      (low, (k, is, wave_some old new x k ((noted_differs x).0 found) wave, wave_low old new x k range low wave))
+  put_in_order : (nodes : List ℕ) → IsPushOrder (changed_at differ new) new nodes → IsPutInOrder new changed nodes
+  put_in_order nodes order old at = same_order (changed_at differ new) old new
+      (λ x. (λ differs. (at x).0 ((noted_differs x).1 differs), λ differs. (noted_differs x).0 ((at x).1 differs)))
+      nodes
+      order
 
-  module _ (keys counts : List ℕ) (long : length keys ≡ length new) (listed : AreListed marks changed keys counts) where
-    keys_are : AreKeys (changed_at differ new) new keys
-    keys_are = record {
-      one_each = long;
-      differ = λ x low differs. known x (get_or keys x 0) (listed.these x ((noted_differs x).1 differs));
-      same = λ x low same. listed.others x (λ found. (noted_differs x).0 found same);
-    }
+  -- few of them, sorted by their waves
+  pub order_from_waves : (waves nodes : List ℕ) → AreWaves (changed_at differ new) new changed waves
+      → IsPermutation changed nodes → IsNonDecreasingBy (place_by_wave waves) nodes → IsPutInOrder new changed nodes
+  order_from_waves waves nodes wave same rising = put_in_order nodes (record {
+    these = λ x. (
+      λ found. (noted_differs x).0 (from x found),
+      λ differs. Contains-permutation changed nodes x same ((noted_differs x).1 differs),
+    );
+    sorted = λ i j lt inside.
+        let x : ℕ = get_or nodes i 0 in
+        let y : ℕ = get_or nodes j 0 in
+        let of_x : Contains changed x = from x (Contains-get_or nodes i 0 (omega (arith, lt, inside))) in
+        let of_y : Contains changed y = from y (Contains-get_or nodes j 0 inside) in
+        let le = rising i j 0 (omega (arith, lt)) inside in
+        let once = IsDistinct-IsPermutation eqb nat_eq_equiv.symm changed nodes same marked.change.once in
+        record {
+          wave_x = get_or waves x 0;
+          wave_y = get_or waves y 0;
+          of_x = wave x of_x;
+          of_y = wave y of_y;
+          earlier = omega (arith, le, low x of_x, low y of_y, marked.table.few);
+          lower = λ e. elim (cases_eq x y) [
+            | inl twice ↦ absurd (false≢true (sym (apart_from_distinct eqb nodes i j 0 once lt inside) ∙ subst (λ (z : ℕ). eqb x z ≡ true) twice (nat_eq_equiv.refl x)))
+            | inr apart ↦ omega (arith, le, e, apart)
+          ];
+        };
+  })
+    where
+      from : (x : ℕ) → Contains nodes x → Contains changed x
+      from x found = Contains-permutation nodes changed x (IsPermutation-sym changed nodes same) found
 
-    pub listed_low : All (λ (k : ℕ). k ≤ length keys) keys
-    listed_low = keys_low (changed_at differ new) new keys range keys_are
+  -- many of them, by the waves of all nodes on their walks
+  module _ (marks : List Mark) (known : AreKnown (changed_at differ new) new marks) where
+    pub waves_up_to : (x : ℕ) → Contains changed x → HasWave marks x → (x < length new) × HasWaveUpTo (length new) marks x
+    waves_up_to x found (k, is) =
+        let wave = known x k is in
+        let old = changed_at differ new in
+        (low x found, (k, is, wave_some old new x k ((noted_differs x).0 found) wave, wave_low old new x k marked.change.range (low x found) wave))
 
-    pub order_from_listed : (nodes : List ℕ) → IsByKey keys nodes → (old : List Hop) → ((x : ℕ) → Contains changed x ↔ DifferAt old new x) → IsPushOrder old new nodes
-    order_from_listed nodes is old at = same_order (changed_at differ new) old new
-        (λ x. (λ differs. (at x).0 ((noted_differs x).1 differs), λ differs. (noted_differs x).0 ((at x).1 differs)))
-        nodes
-        (order_from_keys (changed_at differ new) new keys (length_changed differ new) keys_are nodes is)
+    module _ (keys counts : List ℕ) (long : length keys ≡ length new) (listed : AreListed marks changed keys counts) where
+      keys_are : AreKeys (changed_at differ new) new keys
+      keys_are = record {
+        one_each = long;
+        differ = λ x low differs. known x (get_or keys x 0) (listed.these x ((noted_differs x).1 differs));
+        same = λ x low same. listed.others x (λ found. (noted_differs x).0 found same);
+      }
 
-pub order_of_few : (old new : List Hop) (nodes : List ℕ) → length nodes < 2 → ((x : ℕ) → Contains nodes x ↔ DifferAt old new x) → IsPushOrder old new nodes
-order_of_few old new nodes few at = record { these = at; sorted = λ i j lt low. absurd (omega (arith, few, lt, low)) }
+      pub order_from_listed : (nodes : List ℕ) → IsByKey keys nodes → IsPutInOrder new changed nodes
+      order_from_listed nodes is = put_in_order nodes (order_from_keys (changed_at differ new) new keys (length_changed differ new) keys_are nodes is)
 
 -- the nodes below this one at which the tables differ
 pub record AreChangedBelow (old new : List Hop) (below : ℕ) (nodes : List ℕ) : Type 0 where

@@ -1,14 +1,13 @@
 -- A table that differs from another one at given nodes. Tables that differ from it at the same nodes have the same waves and push orders.
-use Rattle.std.proofs.Common.{Bool, List, Some, [], ap, arith, cond, false, get_or, inl, inr, length, refl, slice_get, suc, sym, true, zero, ℕ, ◌+◌, ◌<◌, ◌∙◌, ◌∷◌, ◌≡◌, ◌↔◌}
+use Rattle.std.proofs.Common.{Bool, List, [], ap, arith, cond, false, get_or, inl, inr, length, refl, slice_get, suc, sym, true, zero, ℕ, ◌+◌, ◌<◌, ◌∙◌, ◌∷◌, ◌≡◌, ◌↔◌}
 use Rattle.std.specs.List.{count_by}
 use Rattle.std.proofs.lemmas.Bool.{cases_Bool, false≢true}
 use Rattle.std.proofs.lemmas.List.{get_or_past}
-use Rattle.std.proofs.lemmas.Option.{get_or_from_slice_get, slice_get-get_or}
 use Rattle.fr_tables.specs.Inside.{changed_at, other_hop}
 use Rattle.fr_tables.specs.Pushes.{DifferAt, IsPushOrder, IsWave, differ_at}
 use Rattle.fr_tables.specs.declared.hop.Hop.{Hop}
 use Rattle.fr_tables.specs.declared.hop.Hop.TheVariants.{CutOff, Here, To}
-use Rattle.fr_tables.proofs.Counts.{cases_differ, count_more, step, step_differs, step_same}
+use Rattle.fr_tables.proofs.Counts.{cases_differ, count_more, differ_read, same_read, step, step_differs, step_same}
 
 pub length_changed : (differ : List Bool) (new : List Hop) → length (changed_at differ new) ≡ length new
 length_changed [] new = refl
@@ -29,17 +28,14 @@ changed_hop (b ∷ differ) (hop ∷ new) (suc x) low = changed_hop differ new x 
 
 -- one hop of it
 module _ (differ : List Bool) (new : List Hop) (x : ℕ) (low : x < length new) where
+  read : (b : Bool) → get_or differ x false ≡ b → get_or (changed_at differ new) x Here ≡ cond b (other_hop (get_or new x Here)) (get_or new x Here)
+  read b is = changed_hop differ new x low ∙ ap (λ (c : Bool). cond c (other_hop (get_or new x Here)) (get_or new x Here)) is
+
   pub marked_differs : get_or differ x false ≡ true → DifferAt (changed_at differ new) new x
-  marked_differs is = λ same.
-      let hop = get_or new x Here in
-      let e : get_or (changed_at differ new) x Here ≡ hop = get_or_from_slice_get (changed_at differ new) x hop Here (same ∙ slice_get-get_or new x Here low) in
-      other_apart hop (sym (changed_hop differ new x low ∙ ap (λ (b : Bool). cond b (other_hop hop) hop) is) ∙ e)
+  marked_differs is = differ_read (changed_at differ new) new x low (λ e. other_apart (get_or new x Here) (sym (read true is) ∙ e))
 
   pub unmarked_same : get_or differ x false ≡ false → slice_get (changed_at differ new) x ≡ slice_get new x
-  unmarked_same is =
-      let hop = get_or new x Here in
-      let e : get_or (changed_at differ new) x Here ≡ hop = changed_hop differ new x low ∙ ap (λ (b : Bool). cond b (other_hop hop) hop) is in
-      slice_get-get_or (changed_at differ new) x Here (omega (arith, low, length_changed differ new)) ∙ (ap Some e ∙ sym (slice_get-get_or new x Here low))
+  unmarked_same is = same_read (changed_at differ new) new x (omega (arith, low, length_changed differ new)) low (read false is)
 
   -- what a read of a mark says
   pub marked_step : (w k : ℕ) → (get_or differ x false ≡ true → w ≡ k + 1) → (¬ (get_or differ x false ≡ true) → w ≡ k) → w ≡ k + step (changed_at differ new) new x

@@ -1,11 +1,10 @@
 -- Nodes are noted as changed, and listed with their keys, one after the other.
-use Rattle.std.proofs.Common.{Bool, Contains, List, [], ap, arith, eqb, false, get_or, inl, inr, length, length-set, length-take, refl, replicate, set, subst, sym, take, true, ℕ, ⊎_elim, ◌*◌, ◌++◌, ◌+◌, ◌<◌, ◌∙◌, ◌∷◌, ◌≡◌, ◌≤◌}
+use Rattle.std.proofs.Common.{Bool, Contains, List, [], ap, arith, eqb, false, get_or, inl, inr, length, length-set, length-take, refl, replicate, set, subst, sym, take, true, ℕ, ⊎_elim, ◌++◌, ◌+◌, ◌<◌, ◌∙◌, ◌∷◌, ◌≡◌, ◌≤◌}
 use Rattle.std.specs.List.{IsDistinct, count_by}
 use Rattle.std.specs.Cmp.{nat_eq_equiv}
 use Rattle.std.proofs.lemmas.Bool.{cases_eq, cases_lt, false≢true}
 use Rattle.std.proofs.lemmas.List.{get_or-replicate, get_or-set_other, get_or-set_same, get_or-take, get_or_default, get_or_past, length-replicate, length_push}
-use Rattle.std.proofs.lemmas.List.Elements.{Contains-append_left, Contains-push, Contains-push_cases}
-use Rattle.std.proofs.lemmas.List.Folds.{sum_by-replicate}
+use Rattle.std.proofs.lemmas.List.Elements.{All-set, Contains-append_left, Contains-push, Contains-push_cases}
 use Rattle.std.proofs.lemmas.List.Sums.{count_by-le-length, sum_by-set}
 use Rattle.std.proofs.lemmas.Map.Keys.{apart_from_distinct}
 use Rattle.fr_tables.specs.Inside.{AreListed, AreNoted, mark_of}
@@ -42,29 +41,6 @@ noted_more done differ x low before y = elim (cases_eq y x) [
       )
 ]
 
-count_none : (p : ℕ → Bool) (n : ℕ) → p 0 ≡ false → count_by p (replicate n 0) ≡ 0
-count_none p n zeroes =
-    let none : n * weigh (p 0) ≡ 0 = rw zeroes (omega arith) in
-    sum_by-replicate (λ (v : ℕ). weigh (p v)) n 0 ∙ none
-
-none_at : (n x : ℕ) → get_or {A = ℕ} (replicate n 0) x 0 ≡ 0
-none_at n x = elim (cases_lt x n) [
-  | inl low ↦ get_or-replicate n x 0 0 low
-  | inr out ↦ get_or_past (replicate n 0) x 0 (omega (arith, out, length-replicate {A = ℕ} n 0))
-]
-
-pub listed_none : (marks : List Mark) (n : ℕ) → AreListed marks [] (replicate n 0) (replicate (n + 2) 0)
-listed_none marks n = record {
-  counted = record {
-    one_each = omega (arith, length-replicate {A = ℕ} n 0, length-replicate {A = ℕ} (n + 2) 0);
-    none = none_at (n + 2) 0;
-    each = λ k low. none_at (n + 2) (k + 1) ∙ sym (count_none (is_key k) n refl);
-  };
-  number = sym (count_none (is_key_below (length {A = ℕ} (replicate n 0) + 1)) n refl);
-  these = λ x found. absurd (Contains-none x found);
-  others = λ x out. none_at n x;
-}
-
 -- one more node gets its key
 module _ (marks : List Mark) (done keys counts : List ℕ) (x k : ℕ) (before : AreListed marks done keys counts) (low : x < length keys) (out : ¬ Contains done x) where
   count_set : (p : ℕ → Bool) → p 0 ≡ false → count_by p (set keys x k) ≡ count_by p keys + weigh (p k)
@@ -100,6 +76,7 @@ module _ (marks : List Mark) (done keys counts : List ℕ) (x k : ℕ) (before :
               omega (arith, at, before.counted.each j (omega (arith, le, length-set keys x k)), count_key j, ap weigh (key_no j k (λ e. apart (sym e))))
         ];
       };
+      low = λ i d inside. rw (length-set keys x k) (All-set (λ (v : ℕ). v ≤ length keys) keys x k few before.low i d inside);
       number =
           let p : ℕ → Bool = is_key_below (length keys + 1) in
           rw (length-set keys x k) (omega (

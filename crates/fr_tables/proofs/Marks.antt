@@ -157,8 +157,7 @@ wave_from_met marks walk x empty met = ⊎_elim (λ found. absurd (Contains-none
 pub none_sound : (differ : List Bool) (new : List Hop) (marks : List Mark) (walk : Vec ℕ Global) → length differ ≡ length new → length new < 2 ^ 32 → IsInRange new
     → length new ≤ vec_capacity walk → marks ≡ replicate (length new) Unmet → walk.items ≡ [] → IsSound differ new marks walk
 none_sound differ new marks walk one_each few range room unmet empty = record {
-  one_each = one_each;
-  few = few;
+  table = record { one_each = one_each; few = few; range = range };
   walking = record { range = range; room = room; stacked = rw (unmet, empty) (none_stacked new) };
   known = rw unmet (none_known (changed_at differ new) new (length new));
 }

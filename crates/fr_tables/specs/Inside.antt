@@ -1,11 +1,11 @@
 -- How far the walks of the new table are followed. For functions inside of this crate alone.
-use Rattle.std.specs.Prelude.{◌≡◌, ℕ, ◌<◌, ◌≤◌, ◌+◌, ◌^◌, ◌↔◌, ◌⊎◌, ◌++◌, Bool, true, false, cond, List, [], ◌∷◌, Contains, length, slice_get, slice_index, slice_index_or, nat_eq, count_by, vec_capacity}
+use Rattle.std.specs.Prelude.{◌≡◌, ℕ, ◌<◌, ◌≤◌, ◌+◌, ◌*◌, ◌^◌, ◌↔◌, ◌⊎◌, ◌++◌, Bool, true, false, cond, All, List, [], ◌∷◌, Contains, length, slice_get, slice_index, slice_index_or, nat_eq, count_by, vec_capacity}
 use Rattle.std.specs.List.{IsDistinct}
 use Rattle.std.specs.declared.alloc.Global.{Global}
 use Rattle.std.specs.declared.vec.Vec.{Vec}
-use Rattle.fr_tables.specs.Pushes.{DifferAt, IsWave}
+use Rattle.fr_tables.specs.Pushes.{DifferAt, IsPushOrder, IsWave}
 use Rattle.fr_tables.specs.Sorting.{AreCounts, is_key_below}
-use Rattle.fr_tables.specs.Tables.{IsInRange, IsWalk, SendsOn}
+use Rattle.fr_tables.specs.Tables.{IsInRange, IsLoopFree, IsWalk, SendsOn}
 use Rattle.fr_tables.specs.declared.hop.Hop.{Hop}
 use Rattle.fr_tables.specs.declared.hop.Hop.TheVariants.{CutOff, Here}
 use Rattle.fr_tables.specs.declared.waves.Mark.{Mark}
@@ -60,21 +60,33 @@ changed_at [] new = new
 changed_at (b ∷ differ) [] = []
 changed_at (b ∷ differ) (hop ∷ new) = cond b (other_hop hop) hop ∷ changed_at differ new
 
+-- a table, and a mark for each of its nodes
+pub record HasTable (differ : List Bool) (new : List Hop) : Type 0 where
+  pub one_each : length differ ≡ length new
+  pub few : length new < 2 ^ 32
+  pub range : IsInRange new
+
 -- the walk that is being followed, in a list with a place for each node
 pub record IsWalking (new : List Hop) (marks : List Mark) (walk : Vec ℕ Global) : Type 0 where
   pub range : IsInRange new
   pub room : length new ≤ vec_capacity walk
   pub stacked : IsStacked new marks walk.items
 
--- and the waves that are known
+-- the same with the waves that are known
 pub record IsSound (differ : List Bool) (new : List Hop) (marks : List Mark) (walk : Vec ℕ Global) : Type 0 where
-  pub one_each : length differ ≡ length new
-  pub few : length new < 2 ^ 32
+  pub table : HasTable differ new
   pub walking : IsWalking new marks walk
   pub known : AreKnown (changed_at differ new) new marks
 
 abbrev pub HasWave : List Mark → ℕ → Type 0
 HasWave marks x = (k : ℕ) × (mark_of marks x ≡ Wave k)
+
+-- the walk from x was followed until it stopped
+pub record IsFollowed (new : List Hop) (before after : List Mark) (walk : Vec ℕ Global) (x : ℕ) (stop : Stop) : Type 0 where
+  pub walking : IsWalking new after walk
+  pub kept : IsKept before after
+  pub met : IsMet after walk.items x
+  pub is_stop : IsStop new after walk.items stop
 
 -- x has its wave, and each node that had one has one
 pub record HasMet (differ : List Bool) (new : List Hop) (before after : List Mark) (walk : Vec ℕ Global) (x : ℕ) : Type 0 where
@@ -93,6 +105,31 @@ pub record IsBack (new : List Hop) (walk : List ℕ) (y : ℕ) : Type 0 where
 abbrev pub AreNoted : List ℕ → List Bool → Type 0
 AreNoted changed differ = (x : ℕ) → Contains changed x ↔ (slice_index_or differ x false ≡ true)
 
+-- nodes of a table without loops, each once
+pub record IsChange (new : List Hop) (changed : List ℕ) : Type 0 where
+  pub range : IsInRange new
+  pub free : IsLoopFree new
+  pub inside : All (λ (x : ℕ). x < length new) changed
+  pub once : IsDistinct nat_eq changed
+
+-- of which nodes the marks are set
+pub record AreMarked (differ : List Bool) (new : List Hop) (changed : List ℕ) : Type 0 where
+  pub table : HasTable differ new
+  pub noted : AreNoted changed differ
+  pub change : IsChange new changed
+
+-- for each old table that differs at the nodes before, the nodes after are the push order
+abbrev pub IsPutInOrder : List Hop → List ℕ → List ℕ → Type 0
+IsPutInOrder new before after = (old : List Hop) → ((x : ℕ) → Contains before x ↔ DifferAt old new x) → IsPushOrder old new after
+
+-- the waves of these nodes
+abbrev pub AreWaves : List Hop → List Hop → List ℕ → List ℕ → Type 0
+AreWaves old new nodes waves = (x : ℕ) → Contains nodes x → IsWave old new x (slice_index waves x)
+
+-- rises with the wave of x, and within a wave with x
+abbrev pub place_by_wave : List ℕ → ℕ → ℕ
+place_by_wave waves x = slice_index waves x * 2 ^ 32 + x
+
 -- x has a wave, from 1 up to this one
 abbrev pub HasWaveUpTo : ℕ → List Mark → ℕ → Type 0
 HasWaveUpTo most marks x = (k : ℕ) × (mark_of marks x ≡ Wave k) × (0 < k) × (k ≤ most)
@@ -100,6 +137,7 @@ HasWaveUpTo most marks x = (k : ℕ) × (mark_of marks x ≡ Wave k) × (0 < k) 
 -- the waves of the changed nodes as keys, and 0 for the others, and how many have each key
 pub record AreListed (marks : List Mark) (changed keys counts : List ℕ) : Type 0 where
   pub counted : AreCounts keys counts
+  pub low : All (λ (k : ℕ). k ≤ length keys) keys
   pub number : length changed ≡ count_by (is_key_below (length keys + 1)) keys
   pub these : (x : ℕ) → Contains changed x → mark_of marks x ≡ Wave (slice_index keys x)
   pub others : (x : ℕ) → ¬ Contains changed x → slice_index keys x ≡ 0

@@ -16,7 +16,8 @@ pub enum TableFault {
     /// A hop names this node, which is not in the table.
     #[error("node {0} is out of range")]
     Range(u32),
-    /// The new table has this loop: each node sends on to the next one, and the last to the first. No node is listed twice.
+    /// The new table has this loop: each node sends on to the next one, and the last to the first. No node is listed
+    /// twice.
     #[error(fmt = tell_loop)]
     Loop(Vec<u32>),
     /// An allocation was refused.

@@ -10,11 +10,12 @@ use crate::range::first_outside;
 use crate::waves::{Mark, mark_wave};
 use std::alloc::{AllocError, Global};
 
-/// Finds a loop of a table: nodes of which each sends on to the next, and the last to the first. No node is listed twice. `None`: the
-/// table has no loop.
+/// Finds a loop of a table: nodes of which each sends on to the next, and the last to the first. No node is listed
+/// twice. `None`: the table has no loop.
 ///
-/// Fails with `Length` where the table is longer than 4,294,967,295 nodes, with `Range` where a hop names a node that is not in the
-/// table (the first such hop), and with `Memory` where an allocation is refused. It never answers the fault `Loop`.
+/// Fails with `Length` where the table is longer than 4,294,967,295 nodes, with `Range` where a hop names a node that
+/// is not in the table (the first such hop), and with `Memory` where an allocation is refused. It never answers the
+/// fault `Loop`.
 ///
 /// O(n) time and memory.
 pub fn find_loop(alloc: Global, table: &[Hop]) -> Result<Option<Vec<u32>>, TableFault>
@@ -45,7 +46,8 @@ fn node_on_loop(
 ) -> Option<u32>
     requires sound { IsSound differ.now table.now marks.old walk.old }
     requires empty { walk.old.items ≡ [] }
-    ensures { MatchOption result (AreAllKnown (changed_at differ.now table.now) table.now marks.new) (IsBack table.now walk.new.items) }
+    ensures { MatchOption result (AreAllKnown (changed_at differ.now table.now) table.now marks.new)
+        (IsBack table.now walk.new.items) }
 {
     for x in 0..table.len() as u32 {
         if let Some(node) = mark_wave(differ, table, marks, walk, x) {
@@ -58,7 +60,8 @@ fn node_on_loop(
 /// The nodes of a walk from this one of them on.
 fn from_node(alloc: Global, walk: &[u32], node: u32) -> Result<Vec<u32>, AllocError>
     requires { Contains walk.now node }
-    ensures { IfOk result (λ nodes. (k : ℕ) × (k < length walk.now) × (slice_index walk.now k ≡ node) × (nodes.items ≡ drop k walk.now)) }
+    ensures { IfOk result (λ nodes. (k : ℕ) × (k < length walk.now) × (slice_index walk.now k ≡ node)
+        × (nodes.items ≡ drop k walk.now)) }
 {
     let mut start = 0;
     while walk[start] != node {

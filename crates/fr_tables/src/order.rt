@@ -13,15 +13,16 @@ use crate::range::first_outside;
 use crate::room::PushRoom;
 use std::alloc::{AllocError, Global};
 
-/// The nodes at which two tables differ, in the order in which their new hops are pushed: by wave, and within a wave by number. The wave
-/// of a node is the number of differing nodes on its walk in `new`, itself included; so a node comes after all differing nodes that lie
-/// downstream of it. By [`push_law`](crate::laws::push_law) no push of this order makes a loop that was not in `old`.
+/// The nodes at which two tables differ, in the order in which their new hops are pushed: by wave, and within a wave
+/// by number. The wave of a node is the number of differing nodes on its walk in `new`, itself included; so a node
+/// comes after all differing nodes that lie downstream of it. By [`push_law`](crate::laws::push_law) no push of this
+/// order makes a loop that was not in `old`.
 ///
 /// `old` can be any table, also one with loops.
 ///
-/// Fails with `Length` where the tables differ in length, or are longer than 4,294,967,295 nodes; with `Range` where a hop names a node
-/// that is not in the table, the first such hop of `old`, or else of `new`; with `Loop` where `new` has a loop; and with `Memory` where an
-/// allocation is refused. The faults are tested in this order.
+/// Fails with `Length` where the tables differ in length, or are longer than 4,294,967,295 nodes; with `Range` where a
+/// hop names a node that is not in the table, the first such hop of `old`, or else of `new`; with `Loop` where `new`
+/// has a loop; and with `Memory` where an allocation is refused. The faults are tested in this order.
 ///
 /// O(n) time and memory.
 pub fn push_order(alloc: Global, old: &[Hop], new: &[Hop]) -> Result<Vec<u32>, TableFault>
@@ -40,8 +41,8 @@ pub fn push_order(alloc: Global, old: &[Hop], new: &[Hop]) -> Result<Vec<u32>, T
     Ok(known_push_order(alloc, old, new)?)
 }
 
-/// The same for tables of one length whose hops all name nodes, where the new one has no loop: nothing is tested. `AllocError` where an
-/// allocation is refused.
+/// The same for tables of one length whose hops all name nodes, where the new one has no loop: nothing is tested.
+/// `AllocError` where an allocation is refused.
 ///
 /// O(n) time and memory.
 pub fn known_push_order(alloc: Global, old: &[Hop], new: &[Hop]) -> Result<Vec<u32>, AllocError>

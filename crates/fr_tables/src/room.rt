@@ -1,27 +1,33 @@
 //! Putting nodes in push order without memory: the room is taken ahead.
 
-ghost use Rattle.std.specs.Prelude.{◌≡◌, ℕ, ◌<◌, ◌+◌, ◌^◌, ◌↔◌, All, Contains, IfOk, List, length, nat_eq, replicate, slice_index, slice_index_or, false, true};
+ghost use Rattle.std.specs.Prelude.{◌≡◌, ℕ, ◌<◌, ◌+◌, ◌^◌, ◌↔◌, All, Contains, IfOk, IsTrue, List, [], length, nat_eq, replicate, slice_index, slice_index_or, false, true};
 ghost use Rattle.std.specs.List.{IsDistinct};
-ghost use Rattle.fr_tables.specs.Inside.{AreListed, AreNoted, HasWaveUpTo};
+ghost use Rattle.fr_tables.specs.Inside.{AreListed, AreNoted, HasWaveUpTo, IsChange, IsPutInOrder};
 ghost use Rattle.fr_tables.specs.Pushes.{DifferAt, IsPushOrder};
 ghost use Rattle.fr_tables.specs.Tables.{IsInRange, IsLoopFree};
 ghost use Rattle.fr_tables.specs.declared.hop.Hop.{Hop};
 
+use crate::few::order_by_walks;
 use crate::hop::Hop;
 use crate::sorting::by_key;
 use crate::waves::{Mark, mark_waves};
 use std::alloc::{AllocError, Global};
 use std::marker::Model;
 
-/// Room to put the nodes of one table in push order. It is taken ahead, so that ordering takes no memory. Contracts see for how many nodes.
+/// Up to this many changed nodes are ordered by their own walks, if these are short. So few are sorted by insertion,
+/// with at most 120 comparisons. For more nodes, `order_many` goes over the whole table once.
+const FEW: usize = 16;
+
+/// Room to put the nodes of one table in push order. It is taken ahead, so that ordering takes no memory. Contracts
+/// see for how many nodes.
 #[derive(Debug, Drop)]
 pub struct PushRoom {
-    // Whether the hop of each node has changed.
+    // Whether the hop of each node has changed. Between calls all are `false`.
     differ: Vec<bool>,
     marks: Vec<Mark>,
     // It has a place for each node.
     walk: Vec<u32>,
-    // The wave of each node whose hop has changed, and 0 for each other node.
+    // The wave of each node whose hop has changed. `order_many` has 0 for each other node.
     keys: Vec<u32>,
     places: Vec<u32>,
 }
@@ -53,20 +59,52 @@ impl PushRoom {
         })
     }
 
-    /// Puts the nodes whose hop has changed in push order, as [`push_order`](crate::push_order) does. `new` is the table as it is now, with
-    /// as many nodes as there is room for. It takes no memory. O(1) for one node or none, else O(n).
+    /// Puts the nodes whose hop has changed in push order, as [`push_order`](crate::push_order) does. `new` is the
+    /// table as it is now, with as many nodes as there is room for. It takes no memory.
+    ///
+    /// O(1) for one node or none. For k nodes, up to 16, it takes as long as their walks, if none of these has more
+    /// than n / k nodes. Else O(n).
     pub fn order(&mut self, new: &[Hop], changed: &mut [u32])
         requires room { length new.now ≡ self.old }
         requires new { IsInRange new.now × IsLoopFree new.now }
         requires changed { IsDistinct nat_eq changed.old × All (λ (x : ℕ). x < length new.now) changed.old }
-        ensures order { (old : List Hop) → length old ≡ length new.now → ((x : ℕ) → Contains changed.old x ↔ DifferAt old new.now x)
-            → IsPushOrder old new.now changed.new }
+        ensures order { (old : List Hop) → length old ≡ length new.now
+            → ((x : ℕ) → Contains changed.old x ↔ DifferAt old new.now x) → IsPushOrder old new.now changed.new }
         ensures kept { self.new ≡ self.old }
     {
         if changed.len() < 2 {
             return;
         }
-        self.differ.fill(false);
+        if !self.order_few(new, changed) {
+            self.order_many(new, changed);
+        }
+    }
+
+    /// Orders few nodes with short walks, and reads only these walks. `false`: there are too many nodes, or a walk is
+    /// too long, and no node has moved.
+    fn order_few(&mut self, new: &[Hop], changed: &mut [u32]) -> bool
+        requires room { length new.now ≡ self.old }
+        requires change { IsChange new.now changed.old }
+        ensures order { IsTrue result → IsPutInOrder new.now changed.old changed.new }
+        ensures same { ¬ IsTrue result → changed.new ≡ changed.old }
+        ensures kept { self.new ≡ self.old }
+    {
+        if changed.len() > FEW {
+            return false;
+        }
+        note(&mut self.differ, changed);
+        let is_ordered = order_by_walks(&self.differ, new, &mut self.keys, changed);
+        forget(&mut self.differ, changed);
+        is_ordered
+    }
+
+    /// Orders any number of nodes. It goes over the whole table.
+    fn order_many(&mut self, new: &[Hop], changed: &mut [u32])
+        requires room { length new.now ≡ self.old }
+        requires change { IsChange new.now changed.old }
+        ensures order { IsPutInOrder new.now changed.old changed.new }
+        ensures kept { self.new ≡ self.old }
+    {
         self.marks.fill(Mark::Unmet);
         self.walk.clear();
         self.keys.fill(0);
@@ -75,6 +113,7 @@ impl PushRoom {
         mark_waves(&self.differ, new, &mut self.marks, &mut self.walk, changed);
         list_keys(&self.marks, changed, &mut self.keys, &mut self.places);
         by_key(&self.keys, &mut self.places, changed);
+        self.differ.fill(false);
     }
 }
 
@@ -90,11 +129,21 @@ fn note(differ: &mut [bool], changed: &[u32])
     }
 }
 
+/// Clears the notes of these nodes. No other node is noted.
+fn forget(differ: &mut [bool], changed: &[u32])
+    requires nodes { All (λ (x : ℕ). x < length differ.old) changed.now }
+    requires noted { AreNoted changed.now differ.old }
+    ensures { differ.new ≡ replicate (length differ.old) false }
+{
+    for x in changed {
+        differ[*x as usize] = false;
+    }
+}
+
 /// Makes the waves of the changed nodes their keys, and counts how many of them have each key.
 fn list_keys(marks: &[Mark], changed: &[u32], keys: &mut [u32], places: &mut [u32])
     requires few { length keys.old < 2 ^ 32 }
-    requires keys { keys.old ≡ replicate (length keys.old) 0 }
-    requires places { places.old ≡ replicate (length keys.old + 2) 0 }
+    requires none { AreListed marks.now [] keys.old places.old }
     requires once { IsDistinct nat_eq changed.now }
     requires waves { All (λ (x : ℕ). (x < length keys.old) × HasWaveUpTo (length keys.old) marks.now x) changed.now }
     ensures one_each { length keys.new ≡ length keys.old }

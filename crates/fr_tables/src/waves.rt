@@ -1,8 +1,8 @@
-//! The waves of nodes: how many nodes of a node's walk in the new table differ. Each walk is followed up to a node whose wave is known, and
-//! its nodes get their waves on the way back, so each hop is read once.
+//! The waves of nodes: how many nodes of a node's walk in the new table differ. Each walk is followed up to a node
+//! whose wave is known, and its nodes get their waves on the way back, so each hop is read once.
 
 ghost use Rattle.std.specs.Prelude.{◌≡◌, ℕ, ◌<◌, ◌+◌, ◌^◌, [], All, Contains, IsTrue, MatchOption, length};
-ghost use Rattle.fr_tables.specs.Inside.{HasMet, HasWave, IsBack, IsKept, IsMet, IsSound, IsStop, IsWalking};
+ghost use Rattle.fr_tables.specs.Inside.{HasMet, HasWave, IsBack, IsFollowed, IsMet, IsSound, IsStop, IsWalking};
 ghost use Rattle.fr_tables.specs.Tables.{IsLoopFree};
 
 use crate::hop::Hop;
@@ -47,7 +47,8 @@ pub(crate) fn mark_waves(
     }
 }
 
-/// Marks node `x` with its wave. `Some`: its walk comes back to this node, and the list is left as the walk up to there.
+/// Marks node `x` with its wave. `Some`: its walk comes back to this node, and the list is left as the walk up to
+/// there.
 pub(crate) fn mark_wave(
     differ: &[bool],
     new: &[Hop],
@@ -58,7 +59,8 @@ pub(crate) fn mark_wave(
     requires sound { IsSound differ.now new.now marks.old walk.old }
     requires empty { walk.old.items ≡ [] }
     requires node { x < length new.now }
-    ensures { MatchOption result (HasMet differ.now new.now marks.old marks.new walk.new x) (IsBack new.now walk.new.items) }
+    ensures { MatchOption result (HasMet differ.now new.now marks.old marks.new walk.new x)
+        (IsBack new.now walk.new.items) }
 {
     match follow(new, marks, walk, x) {
         Stop::Known(wave) => {
@@ -74,10 +76,7 @@ fn follow(new: &[Hop], marks: &mut [Mark], walk: &mut Vec<u32>, x: u32) -> Stop
     requires walking { IsWalking new.now marks.old walk.old }
     requires empty { walk.old.items ≡ [] }
     requires node { x < length new.now }
-    ensures walking { IsWalking new.now marks.new walk.new }
-    ensures kept { IsKept marks.old marks.new }
-    ensures met { IsMet marks.new walk.new.items x }
-    ensures stop { IsStop new.now marks.new walk.new.items result }
+    ensures { IsFollowed new.now marks.old marks.new walk.new x result }
 {
     let mut at = x;
     loop {
@@ -111,7 +110,7 @@ fn give_waves(differ: &[bool], _new: &[Hop], marks: &mut [Mark], walk: &mut Vec<
 }
 
 /// The wave of a node, by that of the node to which it sends on.
-fn wave_after(differs: bool, below: u32) -> u32
+pub(crate) fn wave_after(differs: bool, below: u32) -> u32
     requires { IsTrue differs → below + 1 < 2 ^ 32 }
     ensures differ { IsTrue differs → result ≡ below + 1 }
     ensures same { ¬ IsTrue differs → result ≡ below }

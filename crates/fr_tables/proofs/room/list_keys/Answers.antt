@@ -2,13 +2,13 @@ use Rattle.std.proofs.Common.{ap, List, arith, get_or, length, length-set, refl,
 use Rattle.std.proofs.lemmas.List.{take_more}
 use Rattle.fr_tables.specs.Inside.{AreListed}
 use Rattle.fr_tables.specs.declared.waves.Mark.TheVariants.{Wave}
-use Rattle.fr_tables.proofs.Listing.{fresh, listed_few, listed_more, listed_none}
+use Rattle.fr_tables.proofs.Listing.{fresh, listed_few, listed_more}
 use Rattle.fr_tables.proofs.room.list_keys.Goals as goal
 
 pub loop-x-init : goal.loop-x-init
 loop-x-init c = record {
   one_each = refl;
-  listed = rw (c.requires.keys, c.requires.places) (listed_none c.args.marks.now (length c.args.keys.now));
+  listed = c.requires.none;
 }
 
 pub overflow_add-places-in-loop-x : goal.overflow_add-places-in-loop-x

@@ -1,19 +1,25 @@
 use Rattle.std.proofs.Common.{[], ap, arith, inl, inr, length, refl, set, subst, ℕ, List, ⊎_elim, ◌++◌, ◌∷◌, ◌≡◌, Contains}
 use Rattle.std.proofs.lemmas.List.{length_push, same_from_push}
 use Rattle.std.proofs.lemmas.List.Elements.{Contains-append_left, Contains-push}
-use Rattle.fr_tables.specs.Inside.{IsTrail}
+use Rattle.fr_tables.specs.Inside.{IsTrail, mark_of}
 use Rattle.fr_tables.specs.Tables.{SendsOn}
-use Rattle.fr_tables.specs.declared.waves.Mark.TheVariants.{OnWalk}
+use Rattle.fr_tables.specs.declared.waves.Mark.TheVariants.{OnWalk, Wave}
 use Rattle.fr_tables.proofs.Marks.{kept_push, stacked_push, stacked_short}
 use Rattle.fr_tables.proofs.Trails.{trail_last, trail_push}
 use Rattle.fr_tables.proofs.Walks.{sends_none, sends_read}
 use Rattle.fr_tables.proofs.waves.follow.Goals as goal
 
-pub returns-in-Wave-clause-stop : goal.returns-in-Wave-clause-stop
-returns-in-Wave-clause-stop c = λ rest y e.
+pub returns-in-Wave : goal.returns-in-Wave
+returns-in-Wave c =
     let new = c.args.new.now in
     let at : ℕ = c.loop-marks.at in
-    inl (at, trail_last new rest y at (subst (λ (ws : List ℕ). IsTrail new (ws ++ at ∷ [])) e c.loop-marks.invariant.trail), c.in-Wave.is)
+    let before = c.loop-marks.invariant in
+    record {
+      walking = record { range = c.requires.walking.range; room = before.room; stacked = before.stacked };
+      kept = before.kept;
+      met = ⊎_elim (λ was. inl was) (λ e. inr (c.in-Wave.wave, subst (λ (z : ℕ). mark_of c.loop-marks.marks z ≡ Wave c.in-Wave.wave) e c.in-Wave.is)) before.met;
+      is_stop = λ rest y e. inl (at, trail_last new rest y at (subst (λ (ws : List ℕ). IsTrail new (ws ++ at ∷ [])) e before.trail), c.in-Wave.is);
+    }
 
 pub loop-marks-smaller : goal.loop-marks-smaller
 loop-marks-smaller c =
@@ -63,7 +69,7 @@ returns-in-Here c =
           (λ was. inl (Contains-append_left walk (at ∷ []) c.args.x was))
           (λ e. inl (subst (Contains (walk ++ at ∷ [])) e (Contains-push walk at)))
           before.met);
-      stop = rw items (λ rest y e.
+      is_stop = rw items (λ rest y e.
           let (_, same) = same_from_push walk rest at y e in
           inr (subst (λ (z : ℕ). (w : ℕ) → ¬ SendsOn new z w) same (sends_none new at c.in-Here.is), refl));
     }

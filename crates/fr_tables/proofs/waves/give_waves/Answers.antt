@@ -11,7 +11,7 @@ use Rattle.fr_tables.proofs.waves.give_waves.Goals as goal
 pub bounds-differ-x : goal.bounds-differ-x
 bounds-differ-x c =
     let before = c.loop-x.invariant.sound in
-    omega (arith, popped_low c.args._new.now c.loop-x.marks c.loop-x.walk.items c.pop.new.self.items c.in-Some.x before.walking.stacked c.in-Some.ensures.items, before.one_each)
+    omega (arith, popped_low c.args._new.now c.loop-x.marks c.loop-x.walk.items c.pop.new.self.items c.in-Some.x before.walking.stacked c.in-Some.ensures.items, before.table.one_each)
 
 pub bounds-marks-x : goal.bounds-marks-x
 bounds-marks-x c =
@@ -32,7 +32,7 @@ wave_after-wave-requires c = λ differs.
     let wave : IsWave old new x (k + step old new x) = top_wave old new c.loop-x.marks rest x k (subst (IsStacked new c.loop-x.marks) items before.sound.walking.stacked) before.sound.known
     (subst (λ (walk : List ℕ). IsStop new c.loop-x.marks walk (Known k)) items before.stop) in
     let is : step old new x ≡ 1 = step_differs old new x (marked_differs differ new x low differs) in
-    omega (arith, is, wave_low old new x (k + step old new x) before.sound.walking.range low wave, before.sound.few)
+    omega (arith, is, wave_low old new x (k + step old new x) before.sound.walking.range low wave, before.sound.table.few)
 
 pub loop-x-preserved : goal.loop-x-preserved
 loop-x-preserved c =
@@ -54,8 +54,7 @@ loop-x-preserved c =
     let is : l ≡ k + step old new x = marked_step differ new x low l k c.wave_after-wave.ensures.differ c.wave_after-wave.ensures.same in
     record {
       sound = record {
-        one_each = before.sound.one_each;
-        few = before.sound.few;
+        table = before.sound.table;
         walking = record {
           range = walking.range;
           room = omega (arith, walking.room, c.in-Some.ensures.capacity);
