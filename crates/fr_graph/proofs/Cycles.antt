@@ -5,7 +5,7 @@ use Rattle.std.proofs.lemmas.List.{get_or-drop, get_or-set_other, get_or-set_sam
 use Rattle.std.proofs.lemmas.List.Elements.{Contains-append_left, Contains-push}
 use Rattle.std.proofs.lemmas.List.Sums.{sum_by-set}
 use Rattle.std.specs.List.{count_by}
-use Rattle.fr_graph.specs.CycleSearch.{IsCycleSearch, LeadsTo, LeadsToDone, fresh_count, is_fresh, mark_of}
+use Rattle.fr_graph.specs.CycleSearch.{IsCycleSearch, KeepsSeen, LeadsTo, LeadsToDone, fresh_count, is_fresh, mark_of}
 use Rattle.fr_graph.specs.Links.{IsClosedWalk, IsCycle, IsPath, Points, end_of}
 use Rattle.fr_graph.specs.Rows.{has_link}
 use Rattle.fr_graph.specs.declared.cycle.Mark.{Mark}
@@ -16,6 +16,19 @@ pub mark_set : (marks : List Mark) (x y : ℕ) (m : Mark) → x < length marks �
 mark_set marks x y m l =
     elim (cases_eq y x) as (λ _. ((y ≡ x) × (mark_of (set marks x m) y ≡ m)) ⊎ ((y ≢ x) × (mark_of (set marks x m) y ≡ mark_of marks y)))
     [ inl e ↦ inl (e, rw e (get_or-set_same marks x m Fresh l)) | inr ne ↦ inr (ne, get_or-set_other marks x y m Fresh ne) ]
+
+-- seen nodes stay seen: where nothing changes, through two changes, and where x gets a mark
+pub kept_same : (marks : List Mark) → KeepsSeen marks marks
+kept_same marks = record { seen = λ x was. was; one_each = refl }
+
+pub kept_through : {old mid new : List Mark} → KeepsSeen old mid → KeepsSeen mid new → KeepsSeen old new
+kept_through first then = record { seen = λ x was. then.seen x (first.seen x was); one_each = then.one_each ∙ first.one_each }
+
+pub kept_set : (marks : List Mark) (x : ℕ) (m : Mark) → m ≢ Fresh → x < length marks → KeepsSeen marks (set marks x m)
+kept_set marks x m other l = record {
+  seen = λ y was is. elim (mark_set marks x y m l) [ inl w ↦ other (sym w.1 ∙ is) | inr w ↦ was (sym w.1 ∙ is) ];
+  one_each = length-set marks x m;
+}
 
 -- a node of the longer path: one of the path, or the new one
 pub node_cases : (path : List ℕ) (x k : ℕ) → k < length (path ++ x ∷ []) → ((k < length path) × (get_or (path ++ x ∷ []) k 0 ≡ get_or path k 0)) ⊎ ((k ≡ length path) × (get_or (path ++ x ∷ []) k 0 ≡ x))

@@ -8,7 +8,7 @@ use Rattle.std.proofs.lemmas.List.Sums.{count_by-le-length}
 use Rattle.std.specs.List.{All, count_by}
 use Rattle.fr_graph.proofs.Cycles.{count_by-set, mark_set, node_cases}
 use Rattle.fr_graph.proofs.ShownLinks.{row_of_points}
-use Rattle.fr_graph.specs.CycleSearch.{AreEntriesBelow, IsCycleSearch, IsOrder, IsSearch, LeadsToDone, is_done, mark_of, nodes_of}
+use Rattle.fr_graph.specs.CycleSearch.{AreEntriesBelow, IsAtRest, IsCycleSearch, IsOrder, IsSearch, LeadsToDone, is_done, mark_of, nodes_of}
 use Rattle.fr_graph.specs.Heights.{HasHeadsFirst}
 use Rattle.fr_graph.specs.KeptRows.{net_in}
 use Rattle.fr_graph.specs.Links.{IsAcyclic, IsClosedWalk, Points}
@@ -134,11 +134,12 @@ all_left n links marks order tails s o met =
     none_closed done safe u [] walk = walk
     none_closed done safe u (v ∷ vs) walk = safe u (v ∷ vs) (done u v walk.0.0) walk
 
-pub search_ends : (n : ℕ) (rows : Table) (search : Search) → IsSearch rows search → search.path.items ≡ [] → length search.marks.items ≡ n → ((x : ℕ) → x < n → mark_of search.marks.items x ≢ Fresh) → IsAcyclic (net_in rows).links × HasHeadsFirst n (net_in rows).links search.order.items
-search_ends n rows search is empty one_each met =
+pub search_ends : (n : ℕ) (rows : Table) (search : Search) → IsAtRest rows search → length search.marks.items ≡ n → ((x : ℕ) → x < n → mark_of search.marks.items x ≢ Fresh) → IsAcyclic (net_in rows).links × HasHeadsFirst n (net_in rows).links search.order.items
+search_ends n rows search rest one_each met =
+    let is = rest.search in
     let marks = search.marks.items in
     let links = (net_in rows).links in
-    let steps : IsCycleSearch (length marks) links marks [] = subst (λ (path : List Step). IsCycleSearch (length marks) links marks (nodes_of path)) empty is.steps in
+    let steps : IsCycleSearch (length marks) links marks [] = subst (λ (path : List Step). IsCycleSearch (length marks) links marks (nodes_of path)) rest.empty is.steps in
     let tails : (u v : ℕ) → Points links u v → u < length marks = λ u v p. omega (arith, (row_of_points rows u v p).0, is.one_each) in
     subst (λ (k : ℕ). IsAcyclic links × HasHeadsFirst k links search.order.items) one_each
     (all_left (length marks) links marks search.order.items tails steps is.order (λ x l. met x (subst (λ (k : ℕ). x < k) one_each l)))

@@ -5,7 +5,7 @@ ghost use Rattle.std.specs.Prelude.{◌≡◌, ◌≢◌, ℕ, ◌<◌, ◌≤�
 ghost use Rattle.fr_graph.specs.Heights.{HasHeadsFirst};
 ghost use Rattle.fr_graph.specs.KeptRows.{net_in};
 ghost use Rattle.fr_graph.specs.Links.{IsAcyclic};
-ghost use Rattle.fr_graph.specs.CycleSearch.{AreEntriesBelow, IsFound, IsPassed, IsSearch, KeepsSeen, LeadsBack, LeadsTo, LeadsToDone, LeadsToOther, left_count, mark_of, nodes_of};
+ghost use Rattle.fr_graph.specs.CycleSearch.{AreEntriesBelow, GoesOn, HasLeft, HasOpened, IsAtRest, IsFound, IsNext, IsPassed, IsSearch, LeadsToDone, LeadsToOther, ReadsOn, left_count, mark_of, nodes_of, top_of};
 ghost use Rattle.fr_graph.specs.Tables.{Table};
 
 use crate::first::First;
@@ -94,8 +94,7 @@ struct Search {
 impl Search {
     /// A search that has met no node.
     fn begun(alloc: Global, nodes: u32) -> Result<Search, AllocError>
-        ensures search { IfOk result (λ search. (rows : Table) → length rows.rows ≡ nodes → AreEntriesBelow nodes rows → IsSearch rows search) }
-        ensures empty { IfOk result (λ search. search.path.items ≡ []) }
+        ensures rest { IfOk result (λ search. (rows : Table) → length rows.rows ≡ nodes → AreEntriesBelow nodes rows → IsAtRest rows search) }
         ensures one_each { IfOk result (λ search. length search.marks.items ≡ nodes) }
     {
         Ok(Search {
@@ -118,11 +117,7 @@ impl Search {
     fn open(&mut self, node: u32) -> Result<(), AllocError>
         requires below { node < length self.old.marks.items }
         requires fresh { mark_of self.old.marks.items node ≡ Mark.Fresh }
-        ensures search { OnOk result ((rows : Table) → IsSearch rows self.old → LeadsTo (net_in rows).links (nodes_of self.old.path.items) node → IsSearch rows self.new) }
-        ensures seen { OnOk result (mark_of self.new.marks.items node ≢ Mark.Fresh) }
-        ensures kept { OnOk result (KeepsSeen self.old.marks.items self.new.marks.items) }
-        ensures one_each { OnOk result (length self.new.marks.items ≡ length self.old.marks.items) }
-        ensures fewer { OnOk result (left_count self.new < left_count self.old) }
+        ensures { OnOk result (HasOpened node self.old self.new) }
     {
         self.path.push(Step { node, next: 0 })?;
         self.marks[node as usize] = Mark::Open;
@@ -134,12 +129,9 @@ impl Search {
         requires search { IsSearch rows.now self.old }
         requires full { 0 < vec_len self.old.path }
         ensures search { IsSearch rows.now self.new }
-        ensures marks { self.new.marks ≡ self.old.marks }
-        ensures path { nodes_of self.new.path.items ≡ nodes_of self.old.path.items }
-        ensures leads { IfSome result (LeadsTo (net_in rows.now).links (nodes_of self.old.path.items)) }
-        ensures below { IfSome result (λ head. head < length self.old.marks.items) }
-        ensures stops { IfSome result (λ head. mark_of self.new.marks.items head ≢ Mark.Done) }
-        ensures done { IfNone result (LeadsToDone (net_in rows.now).links self.new.marks.items (slice_index (nodes_of self.old.path.items) (vec_len self.old.path - 1))) }
+        ensures same { ReadsOn self.old self.new }
+        ensures next { IfSome result (IsNext (net_in rows.now).links self.old) }
+        ensures done { IfNone result (LeadsToDone (net_in rows.now).links self.old.marks.items (top_of self.old)) }
     {
         let last = self.path.len() - 1;
         let top = self.path[last];
@@ -156,12 +148,9 @@ impl Search {
     /// Takes the last node off the path, once all its links lead to done nodes.
     fn leave(&mut self, top: u32) -> Result<(), AllocError>
         requires full { 0 < vec_len self.old.path }
-        requires top { top ≡ slice_index (nodes_of self.old.path.items) (vec_len self.old.path - 1) }
+        requires top { top ≡ top_of self.old }
         requires below { top < length self.old.marks.items }
-        ensures search { OnOk result ((rows : Table) → IsSearch rows self.old → LeadsToDone (net_in rows).links self.old.marks.items top → IsSearch rows self.new) }
-        ensures kept { OnOk result (KeepsSeen self.old.marks.items self.new.marks.items) }
-        ensures one_each { OnOk result (length self.new.marks.items ≡ length self.old.marks.items) }
-        ensures fewer { OnOk result (left_count self.new < left_count self.old) }
+        ensures { OnOk result (HasLeft top self.old self.new) }
     {
         let _last = self.path.pop();
         self.marks[top as usize] = Mark::Done;
@@ -174,10 +163,7 @@ impl Search {
     fn step(&mut self, rows: &RowTable) -> Result<Option<u32>, AllocError>
         requires search { IsSearch rows.now self.old }
         requires full { 0 < vec_len self.old.path }
-        ensures back { IfOk result (λ back. IfSome back (LeadsBack (net_in rows.now).links (nodes_of self.new.path.items))) }
-        ensures search { OnOk result (IsSearch rows.now self.new) }
-        ensures kept { OnOk result (KeepsSeen self.old.marks.items self.new.marks.items) }
-        ensures one_each { OnOk result (length self.new.marks.items ≡ length self.old.marks.items) }
+        ensures on { IfOk result (GoesOn rows.now self.old self.new) }
         ensures fewer { IfOk result (λ back. IfNone back (left_count self.new < left_count self.old)) }
     {
         let top = self.path[self.path.len() - 1].node;
@@ -195,11 +181,8 @@ impl Search {
     /// Goes on until the path is empty, or a link closes a walk with it: then it answers the node of the path that the link leads back to.
     fn go_on(&mut self, rows: &RowTable) -> Result<Option<u32>, AllocError>
         requires { IsSearch rows.now self.old }
-        ensures back { IfOk result (λ back. IfSome back (LeadsBack (net_in rows.now).links (nodes_of self.new.path.items))) }
-        ensures search { OnOk result (IsSearch rows.now self.new) }
+        ensures on { IfOk result (GoesOn rows.now self.old self.new) }
         ensures empty { IfOk result (λ back. IfNone back (self.new.path.items ≡ [])) }
-        ensures kept { OnOk result (KeepsSeen self.old.marks.items self.new.marks.items) }
-        ensures one_each { OnOk result (length self.new.marks.items ≡ length self.old.marks.items) }
     {
         'walk: while !self.path.is_empty() {
             if let Some(node) = self.step(rows)? {
@@ -212,15 +195,11 @@ impl Search {
     /// Searches from `root`, unless the search has met it. Where a link closes a walk with the path, it answers the node of the path that
     /// the link leads back to.
     fn visit(&mut self, rows: &RowTable, root: u32) -> Result<Option<u32>, AllocError>
-        requires search { IsSearch rows.now self.old }
-        requires empty { self.old.path.items ≡ [] }
+        requires rest { IsAtRest rows.now self.old }
         requires root { root < length self.old.marks.items }
-        ensures back { IfOk result (λ back. IfSome back (LeadsBack (net_in rows.now).links (nodes_of self.new.path.items))) }
-        ensures search { OnOk result (IsSearch rows.now self.new) }
+        ensures on { IfOk result (GoesOn rows.now self.old self.new) }
         ensures empty { IfOk result (λ back. IfNone back (self.new.path.items ≡ [])) }
-        ensures seen { OnOk result (mark_of self.new.marks.items root ≢ Mark.Fresh) }
-        ensures kept { OnOk result (KeepsSeen self.old.marks.items self.new.marks.items) }
-        ensures one_each { OnOk result (length self.new.marks.items ≡ length self.old.marks.items) }
+        ensures met { OnOk result (mark_of self.new.marks.items root ≢ Mark.Fresh) }
     {
         if self.has_met(root) {
             return Ok(None);
@@ -231,11 +210,9 @@ impl Search {
 
     /// Searches from each node, up to where a link closes a walk with the path.
     fn visit_all(&mut self, nodes: u32, rows: &RowTable) -> Result<Option<u32>, AllocError>
-        requires search { IsSearch rows.now self.old }
-        requires empty { self.old.path.items ≡ [] }
+        requires rest { IsAtRest rows.now self.old }
         requires one_each { length self.old.marks.items ≡ nodes }
-        ensures search { OnOk result (IsSearch rows.now self.new) }
-        ensures back { IfOk result (λ back. IfSome back (LeadsBack (net_in rows.now).links (nodes_of self.new.path.items))) }
+        ensures on { IfOk result (GoesOn rows.now self.old self.new) }
         ensures acyclic { IfOk result (λ back. IfNone back (IsAcyclic (net_in rows.now).links)) }
         ensures order { IfOk result (λ back. IfNone back (HasHeadsFirst nodes (net_in rows.now).links self.new.order.items)) }
     {

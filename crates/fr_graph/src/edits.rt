@@ -7,7 +7,7 @@ ghost use Rattle.fr_graph.specs.Edits.{without};
 ghost use Rattle.fr_graph.specs.Halves.{IsPlaceIn};
 ghost use Rattle.fr_graph.specs.KeptRows.{AreRows, ShowsLink, ShowsNoLink};
 ghost use Rattle.fr_graph.specs.Limits.{most_nodes};
-ghost use Rattle.fr_graph.specs.Tables.{HasRoomIn, row_of, with_row};
+ghost use Rattle.fr_graph.specs.Tables.{HasRoomIn, HaveRoom, row_of, with_row};
 
 use crate::first::First;
 use crate::row::place_in_row;
@@ -50,8 +50,7 @@ fn put_entry(rows: &mut RowTable, x: u32, w: u32, first: First)
 pub(crate) fn put_in_rows(rows: &mut RowTable, tail: u32, head: u32)
     requires shown { (net : Network) × ShowsNoLink net tail head rows.old }
     requires few { length rows.old.rows ≤ most_nodes }
-    requires tail_room { HasRoomIn rows.old tail }
-    requires head_room { HasRoomIn rows.old head }
+    requires room { HaveRoom rows.old tail head }
     ensures rows { (net : Network) → ShowsNoLink net tail head rows.old → AreRows net.nodes (net.links ++ (tail, head) ∷ []) rows.new }
     ensures rooms { rows.new.rooms ≡ rows.old.rooms }
 {

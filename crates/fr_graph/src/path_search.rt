@@ -8,7 +8,7 @@ ghost use Rattle.fr_graph.specs.Heights.{AreFalling};
 ghost use Rattle.fr_graph.specs.KeptRows.{ShowsNet, net_in};
 ghost use Rattle.fr_graph.specs.Links.{IsCycle};
 ghost use Rattle.fr_graph.specs.RowLists.{opposite};
-ghost use Rattle.fr_graph.specs.PathSearch.{AddsTrail, HasBegun, HasMet, HasMetMore, HasOrigins, HasRoom, IsBeyond, IsMeeting, IsPast, IsSide, IsPathAnswer, LiesOn, MeetAlong, MeetsNew, link_by, met_by, start_of, unread_count, answer_of_ended};
+ghost use Rattle.fr_graph.specs.PathSearch.{AddsTrail, AreFallingRows, HasBegun, HasMet, HasMetMore, HasOrigins, HasRoom, IsBeyond, IsMeeting, IsPast, IsSide, IsPathAnswer, IsReadAnswer, LiesOn, MeetAlong, MeetsNew, link_by, met_by, start_of, unread_count, answer_of_ended};
 
 use crate::first::First;
 use crate::heights::Heights;
@@ -203,14 +203,11 @@ impl Side {
         heights: &Heights,
         met: &mut [Met],
     ) -> Option<(u32, u32)>
-        requires rows { ShowsNet rows.now }
-        requires one_each { length heights.now.heights ≡ length rows.now.rows }
-        requires falling { AreFalling heights.now.heights (net_in rows.now).links }
+        requires rows { AreFallingRows rows.now heights.now.heights }
         requires side { IsSide (net_in rows.now) heights.now.heights self.old.first (start_of self.old) self.old.limit met.old self.old }
         requires unread { self.old.read < length self.old.nodes.items }
-        ensures found { IfSome result (MeetAlong (net_in rows.now).links met.new) }
+        ensures answer { IsReadAnswer (net_in rows.now).links met.new self.old self.new result }
         ensures side { IsSide (net_in rows.now) heights.now.heights self.old.first (start_of self.old) self.old.limit met.new self.new }
-        ensures read { IfNone result (self.new.read ≡ self.old.read + 1) }
         ensures more { HasMetMore self.old self.new met.old met.new }
     {
         let node = self.nodes[self.read];
@@ -296,9 +293,7 @@ pub(crate) fn path_between(
     from: u32,
     to: u32,
 ) -> Result<PathAnswer, AllocError>
-    requires rows { ShowsNet rows.now }
-    requires one_each { length heights.now.heights ≡ length rows.now.rows }
-    requires falling { AreFalling heights.now.heights (net_in rows.now).links }
+    requires rows { AreFallingRows rows.now heights.now.heights }
     requires from { from < length rows.now.rows }
     requires to { to < length rows.now.rows }
     requires apart { from ≢ to }
