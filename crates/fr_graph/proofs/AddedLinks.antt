@@ -10,7 +10,6 @@ use Rattle.fr_graph.proofs.Linking.{is_between_itself, joined_from, not_twice, s
 use Rattle.fr_graph.proofs.Ordering.{in_order_order, insert_order, is_pair, same_order, times-in_order, times-insert}
 use Rattle.fr_graph.specs.Faults.{IsFaultless, IsInRange, IsOutOfRange}
 use Rattle.fr_graph.specs.Graph.{CanPut}
-use Rattle.fr_graph.specs.Halves.{AreUnjoined}
 use Rattle.fr_graph.specs.Limits.{IsWithinLimits, most_links}
 use Rattle.fr_graph.specs.Links.{AreBelow, AreSingle, HasNoSelfLink, HasPath, IsAcyclic, IsClosedWalk, IsPath, Joins, end_of, is_between}
 use Rattle.fr_graph.specs.Order.{AreInOrder, in_order, with_in_order}

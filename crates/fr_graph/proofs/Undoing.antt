@@ -16,8 +16,7 @@ use Rattle.fr_graph.specs.Edits.{without}
 use Rattle.fr_graph.specs.Faults.{IsNetworkOf}
 use Rattle.fr_graph.specs.Graph.{AreDone, CanPut, HasRoomFor, IsDone, IsGraph, IsSame, shown}
 use Rattle.fr_graph.specs.Halves.{AreUnjoined}
-use Rattle.fr_graph.specs.Limits.{most_links}
-use Rattle.fr_graph.specs.Links.{AreSingle, IsAcyclic, Points}
+use Rattle.fr_graph.specs.Links.{AreSingle, Points}
 use Rattle.fr_graph.specs.Network.{Network}
 use Rattle.fr_graph.specs.Order.{in_order}
 use Rattle.fr_graph.specs.Rows.{row}

@@ -1,5 +1,5 @@
 -- The state of the depth-first search for a closed walk. For `find_cycle` alone.
-use Rattle.std.specs.Prelude.{◌≡◌, ◌≢◌, ℕ, ◌<◌, ◌≤◌, ◌+◌, ◌-◌, ◌*◌, List, [], length, map, slice_index, slice_index_or, vec_len, Option, Bool, true, false, count_by, IfNone, IfSome}
+use Rattle.std.specs.Prelude.{◌≡◌, ◌≢◌, ℕ, ◌<◌, ◌≤◌, ◌+◌, ◌-◌, ◌*◌, List, [], length, map, slice_index, slice_index_or, vec_len, Option, Bool, true, false, count_by, IfSome}
 use Rattle.std.specs.List.{All, Contains}
 use Rattle.fr_graph.specs.Heights.{HasHeadsFirst}
 use Rattle.fr_graph.specs.KeptRows.{net_in}

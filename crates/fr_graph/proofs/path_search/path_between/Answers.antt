@@ -1,6 +1,7 @@
 use Rattle.std.proofs.Common.{Bool, IsTrue, List, ap, arith, false, inl, inr, length, refl, replicate, set, slice_index, ℕ, ◌<◌, ◌∙◌, ◌≡◌, ◌≤◌, ◌↔◌}
 use Rattle.std.proofs.lemmas.Bool.{cases_lt}
-use Rattle.fr_graph.proofs.TwoEnds.{ended_ahead, ended_behind, other_stays, own_side, sides_begin, sides_meet}
+use Rattle.fr_graph.proofs.TwoEnds.{ended_ahead, ended_behind, sides_begin, sides_meet}
+use Rattle.fr_graph.proofs.Sides.{other_stays, own_side}
 use Rattle.fr_graph.specs.KeptRows.{net_in}
 use Rattle.fr_graph.specs.PathSearch.{IsSide, MeetAlong}
 use Rattle.fr_graph.specs.declared.path_search.Met.{Met}

@@ -1,11 +1,8 @@
-use Rattle.std.proofs.Common.{ap, arith, length, subst, sym}
-use Rattle.fr_graph.proofs.AddedLinks.{added}
+use Rattle.std.proofs.Common.{ap, arith, subst, sym}
 use Rattle.fr_graph.proofs.Joining.{cycle_fault, no_path_free}
 use Rattle.fr_graph.proofs.Remaking.{same_through}
 use Rattle.fr_graph.proofs.Undoing.{IsPut, put_with_room}
 use Rattle.fr_graph.specs.Graph.{CanPut, IsSame, shown}
-use Rattle.fr_graph.specs.Halves.{AreUnjoined}
-use Rattle.fr_graph.specs.Links.{IsAcyclic}
 use Rattle.fr_graph.specs.Network.{Network}
 use Rattle.fr_graph.specs.PathSearch.{IsMeeting}
 use Rattle.fr_graph.proofs.graph.Graph.add.Goals as goal

@@ -1,5 +1,4 @@
-use Rattle.std.proofs.Common.{ap, arith, inl, inr, length, subst, sym}
-use Rattle.fr_graph.proofs.AddedLinks.{added}
+use Rattle.std.proofs.Common.{inl, inr, subst, sym}
 use Rattle.fr_graph.proofs.Joining.{no_path_free, one_way_free, path_closes, unjoined_turned}
 use Rattle.fr_graph.proofs.Remaking.{same_through}
 use Rattle.fr_graph.proofs.Undoing.{IsPut, put_with_room}

@@ -1,6 +1,9 @@
 use Rattle.std.proofs.Common.{ap, arith, get_or, inl, inr, length, refl, slice_index, sym, true, ℕ, ◌+◌, ◌<◌, ◌∙◌, ◌≡◌}
 use Rattle.std.proofs.lemmas.List.{get_or_default}
-use Rattle.fr_graph.proofs.TwoEnds.{entry_below, entry_leads, entry_leads_by_height, leads_lies, meet_along, more_after, more_by_edges, more_read, next_below, passed_more, passed_stays, same_more, side_goes_on, side_moves, side_reads, with_edge_nearer}
+use Rattle.fr_graph.proofs.SideRows.{entry_below, entry_leads, entry_leads_by_height, leads_lies, passed_more, passed_stays, side_reads}
+use Rattle.fr_graph.proofs.TwoEnds.{meet_along}
+use Rattle.fr_graph.proofs.MetNodes.{more_after, more_by_edges, more_read, same_more, with_edge_nearer}
+use Rattle.fr_graph.proofs.Sides.{next_below, side_goes_on, side_moves}
 use Rattle.fr_graph.specs.KeptRows.{net_in}
 use Rattle.fr_graph.specs.PathSearch.{HasMet, HasPassed, IsBeyond, IsMetOrAside, IsPast, LeadsOn, LiesOn}
 use Rattle.fr_graph.specs.RowLists.{opposite}
