@@ -30,12 +30,6 @@ cases_out links x = ⊎_elim
     (λ none. inr (λ y h. none (x, y) h refl))
     (cases_some (λ (l : ℕ × ℕ). l.0 ≡ x) (λ l. cases_eq l.0 x) links)
 
-pub cases_points : (links : List (ℕ × ℕ)) (x w : ℕ) → Points links x w ⊎ ¬ Points links x w
-cases_points links x w = ⊎_elim
-    (λ yes. inl (Points-has_link links x w yes))
-    (λ no. inr (λ p. false≢true (sym no ∙ has_link_true links x w p)))
-    (cases_Bool (has_link links x w))
-
 pub walk_along : (links : List (ℕ × ℕ)) (u : ℕ) (vs : List ℕ) (k y x : ℕ) → IsWalk links u vs k y → Points links y x → IsWalk links u (vs ++ x ∷ []) (k + 1) x
 walk_along links u [] k y x w h = inl (subst (λ (z : ℕ). Points links z x) w.0 h, (0, omega (arith, w.1), (refl, refl)))
 walk_along links u (v ∷ vs) k y x (inl w) h = inl (w.0, (w.1.0 + 1, omega (arith, w.1.1), walk_along links v vs w.1.0 y x w.1.2 h))

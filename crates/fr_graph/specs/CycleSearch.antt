@@ -74,7 +74,7 @@ pub record IsSearch (rows : Table) (search : Search) : Type 0 where
   pub read : All (HasRead rows search.marks.items) search.path.items
   pub order : IsOrder (net_in rows).links search.marks.items search.order.items
 
--- such a search between two nodes that it starts from
+-- the search while its path is empty: before it starts from a node
 pub record IsAtRest (rows : Table) (state : Search) : Type 0 where
   pub search : IsSearch rows state
   pub empty : state.path.items ≡ []
@@ -110,7 +110,7 @@ pub record LeadsBack (links : List (ℕ × ℕ)) (path : List ℕ) (x : ℕ) : T
   pub on_path : Contains path x
   pub leads : LeadsTo links path x
 
--- the search went on from one state to another, up to where its path leads back to a node of it, if it does
+-- the search went on from one state to another. The node is one of its path to which the last node leads back, if it has found one
 pub record GoesOn (rows : Table) (before after : Search) (node : Option ℕ) : Type 0 where
   pub search : IsSearch rows after
   pub kept : KeepsSeen before.marks.items after.marks.items
@@ -129,7 +129,7 @@ pub record HasLeft (x : ℕ) (before after : Search) : Type 0 where
   pub kept : KeepsSeen before.marks.items after.marks.items
   pub fewer : left_count after < left_count before
 
--- the search is the same, but for how far it has read the rows of the nodes on its path
+-- nothing has changed but how far the rows of the nodes on the path are read
 pub record ReadsOn (before after : Search) : Type 0 where
   pub marks : after.marks ≡ before.marks
   pub path : nodes_of after.path.items ≡ nodes_of before.path.items

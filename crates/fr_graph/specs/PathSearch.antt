@@ -191,7 +191,7 @@ pub record MeetAlong (links : List (ℕ × ℕ)) (met : List Met) (link : ℕ ×
   pub head : HasMet Inward met link.1
   pub points : Points links link.0 link.1
 
--- what a side answers that reads the row of a node: such a link, or none, with the row read
+-- what a side returns that reads a row: such a link, or none once the row is read to its end
 abbrev pub IsReadAnswer : List (ℕ × ℕ) → List Met → Side → Side → Option (ℕ × ℕ) → Type 0
 IsReadAnswer links met before after (Some link) = MeetAlong links met link
 IsReadAnswer links met before after None = after.read ≡ before.read + 1

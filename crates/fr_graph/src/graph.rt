@@ -146,7 +146,7 @@ impl Graph {
         self.rows.make_room(alloc, v)
     }
 
-    /// Puts in a link from `tail` to `head`, for which there has to be room.
+    /// Puts in a link from `tail` to `head`. Both rows need to have room for it.
     fn put(&mut self, tail: u32, head: u32)
         requires graph { IsGraph self.old }
         requires link { CanPut (shown self.old) tail head }
@@ -176,8 +176,9 @@ impl Graph {
         Ok(())
     }
 
-    /// Where the links lead from `v` to `u`, what shows it. The heights tell mostly that they do not; where it takes a search to tell so, a
-    /// link from `u` to `v` falls behind it, if there is room between the heights.
+    /// What shows that links lead from `v` to `u`, if they do. Mostly the heights tell that they do not. If it takes a
+    /// search to find that out, the search moves nodes, so that a link from `u` to `v` falls, if there is room between
+    /// the heights.
     fn path_back(&mut self, alloc: Global, u: u32, v: u32) -> Result<Option<Meeting>, AllocError>
         requires graph { IsGraph self.old }
         requires nodes { AreUnjoined self.old.nodes (shown self.old).links u v }
@@ -299,13 +300,14 @@ impl Graph {
         }
     }
 
-    /// Makes these edits, each on the links that those before it left, and answers what they did. Where one is refused, or no
-    /// room could be had, all are undone.
+    /// Makes these edits, each on the links that those before it left, and answers what they did. Where one is
+    /// refused, or no room could be had, all are undone.
     pub(crate) fn edit_all(&mut self, alloc: Global, edits: &[Edit]) -> Result<Vec<Done>, EditFault>
         requires graph { IsGraph self.old }
         requires few { length edits.now ≤ most_edits }
         ensures graph { IsGraph self.new }
-        ensures ok { IfOk result (λ done. AreMade (shown self.old) edits.now (shown self.new) × CanUndo (shown self.old) done.items self.new) }
+        ensures ok { IfOk result (λ done. AreMade (shown self.old) edits.now (shown self.new)
+            × CanUndo (shown self.old) done.items self.new) }
         ensures refused { IfErr result (λ refused. refused.fault ≢ Memory
             → IsRefusedAt (shown self.old) edits.now refused.at refused.fault) }
         ensures unchanged { OnErr result (shown self.new ≡ shown self.old) }
