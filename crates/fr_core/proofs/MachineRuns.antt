@@ -5,7 +5,7 @@ use Rattle.std.proofs.lemmas.List.{append-nil, append_assoc, drop_all, get_or_de
 use Rattle.std.proofs.lemmas.List.Elements.{All-get_or, All-map, All-nil, All-set, All-weaker}
 use Rattle.fr_graph.specs.Links.{IsNet}
 use Rattle.fr_core.proofs.Finishing.{zeros_lawful}
-use Rattle.fr_core.proofs.MachineSteps.{IsFine, fit_inside, in_range_capped, outcome_fine, phase_rises}
+use Rattle.fr_core.proofs.MachineSteps.{IsFine, outcome_fine, phase_rises}
 use Rattle.fr_core.proofs.Rounds.{after_all-append, run_append}
 use Rattle.fr_core.proofs.Runs.{run_to}
 use Rattle.fr_core.proofs.Settling.{cases_linked}
@@ -13,14 +13,12 @@ use Rattle.fr_core.specs.History.{Moment, after_all, moment_of}
 use Rattle.fr_core.specs.Legal.{IsRun}
 use Rattle.fr_core.specs.Machine.{Outcome, MachineState, WorkerState, entries_of, entry_of, fresh, outcome, outcome_of, start, state_after, step, worker_of}
 use Rattle.fr_core.specs.Runs.{IsRunTo}
-use Rattle.fr_core.specs.Sound.{CanStep, IsFit, IsOnNode, IsPhaseInside, IsSound, IsSoundMachine, IsSoundPhase, IsSoundWorker, outcome_with, view_of}
+use Rattle.fr_core.specs.Sound.{IsFit, IsSound, IsSoundMachine, IsSoundWorker, outcome_with, view_of}
 use Rattle.fr_core.specs.Targets.{AreAllAccepted, AreAccepted, IsLookable, IsTurnable, IsUnlookable, IsUnturnable, IsTargetRefused}
 use Rattle.fr_core.specs.declared.entry.Entry.{Entry}
 use Rattle.fr_core.specs.declared.entry.Reply.{Reply}
 use Rattle.fr_core.specs.declared.targets.Target.{Target}
 use Rattle.fr_core.specs.declared.targets.Target.TheVariants.{Look, Turn}
-use Rattle.fr_core.specs.declared.worker.Phase.{Phase}
-use Rattle.fr_core.specs.declared.worker.Phase.TheVariants.{Confirming, Idle, Looking, Swapping}
 
 sound_worker : (n d : ℕ) (first : List (ℕ × ℕ)) (m : MachineState) → IsSound n d first m → (k : ℕ) → IsSoundWorker n d first m.counts (worker_of m k)
 sound_worker n d first m sound k = ⊎_elim

@@ -32,10 +32,6 @@ fit_linked : (n d : ℕ) (first : List (ℕ × ℕ)) (t : Target) → IsFit n d 
 fit_linked n d first (Turn x) fit = fit.linked
 fit_linked n d first (Look x) fit = fit.linked
 
-pub in_range_capped : (n : ℕ) (t : Target) (c : ℕ) → IsInRange n t c → c ≤ n
-in_range_capped n (Turn x) c low = omega (arith, low)
-in_range_capped n (Look x) c low = low
-
 -- counts that rise keep a call under way
 call_rises : (n d : ℕ) (first : List (ℕ × ℕ)) (b c : List ℕ) → ((y : ℕ) → slice_index b y ≤ slice_index c y) → (t : Target) (k j : ℕ) → IsUnderWay n d first b t k j → IsUnderWay n d first c t k j
 call_rises n d first b c rises t k j h = record {

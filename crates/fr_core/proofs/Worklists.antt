@@ -1,5 +1,5 @@
 -- What the worklist holds: one node more, and the neighbours of a node that turns.
-use Rattle.std.proofs.Common.{List, [], arith, ap, drop, inl, inr, length, map, refl, slice_index, subst, sym, ℕ, ◌++◌, ◌+◌, ◌-◌, ◌<◌, ◌∙◌, ◌∷◌, ◌≡◌, ◌≤◌, ◌⊎◌}
+use Rattle.std.proofs.Common.{List, [], arith, ap, drop, inl, inr, length, map, refl, slice_index, subst, sym, ℕ, ◌++◌, ◌+◌, ◌-◌, ◌<◌, ◌∙◌, ◌∷◌, ◌≡◌, ◌≤◌}
 use Rattle.std.specs.List.{Contains}
 use Rattle.std.proofs.lemmas.Bool.{cases_eq, cases_lt}
 use Rattle.std.proofs.lemmas.List.{get_or-append-add, get_or-drop, get_or-map, get_or_append_left, get_or_push, length-append, length-drop, length-map, length_push}
