@@ -15,7 +15,7 @@ use Rattle.fr_core.proofs.Turning.{raised-here, raised-other, turn-links_at, tur
 use Rattle.fr_core.specs.History.{after_all, moment_of}
 use Rattle.fr_core.specs.Legal.{CanTurn, IsRun}
 use Rattle.fr_core.specs.Machine.{Outcome, all_but_first, begin_call, bound_of, confirm, decides, entry_of, exchange, goes_on, load_neighbour, load_own, load_to_look, neighbour_at, outcome, phase_unheld, step_idle}
-use Rattle.fr_core.specs.Sound.{IsFit, IsInRange, IsSoundPhase, IsUnderWay}
+use Rattle.fr_core.specs.Sound.{IsFit, IsSoundPhase, IsUnderWay}
 use Rattle.fr_core.specs.Targets.{IsLookable, IsTurnable, node_of}
 use Rattle.fr_core.specs.declared.entry.Reply.TheVariants.{Cut, Held, Moved, Sink, Turned}
 use Rattle.fr_core.specs.declared.targets.Target.{Target}
