@@ -10,6 +10,7 @@ use Rattle.fr_core.specs.Bounds.{MeetsBounds}
 use Rattle.fr_core.specs.CutOff.{AreApart, HasTurned}
 use Rattle.fr_core.specs.History.{moment_of}
 use Rattle.fr_core.specs.Legal.{CanTurn}
+use Rattle.fr_core.specs.Worklist.{AreLater}
 use Rattle.fr_graph.proofs.Neighbours.{in_of_row, out_of_row, row_of_in, row_of_out}
 use Rattle.fr_graph.specs.Counts.{AreLawful, IsKept}
 use Rattle.fr_graph.specs.Links.{IsNet, Joins}
@@ -44,7 +45,7 @@ module _ (first : List (ℕ × ℕ)) (cap : ℕ) (c : List ℕ) where
       ])
 
 module _ (n d : ℕ) (first : List (ℕ × ℕ)) (c : List ℕ) (lawful : AreLawful n d first c) (apart : AreApart first c) where
-  pub capped_lawful : AreLawful n d first (map (set_to n) c)
+  capped_lawful : AreLawful n d first (map (set_to n) c)
   capped_lawful = record {
     one_each = length-map c (set_to n) ∙ lawful.one_each;
     destination = still first n c d lawful.destination;
@@ -54,6 +55,15 @@ module _ (n d : ℕ) (first : List (ℕ × ℕ)) (c : List ℕ) (lawful : AreLaw
       | inr some ↦ omega (arith, turned first n c x (omega (arith, some)))
     ];
     kept = kept_capped first n c lawful.kept apart;
+  }
+
+  pub capped_later : AreLater (record { nodes = n; links = first }) d c (map (set_to n) c)
+  capped_later = record {
+    lawful = capped_lawful;
+    forth = λ x. elim (cases_eq (slice_index c x) 0) [
+      | inl none ↦ omega (arith, none)
+      | inr some ↦ omega (arith, turned first n c x (omega (arith, some)), lawful.capped x)
+    ];
   }
 
   -- a node that can turn has not turned, and its links are as they were

@@ -7,7 +7,7 @@ use Rattle.std.proofs.lemmas.List.Sums.{sum_by-cons}
 use Rattle.fr_core.proofs.Runs.{lawful_sum, sum_after_reply}
 use Rattle.fr_core.proofs.Searching.{cases_below}
 use Rattle.fr_core.proofs.Settling.{cases_out}
-use Rattle.fr_core.proofs.Turning.{All-from_Contains, IsLawfulAt, can_turn-links_at, run_keeps, sink_linked, turn_keeps}
+use Rattle.fr_core.proofs.Turning.{All-from_Contains, IsLawfulAt, can_turn_below, run_keeps, turn_keeps}
 use Rattle.fr_core.proofs.Unique.{settled_unique}
 use Rattle.fr_core.specs.History.{Moment, after_all, after_reply, count_at, is_turned, moment_of, turn_count}
 use Rattle.fr_core.specs.Legal.{CanTurn, IsRun, NoneCanTurn}
@@ -15,7 +15,6 @@ use Rattle.fr_core.specs.Settled.{AreSettled}
 use Rattle.fr_core.specs.declared.entry.Entry.{Entry}
 use Rattle.fr_core.specs.declared.entry.Reply.TheVariants.{Turned}
 use Rattle.fr_graph.proofs.Giving.{link_at-same}
-use Rattle.fr_graph.proofs.Linking.{joined_below}
 use Rattle.fr_graph.proofs.Members.{cases_some}
 use Rattle.fr_graph.specs.Counts.{AreLawful, IsKept, links_at}
 use Rattle.fr_graph.specs.Links.{IsNet, Points}
@@ -41,9 +40,6 @@ cases_can_turn n d m x = ⊎_elim
     (λ high. inr (λ can. omega (arith, can.below_cap)))
     (cases_lt (count_at m x) n))
     (cases_eq x d)
-
-pub can_turn_below : (n d : ℕ) (first : List (ℕ × ℕ)) → IsNet n first → (m : Moment) → m.links ≡ links_at first m.counts → (x : ℕ) → CanTurn n d m x → x < n
-can_turn_below n d first net m e x can = let s = sink_linked first m.counts x (can_turn-links_at n d first m x e can).sink in (joined_below n first x s.0 net s.1).0
 
 cases_none : (n d : ℕ) (first : List (ℕ × ℕ)) → IsNet n first → (m : Moment) → m.links ≡ links_at first m.counts → ((x : ℕ) × CanTurn n d m x) ⊎ NoneCanTurn n d m
 cases_none n d first net m e = ⊎_elim

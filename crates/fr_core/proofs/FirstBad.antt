@@ -3,7 +3,7 @@ use Rattle.std.proofs.Common.{List, [], ap, arith, inl, inr, length, refl, subst
 use Rattle.std.proofs.lemmas.Bool.{cases_eq, cases_lt}
 use Rattle.fr_core.proofs.Finishing.{cases_sink}
 use Rattle.fr_core.proofs.Rounds.{run_parts}
-use Rattle.fr_core.proofs.Settling.{cases_points}
+use Rattle.fr_graph.proofs.Neighbours.{cases_points}
 use Rattle.fr_core.specs.Checks.{Fails, FailsReply, FailsTurn, IsBadAt}
 use Rattle.fr_core.specs.History.{Moment, after, after_all, count_at}
 use Rattle.fr_core.specs.Legal.{IsLegal, IsLegalReply, IsRun}

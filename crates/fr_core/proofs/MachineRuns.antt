@@ -5,7 +5,7 @@ use Rattle.std.proofs.lemmas.List.{append-nil, append_assoc, drop_all, get_or_de
 use Rattle.std.proofs.lemmas.List.Elements.{All-get_or, All-map, All-nil, All-set, All-weaker}
 use Rattle.fr_graph.specs.Links.{IsNet}
 use Rattle.fr_core.proofs.Finishing.{zeros_lawful}
-use Rattle.fr_core.proofs.MachineSteps.{IsFine, fit_inside, in_range_capped, outcome_fine, phase_rises}
+use Rattle.fr_core.proofs.MachineSteps.{IsFine, outcome_fine, phase_rises}
 use Rattle.fr_core.proofs.Rounds.{after_all-append, run_append}
 use Rattle.fr_core.proofs.Runs.{run_to}
 use Rattle.fr_core.proofs.Settling.{cases_linked}
@@ -13,14 +13,12 @@ use Rattle.fr_core.specs.History.{Moment, after_all, moment_of}
 use Rattle.fr_core.specs.Legal.{IsRun}
 use Rattle.fr_core.specs.Machine.{Outcome, MachineState, WorkerState, entries_of, entry_of, fresh, outcome, outcome_of, start, state_after, step, worker_of}
 use Rattle.fr_core.specs.Runs.{IsRunTo}
-use Rattle.fr_core.specs.Sound.{CanStep, IsFit, IsOnNode, IsPhaseInside, IsSound, IsSoundMachine, IsSoundPhase, IsSoundWorker, outcome_with, view_of}
+use Rattle.fr_core.specs.Sound.{IsFit, IsSound, IsSoundMachine, IsSoundWorker, outcome_with, view_of}
 use Rattle.fr_core.specs.Targets.{AreAllAccepted, AreAccepted, IsLookable, IsTurnable, IsUnlookable, IsUnturnable, IsTargetRefused}
 use Rattle.fr_core.specs.declared.entry.Entry.{Entry}
 use Rattle.fr_core.specs.declared.entry.Reply.{Reply}
 use Rattle.fr_core.specs.declared.targets.Target.{Target}
 use Rattle.fr_core.specs.declared.targets.Target.TheVariants.{Look, Turn}
-use Rattle.fr_core.specs.declared.worker.Phase.{Phase}
-use Rattle.fr_core.specs.declared.worker.Phase.TheVariants.{Confirming, Idle, Looking, Swapping}
 
 sound_worker : (n d : ℕ) (first : List (ℕ × ℕ)) (m : MachineState) → IsSound n d first m → (k : ℕ) → IsSoundWorker n d first m.counts (worker_of m k)
 sound_worker n d first m sound k = ⊎_elim
@@ -102,23 +100,7 @@ begun_sound n d first targets counts workers net good e f = record {
   sound = subst (λ (m : MachineState). IsSound n d first m) (λ i. record { counts = sym e i; workers = sym f i }) (start_sound n d first targets good);
 }
 
--- what a worker of a sound machine can rely on in its step
-phase_inside : (n d : ℕ) (first : List (ℕ × ℕ)) (counts : List ℕ) (phase : Phase) → IsSoundPhase n d first counts phase → IsPhaseInside n first phase
-phase_inside n d first counts Idle h = tt
-phase_inside n d first counts (Looking t c j) h = (fit_inside n d first t h.0.fit, in_range_capped n t c h.0.in_range, h.1)
-phase_inside n d first counts (Swapping x c) h = (h.fit.inside, h.in_range)
-phase_inside n d first counts (Confirming x c) h = h.fit.inside
-
-can_step : (n d : ℕ) (first : List (ℕ × ℕ)) (counts : List ℕ) (w : WorkerState) → IsSoundWorker n d first counts w → CanStep n first w
-can_step n d first counts w h = record {
-  left = All-weaker (IsFit n d first) (IsOnNode n) (fit_inside n d first) w.left h.fit;
-  phase = phase_inside n d first counts w.phase h.phase;
-}
-
 module _ (n d : ℕ) (first : List (ℕ × ℕ)) (counts : List ℕ) (workers : List WorkerState) (is : IsSoundMachine (view_of n d first counts workers)) (k : ℕ) (inside : k < length workers) (old : WorkerState) (at : old ≡ slice_index_or workers k old) where
-  pub can_step_at : CanStep n first old
-  can_step_at = can_step n d first counts old (subst (IsSoundWorker n d first counts) (sym at) (All-get_or (IsSoundWorker n d first counts) workers k old inside is.sound.workers))
-
   -- a step keeps a machine sound
   pub keeps_sound : (new : WorkerState) (decided : Option (ℕ × Reply)) (shown now : List ℕ) → outcome_with now new decided ≡ outcome n first counts old.left old.phase → shown ≡ now
       → IsSoundMachine (view_of n d first shown (slice_set workers k new))

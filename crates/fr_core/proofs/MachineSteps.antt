@@ -15,7 +15,7 @@ use Rattle.fr_core.proofs.Turning.{raised-here, raised-other, turn-links_at, tur
 use Rattle.fr_core.specs.History.{after_all, moment_of}
 use Rattle.fr_core.specs.Legal.{CanTurn, IsRun}
 use Rattle.fr_core.specs.Machine.{Outcome, all_but_first, begin_call, bound_of, confirm, decides, entry_of, exchange, goes_on, load_neighbour, load_own, load_to_look, neighbour_at, outcome, phase_unheld, step_idle}
-use Rattle.fr_core.specs.Sound.{IsFit, IsInRange, IsSoundPhase, IsUnderWay}
+use Rattle.fr_core.specs.Sound.{IsFit, IsSoundPhase, IsUnderWay}
 use Rattle.fr_core.specs.Targets.{IsLookable, IsTurnable, node_of}
 use Rattle.fr_core.specs.declared.entry.Reply.TheVariants.{Cut, Held, Moved, Sink, Turned}
 use Rattle.fr_core.specs.declared.targets.Target.{Target}
@@ -31,10 +31,6 @@ fit_inside n d first (Look x) fit = fit.inside
 fit_linked : (n d : ℕ) (first : List (ℕ × ℕ)) (t : Target) → IsFit n d first t → (w : ℕ) × Joins first (node_of t) w
 fit_linked n d first (Turn x) fit = fit.linked
 fit_linked n d first (Look x) fit = fit.linked
-
-pub in_range_capped : (n : ℕ) (t : Target) (c : ℕ) → IsInRange n t c → c ≤ n
-in_range_capped n (Turn x) c low = omega (arith, low)
-in_range_capped n (Look x) c low = low
 
 -- counts that rise keep a call under way
 call_rises : (n d : ℕ) (first : List (ℕ × ℕ)) (b c : List ℕ) → ((y : ℕ) → slice_index b y ≤ slice_index c y) → (t : Target) (k j : ℕ) → IsUnderWay n d first b t k j → IsUnderWay n d first c t k j

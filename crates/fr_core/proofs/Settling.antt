@@ -1,6 +1,6 @@
 -- Where no node can turn, lawful counts are settled.
 use Rattle.std.proofs.Common.{List, [], ap, arith, inl, inr, length, refl, slice_index, subst, suc, sym, zero, ℕ, ⊎_elim, ◌++◌, ◌+◌, ◌<◌, ◌∙◌, ◌∷◌, ◌≡◌, ◌≤◌, ◌⊎◌}
-use Rattle.std.proofs.lemmas.Bool.{cases_Bool, cases_eq, cases_lt, false≢true}
+use Rattle.std.proofs.lemmas.Bool.{cases_eq, cases_lt}
 use Rattle.fr_core.proofs.Away.{Climbs, climbs_from_meets, lawful_at_most}
 use Rattle.fr_core.proofs.Following.{path_short}
 use Rattle.fr_core.proofs.Pigeons.{too_many_counts}
@@ -13,10 +13,8 @@ use Rattle.fr_graph.proofs.Acyclic.{links_at_acyclic}
 use Rattle.fr_graph.proofs.Giving.{ComesFrom, Points-links_at_from}
 use Rattle.fr_graph.proofs.Linking.{joined_below}
 use Rattle.fr_graph.proofs.Members.{cases_some}
-use Rattle.fr_graph.proofs.Neighbours.{Points-has_link, has_link_true}
 use Rattle.fr_graph.specs.Counts.{AreLawful, links_at}
 use Rattle.fr_graph.specs.Links.{IsAlone, IsNet, IsPath, Joins, Points}
-use Rattle.fr_graph.specs.Rows.{has_link}
 
 pub cases_linked : (links : List (ℕ × ℕ)) (x : ℕ) → ((w : ℕ) × Joins links x w) ⊎ IsAlone links x
 cases_linked links x = ⊎_elim
@@ -29,12 +27,6 @@ cases_out links x = ⊎_elim
     (λ f. inl (f.0.1, subst (λ (z : ℕ). Points links z f.0.1) f.2 f.1))
     (λ none. inr (λ y h. none (x, y) h refl))
     (cases_some (λ (l : ℕ × ℕ). l.0 ≡ x) (λ l. cases_eq l.0 x) links)
-
-pub cases_points : (links : List (ℕ × ℕ)) (x w : ℕ) → Points links x w ⊎ ¬ Points links x w
-cases_points links x w = ⊎_elim
-    (λ yes. inl (Points-has_link links x w yes))
-    (λ no. inr (λ p. false≢true (sym no ∙ has_link_true links x w p)))
-    (cases_Bool (has_link links x w))
 
 pub walk_along : (links : List (ℕ × ℕ)) (u : ℕ) (vs : List ℕ) (k y x : ℕ) → IsWalk links u vs k y → Points links y x → IsWalk links u (vs ++ x ∷ []) (k + 1) x
 walk_along links u [] k y x w h = inl (subst (λ (z : ℕ). Points links z x) w.0 h, (0, omega (arith, w.1), (refl, refl)))

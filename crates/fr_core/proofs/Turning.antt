@@ -110,6 +110,10 @@ module _ (n d : ℕ) (first : List (ℕ × ℕ)) (net : IsNet n first) (c : List
 pub can_turn-links_at : (n d : ℕ) (first : List (ℕ × ℕ)) (m : Moment) (x : ℕ) → m.links ≡ links_at first m.counts → CanTurn n d m x → CanTurn n d (record { links = links_at first m.counts; counts = m.counts }) x
 can_turn-links_at n d first m x e can = record { not_destination = can.not_destination; below_cap = can.below_cap; sink = subst (λ (ls : List (ℕ × ℕ)). IsSink ls x) e can.sink }
 
+-- a node that can turn is a node
+pub can_turn_below : (n d : ℕ) (first : List (ℕ × ℕ)) → IsNet n first → (m : Moment) → m.links ≡ links_at first m.counts → (x : ℕ) → CanTurn n d m x → x < n
+can_turn_below n d first net m e x can = let s = sink_linked first m.counts x (can_turn-links_at n d first m x e can).sink in (joined_below n first x s.0 net s.1).0
+
 pub turn_keeps : (n d : ℕ) (first : List (ℕ × ℕ)) → IsNet n first → (m : Moment) → IsLawfulAt n d first m → (x k : ℕ) → CanTurn n d m x → IsLawfulAt n d first (after_reply m x (Turned k))
 turn_keeps n d first net m at x k can =
     let can' = can_turn-links_at n d first m x at.links can in

@@ -1,25 +1,24 @@
 -- What the worklist holds: one node more, and the neighbours of a node that turns.
-use Rattle.std.proofs.Common.{List, [], arith, ap, drop, inl, inr, length, map, refl, slice_index, subst, sym, ℕ, ◌++◌, ◌+◌, ◌-◌, ◌<◌, ◌∙◌, ◌∷◌, ◌≡◌, ◌≤◌, ◌⊎◌}
+use Rattle.std.proofs.Common.{List, [], arith, ap, drop, inl, inr, length, map, refl, slice_index, subst, sym, ℕ, ◌++◌, ◌+◌, ◌-◌, ◌<◌, ◌∙◌, ◌∷◌, ◌≡◌, ◌≤◌}
 use Rattle.std.specs.List.{Contains}
-use Rattle.std.proofs.lemmas.Bool.{cases_Bool, cases_eq, cases_lt, true≢false}
+use Rattle.std.proofs.lemmas.Bool.{cases_eq, cases_lt}
 use Rattle.std.proofs.lemmas.List.{get_or-append-add, get_or-drop, get_or-map, get_or_append_left, get_or_push, length-append, length-drop, length-map, length_push}
 use Rattle.std.proofs.lemmas.List.Elements.{All-contains, All-from_get_or, Contains-get_or}
 use Rattle.fr_core.proofs.Reaching.{queued_more}
 use Rattle.fr_core.proofs.RowLinks.{row_below}
 use Rattle.fr_core.proofs.Sinks.{kept_at, sink_from_bounds, sink_meets_bounds}
-use Rattle.fr_core.proofs.Turning.{raised, raised-here, raised-other, turn_lawful}
+use Rattle.fr_core.proofs.Turning.{can_turn_below, raised, raised-here, raised-other, turn_lawful}
 use Rattle.fr_core.specs.Bounds.{MeetsBounds}
 use Rattle.fr_core.specs.Finish.{HoldsAllThatCanTurn}
 use Rattle.fr_core.specs.History.{moment_of}
 use Rattle.fr_core.specs.Legal.{CanTurn}
 use Rattle.fr_core.specs.Reaching.{IsQueued}
-use Rattle.fr_core.specs.Worklist.{AreNodes, Carries, HoldsAll}
-use Rattle.fr_graph.proofs.Linking.{link_below}
-use Rattle.fr_graph.proofs.Neighbours.{has_link_true, Points-has_link, row_of_in, row_of_out}
-use Rattle.fr_graph.proofs.TurnedLinks.{net_turned}
-use Rattle.fr_graph.specs.Counts.{AreLawful, links_at}
+use Rattle.fr_core.specs.Worklist.{AreLater, AreNodes, Carries, HoldsAll, IsWorklist}
+use Rattle.fr_graph.proofs.Neighbours.{cases_joins, row_of_in, row_of_out}
+use Rattle.fr_graph.specs.Counts.{AreLawful}
 use Rattle.fr_graph.specs.Links.{IsNet, Joins, Points}
-use Rattle.fr_graph.specs.Rows.{has_link, row}
+use Rattle.fr_graph.specs.Network.{Network}
+use Rattle.fr_graph.specs.Rows.{row}
 use Rattle.fr_graph.specs.declared.first.First.{First}
 use Rattle.fr_graph.specs.declared.first.First.TheVariants.{Outward}
 
@@ -36,10 +35,6 @@ queued_push work x y h = queued_more work (work ++ x ∷ []) y (omega (arith, le
 pub queued_last : (work : List ℕ) (x : ℕ) → IsQueued (work ++ x ∷ []) x
 queued_last work x = (length work, omega (arith, length_push work x), get_or_push work x 0 (length work) refl)
 
--- a node that can turn is a node
-pub can_turn_below : (n d : ℕ) (first : List (ℕ × ℕ)) (c : List ℕ) → IsNet n first → AreLawful n d first c → (x : ℕ) → CanTurn n d (moment_of first c) x → x < n
-can_turn_below n d first c net lawful x can = (link_below n (links_at first c) can.sink.0.0 x (net_turned n first c lawful.kept net) can.sink.0.1).1
-
 abbrev pub neighbours : ℕ → List (ℕ × ℕ) → ℕ → List ℕ
 neighbours n first x = map (λ (e : ℕ × First). e.0) (row n first x)
 
@@ -54,19 +49,6 @@ nodes_neighbours n first x work all i m =
           rw (e, get_or-append-add work (neighbours n first x) k 0, get_or-map (λ (e : ℕ × First). e.0) (row n first x) k (0, Outward) 0 inside) (row_below n first x k (0, Outward) inside)
     ]
 
-joins_or_not : (first : List (ℕ × ℕ)) (x y : ℕ) → Joins first x y ⊎ ¬ Joins first x y
-joins_or_not first x y =
-    elim (cases_Bool (has_link first x y)) [
-      | inl e ↦ inl (inl (Points-has_link first x y e))
-      | inr e ↦ elim (cases_Bool (has_link first y x)) [
-        | inl f ↦ inl (inr (Points-has_link first y x f))
-        | inr f ↦ inr (λ j. elim j [
-          | inl h ↦ true≢false (sym (has_link_true first x y h) ∙ e)
-          | inr h ↦ true≢false (sym (has_link_true first y x h) ∙ f)
-        ])
-      ]
-    ]
-
 in_row : (n : ℕ) (first : List (ℕ × ℕ)) (x y : ℕ) → IsNet n first → Joins first x y → IsQueued (neighbours n first x) y
 in_row n first x y net (inl h) =
     let r = row_of_out n first x y net h in
@@ -77,11 +59,20 @@ in_row n first x y net (inr h) =
 
 -- node x turns
 module _ (n d : ℕ) (first : List (ℕ × ℕ)) (net : IsNet n first) (c : List ℕ) (lawful : AreLawful n d first c) (x : ℕ) (can : CanTurn n d (moment_of first c) x) where
+  abbrev at_net : Network
+  at_net = record { nodes = n; links = first }
+
   after : AreLawful n d first (raised c x)
   after = turn_lawful n d first net c lawful x can
 
   inside : x < length c
-  inside = omega (arith, can_turn_below n d first c net lawful x can, lawful.one_each)
+  inside = omega (arith, can_turn_below n d first net (moment_of first c) refl x can, lawful.one_each)
+
+  pub turned_later : AreLater at_net d c (raised c x)
+  turned_later = record {
+    lawful = after;
+    forth = λ y. elim (cases_eq y x) [ inl e ↦ omega (arith, raised-here c x y inside e) | inr ne ↦ omega (arith, raised-other c x y ne) ];
+  }
 
   apart : (u v : ℕ) → Points first u v → ¬ (u ≡ v)
   apart u v h = All-contains (λ (l : ℕ × ℕ). ¬ (l.0 ≡ l.1)) first (u, v) net.no_self h
@@ -124,11 +115,11 @@ module _ (n d : ℕ) (first : List (ℕ × ℕ)) (net : IsNet n first) (c : List
         sink = sink_from_bounds first c lawful.kept y bounds;
       }
 
-  pub turn_carries : (work : List ℕ) → Carries n d first c work x (raised c x) (work ++ neighbours n first x)
-  turn_carries work at l here holds y now =
+  turned_holds : (work : List ℕ) (at : ℕ) → slice_index work at ≡ x → HoldsAll at_net d c work at → at < length work → HoldsAll at_net d (raised c x) (work ++ neighbours n first x) (at + 1)
+  turned_holds work at here holds l y now =
       let more : List ℕ = neighbours n first x in
       let whole = length-append work more in
-      elim (joins_or_not first x y) [
+      elim (cases_joins first x y) [
         | inl j ↦
             let q = in_row n first x y net j in
             (length work + q.0, omega (arith, l), omega (arith, whole, q.1), get_or-append-add work more q.0 0 ∙ q.2)
@@ -141,14 +132,30 @@ module _ (n d : ℕ) (first : List (ℕ × ℕ)) (net : IsNet n first) (c : List
         ]
       ]
 
+  pub turn_carries : (work : List ℕ) → Carries at_net d x c work (raised c x) (work ++ neighbours n first x)
+  turn_carries work at l here before = record {
+    nodes = nodes_neighbours n first x work before.nodes;
+    all = turned_holds work at here before.all l;
+  }
+
+-- a node that cannot turn is passed over
+pub passed_over : (net : Network) (d : ℕ) (c work : List ℕ) (x : ℕ) → ¬ CanTurn net.nodes d (moment_of net.links c) x → Carries net d x c work c work
+passed_over net d c work x cannot at l here before = record {
+  nodes = before.nodes;
+  all = λ y can.
+      let h = before.all y can in
+      let past : ¬ (h.0 ≡ at) = λ e. cannot (subst (CanTurn net.nodes d (moment_of net.links c)) (sym h.3 ∙ ap (slice_index work) e ∙ here) can) in
+      (h.0, omega (arith, h.1, past), h.2, h.3);
+}
+
 -- the nodes of a worklist from a place on hold all that can turn, if the worklist holds all from there on
-pub held_among : (n d : ℕ) (first : List (ℕ × ℕ)) (c work : List ℕ) (at : ℕ) → AreNodes n work → at ≤ length work → HoldsAll n d first c work at → HoldsAllThatCanTurn n d first c (drop at work)
-held_among n d first c work at nodes within holds = record {
-  nodes = All-from_get_or (λ (y : ℕ). y < n) (drop at work) 0 (λ i below.
+pub held_among : (net : Network) (d : ℕ) (c work : List ℕ) (at : ℕ) → at ≤ length work → IsWorklist net d c work at → HoldsAllThatCanTurn net.nodes d net.links c (drop at work)
+held_among net d c work at within is = record {
+  nodes = All-from_get_or (λ (y : ℕ). y < net.nodes) (drop at work) 0 (λ i below.
       let here : at + i < length work = omega (arith, below, length-drop at work) in
-      subst (λ (y : ℕ). y < n) (sym (get_or-drop at work i 0)) (nodes (at + i) here));
+      subst (λ (y : ℕ). y < net.nodes) (sym (get_or-drop at work i 0)) (is.nodes (at + i) here));
   all = λ x can.
-      let h = holds x can in
+      let h = is.all x can in
       let i : ℕ = h.0 - at in
       let place : at + i ≡ h.0 = omega (arith, h.1) in
       let here : slice_index (drop at work) i ≡ x = get_or-drop at work i 0 ∙ ap (slice_index work) place ∙ h.3 in

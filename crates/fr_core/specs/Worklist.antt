@@ -1,5 +1,7 @@
 -- The worklist of nodes that may turn. For the finisher alone.
 use Rattle.std.specs.Prelude.{◌≡◌, ℕ, ◌+◌, ◌<◌, ◌≤◌, List, length, slice_index}
+use Rattle.fr_graph.specs.Counts.{AreLawful}
+use Rattle.fr_graph.specs.Network.{Network}
 use Rattle.fr_core.specs.History.{moment_of}
 use Rattle.fr_core.specs.Legal.{CanTurn}
 
@@ -7,12 +9,21 @@ use Rattle.fr_core.specs.Legal.{CanTurn}
 abbrev pub AreNodes : ℕ → List ℕ → Type 0
 AreNodes n work = (i : ℕ) → i < length work → slice_index work i < n
 
--- each node that can turn stands in it, at the place `at` or behind it
-abbrev pub HoldsAll : ℕ → ℕ → List (ℕ × ℕ) → List ℕ → List ℕ → ℕ → Type 0
-HoldsAll n d first counts work at =
-    (x : ℕ) → CanTurn n d (moment_of first counts) x → (i : ℕ) × (at ≤ i) × (i < length work) × (slice_index work i ≡ x)
+-- each node that can turn at these counts stands in it, at the place `at` or behind it
+abbrev pub HoldsAll : Network → ℕ → List ℕ → List ℕ → ℕ → Type 0
+HoldsAll net d counts work at =
+    (x : ℕ) → CanTurn net.nodes d (moment_of net.links counts) x → (i : ℕ) × (at ≤ i) × (i < length work) × (slice_index work i ≡ x)
 
--- a worklist w that holds all from a place of x on is a worklist v that holds all behind this place
-abbrev pub Carries : ℕ → ℕ → List (ℕ × ℕ) → List ℕ → List ℕ → ℕ → List ℕ → List ℕ → Type 0
-Carries n d first b w x c v =
-    (at : ℕ) → at < length w → slice_index w at ≡ x → HoldsAll n d first b w at → HoldsAll n d first c v (at + 1)
+-- a worklist for these counts, read up to the place `at`
+pub record IsWorklist (net : Network) (d : ℕ) (counts work : List ℕ) (at : ℕ) : Type 0 where
+  pub nodes : AreNodes net.nodes work
+  pub all : HoldsAll net d counts work at
+
+-- once a worklist w for the counts b is read up to a place of x, it is, as v, one for the counts c that is read past this place
+abbrev pub Carries : Network → ℕ → ℕ → List ℕ → List ℕ → List ℕ → List ℕ → Type 0
+Carries net d x b w c v = (at : ℕ) → at < length w → slice_index w at ≡ x → IsWorklist net d b w at → IsWorklist net d c v (at + 1)
+
+-- the counts after are lawful, and no node has turned less often
+pub record AreLater (net : Network) (d : ℕ) (before after : List ℕ) : Type 0 where
+  pub lawful : AreLawful net.nodes d net.links after
+  pub forth : (x : ℕ) → slice_index before x ≤ slice_index after x

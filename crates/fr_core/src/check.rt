@@ -46,8 +46,10 @@ fn points(net: &Net, counts: &[u64], x: u32, w: u32) -> bool
 fn turn_fault(net: &Net, dest: u32, counts: &[u64], x: u32, count: u64) -> Option<Why>
     requires lawful { AreLawful net.now.nodes dest net.now.links counts.now }
     requires node { x < net.now.nodes }
-    ensures none { IfNone result (IsLegalReply net.now.nodes dest (moment_of net.now.links counts.now) x (Turned count)) }
-    ensures some { IfSome result (FailsReply net.now.nodes dest (moment_of net.now.links counts.now) x (Turned count)) }
+    ensures none { IfNone result (IsLegalReply net.now.nodes dest (moment_of net.now.links counts.now) x
+        (Turned count)) }
+    ensures some { IfSome result (FailsReply net.now.nodes dest (moment_of net.now.links counts.now) x
+        (Turned count)) }
 {
     let had = counts[x as usize];
     if x == dest {
@@ -137,11 +139,11 @@ fn fault_of(net: &Net, dest: u32, counts: &[u64], entry: Entry) -> Option<Why>
     }
 }
 
-/// Checks a history from the counts 0, entry by entry, and answers how often each node has turned at its end; or `BadAt` with the first
-/// entry that is not legal after those before it, and the first test that it fails. It stands on what the entries say
-/// alone, and not on how they came to be. Links are never turned, since the counts say where they point, and the counts are all
-/// the memory that it takes. `Range` where `dest` is no node, before any entry is looked at; `Memory` where no room could be had
-/// for the counts. `O(n)`, and `O(d)` an entry.
+/// Checks a history from the counts 0, entry by entry, and answers how often each node has turned at its end; or
+/// `BadAt` with the first entry that is not legal after those before it, and the first test that it fails. It stands
+/// on what the entries say alone, and not on how they came to be. Links are never turned, since the counts say where
+/// they point, and the counts are all the memory that it takes. `Range` where `dest` is no node, before any entry is
+/// looked at; `Memory` where no room could be had for the counts. `O(n)`, and `O(d)` an entry.
 pub fn check_run(
     alloc: Global,
     net: &Net,

@@ -1,5 +1,5 @@
-//! What the counts of a network say: where a link points now, which counts are lawful, which nodes are sinks, and whether none of them can
-//! turn.
+//! What the counts of a network say: where a link points now, which counts are lawful, which nodes are sinks, and
+//! whether none of them can turn.
 
 ghost use Rattle.std.specs.Prelude.{◌≡◌, ℕ, ◌<◌, ◌↔◌, IsTrue, length, All};
 ghost use Rattle.fr_graph.specs.Counts.{AreLawful, IsKept, links_at};
@@ -91,8 +91,9 @@ fn fits_links(net: &Net, counts: &[u64]) -> bool
 }
 
 /// Whether the counts are lawful: one for each node, 0 at `dest` and at nodes with no link, none above the number of
-/// nodes, and each link with a direction. By the law these are the counts that turns of nodes other than `dest` lead to from the counts 0:
-/// the clauses `all` and `reached` of [`run_law`](crate::laws::run_law). `dest` has to be a node. `O(n + m)`.
+/// nodes, and each link with a direction. By the law these are the counts that turns of nodes other than `dest` lead
+/// to from the counts 0: the clauses `all` and `reached` of [`run_law`](crate::laws::run_law). `dest` has to be a
+/// node. `O(n + m)`.
 pub fn lawful(net: &Net, dest: u32, counts: &[u64]) -> bool
     requires { dest < net.now.nodes }
     ensures { IsTrue result ↔ AreLawful net.now.nodes dest net.now.links counts.now }
@@ -103,8 +104,8 @@ pub fn lawful(net: &Net, dest: u32, counts: &[u64]) -> bool
     fits_nodes(net, counts) && fits_links(net, counts)
 }
 
-/// Whether node `x` is a sink of the links that the counts give: it has a link, and each of its links points to it. There has to be a
-/// count for each node, and each link has to have a direction by them, as by lawful counts. `O(d)`.
+/// Whether node `x` is a sink of the links that the counts give: it has a link, and each of its links points to it.
+/// There has to be a count for each node, and each link has to have a direction by them, as by lawful counts. `O(d)`.
 pub fn is_sink(net: &Net, counts: &[u64], x: u32) -> bool
     requires one_each { length counts.now ≡ net.now.nodes }
     requires kept { All (IsKept counts.now) net.now.links }
@@ -123,8 +124,8 @@ pub fn is_sink(net: &Net, counts: &[u64], x: u32) -> bool
     !row.is_empty()
 }
 
-/// Whether node `x` can turn at these counts, which have to be lawful: it is a sink, not the destination, and its count is below
-/// the cap. `O(d)`.
+/// Whether node `x` can turn at these counts, which have to be lawful: it is a sink, not the destination, and its
+/// count is below the cap. `O(d)`.
 pub fn can_turn(net: &Net, dest: u32, counts: &[u64], x: u32) -> bool
     requires lawful { AreLawful net.now.nodes dest net.now.links counts.now }
     requires node { x < net.now.nodes }
@@ -133,7 +134,8 @@ pub fn can_turn(net: &Net, dest: u32, counts: &[u64], x: u32) -> bool
     x != dest && counts[x as usize] < u64::from(net.nodes()) && is_sink(net, counts, x)
 }
 
-/// Whether lawful counts are the settled ones: no node can turn any more. It looks at nodes until it finds one that can. `O(n + m)`.
+/// Whether lawful counts are the settled ones: no node can turn any more. It looks at nodes until it finds one that
+/// can. `O(n + m)`.
 pub fn are_settled(net: &Net, dest: u32, counts: &[u64]) -> bool
     requires node { dest < net.now.nodes }
     requires lawful { AreLawful net.now.nodes dest net.now.links counts.now }

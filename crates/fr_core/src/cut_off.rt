@@ -1,13 +1,14 @@
-//! Nodes that are cut off, as turns tell: where no link joins nodes that have turned with others, no way leads from them to the
-//! destination, which never turns.
+//! Nodes that are cut off, as turns show it: if no link joins nodes that have turned with others, no way leads from
+//! them to the destination, which never turns.
 
-ghost use Rattle.std.specs.Prelude.{◌≡◌, ℕ, ◌<◌, ◌≤◌, ◌↔◌, IsTrue, All, length, map, slice_index};
+ghost use Rattle.std.specs.Prelude.{◌≡◌, ℕ, ◌<◌, ◌≤◌, ◌↔◌, IsTrue, All, length, map};
 ghost use Rattle.fr_graph.specs.Counts.{AreLawful};
 ghost use Rattle.fr_graph.specs.Rows.{row};
 ghost use Rattle.fr_graph.specs.Turns.{set_to};
 ghost use Rattle.fr_core.specs.CutOff.{AreApart, HasTurned};
 ghost use Rattle.fr_core.specs.History.{moment_of};
 ghost use Rattle.fr_core.specs.Legal.{CanTurn};
+ghost use Rattle.fr_core.specs.Worklist.{AreLater};
 
 use fr_graph::{Net, Turns};
 
@@ -43,16 +44,15 @@ fn are_apart(net: &Net, turns: &Turns) -> bool
     true
 }
 
-/// Where no link joins nodes that have turned with others, gives them the count at which they end: they are cut off, and turn up to the
-/// cap. Otherwise the counts stay. No node can turn afterwards that could not before. It costs a look at each neighbour of a node that has
-/// turned, at most.
+/// If no link joins nodes that have turned with others, these nodes are cut off, and turn up to the cap: then it gives
+/// them that count. Otherwise the counts stay. No node can turn afterwards that could not before. At most it looks at
+/// each neighbour of a node that has turned.
 pub(crate) fn cap_cut_off(net: &Net, dest: u32, turns: &mut Turns)
     requires node { dest < net.now.nodes }
     requires lawful { AreLawful net.now.nodes dest net.now.links turns.old }
-    ensures lawful { AreLawful net.now.nodes dest net.now.links turns.new }
+    ensures later { AreLater net.now dest turns.old turns.new }
     ensures fewer { (x : ℕ) → CanTurn net.now.nodes dest (moment_of net.now.links turns.new) x
         → CanTurn net.now.nodes dest (moment_of net.now.links turns.old) x }
-    ensures forth { (x : ℕ) → slice_index turns.old x ≤ slice_index turns.new x }
     ensures apart { AreApart net.now.links turns.old → turns.new ≡ map (set_to net.now.nodes) turns.old }
     ensures still { ¬ AreApart net.now.links turns.old → turns.new ≡ turns.old }
 {

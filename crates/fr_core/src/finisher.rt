@@ -11,8 +11,8 @@ use crate::levels;
 use crate::worklist::{turn_few, turn_few_of_all};
 use fr_graph::{MAX_NODES, Net, Turns};
 
-/// Searches for the settled counts, in a table of its own, and makes the turns those that they tell. No part of its callers, so
-/// that the table takes no room on the stack where a few turns are enough.
+/// Searches for the settled counts, in a table of its own, and makes the turns those that they tell. No part of its
+/// callers, so that the table takes no room on the stack where a few turns are enough.
 #[inline(never)]
 fn search(net: &Net, dest: u32, turns: &mut Turns)
     requires one_each { length turns.old ≡ net.now.nodes }
@@ -47,12 +47,13 @@ fn settle(net: &Net, dest: u32, turns: &mut Turns)
     }
 }
 
-/// Goes from lawful counts to those at which turning node by node ends, and answers how many turns lie between: a search writes the
-/// settled counts, also where a turn or none is left, since counts alone do not tell where nodes have turned. It allocates nothing. That
-/// turning ends there is a law, the clause `leads` of [`schedule_law`](crate::laws::schedule_law): a run of turns alone leads from the old
-/// counts to the new ones, has as many turns as this answers, and leaves no node that can turn. By its clause `alike` each run that leaves
-/// no such node ends there too. The destination has to be a node, and the counts have to be lawful, as [`lawful`](crate::lawful) tests; those
-/// of no turns are. `O(n + m)`, however many turns there are.
+/// Goes from lawful counts to those at which turning node by node ends, and answers how many turns lie between: a
+/// search writes the settled counts, also where a turn or none is left, since counts alone do not tell where nodes
+/// have turned. It allocates nothing. That turning ends there is a law, the clause `leads` of
+/// [`schedule_law`](crate::laws::schedule_law): a run of turns alone leads from the old counts to the new ones, has as
+/// many turns as this answers, and leaves no node that can turn. By its clause `alike` each run that leaves no such
+/// node ends there too. The destination has to be a node, and the counts have to be lawful, as
+/// [`lawful`](crate::lawful) tests; those of no turns are. `O(n + m)`, however many turns there are.
 pub fn finish(net: &Net, dest: u32, counts: &mut [u64]) -> u64
     requires node { dest < net.now.nodes }
     requires lawful { AreLawful net.now.nodes dest net.now.links counts.old }
@@ -66,9 +67,10 @@ pub fn finish(net: &Net, dest: u32, counts: &mut [u64]) -> u64
     total_of(counts) - before
 }
 
-/// Goes where [`finish`] goes, over [`Turns`], and answers the same. Few turns are made one by one; a small part that is cut off is known
-/// by them, and given the counts at which it ends; and where they would cost more, a search writes the settled counts in their place. It
-/// allocates nothing. The destination has to be a node, and the counts have to be lawful. `O(n + m)`, however many turns there are.
+/// Goes where [`finish`] goes, over [`Turns`], and answers the same. Few turns are made one by one; a small part that
+/// is cut off is known by them, and given the counts at which it ends; and where they would cost more, a search writes
+/// the settled counts in their place. It allocates nothing. The destination has to be a node, and the counts have to
+/// be lawful. `O(n + m)`, however many turns there are.
 pub fn finish_turns(net: &Net, dest: u32, turns: &mut Turns) -> u64
     requires node { dest < net.now.nodes }
     requires lawful { AreLawful net.now.nodes dest net.now.links turns.old }
@@ -83,11 +85,11 @@ pub fn finish_turns(net: &Net, dest: u32, turns: &mut Turns) -> u64
     after - before
 }
 
-/// Goes to where [`finish`] goes, and looks for nodes that can turn among `from` alone and among the neighbours of nodes that it
-/// turns: for a caller that knows where the first of them are. Where few turn, no other node costs a step. It allocates nothing. The
-/// destination has to be a node, and the counts have to be lawful. Each node that can turn has to be in `from`, and all that are there have
-/// to be nodes; they need not be able to turn, and may stand there twice. `O(d)` a node of `from`, and `O(d²)` a turn where few turn, else
-/// as [`finish_turns`].
+/// Goes to where [`finish`] goes, and looks for nodes that can turn among `from` alone and among the neighbours of
+/// nodes that it turns: for a caller that knows where the first of them are. Where few turn, no other node costs a
+/// step. It allocates nothing. The destination has to be a node, and the counts have to be lawful. Each node that can
+/// turn has to be in `from`, and all that are there have to be nodes; they need not be able to turn, and may stand
+/// there twice. `O(d)` a node of `from`, and `O(d²)` a turn where few turn, else as [`finish_turns`].
 pub fn finish_from(net: &Net, dest: u32, turns: &mut Turns, from: &[u32])
     requires node { dest < net.now.nodes }
     requires lawful { AreLawful net.now.nodes dest net.now.links turns.old }
@@ -100,12 +102,13 @@ pub fn finish_from(net: &Net, dest: u32, turns: &mut Turns, from: &[u32])
     }
 }
 
-/// Goes to where [`finish_from`] goes, if a few turns lead there, or these and the turns of a small part that is cut off. Else it gives up,
-/// once it has looked at as many neighbours as there are nodes and as all rows have, or has no more room for nodes that may turn; it
-/// does so twice at most, with little room and with as much as a network can have nodes. The counts are then those of some turns, and
-/// lawful. No turn is ever taken back. The answer is yes exactly where no node can turn any more, and no where it gave up with a node
-/// that can: it then looks for one, as [`are_settled`] does. For a caller that has other means where there is more to turn, as threads. It
-/// allocates nothing. It wants the same counts, and the same nodes in `from`. It costs what [`finish_from`] does where few turn,
+/// Goes to where [`finish_from`] goes, if a few turns lead there, or these and the turns of a small part that is cut
+/// off. Else it gives up, once it has looked at as many neighbours as there are nodes and as all rows have, or has no
+/// more room for nodes that may turn; it does so twice at most, with little room and with as much as a network can
+/// have nodes. The counts are then those of some turns, and lawful. No turn is ever taken back. The answer is yes
+/// exactly where no node can turn any more, and no where it gave up with a node that can: it then looks for one, as
+/// [`are_settled`] does. For a caller that has other means where there is more to turn, as threads. It allocates
+/// nothing. It wants the same counts, and the same nodes in `from`. It costs what [`finish_from`] does where few turn,
 /// and at most `O(n + m)` beside the looks at `from`.
 pub fn finish_soon(net: &Net, dest: u32, turns: &mut Turns, from: &[u32]) -> bool
     requires node { dest < net.now.nodes }

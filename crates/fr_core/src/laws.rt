@@ -19,8 +19,8 @@ pub fn links_law()
     ensures order { OrderDoesNotMatter }
 {}
 
-/// A turn changes the links as its count does, so a run keeps counts lawful, and no loop ever stands. Turns lead to all lawful counts:
-/// these are just the counts that runs from the counts 0 lead to.
+/// A turn changes the links as its count does, so a run keeps counts lawful, and no loop ever stands. Turns lead to
+/// all lawful counts: these are just the counts that runs from the counts 0 lead to.
 pub fn run_law()
     ensures one { TurnIsACount }
     ensures all { RunKeepsLawful }
@@ -30,15 +30,16 @@ pub fn run_law()
     ensures reached { LawfulIsReached }
 {}
 
-/// A sink shows in the counts, also in counts that were loaded one after the other while others turned: what a neighbour
-/// missed holds the node, and what all had met makes it a sink if it has kept its own count.
+/// A sink shows in the counts, also in counts that were loaded one after the other while others turned: what a
+/// neighbour missed holds the node, and what all had met makes it a sink if it has kept its own count.
 pub fn sink_law()
     ensures sink { SinkByCounts }
     ensures missed { MissedBoundHolds }
     ensures seen { SeenBoundsSink }
 {}
 
-/// Where no node can turn the counts are settled, there is but one list of such counts, and no lawful count is above its own.
+/// Where no node can turn the counts are settled, there is but one list of such counts, and no lawful count is above
+/// its own.
 pub fn settled_law()
     ensures bound { LawfulIsAtMostAway }
     ensures settled { NoTurnLeftIsSettled }

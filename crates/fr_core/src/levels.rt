@@ -1,4 +1,4 @@
-//! The settled counts, by a search by levels.
+//! The settled counts, found by a search level by level.
 
 ghost use Rattle.std.specs.Prelude.{◌≡◌, ℕ, ◌+◌, ◌<◌, ◌≤◌, length, All, slice_index};
 ghost use Rattle.fr_graph.specs.Links.{IsNet};
@@ -12,59 +12,64 @@ use crate::counts::most_count;
 use crate::queue::{ALL_NODES, Queue};
 use fr_graph::{First, Net};
 
-/// Gives the neighbour of an entry of a row the count `level` and a place in the queue, if its link first points this way
-/// and it was not reached before.
+/// A level of the search: the count of its nodes, and the first direction of the links by which it is reached.
+#[derive(Drop, Clone, Copy)]
+struct Level {
+    count: u64,
+    wanted: First,
+}
+
+/// Gives the neighbour of a row entry the count of this level and a place in the queue, if its link first points that
+/// way and no search has reached it.
 fn reach(
     net: &Net,
     entry: (u16, First),
-    wanted: First,
-    level: u64,
+    level: Level,
     counts: &mut [u64],
     queue: &mut Queue<ALL_NODES>,
 )
     requires one_each { length counts.old ≡ net.now.nodes }
     requires node { entry.0 < net.now.nodes }
     requires few { length queue.old + unreached_count net.now.nodes counts.old ≤ net.now.nodes }
-    requires low { level ≤ length queue.old }
-    ensures only { ReachesOnly net.now.nodes (λ (x : ℕ). (x ≡ entry.0) × (entry.1 ≡ wanted)) level
+    requires low { level.count ≤ length queue.old }
+    ensures only { ReachesOnly net.now.nodes (λ (x : ℕ). (x ≡ entry.0) × (entry.1 ≡ level.wanted)) level.count
         counts.old queue.old counts.new queue.new }
-    ensures reached { IsReached net.now.nodes counts.new wanted entry }
+    ensures reached { IsReached net.now.nodes counts.new level.wanted entry }
 {
     let (node, first) = entry;
-    if counts[node as usize] != net.nodes() as u64 || first != wanted {
+    if counts[node as usize] != net.nodes() as u64 || first != level.wanted {
         return;
     }
-    counts[node as usize] = level;
+    counts[node as usize] = level.count;
     queue.push(node as u32);
 }
 
-/// Reaches the neighbours of node `x` whose links first point this way.
+/// Reaches the neighbours of node `x` that belong to this level.
 fn reach_neighbours(
     net: &Net,
     x: u32,
-    wanted: First,
-    level: u64,
+    level: Level,
     counts: &mut [u64],
     queue: &mut Queue<ALL_NODES>,
 )
     requires one_each { length counts.old ≡ net.now.nodes }
     requires node { x < net.now.nodes }
     requires few { length queue.old + unreached_count net.now.nodes counts.old ≤ net.now.nodes }
-    requires low { level ≤ length queue.old }
-    ensures only { ReachesOnly net.now.nodes (IsNeighbour (row net.now.nodes net.now.links x) wanted) level
+    requires low { level.count ≤ length queue.old }
+    ensures only { ReachesOnly net.now.nodes (IsNeighbour (row net.now.nodes net.now.links x) level.wanted) level.count
         counts.old queue.old counts.new queue.new }
-    ensures reached { All (IsReached net.now.nodes counts.new wanted) (row net.now.nodes net.now.links x) }
+    ensures reached { All (IsReached net.now.nodes counts.new level.wanted) (row net.now.nodes net.now.links x) }
 {
     for entry in net.row(x) {
-        reach(net, *entry, wanted, level, counts, queue);
+        reach(net, *entry, level, counts, queue);
     }
 }
 
-/// Follows links from head to tail, which costs no turn: from the nodes of a level, and from those that this adds to it.
-/// The level stands in the queue from `start` on. The search began at the queue's first node.
+/// Follows links from head to tail, which costs no turn: from the nodes of the level of this count, and from those
+/// that join it. The level begins in the queue at `start`. The search began at the first node of the queue.
 fn close_level(
     net: &Net,
-    level: u64,
+    count: u64,
     counts: &mut [u64],
     queue: &mut Queue<ALL_NODES>,
     start: usize,
@@ -72,35 +77,43 @@ fn close_level(
     requires net { IsNet net.now.nodes net.now.links }
     requires one_each { length counts.old ≡ net.now.nodes }
     requires search { IsLevelSearch net.now.nodes (slice_index queue.old 0) net.now.links
-        counts.old queue.old start start start level }
+        counts.old queue.old start start start count }
     ensures search { IsLevelSearch net.now.nodes (slice_index queue.old 0) net.now.links
-        counts.new queue.new (length queue.new) start start level }
+        counts.new queue.new (length queue.new) start start count }
     ensures longer { length queue.old ≤ length queue.new }
 {
+    let level = Level {
+        count,
+        wanted: First::Inward,
+    };
     let mut at = start;
     while at < queue.len() {
-        reach_neighbours(net, queue.node(at), First::Inward, level, counts, queue);
+        reach_neighbours(net, queue.node(at), level, counts, queue);
         at += 1;
     }
 }
 
-/// Follows links from tail to head, which costs a turn: from the nodes of the level before, which stand in the queue from
-/// `start` on. Those that this reaches are the first of the level.
-fn open_level(net: &Net, level: u64, counts: &mut [u64], queue: &mut Queue<ALL_NODES>, start: usize)
+/// Follows links from tail to head, which costs a turn: from the nodes of the level before, which begin in the queue
+/// at `start`. The nodes that this reaches are the first of the new level.
+fn open_level(net: &Net, count: u64, counts: &mut [u64], queue: &mut Queue<ALL_NODES>, start: usize)
     requires net { IsNet net.now.nodes net.now.links }
     requires one_each { length counts.old ≡ net.now.nodes }
     requires search { IsLevelSearch net.now.nodes (slice_index queue.old 0) net.now.links
-        counts.old queue.old (length queue.old) start (length queue.old) level }
+        counts.old queue.old (length queue.old) start (length queue.old) count }
     ensures search { IsLevelSearch net.now.nodes (slice_index queue.old 0) net.now.links
-        counts.new queue.new (length queue.old) (length queue.old) (length queue.old) level }
+        counts.new queue.new (length queue.old) (length queue.old) (length queue.old) count }
     ensures longer { length queue.old ≤ length queue.new }
 {
+    let level = Level {
+        count,
+        wanted: First::Outward,
+    };
     for at in start..queue.len() {
-        reach_neighbours(net, queue.node(at), First::Outward, level, counts, queue);
+        reach_neighbours(net, queue.node(at), level, counts, queue);
     }
 }
 
-/// Gives each node the most that its count can be, which says that no search has reached it.
+/// Gives each node the largest count that it can have, which marks a node that no search has reached.
 fn clear(net: &Net, counts: &mut [u64])
     requires { length counts.old ≡ net.now.nodes }
     ensures { (x : ℕ) → x < net.now.nodes → IsMostCount net.now.nodes net.now.links x (slice_index counts.new x) }
@@ -110,8 +123,8 @@ fn clear(net: &Net, counts: &mut [u64])
     }
 }
 
-/// Writes the settled counts, level by level: a level is the nodes of one count, and the next one is reached from it. No
-/// memory is taken, and each row is read twice.
+/// Writes the settled counts, level by level. A level has the nodes of one count, and the search reaches the next one
+/// from it. It takes no memory, and reads each row twice.
 pub(crate) fn settle(net: &Net, dest: u32, counts: &mut [u64])
     requires net { IsNet net.now.nodes net.now.links }
     requires one_each { length counts.old ≡ net.now.nodes }
@@ -123,12 +136,12 @@ pub(crate) fn settle(net: &Net, dest: u32, counts: &mut [u64])
     let mut queue = Queue::new();
     queue.push(dest);
     let mut start = 0;
-    let mut level = 0;
+    let mut count = 0;
     while start < queue.len() {
-        close_level(net, level, counts, &mut queue, start);
+        close_level(net, count, counts, &mut queue, start);
         let end = queue.len();
-        level += 1;
-        open_level(net, level, counts, &mut queue, start);
+        count += 1;
+        open_level(net, count, counts, &mut queue, start);
         start = end;
     }
 }

@@ -2,9 +2,10 @@
 //! finisher that goes there on one thread.
 //!
 //! [`lawful`] tests the counts of a network, [`sense`] and [`is_sink`] say what lawful counts make of its links, and
-//! [`finish`] goes to the counts at which every schedule ends, as do [`finish_turns`], over a table of turns, [`finish_from`], which is told
-//! where to look, and [`finish_soon`], if a few turns lead there. A [`Machine`] turns nodes and looks at them by single atomic steps of its workers, in whatever order these come, [`play`]
-//! follows a schedule, and [`check_run`] checks a history, entry by entry. The laws behind them are in [`laws`].
+//! [`finish`] goes to the counts at which every schedule ends, as do [`finish_turns`], over a table of turns,
+//! [`finish_from`], which is told where to look, and [`finish_soon`], if a few turns lead there. A [`Machine`] turns
+//! nodes and looks at them by single atomic steps of its workers, in whatever order these come, [`play`] follows a
+//! schedule, and [`check_run`] checks a history, entry by entry. The laws behind them are in [`laws`].
 //!
 //! Costs are told for n nodes, m links, and d links at a node, as read off the code.
 #![tactic(auto)]

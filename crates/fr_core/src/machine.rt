@@ -19,11 +19,12 @@ use fr_graph::Net;
 use std::alloc::{AllocError, Global};
 use std::marker::Model;
 
-/// Workers at the counts of a network, each with its targets. A step is the atomic load or the compare and exchange of one
-/// count, and who steps next is the caller's choice, so a caller can go through any interleaving. Whatever it is, the
-/// decided calls are a run: each reply is the one that full reversal on one thread gives at that point. So whoever keeps the
-/// entries that the steps answer holds a run to the counts: `HasCome` says of a machine which entries brought it where it is,
-/// and the clauses `come` of `new` and of `step` and `run` of `counts` carry it. A step takes no memory.
+/// Workers at the counts of a network, each with its targets. A step is the atomic load or the compare and exchange of
+/// one count, and who steps next is the caller's choice, so a caller can go through any interleaving. Whatever it is,
+/// the decided calls are a run: each reply is the one that full reversal on one thread gives at that point. So whoever
+/// keeps the entries that the steps answer holds a run to the counts: `HasCome` says of a machine which entries
+/// brought it where it is, and the clauses `come` of `new` and of `step` and `run` of `counts` carry it. A step takes
+/// no memory.
 #[derive(Debug, Drop)]
 pub struct Machine<'a> {
     net: &'a Net,
@@ -59,7 +60,8 @@ impl<'a> Machine<'a> {
         ensures ok { IfOk result (λ m. m ≡ started net.now.nodes dest net.now.links (lists_of targets.items)) }
         ensures destination { IfOk result (λ _. dest < net.now.nodes) }
         ensures come { IfOk result (λ m. HasCome m (lists_of targets.items) []) }
-        ensures accepted { IfOk result (λ _. AreAllAccepted net.now.nodes dest net.now.links (lists_of targets.items)) }
+        ensures accepted { IfOk result (λ _. AreAllAccepted net.now.nodes dest net.now.links
+            (lists_of targets.items)) }
         ensures refused { IfErr result
             (λ fault. fault ≢ Memory → IsMachineFault net.now.nodes dest net.now.links (lists_of targets.items) fault) }
     {
@@ -113,8 +115,8 @@ impl<'a> Machine<'a> {
         &self.counts
     }
 
-    /// One atomic step of a worker, from 0 to one below how many there are, and the entry if the step decides a call. Once a
-    /// worker's targets are used up, its steps change nothing. `O(1)`.
+    /// One atomic step of a worker, from 0 to one below how many there are, and the entry if the step decides a call.
+    /// Once a worker's targets are used up, its steps change nothing. `O(1)`.
     pub fn step(&mut self, worker: u32) -> Option<Entry>
         requires { worker < length self.old.state.workers }
         ensures next { self.new ≡ record self.old { state = step self.old.nodes self.old.links self.old.state worker } }

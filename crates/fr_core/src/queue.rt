@@ -5,11 +5,12 @@ ghost use Rattle.std.specs.Prelude.{◌≡◌, ℕ, ◌+◌, ◌<◌, ◌≤◌,
 use fr_graph::MAX_NODES;
 use std::marker::Model;
 
-/// How many places a queue has in which all nodes of a network find room.
+/// How many places a queue needs to have room for all nodes of a network.
 pub(crate) const ALL_NODES: usize = MAX_NODES as usize;
 
-/// Nodes in the order in which they were put there, by a search that reached them, or as those that may turn. There is room
-/// for so many. All places are cleared when it is made, so a long queue costs more than a short one before it holds a node.
+/// Nodes in the order in which they were put there: those that a search reached, or those that may turn. There is room
+/// for `PLACES` nodes. Making a queue clears all places, so a long queue costs more than a short one even if it stays
+/// empty.
 #[derive(Drop)]
 pub(crate) struct Queue<const PLACES: usize> {
     places: [u32; PLACES],
@@ -49,14 +50,14 @@ impl<const PLACES: usize> Queue<PLACES> {
         self.places[..self.len][at]
     }
 
-    /// All nodes, the first that was put there at the front.
+    /// All nodes, in the order in which they were put there.
     pub fn nodes(&self) -> &[u32]
         ensures { result.now ≡ self.now }
     {
         &self.places[..self.len]
     }
 
-    /// Whether so many nodes more find room.
+    /// Whether there is room for so many nodes more.
     pub fn has_room(&self, more: usize) -> bool
         ensures { IsTrue result ↔ (length self.now + more ≤ PLACES) }
     {

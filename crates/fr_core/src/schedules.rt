@@ -19,12 +19,12 @@ fn names_no_worker(schedule: &[u32], workers: usize) -> bool
     schedule.iter().any(|worker| *worker as usize >= workers)
 }
 
-/// Plays a schedule: a machine with a worker for each list of targets makes one step for each number of the schedule. The
-/// entries that these steps decide, in order: each reply is the one that full reversal on one thread gives at that point, and
-/// each worker's part of them is its replies. Or the first fault that stands: `Range` where `dest` is no node or a number of
-/// the schedule is no worker, and then `BadTarget` with the first target that is no node or a node with no link, or
-/// is a turn of the destination. `Memory` where no room could be had for the machine or the entries. `O(n + k + s)` for k targets and
-/// a schedule of s steps.
+/// Plays a schedule: a machine with a worker for each list of targets makes one step for each number of the schedule.
+/// The entries that these steps decide, in order: each reply is the one that full reversal on one thread gives at that
+/// point, and each worker's part of them is its replies. Or the first fault that stands: `Range` where `dest` is no
+/// node or a number of the schedule is no worker, and then `BadTarget` with the first target that is no node or a node
+/// with no link, or is a turn of the destination. `Memory` where no room could be had for the machine or the entries.
+/// `O(n + k + s)` for k targets and a schedule of s steps.
 pub fn play(
     alloc: Global,
     net: &Net,

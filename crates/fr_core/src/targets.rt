@@ -65,7 +65,8 @@ fn first_refused(net: &Net, dest: u32, targets: &[Target]) -> Option<usize>
 
 /// The places, among the lists and in its list, of the first target that a machine refuses.
 pub(crate) fn first_bad(net: &Net, dest: u32, targets: &[Vec<Target>]) -> Option<(usize, usize)>
-    ensures found { IfSome result (λ p. IsFirstBadTarget net.now.nodes dest net.now.links (lists_of targets.now) p.0 p.1) }
+    ensures found { IfSome result (λ p. IsFirstBadTarget net.now.nodes dest net.now.links
+        (lists_of targets.now) p.0 p.1) }
     ensures none { IfNone result (AreAllAccepted net.now.nodes dest net.now.links (lists_of targets.now)) }
 {
     for (worker, list) in targets.iter().enumerate() {

@@ -18,7 +18,8 @@ use std::marker::Model;
 pub(crate) enum Phase {
     /// The worker is in no call.
     Idle,
-    /// The node of the target had turned so often, and the neighbour at this place of its row is the next to be looked at.
+    /// The node of the target had turned so often, and the neighbour at this place of its row is the next to be looked
+    /// at.
     Looking {
         target: Target,
         count: u64,
@@ -41,6 +42,13 @@ pub(crate) enum Phase {
 pub(crate) struct Worker {
     left: VecDeque<Target>,
     phase: Phase,
+}
+
+/// A call that has begun: its target, and the count that the worker loaded of the target's node.
+#[derive(Drop, Clone, Copy)]
+struct Call {
+    target: Target,
+    count: u64,
 }
 
 impl Model for Worker {
@@ -148,32 +156,31 @@ impl Worker {
         &mut self,
         net: &Net,
         counts: &[u64],
-        target: Target,
-        count: u64,
+        call: Call,
         place: u32,
     ) -> Option<(u32, Reply)>
-        requires node { node_of target < net.now.nodes }
-        requires place { place < length (row net.now.nodes net.now.links (node_of target)) }
+        requires node { node_of call.target < net.now.nodes }
+        requires place { place < length (row net.now.nodes net.now.links (node_of call.target)) }
         requires one_each { length counts.now ≡ net.now.nodes }
-        requires capped { count ≤ net.now.nodes }
+        requires capped { call.count ≤ net.now.nodes }
         ensures { outcome_with counts.now self.new result
-            ≡ load_neighbour (row net.now.nodes net.now.links (node_of target)) counts.now self.old.left target count place }
+            ≡ load_neighbour (row net.now.nodes net.now.links (node_of call.target)) counts.now self.old.left call.target call.count place }
     {
         // By the law there are few nodes, so few neighbours.
         net.network_law();
-        let node = target.node();
+        let node = call.target.node();
         let degree = net.degree(node);
         let (neighbour, first) = net.neighbour(node, place);
-        if counts[neighbour as usize] < bound_of(first, count) {
+        if counts[neighbour as usize] < bound_of(first, call.count) {
             self.end_call();
             return Some((node, Reply::Held { by: neighbour }));
         }
         self.phase = if place + 1 == degree {
-            phase_unheld(target, count)
+            phase_unheld(call.target, call.count)
         } else {
             Phase::Looking {
-                target,
-                count,
+                target: call.target,
+                count: call.count,
                 place: place + 1,
             }
         };
@@ -233,7 +240,7 @@ impl Worker {
                 target,
                 count,
                 place,
-            } => { self.load_neighbour(net, counts, target, count, place) }
+            } => self.load_neighbour(net, counts, Call { target, count }, place),
             Phase::Swapping { node, count } => self.exchange(counts, node, count),
             Phase::Confirming { node, count } => self.confirm(counts, node, count),
         }

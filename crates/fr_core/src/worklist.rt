@@ -8,23 +8,22 @@ ghost use Rattle.fr_graph.specs.declared.first.First.{First};
 ghost use Rattle.fr_core.specs.Finish.{HoldsAllThatCanTurn};
 ghost use Rattle.fr_core.specs.History.{moment_of};
 ghost use Rattle.fr_core.specs.Legal.{NoneCanTurn};
-ghost use Rattle.fr_core.specs.Worklist.{AreNodes, HoldsAll, Carries};
+ghost use Rattle.fr_core.specs.Worklist.{AreLater, Carries, IsWorklist};
 
 use crate::counts::can_turn;
 use crate::cut_off::cap_cut_off;
 use crate::queue::{ALL_NODES, Queue};
 use fr_graph::{Net, Turns};
 
-/// How many places the list has that turning begins with, where it is known which nodes can turn: so few that clearing them costs
-/// less than the turns of most changes.
+/// How many places the short list has, from which turning begins when the nodes that can turn are known. Clearing so
+/// few places costs less than the turns of most changes.
 const FEW: usize = 256;
 
-/// Puts all nodes that can turn into the worklist, which is empty.
+/// Puts all nodes that can turn into the empty worklist.
 fn add_sinks(net: &Net, dest: u32, counts: &[u64], work: &mut Queue<ALL_NODES>)
     requires lawful { AreLawful net.now.nodes dest net.now.links counts.now }
     requires empty { work.old ≡ [] }
-    ensures nodes { AreNodes net.now.nodes work.new }
-    ensures all { HoldsAll net.now.nodes dest net.now.links counts.now work.new 0 }
+    ensures { IsWorklist net.now dest counts.now work.new 0 }
 {
     for x in 0..net.nodes() {
         if can_turn(net, dest, counts, x) {
@@ -33,8 +32,8 @@ fn add_sinks(net: &Net, dest: u32, counts: &[u64], work: &mut Queue<ALL_NODES>)
     }
 }
 
-/// Puts all nodes that can turn into the worklist, which is empty, if they find room there: whether they do. They are sought among
-/// the nodes of `from`, which may stand there twice.
+/// Puts all nodes that can turn into the empty worklist, and returns whether there was room. It looks for them among
+/// the nodes of `from`, which may contain a node twice.
 fn add_sinks_among<const PLACES: usize>(
     net: &Net,
     dest: u32,
@@ -45,8 +44,7 @@ fn add_sinks_among<const PLACES: usize>(
     requires lawful { AreLawful net.now.nodes dest net.now.links counts.now }
     requires from { HoldsAllThatCanTurn net.now.nodes dest net.now.links counts.now from.now }
     requires empty { work.old ≡ [] }
-    ensures nodes { AreNodes net.now.nodes work.new }
-    ensures all { result ≡ true → HoldsAll net.now.nodes dest net.now.links counts.now work.new 0 }
+    ensures { result ≡ true → IsWorklist net.now dest counts.now work.new 0 }
 {
     for x in from {
         if can_turn(net, dest, counts, *x) {
@@ -59,7 +57,7 @@ fn add_sinks_among<const PLACES: usize>(
     true
 }
 
-/// Adds the neighbours of node `x` to the worklist, if they find room there: whether they do.
+/// Adds the neighbours of node `x` to the worklist, if there is room for all of them, and returns whether there was.
 fn add_neighbours<const PLACES: usize>(net: &Net, x: u32, work: &mut Queue<PLACES>) -> bool
     requires node { x < net.now.nodes }
     ensures added { result ≡ true
@@ -76,8 +74,8 @@ fn add_neighbours<const PLACES: usize>(net: &Net, x: u32, work: &mut Queue<PLACE
     true
 }
 
-/// Looks at node `x`, and turns it if it can turn: its neighbours, which may be sinks then, are added to the worklist. Where
-/// they find no room there it answers no, and turns nothing.
+/// Turns node `x` if it can turn, and adds its neighbours to the worklist, since they may be sinks afterwards. If
+/// there is no room for them, it returns false and turns nothing.
 fn visit<const PLACES: usize>(
     net: &Net,
     dest: u32,
@@ -88,12 +86,8 @@ fn visit<const PLACES: usize>(
     requires net { IsNet net.now.nodes net.now.links }
     requires lawful { AreLawful net.now.nodes dest net.now.links turns.old }
     requires node { x < net.now.nodes }
-    requires nodes { AreNodes net.now.nodes work.old }
-    ensures lawful { AreLawful net.now.nodes dest net.now.links turns.new }
-    ensures forth { (y : ℕ) → slice_index turns.old y ≤ slice_index turns.new y }
-    ensures nodes { result ≡ true → AreNodes net.now.nodes work.new }
-    ensures carries { result ≡ true
-        → Carries net.now.nodes dest net.now.links turns.old work.old x turns.new work.new }
+    ensures later { AreLater net.now dest turns.old turns.new }
+    ensures carries { result ≡ true → Carries net.now dest x turns.old work.old turns.new work.new }
     ensures unchanged { result ≡ false → (turns.new ≡ turns.old) × (work.new ≡ work.old) }
 {
     if !can_turn(net, dest, turns.counts(), x) {
@@ -106,26 +100,30 @@ fn visit<const PLACES: usize>(
     true
 }
 
-/// Turns nodes from a worklist that holds all that can turn at the place `at` or behind it, and answers up to which place it came. That is the
-/// end of the list where none can turn any more. It stops before, where the worklist has no more room, or the rows of the nodes that
-/// it looks at would be together longer than the allowance.
+/// A stage of turning: the place of the worklist at which it starts, and how many neighbours it may look at.
+#[derive(Drop, Clone, Copy)]
+struct Stage {
+    start: usize,
+    allowance: usize,
+}
+
+/// Turns nodes from a worklist, and returns how far it came. At the end of the list no node can turn any more. It
+/// stops earlier if the worklist is full, or if it would look at more neighbours than the stage allows.
 fn turn_sinks<const PLACES: usize>(
     net: &Net,
     dest: u32,
     turns: &mut Turns,
     work: &mut Queue<PLACES>,
-    mut at: usize,
-    mut allowance: usize,
+    stage: Stage,
 ) -> usize
     requires net { IsNet net.now.nodes net.now.links }
     requires lawful { AreLawful net.now.nodes dest net.now.links turns.old }
-    requires nodes { AreNodes net.now.nodes work.old }
-    requires all { HoldsAll net.now.nodes dest net.now.links turns.old work.old at }
-    ensures lawful { AreLawful net.now.nodes dest net.now.links turns.new }
-    ensures forth { (x : ℕ) → slice_index turns.old x ≤ slice_index turns.new x }
-    ensures nodes { AreNodes net.now.nodes work.new }
-    ensures all { HoldsAll net.now.nodes dest net.now.links turns.new work.new result }
+    requires work { IsWorklist net.now dest turns.old work.old stage.start }
+    ensures later { AreLater net.now dest turns.old turns.new }
+    ensures work { IsWorklist net.now dest turns.new work.new result }
 {
+    let mut at = stage.start;
+    let mut allowance = stage.allowance;
     while at < work.len() {
         let x = work.node(at);
         let cost = net.degree(x) as usize;
@@ -138,9 +136,9 @@ fn turn_sinks<const PLACES: usize>(
     at
 }
 
-/// Turns nodes from a worklist that holds all that can turn, as long as that is cheap, and answers up to which place it came: the end
-/// of the list where none can turn any more. It stops before, where it has looked at as many neighbours as there are nodes
-/// and then at as many as all rows have, or the worklist has no more room.
+/// Turns nodes from a worklist while that is cheap, and returns how far it came. At the end of the list no node can
+/// turn any more. It stops earlier if the worklist is full, or once it has looked at as many neighbours as there are
+/// nodes and then at as many as all rows have.
 fn turn_listed<const PLACES: usize>(
     net: &Net,
     dest: u32,
@@ -149,25 +147,30 @@ fn turn_listed<const PLACES: usize>(
 ) -> usize
     requires node { dest < net.now.nodes }
     requires lawful { AreLawful net.now.nodes dest net.now.links turns.old }
-    requires nodes { AreNodes net.now.nodes work.old }
-    requires all { HoldsAll net.now.nodes dest net.now.links turns.old work.old 0 }
-    ensures lawful { AreLawful net.now.nodes dest net.now.links turns.new }
-    ensures forth { (x : ℕ) → slice_index turns.old x ≤ slice_index turns.new x }
-    ensures nodes { AreNodes net.now.nodes work.new }
-    ensures all { HoldsAll net.now.nodes dest net.now.links turns.new work.new result }
+    requires work { IsWorklist net.now dest turns.old work.old 0 }
+    ensures later { AreLater net.now dest turns.old turns.new }
+    ensures work { IsWorklist net.now dest turns.new work.new result }
 {
     // By the law there are few enough links that twice their number fits: so many entries all rows have together.
     net.network_law();
     // A small part that is cut off would turn on and on. A few turns show it, and need not be gone on with.
-    let at = turn_sinks(net, dest, turns, work, 0, net.nodes() as usize);
-    if at < work.len() {
+    let few = Stage {
+        start: 0,
+        allowance: net.nodes() as usize,
+    };
+    let start = turn_sinks(net, dest, turns, work, few);
+    if start < work.len() {
         cap_cut_off(net, dest, turns);
     }
-    turn_sinks(net, dest, turns, work, at, 2 * net.link_count())
+    let rest = Stage {
+        start,
+        allowance: 2 * net.link_count(),
+    };
+    turn_sinks(net, dest, turns, work, rest)
 }
 
-/// Turns nodes as long as that is cheap, from a long list that begins with all that can turn: whether none can turn any more. It is no
-/// part of its caller, so that the list takes no room on the stack while that searches.
+/// Turns nodes while that is cheap, from a long list of all that can turn, and returns whether none can turn any more.
+/// It is a function of its own so that the list takes no stack while its caller searches.
 #[inline(never)]
 pub(crate) fn turn_few_of_all(net: &Net, dest: u32, turns: &mut Turns) -> bool
     requires node { dest < net.now.nodes }
@@ -181,8 +184,8 @@ pub(crate) fn turn_few_of_all(net: &Net, dest: u32, turns: &mut Turns) -> bool
     end >= work.len()
 }
 
-/// Turns nodes from a list that has room for all, and begins with those of `from` that can turn: whether none can turn any more. It is
-/// no part of [`turn_few`], whose short list is mostly enough.
+/// Turns nodes from a list that has room for all, starting with those of `from` that can turn, and returns whether
+/// none can turn any more. It is a function of its own since the short list of [`turn_few`] is mostly enough.
 #[inline(never)]
 fn turn_many(net: &Net, dest: u32, turns: &mut Turns, from: &[u32]) -> bool
     requires node { dest < net.now.nodes }
@@ -200,8 +203,9 @@ fn turn_many(net: &Net, dest: u32, turns: &mut Turns, from: &[u32]) -> bool
     end >= work.len()
 }
 
-/// Turns nodes as long as that is cheap, those of `from` first, among which all stand that can turn: whether none can turn any more. A
-/// short list is tried before a long one. From either it turns as [`turn_listed`] does, and gives up where the long one ends.
+/// Turns nodes while that is cheap, starting with those of `from`, which contains all that can turn. Returns whether
+/// none can turn any more. It tries a short list before a long one, turns from either as [`turn_listed`] does, and
+/// stops where the long one ends.
 pub(crate) fn turn_few(net: &Net, dest: u32, turns: &mut Turns, from: &[u32]) -> bool
     requires node { dest < net.now.nodes }
     requires lawful { AreLawful net.now.nodes dest net.now.links turns.old }

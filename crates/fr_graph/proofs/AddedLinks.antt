@@ -9,7 +9,7 @@ use Rattle.fr_graph.proofs.Cycles.{points_at}
 use Rattle.fr_graph.proofs.Linking.{is_between_itself, joined_from, not_twice, some_joined}
 use Rattle.fr_graph.proofs.Ordering.{in_order_order, insert_order, is_pair, same_order, times-in_order, times-insert}
 use Rattle.fr_graph.specs.Faults.{IsFaultless, IsInRange, IsOutOfRange}
-use Rattle.fr_graph.specs.Halves.{AreUnjoined}
+use Rattle.fr_graph.specs.Graph.{CanPut}
 use Rattle.fr_graph.specs.Limits.{IsWithinLimits, most_links}
 use Rattle.fr_graph.specs.Links.{AreBelow, AreSingle, HasNoSelfLink, HasPath, IsAcyclic, IsClosedWalk, IsPath, Joins, end_of, is_between}
 use Rattle.fr_graph.specs.Order.{AreInOrder, in_order, with_in_order}
@@ -109,15 +109,15 @@ closed_back links u v a (w ∷ ws) acyclic h =
     ]
 
 -- no fault stands
-pub faultless_added : (n : ℕ) (links : List (ℕ × ℕ)) (u v : ℕ) → IsFaultless n links → length links < most_links → AreUnjoined n links u v → IsAcyclic (added links u v) → IsFaultless n (added links u v)
-faultless_added n links u v clear few free acyclic = record {
-  limits = within_limits n links u v clear.limits few;
+pub faultless_added : (n : ℕ) (links : List (ℕ × ℕ)) (u v : ℕ) → IsFaultless n links → CanPut (record { nodes = n; links = links }) u v → IsFaultless n (added links u v)
+faultless_added n links u v clear can = record {
+  limits = within_limits n links u v clear.limits can.few;
   some = clear.some;
   is_net = record {
-    in_range = (in_range n links u v clear.is_net.in_range free.tail free.head).below;
-    no_self = no_self links u v clear.is_net.no_self free.apart;
-    single = single_added links u v clear.is_net.single free.free;
-    acyclic = acyclic;
+    in_range = (in_range n links u v clear.is_net.in_range can.unjoined.tail can.unjoined.head).below;
+    no_self = no_self links u v clear.is_net.no_self can.unjoined.apart;
+    single = single_added links u v clear.is_net.single can.unjoined.free;
+    acyclic = can.acyclic;
   };
 }
 

@@ -1,12 +1,11 @@
 -- The links and rows of a network with one link cut.
-use Rattle.std.proofs.Common.{Bool, Contains, List, None, Option, Some, [], ap, arith, cond, false, get_or, inl, inr, length, ne_eqb, option_to_list, refl, subst, suc, sym, true, zero, ℕ, ⊎_elim, ◌+◌, ◌<◌, ◌∙◌, ◌∷◌, ◌≡◌, ◌≢◌, ◌⊎◌}
+use Rattle.std.proofs.Common.{Bool, Contains, List, [], arith, cond, false, get_or, ne_eqb, option_to_list, refl, suc, true, zero, ℕ, ◌+◌, ◌∙◌, ◌∷◌, ◌≡◌, ◌≢◌}
 use Rattle.std.specs.Prelude.{not}
 use Rattle.std.specs.List.{filter}
 use Rattle.std.proofs.lemmas.List.Elements.{filter-append}
 use Rattle.std.proofs.lemmas.List.Sorted.{IsPermutation-refl}
 use Rattle.fr_graph.proofs.Editing.{from_filter}
 use Rattle.fr_graph.proofs.Linking.{is_between_turned}
-use Rattle.fr_graph.proofs.Members.{Contains-cases, Contains-head, Contains-tail}
 use Rattle.fr_graph.proofs.Neighbours.{row_entry_node}
 use Rattle.fr_graph.proofs.Ordering.{least_first, order_of_listed, order_tail}
 use Rattle.fr_graph.proofs.Remaking.{row_entry_same}
@@ -17,6 +16,7 @@ use Rattle.fr_graph.specs.Links.{Points, is_between}
 use Rattle.fr_graph.specs.Order.{AreInOrder, IsNotAfter, in_order}
 use Rattle.fr_graph.specs.Rows.{row, row_entry}
 use Rattle.fr_graph.specs.declared.first.First.{First}
+use Rattle.fr_graph.proofs.Lists.{into_filter, filter_passes, filter-option, filter_kept}
 
 -- whether an entry of x stays where the link between u and v is cut
 abbrev pub stays : ℕ → ℕ → ℕ → ℕ × First → Bool
@@ -42,35 +42,6 @@ pub cut_in_order : (links : List (ℕ × ℕ)) (u v : ℕ) → AreInOrder links 
 cut_in_order links u v order =
     order_of_listed (without u v links) (without u v links) (IsPermutation-refl (without u v links))
     (order_from_sorted (without u v links) (sorted-filter (λ (l : ℕ × ℕ). not (is_between u v l)) links (sorted_from_order links order)))
-
--- which elements a test keeps
-into_filter_by : {X : Type 0} (b : Bool) (p : X → Bool) (y : X) (ys : List X) (x : X) → p y ≡ b → p x ≡ true → (y ≡ x) ⊎ Contains (filter p ys) x → Contains (cond b (y ∷ filter p ys) (filter p ys)) x
-into_filter_by true p y ys x is passes (inl e) = subst (λ z. Contains (y ∷ filter p ys) z) e (Contains-head y (filter p ys))
-into_filter_by true p y ys x is passes (inr h) = Contains-tail x y (filter p ys) h
-into_filter_by false p y ys x is passes (inl e) = cc (is, passes, e)
-into_filter_by false p y ys x is passes (inr h) = h
-
-into_filter : {X : Type 0} (p : X → Bool) (xs : List X) (x : X) → Contains xs x → p x ≡ true → Contains (filter p xs) x
-into_filter p [] x h passes = h
-into_filter p (y ∷ ys) x h passes =
-    into_filter_by (p y) p y ys x refl passes (⊎_elim (λ e. inl e) (λ g. inr (into_filter p ys x g passes)) (Contains-cases x y ys h))
-
-filter_passes_by : (b : Bool) (p : ℕ × ℕ → Bool) (y : ℕ × ℕ) (ys : List (ℕ × ℕ)) (x : ℕ × ℕ) → p y ≡ b → (Contains (filter p ys) x → p x ≡ true) → Contains (cond b (y ∷ filter p ys) (filter p ys)) x → p x ≡ true
-filter_passes_by true p y ys x is rest h = ⊎_elim (λ e. ap p (sym e) ∙ is) rest (Contains-cases x y (filter p ys) h)
-filter_passes_by false p y ys x is rest h = rest h
-
-filter_passes : (p : ℕ × ℕ → Bool) (xs : List (ℕ × ℕ)) (x : ℕ × ℕ) → Contains (filter p xs) x → p x ≡ true
-filter_passes p [] x h = absurd (omega (arith, h.1))
-filter_passes p (y ∷ ys) x h = filter_passes_by (p y) p y ys x refl (filter_passes p ys x) h
-
--- a test of an entry that is there
-filter_option_by : {X : Type 0} (b : Bool) (p : X → Bool) (x : X) → p x ≡ b → filter p (x ∷ []) ≡ cond b (x ∷ []) []
-filter_option_by b p x e = rw e refl
-
-filter-option : {X : Type 0} (b : Bool) (p : X → Bool) (o : Option X) → ((x : X) → o ≡ Some x → p x ≡ b) → filter p (option_to_list o) ≡ cond b (option_to_list o) []
-filter-option true p None is = refl
-filter-option false p None is = refl
-filter-option b p (Some x) is = filter_option_by b p x (is x refl)
 
 pub no_link_between : (links : List (ℕ × ℕ)) (u v a b : ℕ) → is_between u v (a, b) ≡ true → ¬ Points (without u v links) a b
 no_link_between links u v a b e h = let kept = filter_passes (λ (l : ℕ × ℕ). not (is_between u v l)) links (a, b) h in cc (e, kept)
@@ -104,10 +75,6 @@ row_cut (suc w) links u v x =
 -- the row of a node that is no end of the link stays
 not_between : (u v x w : ℕ) → x ≢ u → x ≢ v → is_between u v (x, w) ≡ false
 not_between u v x w a b = rw (ne_eqb x u a, ne_eqb x v b) refl
-
-pub filter_kept : {X : Type 0} (t : X → Bool) (xs : List X) → ((i : ℕ) (d : X) → i < length xs → t (get_or xs i d) ≡ true) → filter t xs ≡ xs
-filter_kept t [] kept = refl
-filter_kept t (x ∷ xs) kept = rw (kept 0 x (omega arith), filter_kept t xs (λ i d l. kept (suc i) d (omega (arith, l)))) refl
 
 pub row_stays : (u v x : ℕ) (entries : List (ℕ × First)) → x ≢ u → x ≢ v → filter (stays u v x) entries ≡ entries
 row_stays u v x entries a b = filter_kept (stays u v x) entries (λ i d l. rw (not_between u v x (get_or entries i d).0 a b) refl)

@@ -5,11 +5,12 @@ use Rattle.std.proofs.lemmas.List.{get_or-drop, get_or-set_other, get_or-set_sam
 use Rattle.std.proofs.lemmas.List.Elements.{Contains-append_left, Contains-push}
 use Rattle.std.proofs.lemmas.List.Sums.{sum_by-set}
 use Rattle.std.specs.List.{count_by}
-use Rattle.fr_graph.specs.CycleSearch.{IsCycleSearch, LeadsTo, LeadsToDone, fresh_count, is_fresh, mark_of}
+use Rattle.fr_graph.specs.CycleSearch.{IsCycleSearch, KeepsSeen, LeadsTo, LeadsToDone, fresh_count, is_fresh, mark_of}
 use Rattle.fr_graph.specs.Links.{IsClosedWalk, IsCycle, IsPath, Points, end_of}
 use Rattle.fr_graph.specs.Rows.{has_link}
 use Rattle.fr_graph.specs.declared.cycle.Mark.{Mark}
 use Rattle.fr_graph.specs.declared.cycle.Mark.TheVariants.{Done, Fresh, Open}
+use Rattle.fr_graph.proofs.Lists.{push_cases}
 
 -- a mark after one mark was set
 pub mark_set : (marks : List Mark) (x y : ℕ) (m : Mark) → x < length marks → ((y ≡ x) × (mark_of (set marks x m) y ≡ m)) ⊎ ((y ≢ x) × (mark_of (set marks x m) y ≡ mark_of marks y))
@@ -17,14 +18,18 @@ mark_set marks x y m l =
     elim (cases_eq y x) as (λ _. ((y ≡ x) × (mark_of (set marks x m) y ≡ m)) ⊎ ((y ≢ x) × (mark_of (set marks x m) y ≡ mark_of marks y)))
     [ inl e ↦ inl (e, rw e (get_or-set_same marks x m Fresh l)) | inr ne ↦ inr (ne, get_or-set_other marks x y m Fresh ne) ]
 
--- a node of the longer path: one of the path, or the new one
-pub node_cases : (path : List ℕ) (x k : ℕ) → k < length (path ++ x ∷ []) → ((k < length path) × (get_or (path ++ x ∷ []) k 0 ≡ get_or path k 0)) ⊎ ((k ≡ length path) × (get_or (path ++ x ∷ []) k 0 ≡ x))
-node_cases path x k h =
-    let e = length_push path x in
-    elim (cases_lt k (length path)) [
-      | inl l ↦ inl (l, get_or_append_left path (x ∷ []) 0 k l)
-      | inr g ↦ let q : length path ≡ k = omega (arith, e) in inr (sym q, get_or_push path x 0 k q)
-    ]
+-- seen nodes stay seen: where nothing changes, through two changes, and where x gets a mark
+pub kept_same : (marks : List Mark) → KeepsSeen marks marks
+kept_same marks = record { seen = λ x was. was; one_each = refl }
+
+pub kept_through : {old mid new : List Mark} → KeepsSeen old mid → KeepsSeen mid new → KeepsSeen old new
+kept_through first then = record { seen = λ x was. then.seen x (first.seen x was); one_each = then.one_each ∙ first.one_each }
+
+pub kept_set : (marks : List Mark) (x : ℕ) (m : Mark) → m ≢ Fresh → x < length marks → KeepsSeen marks (set marks x m)
+kept_set marks x m other l = record {
+  seen = λ y was is. elim (mark_set marks x y m l) [ inl w ↦ other (sym w.1 ∙ is) | inr w ↦ was (sym w.1 ∙ is) ];
+  one_each = length-set marks x m;
+}
 
 pub opened : (n : ℕ) (links : List (ℕ × ℕ)) (marks : List Mark) (path : List ℕ) (x : ℕ) → IsCycleSearch n links marks path → x < n → mark_of marks x ≡ Fresh → LeadsTo links path x → IsCycleSearch n links (set marks x Open) (path ++ x ∷ [])
 opened n links marks path x s below fresh leads =
@@ -36,19 +41,19 @@ opened n links marks path x s below fresh leads =
     λ y done. elim (mark_set marks x y Open lm) [ inl w ↦ cc (w.1, done) | inr w ↦ sym w.1 ∙ done ] in
     record {
       marks_length = length-set marks x Open ∙ s.marks_length;
-      path_below = λ k h. elim (node_cases path x k h) [ inl w ↦ rw w.1 (s.path_below k w.0) | inr w ↦ rw w.1 below ];
+      path_below = λ k h. elim (push_cases path x k h) [ inl w ↦ rw w.1 (s.path_below k w.0) | inr w ↦ rw w.1 below ];
       path_follows = λ k h.
           let l : k < length path = omega (arith, len) in
           rw (get_or_append_left path (x ∷ []) 0 k l)
-          (elim (node_cases path x (k + 1) h) [ inl w ↦ rw w.1 (s.path_follows k w.0) | inr w ↦ rw w.1 (leads k w.0) ]);
+          (elim (push_cases path x (k + 1) h) [ inl w ↦ rw w.1 (s.path_follows k w.0) | inr w ↦ rw w.1 (leads k w.0) ]);
       path_open = λ k h. elim (mark_set marks x (get_or (path ++ x ∷ []) k 0) Open lm) [
         | inl w ↦ w.1
-        | inr w ↦ elim (node_cases path x k h) [ inl v ↦ w.1 ∙ rw v.1 (s.path_open k v.0) | inr v ↦ absurd (w.0 v.1) ]
+        | inr w ↦ elim (push_cases path x k h) [ inl v ↦ w.1 ∙ rw v.1 (s.path_open k v.0) | inr v ↦ absurd (w.0 v.1) ]
       ];
       path_once = λ i j lt h same.
           let l : i < length path = omega (arith, len) in
           let stays = get_or_append_left path (x ∷ []) 0 i l in
-          elim (node_cases path x j h) [
+          elim (push_cases path x j h) [
             | inl w ↦ s.path_once i j lt w.0 (cc (stays, same, w.1))
             | inr w ↦ let was = s.path_open i l in
                 let e : get_or path i 0 ≡ x = cc (stays, same, w.1) in
@@ -156,7 +161,7 @@ closes links path walk last k x follows len has_link inside at is =
     (λ j h.
     let l : j < length (drop k path) = omega (arith, whole) in
     rw (get_or_append_left (drop k path) (x ∷ []) 0 j l, get_or-drop k path j 0)
-    (elim (node_cases (drop k path) x (j + 1) h) [
+    (elim (push_cases (drop k path) x (j + 1) h) [
       | inl w ↦ rw (w.1, get_or-drop k path (j + 1) 0) (rw (add_assoc k j 1) at (follows (k + j) (omega (arith, dropped, w.0))))
       | inr w ↦ rw w.1 (let e : k + j ≡ last = omega (arith, dropped, w.0) in rw e has_link)
     ])))

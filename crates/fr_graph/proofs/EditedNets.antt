@@ -12,7 +12,8 @@ use Rattle.fr_graph.proofs.KeptRows.{length-rows, row_of_with_row_at, row_of_wit
 use Rattle.fr_graph.proofs.Linking.{is_between_itself, joined_below}
 use Rattle.fr_graph.proofs.Neighbours.{neighbours_rise, row_of_in, row_of_out, row_rises}
 use Rattle.fr_graph.proofs.PartTurned.{neighbour_listed}
-use Rattle.fr_graph.proofs.Places.{filter_one, neighbour_at, without_back}
+use Rattle.fr_graph.proofs.Lists.{filter_one}
+use Rattle.fr_graph.proofs.Places.{neighbour_at, without_back}
 use Rattle.fr_graph.specs.Edits.{without}
 use Rattle.fr_graph.specs.Halves.{AreUnjoined, IsPlaceIn}
 use Rattle.fr_graph.specs.KeptRows.{AreRows, ShowsLink, ShowsNoLink}

@@ -9,7 +9,7 @@ use Rattle.std.proofs.lemmas.List.Elements.{All-contains, All-push, Contains-app
 use Rattle.std.proofs.lemmas.List.Sums.{sum_by_push}
 use Rattle.fr_graph.proofs.AddedLinks.{added, closed_back, in_range, no_self, path_joins, single_added, within_limits}
 use Rattle.fr_graph.proofs.Counting.{one_passes, weigh}
-use Rattle.fr_graph.proofs.CutRows.{filter_kept}
+use Rattle.fr_graph.proofs.Lists.{filter_kept}
 use Rattle.fr_graph.proofs.Cycles.{points_at}
 use Rattle.fr_graph.proofs.Linking.{is_between_itself, is_between_turned, joined_from, not_twice, path_carries}
 use Rattle.fr_graph.proofs.Members.{Contains-tail}

@@ -1,28 +1,16 @@
 -- Rows laid one behind the other, each with room behind it.
-use Rattle.std.proofs.Common.{Bool, IsTrue, List, [], ap, arith, cond, count_by, drop, get_or, inl, inr, length, length-append, map, refl, set, slice_range, sym, take, ℕ, ◌++◌, ◌+◌, ◌-◌, ◌<◌, ◌∙◌, ◌∷◌, ◌≡◌, ◌≤◌}
+use Rattle.std.proofs.Common.{Bool, IsTrue, List, [], ap, arith, cond, count_by, get_or, inl, inr, length, length-append, map, refl, set, sym, take, ℕ, ◌++◌, ◌+◌, ◌<◌, ◌∙◌, ◌∷◌, ◌≡◌, ◌≤◌}
 use Rattle.std.specs.List.{range_with_len}
 use Rattle.std.proofs.lemmas.Bool.{cases_eq, cases_lt}
-use Rattle.std.proofs.lemmas.List.{drop_at, get_or-set_other, get_or-set_same, get_or_append_left, get_or_past, get_or_push, length-set, length-take-le, length_push, take-append-le, take-take, take_all, take_at, take_more}
+use Rattle.std.proofs.lemmas.List.{get_or-set_other, get_or-set_same, get_or_append_left, get_or_past, get_or_push, length-set, length-take-le, length_push, take_all, take_more}
 use Rattle.std.proofs.lemmas.List.FromFn.{length-map-range_with_len, map-range_with_len_more}
 use Rattle.std.proofs.lemmas.List.Sums.{sum_by-append}
-use Rattle.std.proofs.lemmas.Slice.{between_is}
-use Rattle.fr_graph.proofs.RowTables.{alike_below, length_rows, nowhere, starts_rise}
+use Rattle.fr_graph.proofs.Lists.{alike_below, part_before, part_behind}
+use Rattle.fr_graph.proofs.RowTables.{length_rows, nowhere, starts_rise}
 use Rattle.fr_graph.specs.Tables.{HasRoomIn, IsTable, KeepsRooms, Table, end_of, has_none, room_between, room_of, row_between, row_of, rows_in, start_of, table_of}
 use Rattle.fr_graph.specs.declared.row_table.Place.{Place}
 use Rattle.fr_graph.specs.declared.row_table.RowTable.TheInside.{Inside}
 use Rattle.fr_graph.specs.declared.first.First.{First}
-
--- what stands below a place stays where what follows is laid anew
-pub part_before : {X : Type 0} (xs rest : List X) (s a b : ℕ) → b ≤ s → s ≤ length xs → slice_range (take s xs ++ rest) a b ≡ slice_range xs a b
-part_before xs rest s a b low high =
-    between_is (take s xs ++ rest) a b
-    ∙ ap (drop a) (take-append-le b (take s xs) rest (omega (arith, length-take-le s xs high, low)) ∙ take-take b s xs low)
-    ∙ sym (between_is xs a b)
-
--- and what is laid there stands from there on
-pub part_behind : {X : Type 0} (xs row rest : List X) (s : ℕ) → s ≤ length xs → slice_range (take s xs ++ (row ++ rest)) s (s + length row) ≡ row
-part_behind xs row rest s high =
-    ap (take (s + length row - s)) (drop_at (take s xs) (row ++ rest) s (length-take-le s xs high)) ∙ take_at row rest (s + length row - s) (omega arith)
 
 -- where a row that is laid behind the others starts
 abbrev pub start_behind : Inside → ℕ

@@ -2,13 +2,14 @@
 use Rattle.std.proofs.Common.{List, [], arith, cond, get_or, inl, inr, length, refl, replicate, set, subst, sym, ℕ, ◌⊎◌, ◌++◌, ◌<◌, ◌∙◌, ◌∷◌, ◌≡◌, ◌≢◌}
 use Rattle.std.proofs.lemmas.Bool.{cases_lt}
 use Rattle.std.proofs.lemmas.List.{get_or-replicate, get_or_past, length-replicate, length_push}
-use Rattle.std.proofs.lemmas.List.Elements.{All-from_get_or, All-get_or, All-nil, All-push, Contains-append_left, Contains-push}
+use Rattle.std.proofs.lemmas.List.Elements.{All-get_or, All-nil, All-push, All-weaker, Contains-append_left, Contains-push}
 use Rattle.std.proofs.lemmas.List.Folds.{sum_by-replicate}
 use Rattle.std.proofs.lemmas.List.Sums.{count_by-le-length}
-use Rattle.std.specs.List.{All, count_by}
-use Rattle.fr_graph.proofs.Cycles.{count_by-set, mark_set, node_cases}
+use Rattle.std.specs.List.{count_by}
+use Rattle.fr_graph.proofs.Cycles.{count_by-set, mark_set}
+use Rattle.fr_graph.proofs.Lists.{push_cases}
 use Rattle.fr_graph.proofs.ShownLinks.{row_of_points}
-use Rattle.fr_graph.specs.CycleSearch.{AreEntriesBelow, IsCycleSearch, IsOrder, IsSearch, LeadsToDone, is_done, mark_of, nodes_of}
+use Rattle.fr_graph.specs.CycleSearch.{AreEntriesBelow, IsAtRest, IsCycleSearch, IsOrder, IsSearch, LeadsToDone, is_done, mark_of, nodes_of}
 use Rattle.fr_graph.specs.Heights.{HasHeadsFirst}
 use Rattle.fr_graph.specs.KeptRows.{net_in}
 use Rattle.fr_graph.specs.Links.{IsAcyclic, IsClosedWalk, Points}
@@ -20,9 +21,6 @@ use Rattle.fr_graph.specs.declared.cycle.Step.{Step}
 
 abbrev IsDone : List Mark → ℕ → Type 0
 IsDone marks x = mark_of marks x ≡ Done
-
-All-weaken : (P Q : ℕ → Type 0) (xs : List ℕ) → ((x : ℕ) → P x → Q x) → All P xs → All Q xs
-All-weaken P Q xs f all = All-from_get_or Q xs 0 (λ i l. f _ (All-get_or P xs i 0 l all))
 
 mark_unmet : (n x : ℕ) → mark_of (replicate n Fresh) x ≡ Fresh
 mark_unmet n x = elim (cases_lt x n) [
@@ -78,9 +76,7 @@ nothing_met n rows search fresh path order each below =
 pub opened_order : (links : List (ℕ × ℕ)) (marks : List Mark) (order : List ℕ) (x : ℕ) → IsOrder links marks order → x < length marks → mark_of marks x ≢ Done → IsOrder links (set marks x Open) order
 opened_order links marks order x o l not_done = record {
   counted = omega (arith, o.counted, count_by-set is_done marks x Open l, count_not_done _ not_done);
-  listed = All-weaken (IsDone marks) (IsDone (set marks x Open)) order
-      (λ y done. elim (mark_set marks x y Open l) [ inl w ↦ absurd (not_done (rw (← w.0) done)) | inr w ↦ w.1 ∙ done ])
-      o.listed;
+  listed = All-weaker (IsDone marks) (IsDone (set marks x Open)) (λ y done. elim (mark_set marks x y Open l) [ inl w ↦ absurd (not_done (rw (← w.0) done)) | inr w ↦ w.1 ∙ done ]) order o.listed;
   all = λ y done. elim (mark_set marks x y Open l) [ inl w ↦ cc (w.1, done) | inr w ↦ o.all y (sym w.1 ∙ done) ];
   heads = o.heads;
 }
@@ -92,18 +88,18 @@ left_order n links marks path order x s o l not_done leads =
     record {
       counted = omega (arith, o.counted, count_by-set is_done marks x Done l, count_not_done _ not_done, length_push order x);
       listed = All-push (IsDone (set marks x Done)) order x
-          (All-weaken (IsDone marks) (IsDone (set marks x Done)) order (λ y done. elim (mark_set marks x y Done l) [ inl w ↦ w.1 | inr w ↦ w.1 ∙ done ]) o.listed)
+          (All-weaker (IsDone marks) (IsDone (set marks x Done)) (λ y done. elim (mark_set marks x y Done l) [ inl w ↦ w.1 | inr w ↦ w.1 ∙ done ]) order o.listed)
           (elim (mark_set marks x x Done l) [ inl w ↦ w.1 | inr w ↦ absurd (w.0 refl) ]);
       all = λ y done. elim (mark_set marks x y Done l) [
         | inl w ↦ rw w.0 (Contains-push order x)
         | inr w ↦ Contains-append_left order (x ∷ []) y (o.all y (sym w.1 ∙ done))
       ];
-      heads = λ i j li lj step. elim (node_cases order x i li) [
-        | inl v ↦ elim (node_cases order x j lj) [
+      heads = λ i j li lj step. elim (push_cases order x i li) [
+        | inl v ↦ elim (push_cases order x j lj) [
           | inl w ↦ o.heads i j v.0 w.0 (rw (v.1, w.1) at step)
           | inr w ↦ absurd (not_done (s.done_closed _ x (listed i v.0) (rw (v.1, w.1) at step)))
         ]
-        | inr v ↦ elim (node_cases order x j lj) [
+        | inr v ↦ elim (push_cases order x j lj) [
           | inl w ↦ omega (arith, v.0, w.0)
           | inr w ↦ absurd (not_done (leads x (rw (v.1, w.1) at step)))
         ]
@@ -124,7 +120,7 @@ all_left n links marks order tails s o met =
       none_closed (λ u v p. done u (tails u v p)) s.done_safe,
       record {
         few = omega (arith, o.counted, count_by-le-length is_done marks, s.marks_length);
-        below = All-weaken (IsDone marks) (λ (x : ℕ). x < n) order inside o.listed;
+        below = All-weaker (IsDone marks) (λ (x : ℕ). x < n) inside order o.listed;
         all = λ x l. o.all x (done x l);
         heads = o.heads;
       },
@@ -134,11 +130,12 @@ all_left n links marks order tails s o met =
     none_closed done safe u [] walk = walk
     none_closed done safe u (v ∷ vs) walk = safe u (v ∷ vs) (done u v walk.0.0) walk
 
-pub search_ends : (n : ℕ) (rows : Table) (search : Search) → IsSearch rows search → search.path.items ≡ [] → length search.marks.items ≡ n → ((x : ℕ) → x < n → mark_of search.marks.items x ≢ Fresh) → IsAcyclic (net_in rows).links × HasHeadsFirst n (net_in rows).links search.order.items
-search_ends n rows search is empty one_each met =
+pub search_ends : (n : ℕ) (rows : Table) (search : Search) → IsAtRest rows search → length search.marks.items ≡ n → ((x : ℕ) → x < n → mark_of search.marks.items x ≢ Fresh) → IsAcyclic (net_in rows).links × HasHeadsFirst n (net_in rows).links search.order.items
+search_ends n rows search rest one_each met =
+    let is = rest.search in
     let marks = search.marks.items in
     let links = (net_in rows).links in
-    let steps : IsCycleSearch (length marks) links marks [] = subst (λ (path : List Step). IsCycleSearch (length marks) links marks (nodes_of path)) empty is.steps in
+    let steps : IsCycleSearch (length marks) links marks [] = subst (λ (path : List Step). IsCycleSearch (length marks) links marks (nodes_of path)) rest.empty is.steps in
     let tails : (u v : ℕ) → Points links u v → u < length marks = λ u v p. omega (arith, (row_of_points rows u v p).0, is.one_each) in
     subst (λ (k : ℕ). IsAcyclic links × HasHeadsFirst k links search.order.items) one_each
     (all_left (length marks) links marks search.order.items tails steps is.order (λ x l. met x (subst (λ (k : ℕ). x < k) one_each l)))

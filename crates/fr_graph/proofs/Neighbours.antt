@@ -1,5 +1,5 @@
 -- What the row of a node says of the links.
-use Rattle.std.proofs.Common.{Bool, Contains, List, None, Option, Some, [], ap, arith, cond, eq-eqb, eqb, eqb-true, false, get_or, inl, inr, length, map, option_to_list, refl, subst, suc, sym, true, zero, ℕ, ◌&&◌, ◌++◌, ◌+◌, ◌<◌, ◌∙◌, ◌∷◌, ◌≡◌, ◌≤◌, ◌⊎◌}
+use Rattle.std.proofs.Common.{Bool, Contains, List, None, Option, Some, [], ap, arith, cond, eq-eqb, eqb, eqb-true, false, get_or, inl, inr, length, map, option_to_list, refl, subst, suc, sym, true, zero, ℕ, ⊎_elim, ◌&&◌, ◌++◌, ◌+◌, ◌<◌, ◌∙◌, ◌∷◌, ◌≡◌, ◌≤◌, ◌⊎◌}
 use Rattle.std.proofs.lemmas.Bool.{and_parts, cases_Bool, cases_lt}
 use Rattle.std.specs.List.Sorted.{IsStrictlyIncreasing}
 use Rattle.std.proofs.lemmas.List.{append-nil, get_or_append_left, get_or_default, get_or_push, get_or-map, length-append, length-map, length_push}
@@ -11,6 +11,7 @@ use Rattle.fr_graph.specs.Links.{IsAlone, IsNet, Joins, Points}
 use Rattle.fr_graph.specs.Rows.{has_link, row, row_entry}
 use Rattle.fr_graph.specs.declared.first.First.{First}
 use Rattle.fr_graph.specs.declared.first.First.TheVariants.{Inward, Outward}
+use Rattle.fr_graph.proofs.Lists.{in_option, option_short}
 
 -- the neighbours of a row rise
 abbrev pub Rises : List (ℕ × First) → Type 0
@@ -77,10 +78,6 @@ row_entry_node links x w e q =
       | inr h ↦ ap (λ (p : ℕ × First). p.0) h.2
     ]
 
-in_option : {X : Type 0} (o : Option X) (e : X) → Contains (option_to_list o) e → o ≡ Some e
-in_option None e h = absurd (omega (arith, h.1))
-in_option (Some x) e h = elim (Contains-cases e x [] h) [ inl q ↦ ap (λ (y : _). Some y) q | inr g ↦ absurd (omega (arith, g.1)) ]
-
 pub row_holds : (n : ℕ) (links : List (ℕ × ℕ)) (x : ℕ) (e : ℕ × First) → Contains (row n links x) e → (e.0 < n) × (row_entry links x e.0 ≡ Some e)
 row_holds zero links x e h = absurd (omega (arith, h.1))
 row_holds (suc w) links x e h =
@@ -127,10 +124,6 @@ pub row_entry_in : (links : List (ℕ × ℕ)) (x w : ℕ) → IsOneWay links �
 row_entry_in links x w one p =
     let no : has_link links x w ≡ false = elim (cases_Bool (has_link links x w)) [ inl e ↦ absurd (one.no_return w x p (Points-has_link links x w e)) | inr e ↦ e ] in
     rw (no, has_link_true links w x p) refl
-
-option_short : {X : Type 0} (o : Option X) → length (option_to_list o) ≤ 1
-option_short None = omega arith
-option_short (Some x) = omega arith
 
 pub length-row-le : (n : ℕ) (links : List (ℕ × ℕ)) (x : ℕ) → length (row n links x) ≤ n
 length-row-le zero links x = omega arith
@@ -191,3 +184,19 @@ neighbours_rise n links x k l =
 -- the node of an entry of a row, whose link has this direction
 pub entry_is : (e : ℕ × First) (f : First) → e.1 ≡ f → e ≡ (e.0, f)
 entry_is (w, g) f e = cc
+
+-- whether a link points from x to y, and whether one joins them
+pub cases_points : (links : List (ℕ × ℕ)) (x y : ℕ) → Points links x y ⊎ ¬ Points links x y
+cases_points links x y = elim (cases_Bool (has_link links x y)) [
+  | inl e ↦ inl (Points-has_link links x y e)
+  | inr e ↦ inr (λ p. cc (has_link_true links x y p, e))
+]
+
+pub cases_joins : (links : List (ℕ × ℕ)) (x y : ℕ) → Joins links x y ⊎ ¬ Joins links x y
+cases_joins links x y = elim (cases_points links x y) [
+  | inl p ↦ inl (inl p)
+  | inr a ↦ elim (cases_points links y x) [
+    | inl p ↦ inl (inr p)
+    | inr b ↦ inr (λ h. ⊎_elim a b h)
+  ]
+]

@@ -1,5 +1,5 @@
 -- The steps by which the rows of a network turn where they stand.
-use Rattle.std.proofs.Common.{All, Bool, Contains, List, [], ap, arith, cond, eq-eqb, eqb, false, get_or, inl, inr, length, ltb, map, ne_eqb, refl, set, suc, sym, true, zero, ℕ, ◌&&◌, ◌+◌, ◌<◌, ◌||◌, ◌∙◌, ◌∷◌, ◌≡◌, ◌≢◌, ◌≤◌}
+use Rattle.std.proofs.Common.{All, Bool, Contains, List, ap, arith, cond, eq-eqb, eqb, false, get_or, inl, inr, length, ltb, map, ne_eqb, refl, set, suc, sym, true, zero, ℕ, ◌&&◌, ◌+◌, ◌<◌, ◌||◌, ◌∙◌, ◌≡◌, ◌≢◌, ◌≤◌}
 use Rattle.std.proofs.lemmas.Bool.{cases_Bool, cases_eq, cases_lt, cond-false, cond-true}
 use Rattle.std.proofs.lemmas.Bool.Decides.{nat_tests}
 use Rattle.std.proofs.lemmas.List.{get_or-map, get_or_default, length-map, map-id}
@@ -8,7 +8,6 @@ use Rattle.std.proofs.lemmas.List.Kept.{AllPairs-from_increasing}
 use Rattle.std.proofs.lemmas.Simd.{map-map}
 use Rattle.std.specs.List.Sorted.{IsStrictlyIncreasing}
 use Rattle.fr_graph.proofs.KeptRows.{length-rows, rows_with_row}
-use Rattle.fr_graph.proofs.Members.{Contains-head, Contains-tail}
 use Rattle.fr_graph.proofs.Neighbours.{Rises, in_of_row, out_of_row, row_holds, row_of_in, row_of_out, row_rises}
 use Rattle.fr_graph.proofs.TurnedRows.{row_turned}
 use Rattle.fr_graph.specs.Counts.{IsKept, links_at}
@@ -22,10 +21,7 @@ use Rattle.fr_graph.specs.Tables.{Table, row_of, with_row}
 use Rattle.fr_graph.specs.TurnedRows.{ArePartTurned, all_done, entry_done, is_done, none_done, reversed_at, seen_too}
 use Rattle.fr_graph.specs.declared.first.First.{First}
 use Rattle.fr_graph.specs.declared.first.First.TheVariants.{Inward, Outward}
-
-map_alike : {X Y : Type 0} (f g : X → Y) (xs : List X) → ((x : X) → Contains xs x → f x ≡ g x) → map f xs ≡ map g xs
-map_alike f g [] same = refl
-map_alike f g (x ∷ xs) same = rw (same x (Contains-head x xs), map_alike f g xs (λ y h. same y (Contains-tail y x xs h))) refl
+use Rattle.fr_graph.proofs.Lists.{map_alike, set_is_map}
 
 -- the rows in between
 abbrev pub rows_done : Network → List ℕ → (ℕ → ℕ → Bool) → ℕ → List (ℕ × First)
@@ -252,16 +248,6 @@ nodes_done net counts done y =
     let node : ℕ × First → ℕ = λ e. e.0 in
     map-map node (entry_done done counts y) (row net.nodes net.links y)
     ∙ map_alike (λ e. node (entry_done done counts y e)) node (row net.nodes net.links y) (λ e h. entry_done_node counts done y e)
-
-map_stays : {X : Type 0} (f : X → X) (xs : List X) → ((i : ℕ) (d : X) → i < length xs → f (get_or xs i d) ≡ get_or xs i d) → map f xs ≡ xs
-map_stays f [] kept = refl
-map_stays f (x ∷ xs) kept = rw (kept 0 x (omega arith), map_stays f xs (λ i d l. kept (suc i) d (omega (arith, l)))) refl
-
-pub set_is_map : {X : Type 0} (f : X → X) (xs : List X) (k : ℕ) (y d : X) → k < length xs → y ≡ f (get_or xs k d) → ((i : ℕ) (e : X) → i < length xs → i ≢ k → f (get_or xs i e) ≡ get_or xs i e) → set xs k y ≡ map f xs
-set_is_map f [] k y d l is kept = absurd (omega (arith, l))
-set_is_map f (x ∷ xs) zero y d l is kept = rw (is, map_stays f xs (λ i e m. kept (suc i) e (omega (arith, m)) (λ q. omega (arith, q)))) refl
-set_is_map f (x ∷ xs) (suc k) y d l is kept =
-    rw (kept 0 x (omega arith) (λ q. omega (arith, q)), set_is_map f xs k y d (omega (arith, l)) is (λ i e m ne. kept (suc i) e (omega (arith, m)) (λ q. ne (omega (arith, q))))) refl
 
 pub rises_from : (es : List (ℕ × First)) → IsStrictlyIncreasing (map (λ (e : ℕ × First). e.0) es) → Rises es
 rises_from es rising i j d lt l =

@@ -1,13 +1,13 @@
 -- A link taken out of a list, and the place of a neighbour in a row.
-use Rattle.std.proofs.Common.{Bool, Contains, List, [], ap, arith, eqb, false, get_or, inl, inr, length, refl, suc, sym, true, zero, ℕ, ◌&&◌, ◌<◌, ◌∙◌, ◌∷◌, ◌≡◌, ◌≢◌, ◌≤◌, ◌⊎◌}
+use Rattle.std.proofs.Common.{Bool, Contains, List, ap, arith, eqb, get_or, inl, inr, length, refl, sym, true, ℕ, ◌&&◌, ◌<◌, ◌∙◌, ◌≡◌, ◌≢◌, ◌≤◌, ◌⊎◌}
 use Rattle.std.specs.Prelude.{not}
-use Rattle.std.specs.List.{filter, remove}
+use Rattle.std.specs.List.{remove}
 use Rattle.std.specs.List.Sorted.{IsNonDecreasingBy}
 use Rattle.std.proofs.lemmas.Bool.{cases_Bool, cases_eq, cases_lt}
 use Rattle.std.proofs.lemmas.List.{get_or_default}
 use Rattle.fr_graph.proofs.Booleans.{or_comm}
 use Rattle.fr_graph.proofs.Counting.{two_pass}
-use Rattle.fr_graph.proofs.CutRows.{filter_kept}
+use Rattle.fr_graph.proofs.Lists.{filter_one, filter_alike}
 use Rattle.fr_graph.proofs.Linking.{is_between_itself, not_twice}
 use Rattle.fr_graph.proofs.Neighbours.{Rises, in_of_row, out_of_row, row_of_in, row_of_out, row_rises}
 use Rattle.fr_graph.specs.Edits.{without}
@@ -15,13 +15,6 @@ use Rattle.fr_graph.specs.Links.{AreSingle, IsNet, Joins, Points, is_between}
 use Rattle.fr_graph.specs.Rows.{row}
 use Rattle.fr_graph.specs.declared.first.First.{First}
 use Rattle.fr_graph.specs.declared.first.First.TheVariants.{Inward, Outward}
-
--- a test that all elements pass but one
-pub filter_one : {X : Type 0} (t : X → Bool) (xs : List X) (k : ℕ) (d : X) → k < length xs → t (get_or xs k d) ≡ false → ((i : ℕ) (e : X) → i < length xs → i ≢ k → t (get_or xs i e) ≡ true) → filter t xs ≡ remove xs k
-filter_one t [] k d l out kept = absurd (omega (arith, l))
-filter_one t (x ∷ xs) zero d l out kept = rw (out, filter_kept t xs (λ i e m. kept (suc i) e (omega (arith, m)) (λ z. omega (arith, z)))) refl
-filter_one t (x ∷ xs) (suc k) d l out kept =
-    rw (kept 0 x (omega arith) (λ z. omega (arith, z)), filter_one t xs k d (omega (arith, l)) out (λ i e m ne. kept (suc i) e (omega (arith, m)) (λ z. ne (omega (arith, z))))) refl
 
 -- no other link joins the ends of a link
 pub cut_is_remove : (links : List (ℕ × ℕ)) (u v k : ℕ) → AreSingle links → k < length links → get_or links k (u, v) ≡ (u, v) → without u v links ≡ remove links k
@@ -80,11 +73,6 @@ pub entry_in : (n : ℕ) (links : List (ℕ × ℕ)) (u v k : ℕ) (e : ℕ × F
 entry_in n links u v k (w, f) l is node in_ =
     let h : Contains (row n links u) (w, f) = (k, l, sym is) in
     in_of_row n links u v (rw (node, in_) at h)
-
--- a link by either of its names
-filter_alike : {X : Type 0} (p q : X → Bool) (xs : List X) → ((x : X) → p x ≡ q x) → filter p xs ≡ filter q xs
-filter_alike p q [] same = refl
-filter_alike p q (x ∷ xs) same = rw (same x, filter_alike p q xs same) refl
 
 pub without_back : (u v : ℕ) (links : List (ℕ × ℕ)) → without v u links ≡ without u v links
 without_back u v links =

@@ -1,38 +1,34 @@
 -- Rows that stand in one list, each between its start and its end, and one of which changes where it stands.
-use Rattle.std.proofs.Common.{Bool, List, [], ap, arith, count_by, drop, eq-eqb, eqb, false, get_or, inl, inr, length, length-drop, map, ne_eqb, refl, set, slice_range, subst, suc, sym, take, true, zero, ℕ, ◌++◌, ◌+◌, ◌-◌, ◌<◌, ◌∙◌, ◌∷◌, ◌≡◌, ◌≢◌, ◌≤◌}
+use Rattle.std.proofs.Common.{Bool, List, [], ap, arith, count_by, drop, eq-eqb, eqb, false, get_or, inl, inr, length, map, ne_eqb, refl, set, slice_range, subst, suc, sym, take, true, zero, ℕ, ◌+◌, ◌-◌, ◌<◌, ◌∙◌, ◌∷◌, ◌≡◌, ◌≢◌, ◌≤◌}
 use Rattle.std.proofs.lemmas.Bool.{cases_eq, cases_lt}
-use Rattle.std.proofs.lemmas.List.{append_assoc, drop-append-le, drop-drop, drop-take, drop_more, get_or-append_right, get_or-drop, get_or_past, get_or_read, get_or-set_other, get_or-set_same, length-set, length-take-le, same_lists, set-get_or, set_at, take-append-le, take-take, take_all, take_more, with_items_is}
+use Rattle.std.proofs.lemmas.List.{get_or_past, get_or_read, get_or-set_other, get_or-set_same, length-set, same_lists, set-get_or, with_items_is}
 use Rattle.std.proofs.lemmas.List.Edits.{length-between, length-insert, length-remove}
 use Rattle.std.proofs.lemmas.List.FromFn.{get_or-map-range_with_len, length-map-range_with_len, sum_by-map-range_with_len_more}
 use Rattle.std.proofs.lemmas.List.Sums.{count_by-le-length, get_or-le-sum_by, sum_by-set}
 use Rattle.std.proofs.lemmas.Slice.{between-put_mid, between_is, drop-put_mid, take-put_mid_below}
-use Rattle.std.proofs.Math.Seq.{take-append-add}
 use Rattle.std.specs.List.{insert, range_with_len, remove}
 use Rattle.std.specs.Global.{Vec}
 use Rattle.std.specs.Vec.{with_items}
 use mir.Val.{bool_byte}
 use borrow.Rule.Slice.PartMut.{put_mid}
 use Rattle.fr_graph.proofs.Counting.{count-range_more, weigh}
-use Rattle.fr_graph.proofs.RowsInPlace.{length_put, starts_up}
+use Rattle.fr_graph.proofs.Lists.{length_put, alike_below, range_inserted, range_removed}
 use Rattle.fr_graph.specs.Tables.{ArePacked, HasRoomIn, IsTable, Table, end_of, has_none, place_between, places_of, room_between, room_of, row_between, row_of, rows_in, start_of, table_of, with_row}
 use Rattle.fr_graph.specs.declared.row_table.Place.{Place}
 use Rattle.fr_graph.specs.declared.row_table.RowTable.TheInside.{Inside}
 use Rattle.fr_graph.specs.declared.first.First.{First}
 
--- entries written over one by one, one more of them
-pub shifted_more : {X : Type 0} (xs ys : List X) (i : ℕ) (d : X) → i < length xs → i < length ys → set (take i ys ++ drop i xs) i (get_or ys i d) ≡ take (i + 1) ys ++ drop (i + 1) xs
-shifted_more xs ys i d lx ly =
-    let y = get_or ys i d in
-    let rest = drop (i + 1) xs in
-    ap (λ zs. set (take i ys ++ zs) i y) (drop_more xs i d lx)
-    ∙ set_at (take i ys) (get_or xs i d) rest y i (length-take-le i ys (omega arith))
-    ∙ sym (append_assoc (take i ys) (y ∷ []) rest)
-    ∙ ap (λ zs. zs ++ rest) (sym (take_more ys i d ly))
-
-pub shifted_rest : {X : Type 0} (xs ys : List X) (i k : ℕ) (d : X) → i ≤ length ys → i ≤ k → get_or (take i ys ++ drop i xs) k d ≡ get_or xs k d
-shifted_rest xs ys i k d l le =
-    let there : i + (k - i) ≡ k = omega arith in
-    get_or-append_right (take i ys) (drop i xs) i k d (length-take-le i ys l) le ∙ get_or-drop i xs (k - i) d ∙ ap (λ m. get_or xs m d) there
+-- starts that never fall
+pub starts_up : (start : ℕ → ℕ) (n : ℕ) → ((y : ℕ) → y < n → start y ≤ start (y + 1)) → (x k : ℕ) → x ≤ k → k ≤ n → start x ≤ start k
+starts_up start n up x zero le high = let e : x ≡ 0 = omega arith in rw e (omega arith)
+starts_up start n up x (suc k) le high =
+    elim (cases_eq x (suc k)) [
+      | inl e ↦ rw e (omega arith)
+      | inr ne ↦
+          let more : k + 1 ≡ suc k = omega arith in
+          let step : start k ≤ start (suc k) = rw more at (up k (omega arith)) in
+          omega (arith, step, starts_up start n up x k (omega (arith, ne)) (omega arith))
+    ]
 
 -- a test as a number
 pub bit_is : (b : Bool) → bool_byte b ≡ weigh b
@@ -84,14 +80,6 @@ row_at t table x is view lt =
       long = ap length (sym is_row) ∙ length-between t.entries.items (start_of t x) (end_of t x) (omega (arith, high, inside));
       room = ap (λ (v : Table). room_of v x) (sym view) ∙ room_shown t x has;
     }
-
--- a list by its places says the same of functions that agree at each
-pub alike_below : {X : Type 0} (f g : ℕ → X) (n : ℕ) → ((x : ℕ) → x < n → f x ≡ g x) → map f (range_with_len 0 n) ≡ map g (range_with_len 0 n)
-alike_below f g n same =
-    same_lists (map f (range_with_len 0 n)) (map g (range_with_len 0 n)) (length-map-range_with_len f 0 n ∙ sym (length-map-range_with_len g 0 n))
-    (λ k d l.
-    let lt : k < n = omega (arith, l, length-map-range_with_len f 0 n) in
-    get_or-map-range_with_len f 0 n k k d lt (omega arith) ∙ same k lt ∙ sym (get_or-map-range_with_len g 0 n k k d lt (omega arith)))
 
 -- behind a row come only later ones
 pub starts_rise : (t : Inside) → IsTable t → (x y : ℕ) → x ≤ y → y ≤ rows_in t → start_of t x ≤ start_of t y
@@ -200,46 +188,6 @@ module _ (t after : Inside) (x at end : ℕ) (part : List (ℕ × First)) (is : 
         inside = λ y. omega (arith, start_stays y, is.inside y, size_stays);
         counted = omega (arith, count, is.counted, old, new, changed);
       }
-
--- a part of a list whose end was written over
-range_written : {X : Type 0} (xs ys : List X) (s p e : ℕ) → s + p ≤ length xs → s + p ≤ e → e ≤ s + p + length ys → slice_range (put_mid (s + p) (length ys) xs ys) s e ≡ take p (drop s xs) ++ take (e - (s + p)) ys
-range_written xs ys s p e inside low high =
-    let rest = drop (length ys) (drop (s + p) xs) in
-    let front = take p (drop s xs) in
-    let long : length (take (s + p) xs) ≡ s + p = length-take-le (s + p) xs inside in
-    let size : length front ≡ p = length-take-le p (drop s xs) (omega (arith, length-drop s xs, inside)) in
-    let wide : e - s ≡ length front + (e - (s + p)) = omega (arith, size, low) in
-    ap (take (e - s)) (drop-append-le s (take (s + p) xs) (ys ++ rest) (omega (arith, long)) ∙ ap (λ zs. zs ++ (ys ++ rest)) (drop-take s p xs))
-    ∙ ap (λ k. take k (front ++ (ys ++ rest))) wide
-    ∙ take-append-add front (ys ++ rest) (e - (s + p))
-    ∙ ap (λ zs. front ++ zs) (take-append-le (e - (s + p)) ys rest (omega (arith, low, high)))
-
-range_rest : {X : Type 0} (xs : List X) (s p e : ℕ) → s + p ≤ e → drop p (slice_range xs s e) ≡ slice_range xs (s + p) e
-range_rest xs s p e low =
-    let wide : e - s ≡ p + (e - (s + p)) = omega (arith, low) in
-    ap (λ k. drop p (take k (drop s xs))) wide ∙ drop-take p (e - (s + p)) (drop s xs) ∙ ap (take (e - (s + p))) (drop-drop p s xs)
-
--- an entry put into a part that has room behind it
-pub range_inserted : {X : Type 0} (xs ys : List X) (s p e : ℕ) (x : X) → s + p ≤ e → e < length xs → length ys ≡ e + 1 - (s + p) → ys ≡ take (e + 1 - (s + p)) (x ∷ slice_range xs (s + p) (e + 1))
-    → slice_range (put_mid (s + p) (length ys) xs ys) s (e + 1) ≡ insert (slice_range xs s e) p x
-range_inserted xs ys s p e x low inside long is =
-    let more : e + 1 - (s + p) ≡ suc (e - (s + p)) = omega (arith, low) in
-    let back : ys ≡ x ∷ slice_range xs (s + p) e =
-    is ∙ ap (λ k. take k (x ∷ slice_range xs (s + p) (e + 1))) more ∙ ap (λ zs. x ∷ zs) (take-take (e - (s + p)) (e + 1 - (s + p)) (drop (s + p) xs) (omega (arith, low))) in
-    range_written xs ys s p (e + 1) (omega (arith, low, inside)) (omega (arith, low)) (omega (arith, long, low))
-    ∙ ap (λ zs. take p (drop s xs) ++ zs) (take_all (e + 1 - (s + p)) ys (omega (arith, long)) ∙ back)
-    ∙ sym (ap (λ zs. zs ++ x ∷ drop p (slice_range xs s e)) (take-take p (e - s) (drop s xs) (omega (arith, low))) ∙ ap (λ zs. take p (drop s xs) ++ x ∷ zs) (range_rest xs s p e low))
-
--- an entry taken out of a part
-pub range_removed : {X : Type 0} (xs ys : List X) (s p e : ℕ) → s + p < e → e ≤ length xs → length ys ≡ e - (s + p) → take (e - (s + p) - 1) ys ≡ drop 1 (slice_range xs (s + p) e)
-    → slice_range (put_mid (s + p) (length ys) xs ys) s (e - 1) ≡ remove (slice_range xs s e) p
-range_removed xs ys s p e low inside long is =
-    let row = slice_range xs s e in
-    let count : e - 1 - (s + p) ≡ e - (s + p) - 1 = omega (arith, low) in
-    let next : p + 1 ≡ suc p = omega arith in
-    range_written xs ys s p (e - 1) (omega (arith, low, inside)) (omega (arith, low)) (omega (arith, long, low))
-    ∙ ap (λ zs. take p (drop s xs) ++ zs) (ap (λ k. take k ys) count ∙ is ∙ ap (drop 1) (sym (range_rest xs s p e (omega (arith, low)))) ∙ drop-drop 1 p row ∙ ap (λ k. drop k row) next)
-    ∙ ap (λ zs. zs ++ drop (suc p) row) (sym (take-take p (e - s) (drop s xs) (omega (arith, low))))
 
 -- what a call that writes a part of the entries leaves
 pub part_put : {X : Type 0} (v : Vec X) (now part : List X) (at k : ℕ) → now ≡ v.items → length part ≡ k → at + k ≤ length v.items → (with_items v (put_mid at k now part)).items ≡ put_mid at (length part) v.items part

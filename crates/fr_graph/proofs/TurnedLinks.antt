@@ -1,7 +1,7 @@
 -- The links that counts give are those of a network again.
-use Rattle.std.proofs.Common.{All, List, Some, [], ap, arith, count_by, eq-eqb, eqb, eqb-true, false, get_or, inl, inr, length, refl, suc, sym, ℕ, ◌+◌, ◌<◌, ◌∷◌, ◌≡◌, ◌⊎◌}
+use Rattle.std.proofs.Common.{All, List, Some, [], ap, arith, count_by, eq-eqb, eqb, eqb-true, false, get_or, inl, inr, length, refl, sym, ℕ, ◌+◌, ◌<◌, ◌∷◌, ◌≡◌, ◌⊎◌}
 use Rattle.std.proofs.lemmas.Bool.{cases_Bool}
-use Rattle.std.proofs.lemmas.List.Elements.{All-contains, Contains-get_or}
+use Rattle.std.proofs.lemmas.List.Elements.{All-contains, All-head, All-tail, Contains-get_or}
 use Rattle.std.proofs.lemmas.List.Sums.{sum_by-cons}
 use Rattle.fr_graph.proofs.Acyclic.{links_at_acyclic}
 use Rattle.fr_graph.proofs.Booleans.{flip}
@@ -19,20 +19,14 @@ kept_cases counts l (inr e) =
     let off : eqb (get_or counts l.1 0) (get_or counts l.0 0) ≡ false = elim (cases_Bool (eqb (get_or counts l.1 0) (get_or counts l.0 0))) [ inl t ↦ absurd (omega (arith, eqb-true _ _ t, e)) | inr f ↦ f ] in
     inr (rw (off, eq-eqb _ _ e) refl, e)
 
-all_tail : (counts : List ℕ) (l : ℕ × ℕ) (ls : List (ℕ × ℕ)) → All (IsKept counts) (l ∷ ls) → All (IsKept counts) ls
-all_tail counts l ls all k d i = all (suc k) d (omega arith)
-
-all_head : (counts : List ℕ) (l : ℕ × ℕ) (ls : List (ℕ × ℕ)) → All (IsKept counts) (l ∷ ls) → IsKept counts l
-all_head counts l ls all = all 0 l (omega arith)
-
 pub count-links_at : (links : List (ℕ × ℕ)) (counts : List ℕ) (u v : ℕ) → All (IsKept counts) links → count_by (is_between u v) (links_at links counts) ≡ count_by (is_between u v) links
 count-links_at [] counts u v all = refl
 count-links_at (l ∷ ls) counts u v all =
     let f : ℕ × ℕ → ℕ = λ y. weigh (is_between u v y) in
-    let rest = count-links_at ls counts u v (all_tail counts l ls all) in
+    let rest = count-links_at ls counts u v (All-tail (IsKept counts) l ls all) in
     let turned : ℕ × ℕ = (l.1, l.0) in
     let flipped : f turned ≡ f l = ap weigh (flip (eqb l.0 u) (eqb l.1 v) (eqb l.0 v) (eqb l.1 u)) in
-    elim (kept_cases counts l (all_head counts l ls all)) [
+    elim (kept_cases counts l (All-head (IsKept counts) l ls all)) [
       | inl m ↦ rw m.0 (omega (arith, sum_by-cons f l (links_at ls counts), sum_by-cons f l ls, rest))
       | inr m ↦ rw m.0 (omega (arith, sum_by-cons f turned (links_at ls counts), sum_by-cons f l ls, rest, flipped))
     ]
@@ -40,8 +34,8 @@ count-links_at (l ∷ ls) counts u v all =
 pub length-links_at : (links : List (ℕ × ℕ)) (counts : List ℕ) → All (IsKept counts) links → length (links_at links counts) ≡ length links
 length-links_at [] counts all = refl
 length-links_at (l ∷ ls) counts all =
-    let rest = length-links_at ls counts (all_tail counts l ls all) in
-    elim (kept_cases counts l (all_head counts l ls all)) [
+    let rest = length-links_at ls counts (All-tail (IsKept counts) l ls all) in
+    elim (kept_cases counts l (All-head (IsKept counts) l ls all)) [
       | inl m ↦ rw m.0 (omega (arith, rest))
       | inr m ↦ rw m.0 (omega (arith, rest))
     ]

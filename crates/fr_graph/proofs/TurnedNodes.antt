@@ -1,7 +1,5 @@
 -- The list of the nodes that have turned, as it is made and as turns are added.
 use Rattle.std.proofs.Common.{All, Contains, List, [], ap, arith, eq-eqb, eqb, get_or, get_or-set_other, get_or-set_same, inl, inr, length, length-set, map, ne_eqb, refl, replicate, set, subst, suc, sum, sum_by, sym, ℕ, ◌++◌, ◌*◌, ◌+◌, ◌<◌, ◌∙◌, ◌∷◌, ◌≡◌, ◌≤◌, ◌↔◌}
-use Rattle.std.proofs.Math.ListN.{get_or-append}
-use Rattle.std.proofs.Math.Seq.{get_or-append_seam}
 use Rattle.std.proofs.lemmas.Bool.{cases_Bool, cases_eq, cases_lt, cond-false, cond-true, false≢true}
 use Rattle.std.proofs.lemmas.List.{ext_get_or, get_or-map, get_or-replicate, get_or_default, get_or_past, length-map, length-replicate, length_push}
 use Rattle.std.proofs.lemmas.List.Elements.{Contains-append_left, Contains-get_or, Contains-push, Contains-push_cases}
@@ -12,6 +10,7 @@ use Rattle.std.proofs.lemmas.Map.Steps.{length-le_from_distinct_below}
 use Rattle.std.proofs.lemmas.Map.Views.{Contains-from_any}
 use Rattle.fr_graph.proofs.Members.{Contains-cases, Contains-head, Contains-none, Contains-tail}
 use Rattle.fr_graph.specs.Turns.{AreSet, AreTurned, set_to}
+use Rattle.fr_graph.proofs.Lists.{once_more}
 
 -- there is a count for each node that has turned
 pub turned_inside : (counts : List ℕ) (y : ℕ) → 0 < get_or counts y 0 → y < length counts
@@ -45,20 +44,6 @@ none_listed counts x list none listed z = (
 
 pub all_listed : (counts : List ℕ) (x : ℕ) (list : List ℕ) → length counts ≤ x → AreListed counts x list → (z : ℕ) → Contains list z ↔ (0 < get_or counts z 0)
 all_listed counts x list all listed z = (λ stands. ((listed z).0 stands).1, λ turned. (listed z).1 (omega (arith, turned_inside counts z turned, all), turned))
-
--- one more node that is not there yet leaves each once
-pub once_more : (nodes : List ℕ) (y : ℕ) → ((i j : ℕ) → i < j → j < length nodes → ¬ (get_or nodes i 0 ≡ get_or nodes j 0)) → ¬ Contains nodes y → (i j : ℕ) → i < j → j < length (nodes ++ y ∷ []) → ¬ (get_or (nodes ++ y ∷ []) i 0 ≡ get_or (nodes ++ y ∷ []) j 0)
-once_more nodes y once new i j lt l same =
-    let long = length_push nodes y in
-    let inside : i < length nodes = omega (arith, lt, l, long) in
-    let low : get_or (nodes ++ y ∷ []) i 0 ≡ get_or nodes i 0 = get_or-append nodes (y ∷ []) 0 i inside in
-    elim (cases_lt j (length nodes)) [
-      | inl early ↦ once i j lt early (sym low ∙ same ∙ get_or-append nodes (y ∷ []) 0 j early)
-      | inr last ↦
-          let end : j ≡ length nodes = omega (arith, last, l, long) in
-          let high : get_or (nodes ++ y ∷ []) j 0 ≡ y = rw end (get_or-append_seam nodes y [] 0) in
-          new (subst (Contains nodes) (sym low ∙ same ∙ high) (Contains-get_or nodes i 0 inside))
-    ]
 
 -- counts that are set at the nodes that have turned
 pub each_set : (counts after nodes : List ℕ) (count : ℕ) → AreTurned counts nodes → length after ≡ length counts → AreSet nodes count counts after → after ≡ map (set_to count) counts

@@ -1,5 +1,5 @@
 -- The rows of links as counts turn them, and the links that rows show.
-use Rattle.std.proofs.Common.{Bool, Contains, List, None, Option, Some, [], All, ap, arith, count_by, eq-eqb, eqb, false, get_or, inl, inr, length, map, ne_eqb, option_map, option_to_list, refl, subst, suc, sym, true, zero, ℕ, ⊎_elim, ◌&&◌, ◌+◌, ◌<◌, ◌||◌, ◌∙◌, ◌∷◌, ◌≡◌, ◌≤◌, ◌⊎◌}
+use Rattle.std.proofs.Common.{Bool, Contains, List, None, Some, [], All, ap, arith, count_by, eq-eqb, eqb, false, get_or, inl, inr, map, ne_eqb, option_map, option_to_list, refl, subst, suc, sym, true, zero, ℕ, ⊎_elim, ◌&&◌, ◌+◌, ◌<◌, ◌||◌, ◌∙◌, ◌∷◌, ◌≡◌, ◌≤◌, ◌⊎◌}
 use Rattle.std.proofs.lemmas.Bool.{cases_Bool, cases_lt, cond-false, cond-true}
 use Rattle.std.proofs.lemmas.List.{map-append}
 use Rattle.std.proofs.lemmas.List.Elements.{All-contains}
@@ -19,6 +19,7 @@ use Rattle.fr_graph.specs.RowLists.{link_to, opposite, out_links, rows_below, tu
 use Rattle.fr_graph.specs.Rows.{has_link, row, row_entry}
 use Rattle.fr_graph.specs.declared.first.First.{First}
 use Rattle.fr_graph.specs.declared.first.First.TheVariants.{Inward, Outward}
+use Rattle.fr_graph.proofs.Lists.{map-option_to_list}
 
 not_linked : (links : List (ℕ × ℕ)) (u v : ℕ) → ¬ Points links u v → has_link links u v ≡ false
 not_linked links u v bar = elim (cases_Bool (has_link links u v)) [ inl e ↦ absurd (bar (Points-has_link links u v e)) | inr e ↦ e ]
@@ -83,10 +84,6 @@ row_entry_turned n links c x w kept net after =
             (λ p. ⊎_elim (λ a. not_back a.0) (λ b. not_out b.0) (Points-links_at_from links c w x p)))
       ]
     ]
-
-map-option_to_list : {X Y : Type 0} (f : X → Y) (o : Option X) → map f (option_to_list o) ≡ option_to_list (option_map f o)
-map-option_to_list f None = refl
-map-option_to_list f (Some x) = refl
 
 row_turned_by : (n k : ℕ) (links : List (ℕ × ℕ)) (c : List ℕ) (x : ℕ) → All (IsKept c) links → IsNet n links → IsNet n (links_at links c) → row k (links_at links c) x ≡ map (turned_entry c x) (row k links x)
 row_turned_by n zero links c x kept net after = refl

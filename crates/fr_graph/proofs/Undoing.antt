@@ -14,14 +14,13 @@ use Rattle.fr_graph.proofs.Places.{cut_is_remove}
 use Rattle.fr_graph.proofs.Remaking.{in_order_row, with_links}
 use Rattle.fr_graph.specs.Edits.{without}
 use Rattle.fr_graph.specs.Faults.{IsNetworkOf}
-use Rattle.fr_graph.specs.Graph.{AreDone, HasRoomFor, IsDone, IsGraph, IsSame, shown}
+use Rattle.fr_graph.specs.Graph.{AreDone, CanPut, HasRoomFor, IsDone, IsGraph, IsSame, shown}
 use Rattle.fr_graph.specs.Halves.{AreUnjoined}
-use Rattle.fr_graph.specs.Limits.{most_links}
-use Rattle.fr_graph.specs.Links.{AreSingle, IsAcyclic, Points}
+use Rattle.fr_graph.specs.Links.{AreSingle, Points}
 use Rattle.fr_graph.specs.Network.{Network}
 use Rattle.fr_graph.specs.Order.{in_order}
 use Rattle.fr_graph.specs.Rows.{row}
-use Rattle.fr_graph.specs.Tables.{HasRoomIn, KeepsRooms, room_of, row_of}
+use Rattle.fr_graph.specs.Tables.{HaveRoom, KeepsRooms, room_of, row_of}
 use Rattle.fr_graph.specs.declared.graph.Done.{Done}
 use Rattle.fr_graph.specs.declared.graph.Done.TheVariants.{Put, Taken}
 use Rattle.fr_graph.specs.declared.graph.Graph.{Graph}
@@ -52,10 +51,7 @@ pub taken_one : (net : Network) (tail head : ℕ) (after : Network) → IsDone n
 taken_one net tail head after done =
     length_permutation (added after.links tail head) net.links (permuted net tail head after done) ∙ length_push after.links (tail, head)
 
-pub taken_few : (net : Network) (tail head : ℕ) (after : Network) → IsDone net (Taken tail head) after → length after.links < most_links
-taken_few net tail head after done = omega (arith, taken_one net tail head after done, done.faultless.limits.links_few)
-
-pub taken_unjoined : (net : Network) (tail head : ℕ) (after : Network) → IsDone net (Taken tail head) after → AreUnjoined after.nodes after.links tail head
+taken_unjoined : (net : Network) (tail head : ℕ) (after : Network) → IsDone net (Taken tail head) after → AreUnjoined after.nodes after.links tail head
 taken_unjoined net tail head after done =
     let p : ℕ × ℕ = (tail, head) in
     let links = net.links in
@@ -70,8 +66,12 @@ taken_unjoined net tail head after done =
     } in
     subst (λ (m : Network). AreUnjoined m.nodes m.links tail head) (sym (taken_is net tail head after done)) free
 
-pub taken_acyclic : (net : Network) (tail head : ℕ) (after : Network) → IsDone net (Taken tail head) after → IsAcyclic (added after.links tail head)
-taken_acyclic net tail head after done = acyclic_listed (added after.links tail head) net.links (permuted net tail head after done) done.faultless.is_net.acyclic
+pub taken_can_be_put : (net : Network) (tail head : ℕ) (after : Network) → IsDone net (Taken tail head) after → CanPut after tail head
+taken_can_be_put net tail head after done = record {
+  few = omega (arith, taken_one net tail head after done, done.faultless.limits.links_few);
+  unjoined = taken_unjoined net tail head after done;
+  acyclic = acyclic_listed (added after.links tail head) net.links (permuted net tail head after done) done.faultless.is_net.acyclic;
+}
 
 pub taken_back : (net : Network) (tail head : ℕ) (after back : Network) → IsDone net (Taken tail head) after → IsNetworkOf after.nodes (added after.links tail head) back → back ≡ net
 taken_back net tail head after back done made =
@@ -138,15 +138,16 @@ row_before net tail head after x done =
     ∙ sym (in_order_row net.nodes more x) ∙ ap (λ (n : ℕ). row n more x) (sym nodes)
 
 -- where there is room for the network with a link, there is room to put it back
-pub taken_room : (net : Network) (tail head : ℕ) (g : Graph) → IsGraph g → IsDone net (Taken tail head) (shown g) → HasRoomFor g net → HasRoomIn g.rows tail × HasRoomIn g.rows head
+pub taken_room : (net : Network) (tail head : ℕ) (g : Graph) → IsGraph g → IsDone net (Taken tail head) (shown g) → HasRoomFor g net → HaveRoom g.rows tail head
 taken_room net tail head g graph done room =
     let after = shown g in
     let free = taken_unjoined net tail head after done in
     let nodes : after.nodes ≡ net.nodes = ap (λ (m : Network). m.nodes) (taken_is net tail head after done) in
-    let more = ends_more after.nodes after.links tail head free in (
-      omega (arith, more.0, ap length (row_before net tail head after tail done), room tail (omega (arith, nodes, free.tail)), ap length (graph.rows.shown tail free.tail)),
-      omega (arith, more.1, ap length (row_before net tail head after head done), room head (omega (arith, nodes, free.head)), ap length (graph.rows.shown head free.head)),
-    )
+    let more = ends_more after.nodes after.links tail head free in
+    record {
+      tail = omega (arith, more.0, ap length (row_before net tail head after tail done), room tail (omega (arith, nodes, free.tail)), ap length (graph.rows.shown tail free.tail));
+      head = omega (arith, more.1, ap length (row_before net tail head after head done), room head (omega (arith, nodes, free.head)), ap length (graph.rows.shown head free.head));
+    }
 
 -- the same rooms are no less
 pub rooms_kept : (before after : Graph) → after.rows.rooms ≡ before.rows.rooms → KeepsRooms before.rows after.rows

@@ -1,5 +1,5 @@
 -- The state of the depth-first search for a closed walk. For `find_cycle` alone.
-use Rattle.std.specs.Prelude.{◌≡◌, ◌≢◌, ℕ, ◌<◌, ◌≤◌, ◌+◌, ◌*◌, List, length, map, slice_index, slice_index_or, Bool, true, false, count_by}
+use Rattle.std.specs.Prelude.{◌≡◌, ◌≢◌, ℕ, ◌<◌, ◌≤◌, ◌+◌, ◌-◌, ◌*◌, List, [], length, map, slice_index, slice_index_or, vec_len, Option, Bool, true, false, count_by, IfSome}
 use Rattle.std.specs.List.{All, Contains}
 use Rattle.fr_graph.specs.Heights.{HasHeadsFirst}
 use Rattle.fr_graph.specs.KeptRows.{net_in}
@@ -74,9 +74,15 @@ pub record IsSearch (rows : Table) (search : Search) : Type 0 where
   pub read : All (HasRead rows search.marks.items) search.path.items
   pub order : IsOrder (net_in rows).links search.marks.items search.order.items
 
--- seen nodes stay seen
-abbrev pub KeepsSeen : List Mark → List Mark → Type 0
-KeepsSeen old new = (x : ℕ) → mark_of old x ≢ Fresh → mark_of new x ≢ Fresh
+-- the search while its path is empty: before it starts from a node
+pub record IsAtRest (rows : Table) (state : Search) : Type 0 where
+  pub search : IsSearch rows state
+  pub empty : state.path.items ≡ []
+
+-- seen nodes stay seen, and there is a mark for each node
+pub record KeepsSeen (old new : List Mark) : Type 0 where
+  pub seen : (x : ℕ) → mark_of old x ≢ Fresh → mark_of new x ≢ Fresh
+  pub one_each : length new ≡ length old
 
 -- the last node of the path, if there is one, points to x
 abbrev pub LeadsTo : List (ℕ × ℕ) → List ℕ → ℕ → Type 0
@@ -103,3 +109,37 @@ left_count search = 2 * fresh_count search.marks.items + length search.path.item
 pub record LeadsBack (links : List (ℕ × ℕ)) (path : List ℕ) (x : ℕ) : Type 0 where
   pub on_path : Contains path x
   pub leads : LeadsTo links path x
+
+-- the search went on from one state to another. The node is one of its path to which the last node leads back, if it has found one
+pub record GoesOn (rows : Table) (before after : Search) (node : Option ℕ) : Type 0 where
+  pub search : IsSearch rows after
+  pub kept : KeepsSeen before.marks.items after.marks.items
+  pub back : IfSome node (LeadsBack (net_in rows).links (nodes_of after.path.items))
+
+-- the search has put x at the end of its path
+pub record HasOpened (x : ℕ) (before after : Search) : Type 0 where
+  pub search : (rows : Table) → IsSearch rows before → LeadsTo (net_in rows).links (nodes_of before.path.items) x → IsSearch rows after
+  pub met : mark_of after.marks.items x ≢ Fresh
+  pub kept : KeepsSeen before.marks.items after.marks.items
+  pub fewer : left_count after < left_count before
+
+-- the search has taken the last node, x, off its path
+pub record HasLeft (x : ℕ) (before after : Search) : Type 0 where
+  pub search : (rows : Table) → IsSearch rows before → LeadsToDone (net_in rows).links before.marks.items x → IsSearch rows after
+  pub kept : KeepsSeen before.marks.items after.marks.items
+  pub fewer : left_count after < left_count before
+
+-- nothing has changed but how far the rows of the nodes on the path are read
+pub record ReadsOn (before after : Search) : Type 0 where
+  pub marks : after.marks ≡ before.marks
+  pub path : nodes_of after.path.items ≡ nodes_of before.path.items
+
+-- the last node of the path leads to x, which is not done
+pub record IsNext (links : List (ℕ × ℕ)) (search : Search) (x : ℕ) : Type 0 where
+  pub leads : LeadsTo links (nodes_of search.path.items) x
+  pub below : x < length search.marks.items
+  pub other : mark_of search.marks.items x ≢ Done
+
+-- the last node of the path
+abbrev pub top_of : Search → ℕ
+top_of search = slice_index (nodes_of search.path.items) (vec_len search.path - 1)

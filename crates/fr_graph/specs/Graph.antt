@@ -6,7 +6,8 @@ use Rattle.fr_graph.specs.Faults.{IsFaultless, IsNetworkOf}
 use Rattle.fr_graph.specs.Halves.{AreUnjoined}
 use Rattle.fr_graph.specs.Heights.{Fit}
 use Rattle.fr_graph.specs.KeptRows.{AreRows, links_in}
-use Rattle.fr_graph.specs.Links.{Points}
+use Rattle.fr_graph.specs.Limits.{most_links}
+use Rattle.fr_graph.specs.Links.{IsAcyclic, Points}
 use Rattle.fr_graph.specs.Network.{Network}
 use Rattle.fr_graph.specs.Order.{AreInOrder}
 use Rattle.fr_graph.specs.Rows.{row}
@@ -32,6 +33,12 @@ pub record IsGraph (g : Graph) : Type 0 where
 -- each row of the network has room in the graph
 abbrev pub HasRoomFor : Graph → Network → Type 0
 HasRoomFor g net = (x : ℕ) → x < net.nodes → length (row net.nodes net.links x) ≤ room_of g.rows x
+
+-- a link from u to v can be put into the network
+pub record CanPut (net : Network) (u v : ℕ) : Type 0 where
+  pub few : length net.links < most_links
+  pub unjoined : AreUnjoined net.nodes net.links u v
+  pub acyclic : IsAcyclic (net.links ++ (u, v) ∷ [])
 
 -- a link was taken out or put in
 abbrev pub IsStep : Network → Done → Network → Type 0

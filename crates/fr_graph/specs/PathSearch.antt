@@ -1,9 +1,11 @@
 -- The state of the search for a way between two nodes from both ends, and what its sides tell where they meet. For `path_search` alone.
-use Rattle.std.specs.Prelude.{◌≡◌, ℕ, ◌<◌, ◌≤◌, ◌+◌, ◌-◌, ◌++◌, ◌⊎◌, Bool, true, false, List, [], ◌∷◌, length, slice_index, slice_index_or, slice_set, vec_capacity, count_by}
+use Rattle.std.specs.Prelude.{◌≡◌, ℕ, ◌<◌, ◌≤◌, ◌+◌, ◌-◌, ◌++◌, ◌⊎◌, Bool, true, false, List, [], ◌∷◌, length, slice_index, slice_index_or, slice_set, vec_capacity, Option, Some, None, count_by}
 use Rattle.std.specs.List.{All, Contains}
-use Rattle.fr_graph.specs.Heights.{FitBetween}
+use Rattle.fr_graph.specs.Heights.{AreFalling, FitBetween}
+use Rattle.fr_graph.specs.KeptRows.{ShowsNet, net_in}
 use Rattle.fr_graph.specs.Links.{HasPath, Points, end_of}
 use Rattle.fr_graph.specs.Network.{Network}
+use Rattle.fr_graph.specs.Tables.{Table}
 use Rattle.fr_graph.specs.declared.path_search.Met.{Met}
 use Rattle.fr_graph.specs.declared.path_search.Met.TheVariants.{Never, Forward, Backward}
 use Rattle.fr_graph.specs.declared.path_search.Meeting.{Meeting}
@@ -92,6 +94,12 @@ IsPast Inward edge height = edge ≤ height
 pub record IsLeftAside (side : Side) (height : ℕ) : Type 0 where
   pub beyond : IsBeyond side.first side.limit height
   pub past : IsPast side.first side.edge height
+
+-- the rows show a network, and its links fall along the heights, of which there is one for each node
+pub record AreFallingRows (rows : Table) (heights : List ℕ) : Type 0 where
+  pub shown : ShowsNet rows
+  pub one_each : length heights ≡ length rows.rows
+  pub falling : AreFalling heights (net_in rows).links
 
 -- the side has met x, of this height, or left it aside
 abbrev pub IsMetOrAside : First → Side → List Met → ℕ → ℕ → Type 0
@@ -182,6 +190,11 @@ pub record MeetAlong (links : List (ℕ × ℕ)) (met : List Met) (link : ℕ ×
   pub tail : HasMet Outward met link.0
   pub head : HasMet Inward met link.1
   pub points : Points links link.0 link.1
+
+-- what a side returns that reads a row: such a link, or none once the row is read to its end
+abbrev pub IsReadAnswer : List (ℕ × ℕ) → List Met → Side → Side → Option (ℕ × ℕ) → Type 0
+IsReadAnswer links met before after (Some link) = MeetAlong links met link
+IsReadAnswer links met before after None = after.read ≡ before.read + 1
 
 -- the side ahead came from the one node to the tail of a link, and the side behind against the links from the other to its head
 pub record IsMeeting (links : List (ℕ × ℕ)) (from to : ℕ) (meeting : Meeting) : Type 0 where

@@ -22,6 +22,11 @@ room_of table x = slice_index table.rooms x
 abbrev pub HasRoomIn : Table → ℕ → Type 0
 HasRoomIn table x = length (row_of table x) < room_of table x
 
+-- the rows of u and v have room for a link between them
+pub record HaveRoom (table : Table) (u v : ℕ) : Type 0 where
+  pub tail : HasRoomIn table u
+  pub head : HasRoomIn table v
+
 -- no row has less room than before
 abbrev pub KeepsRooms : Table → Table → Type 0
 KeepsRooms before after = (x : ℕ) → room_of before x ≤ room_of after x

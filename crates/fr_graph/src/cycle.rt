@@ -1,18 +1,19 @@
-//! The search for a closed walk along links: depth first over rows, with the path as a stack, so that each entry is passed once and
-//! the evidence is at hand. Where there is none, each link leads to a node that the search left before the tail.
+//! The search for a closed walk along the links. It goes depth first and keeps its path as a stack, so it reads each
+//! entry of a row once, and a link back to the path closes a walk. If no link does, the search leaves the head of each
+//! link before its tail.
 
 ghost use Rattle.std.specs.Prelude.{◌≡◌, ◌≢◌, ℕ, ◌<◌, ◌≤◌, ◌++◌, [], ◌∷◌, length, drop, vec_len, slice_index, slice_index_or, All, IfOk, IfSome, IfNone, OnOk, IsTrue, Contains, ◌-◌};
 ghost use Rattle.fr_graph.specs.Heights.{HasHeadsFirst};
 ghost use Rattle.fr_graph.specs.KeptRows.{net_in};
 ghost use Rattle.fr_graph.specs.Links.{IsAcyclic};
-ghost use Rattle.fr_graph.specs.CycleSearch.{AreEntriesBelow, IsFound, IsPassed, IsSearch, KeepsSeen, LeadsBack, LeadsTo, LeadsToDone, LeadsToOther, left_count, mark_of, nodes_of};
+ghost use Rattle.fr_graph.specs.CycleSearch.{AreEntriesBelow, GoesOn, HasLeft, HasOpened, IsAtRest, IsFound, IsNext, IsPassed, IsSearch, LeadsToDone, LeadsToOther, ReadsOn, left_count, mark_of, nodes_of, top_of};
 ghost use Rattle.fr_graph.specs.Tables.{Table};
 
 use crate::first::First;
 use crate::row_table::RowTable;
 use std::alloc::{AllocError, Global};
 
-/// How far the search has come with a node: not met, on the path, or left with no closed walk from it.
+/// The state of a node: not met, on the path, or done. No closed walk leads from a done node.
 #[derive(Drop, Clone, Copy)]
 enum Mark {
     Fresh,
@@ -25,25 +26,27 @@ enum Mark {
 pub(crate) enum Found {
     /// A closed walk: its nodes, the first again at the end.
     Walk(Vec<u32>),
-    /// No closed walk, and all nodes in an order in which the head of each link stands before its tail.
+    /// There is no closed walk. The order has all nodes, and the head of each link before its tail.
     Order(Vec<u32>),
 }
 
-/// A node of the path, and how far its row was read: past links that lead to done nodes.
+/// A node of the path, and the next place of its row: the links before it lead to done nodes.
 #[derive(Drop, Clone, Copy)]
 struct Step {
     node: u32,
     next: usize,
 }
 
-/// The first place of the row, from `from` on, whose link leads to a node that is not done.
+/// The first place of the row, from `from` on, whose link leads to a node that is not done, or the end of the row.
 fn first_not_done(row: &[(u16, First)], marks: &[Mark], from: usize) -> usize
     requires below { All (λ (e : ℕ × First). e.0 < length marks.now) row.now }
     requires from { from ≤ length row.now }
     ensures low { from ≤ result }
     ensures high { result ≤ length row.now }
-    ensures passed { (k : ℕ) (d : ℕ × First) → from ≤ k → k < result → IsPassed marks.now (slice_index_or row.now k d) }
-    ensures stops { (d : ℕ × First) → result < length row.now → LeadsToOther marks.now (slice_index_or row.now result d) }
+    ensures passed { (k : ℕ) (d : ℕ × First) → from ≤ k → k < result
+        → IsPassed marks.now (slice_index_or row.now k d) }
+    ensures stops { (d : ℕ × First) → result < length row.now
+        → LeadsToOther marks.now (slice_index_or row.now result d) }
 {
     for place in from..row.len() {
         let (head, first) = row[place];
@@ -67,7 +70,7 @@ fn place_on(path: &[Step], node: u32) -> usize
     at
 }
 
-/// The walk that closes where the last node of `path` leads back to `node`, which is on it.
+/// The walk that a link from the last node of `path` back to `node` closes.
 fn closed_at(alloc: Global, path: &[Step], node: u32) -> Result<Vec<u32>, AllocError>
     requires { Contains (nodes_of path.now) node }
     ensures { IfOk result (λ walk. (k : ℕ) × (k < length path.now) × (slice_index (nodes_of path.now) k ≡ node)
@@ -87,15 +90,15 @@ fn closed_at(alloc: Global, path: &[Step], node: u32) -> Result<Vec<u32>, AllocE
 struct Search {
     marks: Vec<Mark>,
     path: Vec<Step>,
-    // The nodes that it has left, in the order in which it left them.
+    // The done nodes, in the order in which the search left them.
     order: Vec<u32>,
 }
 
 impl Search {
     /// A search that has met no node.
     fn begun(alloc: Global, nodes: u32) -> Result<Search, AllocError>
-        ensures search { IfOk result (λ search. (rows : Table) → length rows.rows ≡ nodes → AreEntriesBelow nodes rows → IsSearch rows search) }
-        ensures empty { IfOk result (λ search. search.path.items ≡ []) }
+        ensures rest { IfOk result (λ search. (rows : Table) → length rows.rows ≡ nodes
+            → AreEntriesBelow nodes rows → IsAtRest rows search) }
         ensures one_each { IfOk result (λ search. length search.marks.items ≡ nodes) }
     {
         Ok(Search {
@@ -105,7 +108,7 @@ impl Search {
         })
     }
 
-    /// Whether it has met this node.
+    /// Whether the search has met this node.
     fn has_met(&self, node: u32) -> bool
         requires { node < length self.now.marks.items }
         ensures met { IsTrue result → mark_of self.now.marks.items node ≢ Mark.Fresh }
@@ -118,28 +121,22 @@ impl Search {
     fn open(&mut self, node: u32) -> Result<(), AllocError>
         requires below { node < length self.old.marks.items }
         requires fresh { mark_of self.old.marks.items node ≡ Mark.Fresh }
-        ensures search { OnOk result ((rows : Table) → IsSearch rows self.old → LeadsTo (net_in rows).links (nodes_of self.old.path.items) node → IsSearch rows self.new) }
-        ensures seen { OnOk result (mark_of self.new.marks.items node ≢ Mark.Fresh) }
-        ensures kept { OnOk result (KeepsSeen self.old.marks.items self.new.marks.items) }
-        ensures one_each { OnOk result (length self.new.marks.items ≡ length self.old.marks.items) }
-        ensures fewer { OnOk result (left_count self.new < left_count self.old) }
+        ensures { OnOk result (HasOpened node self.old self.new) }
     {
         self.path.push(Step { node, next: 0 })?;
         self.marks[node as usize] = Mark::Open;
         Ok(())
     }
 
-    /// The head of the next link of the last node of the path that leads to a node that is not done, if there is one.
+    /// Reads on in the row of the last node of the path, and returns the head of its next link to a node that is not
+    /// done, if there is one.
     fn next_head(&mut self, rows: &RowTable) -> Option<u32>
         requires search { IsSearch rows.now self.old }
         requires full { 0 < vec_len self.old.path }
         ensures search { IsSearch rows.now self.new }
-        ensures marks { self.new.marks ≡ self.old.marks }
-        ensures path { nodes_of self.new.path.items ≡ nodes_of self.old.path.items }
-        ensures leads { IfSome result (LeadsTo (net_in rows.now).links (nodes_of self.old.path.items)) }
-        ensures below { IfSome result (λ head. head < length self.old.marks.items) }
-        ensures stops { IfSome result (λ head. mark_of self.new.marks.items head ≢ Mark.Done) }
-        ensures done { IfNone result (LeadsToDone (net_in rows.now).links self.new.marks.items (slice_index (nodes_of self.old.path.items) (vec_len self.old.path - 1))) }
+        ensures same { ReadsOn self.old self.new }
+        ensures next { IfSome result (IsNext (net_in rows.now).links self.old) }
+        ensures done { IfNone result (LeadsToDone (net_in rows.now).links self.old.marks.items (top_of self.old)) }
     {
         let last = self.path.len() - 1;
         let top = self.path[last];
@@ -153,15 +150,12 @@ impl Search {
         Some(head as u32)
     }
 
-    /// Takes the last node off the path, once all its links lead to done nodes.
+    /// Takes the last node, `top`, off the path. All its links have to lead to done nodes.
     fn leave(&mut self, top: u32) -> Result<(), AllocError>
         requires full { 0 < vec_len self.old.path }
-        requires top { top ≡ slice_index (nodes_of self.old.path.items) (vec_len self.old.path - 1) }
+        requires top { top ≡ top_of self.old }
         requires below { top < length self.old.marks.items }
-        ensures search { OnOk result ((rows : Table) → IsSearch rows self.old → LeadsToDone (net_in rows).links self.old.marks.items top → IsSearch rows self.new) }
-        ensures kept { OnOk result (KeepsSeen self.old.marks.items self.new.marks.items) }
-        ensures one_each { OnOk result (length self.new.marks.items ≡ length self.old.marks.items) }
-        ensures fewer { OnOk result (left_count self.new < left_count self.old) }
+        ensures { OnOk result (HasLeft top self.old self.new) }
     {
         let _last = self.path.pop();
         self.marks[top as usize] = Mark::Done;
@@ -169,15 +163,12 @@ impl Search {
         Ok(())
     }
 
-    /// A step from the last node of the path: on to a node that was not met, or back where there is none. Where a link leads back to a node of the
-    /// path instead, it answers that node.
+    /// Takes a step from the last node of the path: on to a node that was not met, or back if there is none. If a link
+    /// leads back to a node of the path, it returns that node and takes no step.
     fn step(&mut self, rows: &RowTable) -> Result<Option<u32>, AllocError>
         requires search { IsSearch rows.now self.old }
         requires full { 0 < vec_len self.old.path }
-        ensures back { IfOk result (λ back. IfSome back (LeadsBack (net_in rows.now).links (nodes_of self.new.path.items))) }
-        ensures search { OnOk result (IsSearch rows.now self.new) }
-        ensures kept { OnOk result (KeepsSeen self.old.marks.items self.new.marks.items) }
-        ensures one_each { OnOk result (length self.new.marks.items ≡ length self.old.marks.items) }
+        ensures on { IfOk result (GoesOn rows.now self.old self.new) }
         ensures fewer { IfOk result (λ back. IfNone back (left_count self.new < left_count self.old)) }
     {
         let top = self.path[self.path.len() - 1].node;
@@ -192,14 +183,11 @@ impl Search {
         Ok(None)
     }
 
-    /// Goes on until the path is empty, or a link closes a walk with it: then it answers the node of the path that the link leads back to.
+    /// Goes on until the path is empty, or a link leads back to a node of the path: then it returns that node.
     fn go_on(&mut self, rows: &RowTable) -> Result<Option<u32>, AllocError>
         requires { IsSearch rows.now self.old }
-        ensures back { IfOk result (λ back. IfSome back (LeadsBack (net_in rows.now).links (nodes_of self.new.path.items))) }
-        ensures search { OnOk result (IsSearch rows.now self.new) }
+        ensures on { IfOk result (GoesOn rows.now self.old self.new) }
         ensures empty { IfOk result (λ back. IfNone back (self.new.path.items ≡ [])) }
-        ensures kept { OnOk result (KeepsSeen self.old.marks.items self.new.marks.items) }
-        ensures one_each { OnOk result (length self.new.marks.items ≡ length self.old.marks.items) }
     {
         'walk: while !self.path.is_empty() {
             if let Some(node) = self.step(rows)? {
@@ -209,18 +197,14 @@ impl Search {
         Ok(None)
     }
 
-    /// Searches from `root`, unless the search has met it. Where a link closes a walk with the path, it answers the node of the path that
-    /// the link leads back to.
+    /// Searches from `root`, unless the search has met it. If a link leads back to a node of the path, it returns that
+    /// node.
     fn visit(&mut self, rows: &RowTable, root: u32) -> Result<Option<u32>, AllocError>
-        requires search { IsSearch rows.now self.old }
-        requires empty { self.old.path.items ≡ [] }
+        requires rest { IsAtRest rows.now self.old }
         requires root { root < length self.old.marks.items }
-        ensures back { IfOk result (λ back. IfSome back (LeadsBack (net_in rows.now).links (nodes_of self.new.path.items))) }
-        ensures search { OnOk result (IsSearch rows.now self.new) }
+        ensures on { IfOk result (GoesOn rows.now self.old self.new) }
         ensures empty { IfOk result (λ back. IfNone back (self.new.path.items ≡ [])) }
-        ensures seen { OnOk result (mark_of self.new.marks.items root ≢ Mark.Fresh) }
-        ensures kept { OnOk result (KeepsSeen self.old.marks.items self.new.marks.items) }
-        ensures one_each { OnOk result (length self.new.marks.items ≡ length self.old.marks.items) }
+        ensures met { OnOk result (mark_of self.new.marks.items root ≢ Mark.Fresh) }
     {
         if self.has_met(root) {
             return Ok(None);
@@ -229,15 +213,14 @@ impl Search {
         self.go_on(rows)
     }
 
-    /// Searches from each node, up to where a link closes a walk with the path.
+    /// Searches from each node. If a link leads back to a node of the path, it returns that node and stops.
     fn visit_all(&mut self, nodes: u32, rows: &RowTable) -> Result<Option<u32>, AllocError>
-        requires search { IsSearch rows.now self.old }
-        requires empty { self.old.path.items ≡ [] }
+        requires rest { IsAtRest rows.now self.old }
         requires one_each { length self.old.marks.items ≡ nodes }
-        ensures search { OnOk result (IsSearch rows.now self.new) }
-        ensures back { IfOk result (λ back. IfSome back (LeadsBack (net_in rows.now).links (nodes_of self.new.path.items))) }
+        ensures on { IfOk result (GoesOn rows.now self.old self.new) }
         ensures acyclic { IfOk result (λ back. IfNone back (IsAcyclic (net_in rows.now).links)) }
-        ensures order { IfOk result (λ back. IfNone back (HasHeadsFirst nodes (net_in rows.now).links self.new.order.items)) }
+        ensures order { IfOk result (λ back. IfNone back (HasHeadsFirst nodes
+            (net_in rows.now).links self.new.order.items)) }
     {
         for root in 0..nodes {
             if let Some(node) = self.visit(rows, root)? {
@@ -248,8 +231,7 @@ impl Search {
     }
 }
 
-/// A closed walk along the links that these rows of so many nodes show; or, where there is none, an order of the nodes along which
-/// all links lead back.
+/// Finds a closed walk along the links that these rows show, or an order of the nodes in which all links lead back.
 pub(crate) fn find_cycle(alloc: Global, nodes: u32, rows: &RowTable) -> Result<Found, AllocError>
     requires one_each { length rows.now.rows ≡ nodes }
     requires below { AreEntriesBelow nodes rows.now }

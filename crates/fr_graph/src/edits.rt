@@ -7,7 +7,7 @@ ghost use Rattle.fr_graph.specs.Edits.{without};
 ghost use Rattle.fr_graph.specs.Halves.{IsPlaceIn};
 ghost use Rattle.fr_graph.specs.KeptRows.{AreRows, ShowsLink, ShowsNoLink};
 ghost use Rattle.fr_graph.specs.Limits.{most_nodes};
-ghost use Rattle.fr_graph.specs.Tables.{HasRoomIn, row_of, with_row};
+ghost use Rattle.fr_graph.specs.Tables.{HasRoomIn, HaveRoom, row_of, with_row};
 
 use crate::first::First;
 use crate::row::place_in_row;
@@ -18,7 +18,8 @@ fn cut_entry(rows: &mut RowTable, x: u32, w: u32)
     requires row { x < length rows.old.rows }
     requires rising { IsStrictlyIncreasing (map (λ (e : ℕ × First). e.0) (row_of rows.old x)) }
     requires stands { Contains (map (λ (e : ℕ × First). e.0) (row_of rows.old x)) w }
-    ensures { (place : ℕ) × IsPlaceIn (row_of rows.old x) w place × (rows.new ≡ with_row rows.old x (remove (row_of rows.old x) place)) }
+    ensures { (place : ℕ) × IsPlaceIn (row_of rows.old x) w place
+        × (rows.new ≡ with_row rows.old x (remove (row_of rows.old x) place)) }
 {
     let place = place_in_row(rows.row(x), w);
     rows.remove(x, place);
@@ -40,19 +41,21 @@ fn put_entry(rows: &mut RowTable, x: u32, w: u32, first: First)
     requires rising { IsStrictlyIncreasing (map (λ (e : ℕ × First). e.0) (row_of rows.old x)) }
     requires few { w < most_nodes }
     requires room { HasRoomIn rows.old x }
-    ensures { (place : ℕ) × IsPlaceIn (row_of rows.old x) w place × (rows.new ≡ with_row rows.old x (insert (row_of rows.old x) place (w, first))) }
+    ensures { (place : ℕ) × IsPlaceIn (row_of rows.old x) w place
+        × (rows.new ≡ with_row rows.old x (insert (row_of rows.old x) place (w, first))) }
 {
     let place = place_in_row(rows.row(x), w);
     rows.insert(x, place, (w as u16, first));
 }
 
-/// Puts the entries of a link into the rows of both its ends, which no link has joined yet and which have room for them.
+/// Puts the entries of a link into the rows of both its ends, which no link has joined yet and which have room for
+/// them.
 pub(crate) fn put_in_rows(rows: &mut RowTable, tail: u32, head: u32)
     requires shown { (net : Network) × ShowsNoLink net tail head rows.old }
     requires few { length rows.old.rows ≤ most_nodes }
-    requires tail_room { HasRoomIn rows.old tail }
-    requires head_room { HasRoomIn rows.old head }
-    ensures rows { (net : Network) → ShowsNoLink net tail head rows.old → AreRows net.nodes (net.links ++ (tail, head) ∷ []) rows.new }
+    requires room { HaveRoom rows.old tail head }
+    ensures rows { (net : Network) → ShowsNoLink net tail head rows.old
+        → AreRows net.nodes (net.links ++ (tail, head) ∷ []) rows.new }
     ensures rooms { rows.new.rooms ≡ rows.old.rooms }
 {
     put_entry(rows, tail, head, First::Outward);

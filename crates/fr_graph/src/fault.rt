@@ -7,8 +7,8 @@ use std::alloc::{AllocError, AllocFailed};
 use std::fmt;
 use thiserror::Error;
 
-/// Why links make no network, with the evidence, or why a network cannot be edited. The variants stand in the order in which
-/// the faults are tested.
+/// Why links make no network, with the evidence, or why a network cannot be edited. The variants stand in the order in
+/// which the faults are tested.
 #[derive(Debug, Drop, Error, PartialEq, Eq)]
 pub enum NetFault {
     /// There are more nodes or links than the limits admit.

@@ -1,7 +1,7 @@
 //! What a network keeps, changed where it stands: a link is taken out or put in, and that is undone.
 
 ghost use Rattle.std.specs.Prelude.{◌≡◌, ◌≢◌, ◌<◌, ◌≤◌, ◌++◌, [], ◌∷◌, ◌⊎◌, length, true, ◌↔◌, IfOk, IfErr, IfSome, IfNone, IsTrue, OnOk, OnErr};
-ghost use Rattle.fr_graph.specs.Links.{HasPath, IsAcyclic, Joins, Points};
+ghost use Rattle.fr_graph.specs.Links.{HasPath, Joins, Points};
 ghost use Rattle.fr_graph.specs.Network.{Network};
 ghost use Rattle.fr_graph.specs.Rows.{row};
 ghost use Rattle.fr_graph.specs.Halves.{AreUnjoined};
@@ -10,8 +10,8 @@ ghost use Rattle.fr_graph.specs.Edits.{IsJoinFault, without};
 ghost use Rattle.fr_graph.specs.Batches.{AreMade, IsEditFault, IsRefusedAt};
 ghost use Rattle.fr_graph.specs.Limits.{most_edits, most_links};
 ghost use Rattle.fr_graph.specs.PathSearch.{IsMeeting};
-ghost use Rattle.fr_graph.specs.Graph.{CanUndo, HasRoomFor, IsDone, IsEdited, IsGraph, IsSame, shown};
-ghost use Rattle.fr_graph.specs.Tables.{HasRoomIn};
+ghost use Rattle.fr_graph.specs.Graph.{CanPut, CanUndo, HasRoomFor, IsDone, IsEdited, IsGraph, IsSame, shown};
+ghost use Rattle.fr_graph.specs.Tables.{HaveRoom};
 ghost use Rattle.fr_graph.specs.declared.fault.NetFault.TheVariants.{Memory};
 ghost use Rattle.fr_graph.specs.declared.edit.Edit.TheVariants.{Cut, Add, Join};
 
@@ -140,28 +140,24 @@ impl Graph {
         requires u { u < self.old.nodes }
         requires v { v < self.old.nodes }
         ensures same { IsSame self.old self.new }
-        ensures u_room { OnOk result (HasRoomIn self.new.rows u) }
-        ensures v_room { OnOk result (HasRoomIn self.new.rows v) }
+        ensures room { OnOk result (HaveRoom self.new.rows u v) }
     {
         self.rows.make_room(alloc, u)?;
         self.rows.make_room(alloc, v)
     }
 
-    /// Puts in the link from `tail` to `head`, for which there has to be room.
+    /// Puts in a link from `tail` to `head`. Both rows need to have room for it.
     fn put(&mut self, tail: u32, head: u32)
         requires graph { IsGraph self.old }
-        requires few { length (shown self.old).links < most_links }
-        requires nodes { AreUnjoined self.old.nodes (shown self.old).links tail head }
-        requires acyclic { IsAcyclic ((shown self.old).links ++ (tail, head) ∷ []) }
-        requires tail_room { HasRoomIn self.old.rows tail }
-        requires head_room { HasRoomIn self.old.rows head }
+        requires link { CanPut (shown self.old) tail head }
+        requires room { HaveRoom self.old.rows tail head }
         ensures graph { IsGraph self.new }
         ensures put { IsNetworkOf self.old.nodes ((shown self.old).links ++ (tail, head) ∷ []) (shown self.new) }
         ensures rooms { self.new.rows.rooms ≡ self.old.rows.rooms }
     {
         put_in_rows(&mut self.rows, tail, head);
         self.link_count += 1;
-        self.heights.admit(tail, head);
+        self.heights.note_link(tail, head);
     }
 
     /// Makes the heights anew, unless they are known.
@@ -180,8 +176,9 @@ impl Graph {
         Ok(())
     }
 
-    /// Where the links lead from `v` to `u`, what shows it. The heights tell mostly that they do not; where it takes a search to tell so, a
-    /// link from `u` to `v` falls behind it, if there is room between the heights.
+    /// What shows that links lead from `v` to `u`, if they do. Mostly the heights tell that they do not. If it takes a
+    /// search to find that out, the search moves nodes, so that a link from `u` to `v` falls, if there is room between
+    /// the heights.
     fn path_back(&mut self, alloc: Global, u: u32, v: u32) -> Result<Option<Meeting>, AllocError>
         requires graph { IsGraph self.old }
         requires nodes { AreUnjoined self.old.nodes (shown self.old).links u v }
@@ -303,13 +300,14 @@ impl Graph {
         }
     }
 
-    /// Makes these edits, each on the links that those before it left, and answers what they did. Where one is refused, or no
-    /// room could be had, all are undone.
+    /// Makes these edits, each on the links that those before it left, and answers what they did. Where one is
+    /// refused, or no room could be had, all are undone.
     pub(crate) fn edit_all(&mut self, alloc: Global, edits: &[Edit]) -> Result<Vec<Done>, EditFault>
         requires graph { IsGraph self.old }
         requires few { length edits.now ≤ most_edits }
         ensures graph { IsGraph self.new }
-        ensures ok { IfOk result (λ done. AreMade (shown self.old) edits.now (shown self.new) × CanUndo (shown self.old) done.items self.new) }
+        ensures ok { IfOk result (λ done. AreMade (shown self.old) edits.now (shown self.new)
+            × CanUndo (shown self.old) done.items self.new) }
         ensures refused { IfErr result (λ refused. refused.fault ≢ Memory
             → IsRefusedAt (shown self.old) edits.now refused.at refused.fault) }
         ensures unchanged { OnErr result (shown self.new ≡ shown self.old) }

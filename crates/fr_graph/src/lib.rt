@@ -1,9 +1,10 @@
 //! Networks for link reversal: nodes, and directed links that contain no cycle.
 //!
-//! [`Net::new`] makes a [`Net`], or names the first fault of the links. Layers above read a network by `nodes`, `links`, `degree`, `neighbour`
-//! and `row`. They make one network from another by `copied`, `with_cut`, `with_link`, `with_join`, `with_edits` and `turned_by`, and change one in
-//! place by `edit_if` and `turn`; `turn` takes [`Turns`], a table of how often each node has turned. The law
-//! [`rows_law`](laws::rows_law) says what the rows of a network show, and [`join_law`](laws::join_law) which way a link can point.
+//! [`Net::new`] makes a [`Net`], or names the first fault of the links. Layers above read a network by `nodes`,
+//! `links`, `degree`, `neighbour` and `row`. They make one network from another by `copied`, `with_cut`, `with_link`,
+//! `with_join`, `with_edits` and `turned_by`, and change one in place by `edit_if` and `turn`; `turn` takes [`Turns`],
+//! a table of how often each node has turned. The law [`rows_law`](laws::rows_law) says what the rows of a network
+//! show, and [`join_law`](laws::join_law) which way a link can point.
 //!
 //! Costs are told for n nodes, m links, and d links at a node, as read off the code.
 #![tactic(auto)]

@@ -10,8 +10,9 @@ use crate::row_table::RowTable;
 use std::iter::FusedIterator;
 use std::marker::Model;
 
-/// The links of a network that are left to read, in rising order of tail, then head: what [`Net::links`](crate::Net::links) answers. It
-/// takes no memory. `len` is `O(1)`, and all calls of `next` together are `O(n + m)`. Contracts see the list of the links that are left.
+/// The links of a network that are left to read, in rising order of tail, then head: what
+/// [`Net::links`](crate::Net::links) answers. It takes no memory. `len` is `O(1)`, and all calls of `next` together
+/// are `O(n + m)`. Contracts see the list of the links that are left.
 #[derive(Debug, Drop)]
 pub struct Links<'a> {
     rows: &'a RowTable,

@@ -35,7 +35,8 @@ use crate::turns::Turns;
 use std::alloc::{AllocError, Global};
 use std::marker::Model;
 
-/// Whether nodes and links are within the limits, and each link joins two nodes, which are not the same: Ok, or the first fault that stands.
+/// Whether nodes and links are within the limits, and each link joins two nodes, which are not the same: Ok, or the
+/// first fault that stands.
 fn test_ends(nodes: u32, links: &[(u32, u32)]) -> Result<(), NetFault>
     ensures limits { OnOk result (IsWithinLimits nodes links.now) }
     ensures range { OnOk result (IsInRange nodes links.now) }
@@ -57,12 +58,14 @@ fn test_ends(nodes: u32, links: &[(u32, u32)]) -> Result<(), NetFault>
 /// The rows of links, of their halves, with where those of each node start.
 fn rows_of(alloc: Global, halves: &[HalfLink], starts: Vec<usize>) -> Result<RowTable, AllocError>
     requires { (nodes : ℕ) × (links : List (ℕ × ℕ)) × AreHalvesOf nodes links halves.now starts.items }
-    ensures { IfOk result (λ rows. (nodes : ℕ) (links : List (ℕ × ℕ)) → AreHalvesOf nodes links halves.now starts.items → AreRows nodes links rows) }
+    ensures { IfOk result (λ rows. (nodes : ℕ) (links : List (ℕ × ℕ))
+        → AreHalvesOf nodes links halves.now starts.items → AreRows nodes links rows) }
 {
     RowTable::packed(alloc, starts, entries_of(alloc, halves)?)
 }
 
-/// The graph of the rows of so many links, which have no fault, and of an order of the nodes along which they lead back.
+/// The graph of the rows of so many links, which have no fault, and of an order of the nodes along which they lead
+/// back.
 fn graph_of(
     alloc: Global,
     nodes: u32,
@@ -70,10 +73,12 @@ fn graph_of(
     rows: RowTable,
     order: &[u32],
 ) -> Result<Graph, AllocError>
-    requires links { (links : List (ℕ × ℕ)) × IsFaultless nodes links × AreRows nodes links rows × (link_count ≡ length links) }
+    requires links { (links : List (ℕ × ℕ)) × IsFaultless nodes links × AreRows nodes links rows
+        × (link_count ≡ length links) }
     requires order { HasHeadsFirst nodes (net_in rows).links order.now }
     ensures graph { IfOk result IsGraph }
-    ensures shown { IfOk result (λ graph. (links : List (ℕ × ℕ)) → IsFaultless nodes links → AreRows nodes links rows → IsNetworkOf nodes links (shown graph)) }
+    ensures shown { IfOk result (λ graph. (links : List (ℕ × ℕ)) → IsFaultless nodes links
+        → AreRows nodes links rows → IsNetworkOf nodes links (shown graph)) }
 {
     let mut heights = Heights::unknown(alloc, nodes)?;
     heights.put_in_order(order);
@@ -88,7 +93,8 @@ fn graph_of(
 /// Whether these are no more edits than there may be.
 fn test_few(edits: &[Edit]) -> Result<(), EditFault>
     ensures few { OnOk result (length edits.now ≤ most_edits) }
-    ensures refused { IfErr result (λ refused. (most_edits < length edits.now) × (refused.at ≡ most_edits) × (refused.fault ≡ TooMany)) }
+    ensures refused { IfErr result (λ refused. (most_edits < length edits.now) × (refused.at ≡ most_edits)
+        × (refused.fault ≡ TooMany)) }
 {
     if edits.len() > MAX_EDITS {
         return Err(EditFault {
@@ -148,8 +154,8 @@ impl Net {
         self.graph.nodes
     }
 
-    /// The law of a network: none of the faults of [`NetFault`] stands among its links. It does nothing; a function whose proof
-    /// needs the law calls it.
+    /// The law of a network: none of the faults of [`NetFault`] stands among its links. It does nothing; a function
+    /// whose proof needs the law calls it.
     pub fn network_law(&self)
         ensures { IsFaultless self.now.nodes self.now.links }
     {
@@ -164,8 +170,8 @@ impl Net {
         self.graph.link_count
     }
 
-    /// The links in rising order of tail, then head, none twice: a view over the rows, which takes no memory. Who needs a list collects
-    /// it. `O(1)`, and `O(n + m)` to read them all.
+    /// The links in rising order of tail, then head, none twice: a view over the rows, which takes no memory. Who
+    /// needs a list collects it. `O(1)`, and `O(n + m)` to read them all.
     pub fn links(&self) -> Links<'_>
         ensures { result ≡ self.now.links }
     {
@@ -247,8 +253,8 @@ impl Net {
     }
 
     /// The network with the link from `u` to `v` as well; or the first fault that then stands, in the order of
-    /// [`NetFault`], where a closed walk follows the links with the new one among them. `Memory` where no room could be had. `O(n + m)` for
-    /// the copy, and what [`edit_if`](Net::edit_if) costs.
+    /// [`NetFault`], where a closed walk follows the links with the new one among them. `Memory` where no room could
+    /// be had. `O(n + m)` for the copy, and what [`edit_if`](Net::edit_if) costs.
     pub fn with_link(&self, alloc: Global, u: u32, v: u32) -> Result<Net, NetFault>
         ensures ok { IfOk result (IsNetworkOf self.now.nodes (self.now.links ++ (u, v) ∷ [])) }
         ensures refused { IfErr result (λ fault. fault ≢ Memory
@@ -257,19 +263,22 @@ impl Net {
         self.with_edit(alloc, Edit::Add { u, v })
     }
 
-    /// The network with `u` and `v` joined: by a link from `u` to `v`, or from `v` to `u` where a closed walk would follow the
-    /// other; the law [`join_law`](crate::laws::join_law) says that then none follows this one. It is refused as by `with_link`, but
-    /// never for a `Cycle`. `O(n + m)` for the copy, and what [`edit_if`](Net::edit_if) costs.
+    /// The network with `u` and `v` joined: by a link from `u` to `v`, or from `v` to `u` where a closed walk would
+    /// follow the other; the law [`join_law`](crate::laws::join_law) says that then none follows this one. It is
+    /// refused as by `with_link`, but never for a `Cycle`. `O(n + m)` for the copy, and what [`edit_if`](Net::edit_if)
+    /// costs.
     pub fn with_join(&self, alloc: Global, u: u32, v: u32) -> Result<Net, NetFault>
         ensures ok { IfOk result (IsJoined self.now.nodes self.now.links u v) }
-        ensures refused { IfErr result (λ fault. fault ≢ Memory → IsJoinFault self.now.nodes self.now.links u v fault) }
+        ensures refused { IfErr result (λ fault. fault ≢ Memory
+            → IsJoinFault self.now.nodes self.now.links u v fault) }
     {
         self.with_edit(alloc, Edit::Join { u, v })
     }
 
-    /// The network after these edits, each made on the links that those before it left; or the first edit that is refused, with
-    /// the fault that `with_cut`, `with_link` or `with_join` names. More than [`MAX_EDITS`] are `TooMany` at `MAX_EDITS`, and none
-    /// is tried. `Memory` where no room could be had, at any edit. `O(n + m)` for one copy, and what [`edit_if`](Net::edit_if) costs.
+    /// The network after these edits, each made on the links that those before it left; or the first edit that is
+    /// refused, with the fault that `with_cut`, `with_link` or `with_join` names. More than [`MAX_EDITS`] are
+    /// `TooMany` at `MAX_EDITS`, and none is tried. `Memory` where no room could be had, at any edit. `O(n + m)` for
+    /// one copy, and what [`edit_if`](Net::edit_if) costs.
     pub fn with_edits(&self, alloc: Global, edits: &[Edit]) -> Result<Net, EditFault>
         ensures few { OnOk result (length edits.now ≤ most_edits) }
         ensures ok { IfOk result (AreMade self.now edits.now) }
@@ -281,12 +290,13 @@ impl Net {
         Ok(Net { graph })
     }
 
-    /// Makes these edits where the network stands, each on the links that those before it left, if `accept` then answers Ok of the
-    /// network that they make, and answers what it answers. What `accept` requires has to hold of that network. `Refused` where an edit is
-    /// refused, as by `with_edits`, or no room could be had, and `Fault` with the fault that `accept` answers: then the edits are undone, and
-    /// the network is as it was. `O(d)` an edit; an added link or join is mostly a look at two heights, else a search between them with
-    /// tables of `O(n)`; `O(n + m)` where heights that are not known are made anew, or where a row is full, so that all are laid out anew,
-    /// with room to grow.
+    /// Makes these edits where the network stands, each on the links that those before it left, if `accept` then
+    /// answers Ok of the network that they make, and answers what it answers. What `accept` requires has to hold of
+    /// that network. `Refused` where an edit is refused, as by `with_edits`, or no room could be had, and `Fault` with
+    /// the fault that `accept` answers: then the edits are undone, and the network is as it was. `O(d)` an edit; an
+    /// added link or join is mostly a look at two heights, else a search between them with tables of `O(n)`; `O(n +
+    /// m)` where heights that are not known are made anew, or where a row is full, so that all are laid out anew, with
+    /// room to grow.
     pub fn edit_if<T, E, F: FnOnce(&Net) -> Result<T, E>>(
         &mut self,
         alloc: Global,
@@ -295,7 +305,8 @@ impl Net {
     ) -> Result<T, NotEdited<E>>
         requires callable { (made : Bor Network) → AreMade self.old edits.now made.now → F.pre accept made }
         ensures few { OnOk result (length edits.now ≤ most_edits) }
-        ensures ok { IfOk result (λ answer. AreMade self.old edits.now self.new × FnOnceReturnsAt F.FnOnce accept self.new (Ok answer)) }
+        ensures ok { IfOk result (λ answer. AreMade self.old edits.now self.new
+            × FnOnceReturnsAt F.FnOnce accept self.new (Ok answer)) }
         ensures refused { IfErr result (IsNotEdited self.old edits.now (FnOnceReturnsAt F.FnOnce accept)) }
         ensures unchanged { OnErr result (self.new ≡ self.old) }
     {
@@ -316,8 +327,9 @@ impl Net {
     }
 
     /// The network of the links that the counts give, one count for each node: a link stays where its head has turned
-    /// as often as its tail, and is reversed where its head has turned once more; the counts have to leave no other case. The
-    /// only fault is `Memory`, where no room could be had. `O(n + m)` for the copy, and what [`turn`](Net::turn) costs.
+    /// as often as its tail, and is reversed where its head has turned once more; the counts have to leave no other
+    /// case. The only fault is `Memory`, where no room could be had. `O(n + m)` for the copy, and what
+    /// [`turn`](Net::turn) costs.
     pub fn turned_by(&self, alloc: Global, counts: &[u64]) -> Result<Net, NetFault>
         requires one_each { length counts.now ≡ self.now.nodes }
         requires kept { All (IsKept counts.now) self.now.links }
@@ -331,9 +343,9 @@ impl Net {
         Ok(net)
     }
 
-    /// Turns the links as these turns say, as `turned_by`, but where the network stands: it takes no memory and has no fault. Only the rows
-    /// of nodes that turned are touched, with the entries of these in the rows of others. `O(k d log d + k log k)` for k nodes that have
-    /// turned.
+    /// Turns the links as these turns say, as `turned_by`, but where the network stands: it takes no memory and has no
+    /// fault. Only the rows of nodes that turned are touched, with the entries of these in the rows of others. `O(k d
+    /// log d + k log k)` for k nodes that have turned.
     pub fn turn(&mut self, turns: &Turns)
         requires one_each { length turns.now ≡ self.old.nodes }
         requires kept { All (IsKept turns.now) self.old.links }

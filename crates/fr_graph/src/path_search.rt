@@ -1,14 +1,15 @@
-//! Whether links lead from one node to another, sought from both ends: forward along the links from the one and backward against
-//! them from the other, mostly a row of the side that has fewer nodes left to read. All links fall, so either side leaves aside what lies
-//! beyond the height of the other end. The search ends where the sides meet, or where one has nothing left to read, so that it reads few
-//! rows where few nodes lie between the ends on either side. Each side keeps where it came from, so that where they meet the way can be told.
+//! Whether links lead from one node to another. The search starts at both ends: one side goes along the links, the
+//! other against them. Each step reads a row, mostly of the side with fewer nodes left to read. All links fall, so a
+//! side leaves aside the nodes beyond the height of the other end. The search ends when the sides meet, or when one of
+//! them has nothing left to read: it reads few rows if few nodes lie between the ends on either side. Each side
+//! records where it came from, so the way can be told once the sides meet.
 
 ghost use Rattle.std.specs.Prelude.{◌≡◌, ◌≢◌, ℕ, List, ◌<◌, ◌≤◌, ◌+◌, ◌++◌, [], ◌∷◌, ◌⊎◌, ◌↔◌, length, slice_index, vec_capacity, Contains, IfOk, IfNone, IfSome, IsTrue, OnOk};
 ghost use Rattle.fr_graph.specs.Heights.{AreFalling};
 ghost use Rattle.fr_graph.specs.KeptRows.{ShowsNet, net_in};
 ghost use Rattle.fr_graph.specs.Links.{IsCycle};
 ghost use Rattle.fr_graph.specs.RowLists.{opposite};
-ghost use Rattle.fr_graph.specs.PathSearch.{AddsTrail, HasBegun, HasMet, HasMetMore, HasOrigins, HasRoom, IsBeyond, IsMeeting, IsPast, IsSide, IsPathAnswer, LiesOn, MeetAlong, MeetsNew, link_by, met_by, start_of, unread_count, answer_of_ended};
+ghost use Rattle.fr_graph.specs.PathSearch.{AddsTrail, AreFallingRows, HasBegun, HasMet, HasMetMore, HasOrigins, HasRoom, IsBeyond, IsMeeting, IsPast, IsSide, IsPathAnswer, IsReadAnswer, LiesOn, MeetAlong, MeetsNew, link_by, met_by, start_of, unread_count, answer_of_ended};
 
 use crate::first::First;
 use crate::heights::Heights;
@@ -40,7 +41,7 @@ impl Met {
 pub(crate) enum PathAnswer {
     /// They do: the sides of the search have met.
     Leads(Meeting),
-    /// They do not, and a link back falls once these nodes stand between the two heights.
+    /// They do not. All links fall, and a link back too, once these nodes have heights between the two.
     Ends {
         /// All nodes of the side of the search that had nothing left to read.
         nodes: Vec<u32>,
@@ -51,8 +52,8 @@ pub(crate) enum PathAnswer {
     },
 }
 
-/// So many times as many rows as the other side one may have read where it has fewer nodes left to read, so that the search reads few
-/// rows wherever one side is soon done.
+/// A side with fewer nodes left to read may have read so many times as many rows as the other. So the search reads few
+/// rows whenever one side is soon done.
 const LEAD: usize = 4;
 
 /// One side of the search: it goes along the links that leave a node in one direction.
@@ -61,13 +62,13 @@ struct Side {
     first: First,
     // The height of the node that it seeks, beyond which it leaves nodes aside.
     limit: u64,
-    // The height of the nearest node that it has left aside, or one beyond all nodes.
+    // The height of the nearest node that it has left aside. At first it lies beyond all nodes.
     edge: u64,
     // The nodes that it has met, in the order in which it met them.
     nodes: Vec<u32>,
     // For each of them the place of the one in whose row it was met.
     origins: Vec<usize>,
-    // The rows of so many of them were read.
+    // How many of their rows it has read.
     read: usize,
 }
 
@@ -101,12 +102,13 @@ impl Side {
         })
     }
 
-    /// Whether the side goes on from a node of height `own` to a neighbour of this height. All links fall, so the two heights tell which
-    /// way the link between them points; and the neighbour has to lie within the limit.
+    /// Whether the side goes on from a node of height `own` to a neighbour of this height. The link between them has
+    /// to lead that way, which the heights tell since all links fall, and the neighbour has to lie within the limit.
     fn goes_on(&self, own: u64, height: u64) -> bool
         ensures lies { IsTrue result → LiesOn self.now.first own height }
         ensures within { IsTrue result → ¬ IsBeyond self.now.first self.now.limit height }
-        ensures beyond { ¬ IsTrue result → LiesOn self.now.first own height → IsBeyond self.now.first self.now.limit height }
+        ensures beyond { ¬ IsTrue result → LiesOn self.now.first own height
+            → IsBeyond self.now.first self.now.limit height }
     {
         match self.first {
             First::Outward => self.limit <= height && height < own,
@@ -140,8 +142,8 @@ impl Side {
         self.nodes.len().saturating_sub(self.read)
     }
 
-    /// Whether this side reads the next row, and not the other one: the side with fewer nodes left to read does, as it is likelier to be
-    /// done soon, unless it has read far more rows.
+    /// Whether this side reads the next row. The side with fewer nodes left to read does, since it is likely to be
+    /// done first, unless it has read far more rows.
     fn goes_next(&self, other: &Side) -> bool {
         if self.unread() <= other.unread() {
             self.read / LEAD <= other.read
@@ -150,14 +152,15 @@ impl Side {
         }
     }
 
-    /// Meets a node that lies within the limit, in the row that it reads, unless it was met before, and answers whether the other side has
-    /// met it.
+    /// Meets a node within the limit, in the row that this side reads, unless a side has met it. Returns whether the
+    /// other side has.
     fn meet(&mut self, node: u32, met: &mut [Met]) -> bool
         requires node { node < length met.old }
         requires room { HasRoom self.old met.old }
         ensures other { IsTrue result → HasMet (opposite self.old.first) met.new node }
         ensures met { ¬ IsTrue result → HasMet self.old.first met.new node }
-        ensures change { ((self.new ≡ self.old) × (met.new ≡ met.old)) ⊎ MeetsNew self.old self.new met.old met.new node }
+        ensures change { ((self.new ≡ self.old) × (met.new ≡ met.old))
+            ⊎ MeetsNew self.old self.new met.old met.new node }
     {
         let own = Met::by(self.first);
         match met[node as usize] {
@@ -171,7 +174,7 @@ impl Side {
         }
     }
 
-    /// Where the side has nothing left to read: its nodes, and the heights between which they can stand.
+    /// The answer when this side has nothing left to read: its nodes, and the heights between which they can be put.
     fn ended(self) -> PathAnswer
         ensures { result ≡ answer_of_ended self }
     {
@@ -196,27 +199,27 @@ impl Side {
         }
     }
 
-    /// Reads the row of the next node, and answers the link that leads on to a node of the other side, if there is one.
+    /// Reads the row of the next node, and returns the first link that leads on to a node of the other side, if there
+    /// is one.
     fn read_next(
         &mut self,
         rows: &RowTable,
         heights: &Heights,
         met: &mut [Met],
     ) -> Option<(u32, u32)>
-        requires rows { ShowsNet rows.now }
-        requires one_each { length heights.now.heights ≡ length rows.now.rows }
-        requires falling { AreFalling heights.now.heights (net_in rows.now).links }
-        requires side { IsSide (net_in rows.now) heights.now.heights self.old.first (start_of self.old) self.old.limit met.old self.old }
+        requires rows { AreFallingRows rows.now heights.now.heights }
+        requires side { IsSide (net_in rows.now) heights.now.heights self.old.first
+            (start_of self.old) self.old.limit met.old self.old }
         requires unread { self.old.read < length self.old.nodes.items }
-        ensures found { IfSome result (MeetAlong (net_in rows.now).links met.new) }
-        ensures side { IsSide (net_in rows.now) heights.now.heights self.old.first (start_of self.old) self.old.limit met.new self.new }
-        ensures read { IfNone result (self.new.read ≡ self.old.read + 1) }
+        ensures answer { IsReadAnswer (net_in rows.now).links met.new self.old self.new result }
+        ensures side { IsSide (net_in rows.now) heights.now.heights self.old.first
+            (start_of self.old) self.old.limit met.new self.new }
         ensures more { HasMetMore self.old self.new met.old met.new }
     {
         let node = self.nodes[self.read];
         let own = heights.height(node);
         let row = rows.row(node);
-        // Most entries lead nowhere, so that one test lets them pass, and the edge is kept beside.
+        // Most entries lead nowhere, so one test skips them. The edge is a local variable for the same reason: speed.
         let mut edge = self.edge;
         for (neighbour, _) in row {
             let neighbour = *neighbour as u32;
@@ -244,11 +247,13 @@ impl Side {
         place
     }
 
-    /// Puts the node at this place and those from which it came, back to the start, behind these nodes.
+    /// Appends the node at this place, and those from which the side came to it, back to the start.
     fn push_trail(&self, nodes: &mut Vec<u32>, from: usize) -> Result<(), AllocError>
-        requires origins { (first : First) × (links : List (ℕ × ℕ)) × HasOrigins first links self.now.nodes.items self.now.origins.items }
+        requires origins { (first : First) × (links : List (ℕ × ℕ))
+            × HasOrigins first links self.now.nodes.items self.now.origins.items }
         requires inside { from < length self.now.nodes.items }
-        ensures { OnOk result ((first : First) (links : List (ℕ × ℕ)) → HasOrigins first links self.now.nodes.items self.now.origins.items
+        ensures { OnOk result ((first : First) (links : List (ℕ × ℕ))
+            → HasOrigins first links self.now.nodes.items self.now.origins.items
             → AddsTrail first links (slice_index self.now.nodes.items from) (start_of self.now) nodes.old.items nodes.new.items) }
     {
         let mut place = from;
@@ -261,7 +266,7 @@ impl Side {
     }
 }
 
-/// Where the sides of a search met: what shows that links lead from the one node to the other.
+/// Where the sides of a search met. It shows that links lead from the one node to the other.
 #[derive(Drop)]
 pub(crate) struct Meeting {
     ahead: Side,
@@ -296,9 +301,7 @@ pub(crate) fn path_between(
     from: u32,
     to: u32,
 ) -> Result<PathAnswer, AllocError>
-    requires rows { ShowsNet rows.now }
-    requires one_each { length heights.now.heights ≡ length rows.now.rows }
-    requires falling { AreFalling heights.now.heights (net_in rows.now).links }
+    requires rows { AreFallingRows rows.now heights.now.heights }
     requires from { from < length rows.now.rows }
     requires to { to < length rows.now.rows }
     requires apart { from ≢ to }

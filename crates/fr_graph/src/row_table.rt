@@ -1,5 +1,5 @@
-//! Rows of neighbours, one for each node, in one list, with room behind each row: a row grows and shrinks where it stands, and no
-//! other moves.
+//! Rows of neighbours, one for each node, in one list, with room behind each row: a row grows and shrinks where it
+//! stands, and no other moves.
 
 ghost use Rattle.std.specs.Prelude.{◌≡◌, ℕ, ◌<◌, ◌≤◌, ◌+◌, ◌-◌, ◌==◌, ◌++◌, [], ◌∷◌, length, map, take, drop, replicate, slice_index, slice_range, insert, remove, count_by, IfOk, OnOk, OnErr, IsTrue, All, Contains};
 ghost use Rattle.std.specs.List.{range_with_len};
@@ -15,11 +15,12 @@ use crate::row::{reverse_entry, turn_row};
 use std::alloc::{AllocError, Global};
 use std::marker::Model;
 
-/// How many entries all rows together may have room for before what they do not need is given back: four times as many as a
-/// network has at most.
+/// How many entries all rows together may have room for before what they do not need is given back: four times as many
+/// as a network has at most.
 const MOST_ROOM: usize = 8 * MAX_LINKS;
 
-/// Where a row starts and where it ends. They stand beside each other, so that a row that is read costs one cache line for both.
+/// Where a row starts and where it ends. They stand beside each other, so that a row that is read costs one cache line
+/// for both.
 #[derive(Debug, Drop, Clone, Copy)]
 struct Place {
     start: usize,
@@ -29,8 +30,9 @@ struct Place {
 /// Rows of neighbours, one for each node. Contracts see the rows, and how many entries each has room for.
 #[derive(Debug, Drop)]
 pub(crate) struct RowTable {
-    // Each row stands in `entries` from where it starts up to where it ends, and its room goes on up to where the next one starts. Behind
-    // the places of the rows stands one more, where the room of the last row ends: its own end says nothing.
+    // Each row stands in `entries` from where it starts up to where it ends, and its room goes on up to where the next
+    // one starts. Behind the places of the rows stands one more, where the room of the last row ends: its own end says
+    // nothing.
     places: Vec<Place>,
     entries: Vec<(u16, First)>,
     // How many rows are empty.
@@ -67,7 +69,8 @@ fn places_between(alloc: Global, starts: &[usize]) -> Result<Vec<Place>, AllocEr
 /// How many of the rows at these places are empty, where the last place is that of no row.
 fn empty_between(places: &[Place]) -> usize
     requires { 0 < length places.now }
-    ensures { result ≡ count_by (λ x. start_at places.now x == end_at places.now x) (range_with_len 0 (length places.now - 1)) }
+    ensures { result ≡ count_by (λ x. start_at places.now x == end_at places.now x) (range_with_len 0
+        (length places.now - 1)) }
 {
     let mut empty = 0;
     for x in 0..places.len() - 1 {
@@ -174,8 +177,8 @@ impl RowTable {
         &self.entries[place.start..place.end]
     }
 
-    /// How many entries the row at this place has room for once it is laid out anew: an eighth more than it has, and six, for links
-    /// come to short rows as to long ones; and, if room is kept, no fewer than it has room for.
+    /// How many entries the row at this place has room for once it is laid out anew: an eighth more than it has, and
+    /// six, for links come to short rows as to long ones; and, if room is kept, no fewer than it has room for.
     fn room_anew(&self, x: usize, keeps_room: bool) -> usize
         requires { x < length self.now.rows }
         ensures room { length (row_of self.now x) < result }
@@ -196,7 +199,8 @@ impl RowTable {
         whole
     }
 
-    /// The same rows laid out anew, each with room to grow by an eighth and six more; and, if room is kept, with no less than it has.
+    /// The same rows laid out anew, each with room to grow by an eighth and six more; and, if room is kept, with no
+    /// less than it has.
     fn laid_out(&self, alloc: Global, keeps_room: bool) -> Result<RowTable, AllocError>
         ensures rows { IfOk result (λ table. table.rows ≡ self.now.rows) }
         ensures room { IfOk result (λ table. (x : ℕ) → x < length self.now.rows → HasRoomIn table x) }
@@ -270,8 +274,9 @@ impl RowTable {
         })
     }
 
-    /// Takes room for one entry more in the row of `x`. Where it has none, all rows are laid out anew, each with room to grow by an
-    /// eighth and six more. No row has less room afterwards, so that edits made before can still be undone.
+    /// Takes room for one entry more in the row of `x`. Where it has none, all rows are laid out anew, each with room
+    /// to grow by an eighth and six more. No row has less room afterwards, so that edits made before can still be
+    /// undone.
     pub(crate) fn make_room(&mut self, alloc: Global, x: u32) -> Result<(), AllocError>
         requires { x < length self.old.rows }
         ensures rows { self.new.rows ≡ self.old.rows }
@@ -285,7 +290,8 @@ impl RowTable {
         Ok(())
     }
 
-    /// Gives back room that rows no longer need, where all rows together have room for far more than a network has entries.
+    /// Gives back room that rows no longer need, where all rows together have room for far more than a network has
+    /// entries.
     pub(crate) fn trim(&mut self, alloc: Global) -> Result<(), AllocError>
         ensures rows { self.new.rows ≡ self.old.rows }
     {

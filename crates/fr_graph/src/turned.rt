@@ -13,7 +13,8 @@ fn turn_node(rows: &mut RowTable, x: u32, counts: &[u64])
     requires turned { 0 < slice_index counts.now x }
     requires rows { (net : Network) × (seen : ℕ → Bool) × (seen x ≡ false)
         × ArePartTurned net counts.now (is_done counts.now seen) rows.old }
-    ensures { (net : Network) (seen : ℕ → Bool) → seen x ≡ false → ArePartTurned net counts.now (is_done counts.now seen) rows.old
+    ensures { (net : Network) (seen : ℕ → Bool) → seen x ≡ false
+        → ArePartTurned net counts.now (is_done counts.now seen) rows.old
         → ArePartTurned net counts.now (is_done counts.now (seen_too x seen)) rows.new }
 {
     rows.turn_row(x, counts);
@@ -25,10 +26,12 @@ fn turn_node(rows: &mut RowTable, x: u32, counts: &[u64])
     }
 }
 
-/// Turns the rows as these turns say: only those of nodes that have turned are touched, and in the others their entries.
+/// Turns the rows as these turns say: only those of nodes that have turned are touched, and in the others their
+/// entries.
 pub(crate) fn turn_rows(rows: &mut RowTable, turns: &Turns)
     requires rows { (net : Network) × ArePartTurned net turns.now none_done rows.old }
-    ensures { (net : Network) → ArePartTurned net turns.now none_done rows.old → ArePartTurned net turns.now all_done rows.new }
+    ensures { (net : Network) → ArePartTurned net turns.now none_done rows.old
+        → ArePartTurned net turns.now all_done rows.new }
 {
     for x in turns.nodes() {
         turn_node(rows, *x, turns.counts());

@@ -7,8 +7,8 @@ ghost use Rattle.fr_graph.specs.Turns.{AreSet, AreTurned, set_to};
 use std::alloc::{AllocError, Global};
 use std::marker::Model;
 
-/// How often each node has turned, with a list of the nodes that have: what follows a few turns goes over these alone. Contracts see
-/// the counts, one for each node.
+/// How often each node has turned, with a list of the nodes that have: what follows a few turns goes over these alone.
+/// Contracts see the counts, one for each node.
 #[derive(Debug, Drop)]
 pub struct Turns {
     counts: Vec<u64>,
@@ -67,8 +67,8 @@ fn sum_of(counts: &[u64], nodes: &[u32]) -> u64
 }
 
 impl Turns {
-    /// No turns yet, of so many nodes, [`MAX_NODES`](crate::MAX_NODES) at most, with room for all there can be. `AllocError` where no room
-    /// could be had. `O(n)`.
+    /// No turns yet, of so many nodes, [`MAX_NODES`](crate::MAX_NODES) at most, with room for all there can be.
+    /// `AllocError` where no room could be had. `O(n)`.
     pub fn none(alloc: Global, nodes: u32) -> Result<Turns, AllocError>
         requires { nodes ≤ most_nodes }
         ensures { IfOk result (λ turns. turns ≡ replicate nodes 0) }
@@ -79,7 +79,8 @@ impl Turns {
         })
     }
 
-    /// The turns that these counts tell, of [`MAX_NODES`](crate::MAX_NODES) nodes at most. `AllocError` where no room could be had. `O(n)`.
+    /// The turns that these counts tell, of [`MAX_NODES`](crate::MAX_NODES) nodes at most. `AllocError` where no room
+    /// could be had. `O(n)`.
     pub fn of(alloc: Global, counts: Vec<u64>) -> Result<Turns, AllocError>
         requires { length counts.items ≤ most_nodes }
         ensures { IfOk result (λ turns. turns ≡ counts.items) }
@@ -110,7 +111,8 @@ impl Turns {
         sum_of(&self.counts, &self.nodes)
     }
 
-    /// Adds a turn of node `x`, which has to be a node, with a count that is not the most that a `u64` holds. It takes no memory. `O(1)`.
+    /// Adds a turn of node `x`, which has to be a node, with a count that is not the most that a `u64` holds. It takes
+    /// no memory. `O(1)`.
     pub fn add(&mut self, x: u32)
         requires node { x < length self.old }
         requires fits { slice_index self.old x < 2 ^ 64 - 1 }

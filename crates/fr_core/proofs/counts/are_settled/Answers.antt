@@ -2,7 +2,7 @@ use Rattle.std.proofs.Common.{arith, inl, inr, refl, subst, ◌≡◌}
 use Rattle.std.proofs.lemmas.Bool.{cases_lt, false≢true}
 use Rattle.fr_core.proofs.Settling.{settled_from_none}
 use Rattle.fr_core.proofs.Unique.{none_at_settled}
-use Rattle.fr_core.proofs.Worklists.{can_turn_below}
+use Rattle.fr_core.proofs.Turning.{can_turn_below}
 use Rattle.fr_core.specs.History.{moment_of}
 use Rattle.fr_core.specs.Legal.{CanTurn}
 use Rattle.fr_core.proofs.counts.are_settled.Goals as goal
@@ -27,6 +27,6 @@ returns c =
     let net = c.args.net.now in
     let known = c.network_law.ensures.is_net in (
       λ t. settled_from_none net.nodes c.args.dest net.links known c.requires.node c.args.counts.now c.requires.lawful
-          (λ x can. (let below = can_turn_below net.nodes c.args.dest net.links c.args.counts.now known c.requires.lawful x can in c.loop-x.invariant x (omega (arith, below)) can)),
+          (λ x can. (let below = can_turn_below net.nodes c.args.dest net.links known (moment_of net.links c.args.counts.now) refl x can in c.loop-x.invariant x (omega (arith, below)) can)),
       λ settled. refl,
     )

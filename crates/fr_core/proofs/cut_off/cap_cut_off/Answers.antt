@@ -1,5 +1,5 @@
 use Rattle.std.proofs.Common.{map, ◌≡◌}
-use Rattle.fr_core.proofs.CutOff.{capped_lawful, could_before}
+use Rattle.fr_core.proofs.CutOff.{capped_later, could_before}
 use Rattle.fr_core.specs.CutOff.{AreApart}
 use Rattle.fr_graph.specs.Turns.{set_to}
 use Rattle.fr_core.proofs.cut_off.cap_cut_off.Goals as goal
@@ -11,11 +11,11 @@ apart c = c.are_apart.ensures.0 c.if-are_apart.true
 set_as : (c : After-set_each) → c.set_each.new.self ≡ map (set_to c.args.net.now.nodes) c.args.turns.now
 set_as c = rw (c.from.ensures, c.nodes.ensures.value) at c.set_each.ensures
 
-pub returns-then-are_apart-clause-lawful : goal.returns-then-are_apart-clause-lawful
-returns-then-are_apart-clause-lawful c =
-    let at = (goal.at.returns-then-are_apart-clause-lawful c).After-set_each in
+pub returns-then-are_apart-clause-later : goal.returns-then-are_apart-clause-later
+returns-then-are_apart-clause-later c =
+    let at = (goal.at.returns-then-are_apart-clause-later c).After-set_each in
     let net = c.args.net.now in
-    rw (set_as at) (capped_lawful net.nodes c.args.dest net.links c.args.turns.now c.requires.lawful (apart at))
+    rw (set_as at) (capped_later net.nodes c.args.dest net.links c.args.turns.now c.requires.lawful (apart at))
 
 pub returns-then-are_apart-clause-fewer : goal.returns-then-are_apart-clause-fewer
 returns-then-are_apart-clause-fewer c =

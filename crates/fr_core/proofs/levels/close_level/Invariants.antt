@@ -4,7 +4,7 @@ use Rattle.fr_core.proofs.levels.close_level.Given as goal
 
 abbrev pub invariant-loop-at : goal.invariant-loop-at
 invariant-loop-at l = record {
-  search : IsLevelSearch l.net.nodes (slice_index l.initial.queue 0) l.net.links l.counts l.queue l.at l.start l.start l.level;
+  search : IsLevelSearch l.net.nodes (slice_index l.initial.queue 0) l.net.links l.counts l.queue l.at l.start l.start l.count;
   longer : length l.initial.queue ≤ length l.queue;
   past : l.start ≤ l.at;
 }

@@ -1,9 +1,10 @@
-use Rattle.std.proofs.Common.{[], arith, inl, inr, subst, ℕ, ◌++◌, ◌∷◌, ◌≡◌}
+use Rattle.std.proofs.Common.{[], arith, inl, inr, refl, subst, ℕ, ◌++◌, ◌∷◌, ◌≡◌}
 use Rattle.fr_core.specs.History.{moment_of}
 use Rattle.fr_core.specs.Legal.{CanTurn}
 use Rattle.std.proofs.lemmas.Bool.{cases_lt}
 use Rattle.std.proofs.lemmas.List.{length_push}
-use Rattle.fr_core.proofs.Worklists.{can_turn_below, nodes_push, queued_last, queued_push}
+use Rattle.fr_core.proofs.Turning.{can_turn_below}
+use Rattle.fr_core.proofs.Worklists.{nodes_push, queued_last, queued_push}
 use Rattle.fr_core.specs.Reaching.{IsQueued}
 use Rattle.fr_core.proofs.worklist.add_sinks.Goals as goal
 use Rattle.fr_core.proofs.worklist.add_sinks.Goals.{else-can_turn, then-can_turn}
@@ -35,9 +36,14 @@ loop-x-preserved c =
       })
     ]
 
-pub returns-clause-all : goal.returns-clause-all
-returns-clause-all c = λ x can.
+pub returns : goal.returns
+returns c =
     let net = c.args.net.now in
-    let below = can_turn_below net.nodes c.args.dest net.links c.args.counts.now c.nodes-x-end.ensures.faultless.is_net c.requires.lawful x can in
-    let q = c.loop-x.invariant.all x (omega (arith, below)) can in
-    (q.0, omega arith, q.1, q.2)
+    let inv = c.loop-x.invariant in
+    record {
+      nodes = inv.nodes;
+      all = λ x can.
+          let below = can_turn_below net.nodes c.args.dest net.links c.nodes-x-end.ensures.faultless.is_net (moment_of net.links c.args.counts.now) refl x can in
+          let q = inv.all x (omega (arith, below)) can in
+          (q.0, omega arith, q.1, q.2);
+    }

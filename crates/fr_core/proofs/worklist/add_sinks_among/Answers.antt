@@ -37,11 +37,15 @@ loop-x-preserved g c =
       })
     ]
 
-pub returns-clause-all : goal.returns-clause-all
-returns-clause-all g c = λ t x can.
+pub returns : goal.returns
+returns g c = λ _.
     let net = c.args.net.now in
     let from = c.args.from.now in
     let work = c.loop-x.work in
     let each = All-from_get_or (λ (y : ℕ). CanTurn net.nodes c.args.dest (moment_of net.links c.args.counts.now) y → IsQueued work y) from 0 (λ i below. c.loop-x.invariant.all i (omega (arith, below))) in
-    let q = All-contains (λ (y : ℕ). CanTurn net.nodes c.args.dest (moment_of net.links c.args.counts.now) y → IsQueued work y) from x each (c.requires.from.all x can) can in
-    (q.0, omega arith, q.1, q.2)
+    record {
+      nodes = c.loop-x.invariant.nodes;
+      all = λ x can.
+          let q = All-contains (λ (y : ℕ). CanTurn net.nodes c.args.dest (moment_of net.links c.args.counts.now) y → IsQueued work y) from x each (c.requires.from.all x can) can in
+          (q.0, omega arith, q.1, q.2);
+    }

@@ -5,17 +5,14 @@ use Rattle.fr_graph.specs.CycleSearch.{nodes_of}
 use Rattle.fr_graph.specs.declared.cycle.Step.{Step}
 use Rattle.fr_graph.proofs.cycle.find_cycle.Goals as goal
 
-pub visit_all-requires-clause-search : goal.visit_all-requires-clause-search
-visit_all-requires-clause-search c = c.in_ok-search.ensures.search c.args.rows.now c.requires.one_each c.requires.below
-
-pub visit_all-requires-clause-empty : goal.visit_all-requires-clause-empty
-visit_all-requires-clause-empty c = c.in_ok-search.ensures.empty
+pub visit_all-requires-clause-rest : goal.visit_all-requires-clause-rest
+visit_all-requires-clause-rest c = c.in_ok-search.ensures.rest c.args.rows.now c.requires.one_each c.requires.below
 
 pub visit_all-requires-clause-one_each : goal.visit_all-requires-clause-one_each
 visit_all-requires-clause-one_each c = c.in_ok-search.ensures.one_each
 
 pub closed_at-requires : goal.closed_at-requires
-closed_at-requires c = rw c.deref.ensures.value (rw c.in-Some.is at c.in_ok-node.ensures.back).on_path
+closed_at-requires c = rw c.deref.ensures.value (rw c.in-Some.is at c.in_ok-node.ensures.on.back).on_path
 
 pub returns-in-None : goal.returns-in-None
 returns-in-None c = (rw c.in-None.is at c.in_ok-node.ensures.acyclic, rw c.in-None.is at c.in_ok-node.ensures.order)
@@ -29,5 +26,5 @@ returns-in_ok-closed_at-in-Some c =
     let last = length path - 1 in
     let inside : made.0 < length path = omega (arith, made.1, length-map steps (λ (s : Step). s.node)) in
     let full : last + 1 ≡ length path = omega (arith, inside) in
-    let back = rw c.in-Some.is at c.in_ok-node.ensures.back in
-    closes _ path _ last made.0 node c.in_ok-node.ensures.search.steps.path_follows full (back.leads last full) inside made.2 made.3
+    let back = rw c.in-Some.is at c.in_ok-node.ensures.on.back in
+    closes _ path _ last made.0 node c.in_ok-node.ensures.on.search.steps.path_follows full (back.leads last full) inside made.2 made.3

@@ -46,7 +46,7 @@ put_entry-requires-2-clause-room c =
     let rooms : room_of c.put_entry.new.rows c.args.head ≡ room_of c.args.rows.now c.args.head = ap (λ (t : Table). room_of t c.args.head) c.put_entry.ensures.2 in
     let same = ap length (beside (goal.at.put_entry-requires-2-clause-room c).After-put_entry) in
     let first = ap length (c.requires.shown.1.rows.shown c.args.head c.requires.shown.1.nodes.head) in
-    omega (arith, rooms, same, first, c.requires.head_room)
+    omega (arith, rooms, same, first, c.requires.room.head)
 
 pub returns-clause-rows : goal.returns-clause-rows
 returns-clause-rows c = λ net shown.

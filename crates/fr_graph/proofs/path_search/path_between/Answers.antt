@@ -1,6 +1,7 @@
 use Rattle.std.proofs.Common.{Bool, IsTrue, List, ap, arith, false, inl, inr, length, refl, replicate, set, slice_index, ℕ, ◌<◌, ◌∙◌, ◌≡◌, ◌≤◌, ◌↔◌}
 use Rattle.std.proofs.lemmas.Bool.{cases_lt}
-use Rattle.fr_graph.proofs.TwoEnds.{ended_ahead, ended_behind, other_stays, own_side, sides_begin, sides_meet}
+use Rattle.fr_graph.proofs.TwoEnds.{ended_ahead, ended_behind, sides_begin, sides_meet}
+use Rattle.fr_graph.proofs.Sides.{other_stays, own_side}
 use Rattle.fr_graph.specs.KeptRows.{net_in}
 use Rattle.fr_graph.specs.PathSearch.{IsSide, MeetAlong}
 use Rattle.fr_graph.specs.declared.path_search.Met.{Met}
@@ -31,23 +32,11 @@ begun-requires-2 c = rw c.len-nodes.ensures c.requires.to
 pub read_next-met_along-requires-clause-rows : goal.read_next-met_along-requires-clause-rows
 read_next-met_along-requires-clause-rows c = c.requires.rows
 
-pub read_next-met_along-requires-clause-one_each : goal.read_next-met_along-requires-clause-one_each
-read_next-met_along-requires-clause-one_each c = c.requires.one_each
-
-pub read_next-met_along-requires-clause-falling : goal.read_next-met_along-requires-clause-falling
-read_next-met_along-requires-clause-falling c = c.requires.falling
-
 pub read_next-met_along-requires-clause-unread : goal.read_next-met_along-requires-clause-unread
 read_next-met_along-requires-clause-unread c = c.has_unread.ensures.0 c.loop-behind-test.true
 
 pub read_next-met_along-requires-else-goes_next-clause-rows : goal.read_next-met_along-requires-else-goes_next-clause-rows
 read_next-met_along-requires-else-goes_next-clause-rows c = c.requires.rows
-
-pub read_next-met_along-requires-else-goes_next-clause-one_each : goal.read_next-met_along-requires-else-goes_next-clause-one_each
-read_next-met_along-requires-else-goes_next-clause-one_each c = c.requires.one_each
-
-pub read_next-met_along-requires-else-goes_next-clause-falling : goal.read_next-met_along-requires-else-goes_next-clause-falling
-read_next-met_along-requires-else-goes_next-clause-falling c = c.requires.falling
 
 pub read_next-met_along-requires-else-goes_next-clause-unread : goal.read_next-met_along-requires-else-goes_next-clause-unread
 read_next-met_along-requires-else-goes_next-clause-unread c = c.has_unread-in-loop-behind.ensures.0 c.if-has_unread.true
@@ -77,8 +66,8 @@ behind_then c =
 
 found : (c : In-Some) → MeetAlong (net_in c.args.rows.now).links c.if-goes_next.met c.in-Some.link
 found c = elim c.if-goes_next.branch [
-  | then-goes_next w ↦ rw w.met-is (rw (← w.met_along-is, c.in-Some.is) at w.read_next-met_along.ensures.found)
-  | else-goes_next w ↦ rw w.met-is (rw (← w.met_along-is, c.in-Some.is) at w.read_next-met_along-else-goes_next.ensures.found)
+  | then-goes_next w ↦ rw w.met-is (rw (← w.met_along-is, c.in-Some.is) at w.read_next-met_along.ensures.answer)
+  | else-goes_next w ↦ rw w.met-is (rw (← w.met_along-is, c.in-Some.is) at w.read_next-met_along-else-goes_next.ensures.answer)
 ]
 
 pub returns-in-Some : goal.returns-in-Some
@@ -90,11 +79,11 @@ pub loop-behind-smaller : goal.loop-behind-smaller
 loop-behind-smaller c = elim c.if-goes_next.branch [
   | then-goes_next w ↦
       let read = w.read_next-met_along.ensures in
-      let one_more = rw (← w.met_along-is, c.in_default.is) at read.read in
+      let one_more = rw (← w.met_along-is, c.in_default.is) at read.answer in
       rw (w.met-is, w.ahead-is, w.behind-is) (omega (arith, read.more.counted, read.more.longer, one_more, c.has_unread.ensures.0 c.loop-behind-test.true))
   | else-goes_next w ↦
       let read = w.read_next-met_along-else-goes_next.ensures in
-      let one_more = rw (← w.met_along-is, c.in_default.is) at read.read in
+      let one_more = rw (← w.met_along-is, c.in_default.is) at read.answer in
       rw (w.met-is, w.ahead-is, w.behind-is) (omega (arith, read.more.counted, read.more.longer, one_more, c.has_unread-in-loop-behind.ensures.0 c.if-has_unread.true))
 ]
 
@@ -104,7 +93,7 @@ loop-behind-preserved c = let at = (goal.at.loop-behind-preserved c).Joined-goes
 pub returns : goal.returns
 returns c =
     let inv = c.loop-behind.invariant in
-    let falling = c.requires.falling in
+    let falling = c.requires.rows.falling in
     elim c.if-has_unread-2.branch [
       | then-has_unread-2 t ↦
           let all : length c.loop-behind.behind.nodes.items ≤ c.loop-behind.behind.read = elim c.loop-behind-test.branch [

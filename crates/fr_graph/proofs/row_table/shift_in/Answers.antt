@@ -1,6 +1,6 @@
 use Rattle.std.proofs.Common.{arith, length, suc, ◌+◌, ◌<◌, ◌∙◌, ◌∷◌, ◌≡◌}
 use Rattle.std.proofs.lemmas.List.{get_or_default}
-use Rattle.fr_graph.proofs.RowTables.{shifted_more, shifted_rest}
+use Rattle.fr_graph.proofs.Lists.{shifted_more, shifted_rest}
 use Rattle.fr_graph.proofs.row_table.shift_in.Goals as goal
 
 pub loop-here-preserved : goal.loop-here-preserved

@@ -2,7 +2,7 @@ use Rattle.std.proofs.Common.{ap, arith, drop, get_or, length, length-drop, set,
 use Rattle.std.proofs.lemmas.List.{get_or-drop}
 use Rattle.fr_graph.specs.declared.first.First.{First}
 use Rattle.fr_graph.specs.declared.first.First.TheVariants.{Outward}
-use Rattle.fr_graph.proofs.RowTables.{shifted_more, shifted_rest}
+use Rattle.fr_graph.proofs.Lists.{shifted_more, shifted_rest}
 use Rattle.fr_graph.proofs.row_table.shift_out.Goals as goal
 
 pub loop-place-preserved : goal.loop-place-preserved

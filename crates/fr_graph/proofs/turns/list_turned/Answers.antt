@@ -1,6 +1,7 @@
 use Rattle.std.proofs.Common.{ap, arith, length, subst, sym, [], ◌++◌, ◌+◌, ◌∙◌, ◌∷◌, ◌≡◌}
 use Rattle.std.proofs.lemmas.List.{length_push}
-use Rattle.fr_graph.proofs.TurnedNodes.{AreListed, all_listed, none_listed, once_more, one_listed}
+use Rattle.fr_graph.proofs.TurnedNodes.{AreListed, all_listed, none_listed, one_listed}
+use Rattle.fr_graph.proofs.Lists.{once_more}
 use Rattle.fr_graph.proofs.turns.list_turned.Goals as goal
 use Rattle.fr_graph.proofs.turns.list_turned.Goals.{then-counts-x-gt0, else-counts-x-gt0}
 

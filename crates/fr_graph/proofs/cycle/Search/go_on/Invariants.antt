@@ -1,4 +1,3 @@
-use Rattle.std.proofs.Common.{length, ◌≡◌}
 use Rattle.fr_graph.specs.CycleSearch.{IsSearch, KeepsSeen, left_count}
 use Rattle.fr_graph.proofs.cycle.Search.go_on.Given as goal
 
@@ -6,7 +5,6 @@ abbrev pub invariant-walk : goal.invariant-walk
 invariant-walk l = record {
   search : IsSearch l.rows l.self;
   kept : KeepsSeen l.fn.self.marks.items l.self.marks.items;
-  one_each : length l.self.marks.items ≡ length l.fn.self.marks.items;
 }
 
 abbrev pub decreases-walk : goal.decreases-walk

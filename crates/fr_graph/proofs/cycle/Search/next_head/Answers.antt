@@ -1,10 +1,10 @@
-use Rattle.std.proofs.Common.{Contains, ap, arith, get_or, length, sym, ℕ, ◌+◌, ◌-◌, ◌<◌, ◌∙◌, ◌≡◌, ◌≤◌}
+use Rattle.std.proofs.Common.{Contains, ap, arith, get_or, length, refl, sym, ℕ, ◌+◌, ◌-◌, ◌<◌, ◌∙◌, ◌≡◌, ◌≤◌}
 use Rattle.std.proofs.lemmas.List.{get_or_read, length-map}
 use Rattle.std.specs.Vec.{with_item}
 use Rattle.fr_graph.proofs.Neighbours.{entry_is}
 use Rattle.fr_graph.proofs.RowsRead.{read_through, reads_on, same_nodes, top_is}
 use Rattle.fr_graph.proofs.ShownLinks.{shown_of_row}
-use Rattle.fr_graph.specs.CycleSearch.{HasRead, IsPassed, IsSearch, nodes_of}
+use Rattle.fr_graph.specs.CycleSearch.{HasRead, IsPassed, IsSearch, LeadsToOther, ReadsOn, nodes_of}
 use Rattle.fr_graph.specs.Tables.{row_of}
 use Rattle.fr_graph.specs.declared.cycle.Search.{Search}
 use Rattle.fr_graph.specs.declared.cycle.Step.{Step}
@@ -39,8 +39,8 @@ after c = record {
   order = c.args.self.now.order;
 }
 
-same : (c : After-index_mut) → nodes_of (after c).path.items ≡ nodes_of c.args.self.now.path.items
-same c = same_nodes c.args.self.now.path.items (c.len-last.result - 1) c.first_not_done-place.result c.index-top.result.now c.index-top.ensures
+same : (c : After-index_mut) → ReadsOn c.args.self.now (after c)
+same c = record { marks = refl; path = same_nodes c.args.self.now.path.items (c.len-last.result - 1) c.first_not_done-place.result c.index-top.result.now c.index-top.ensures }
 
 searched : (c : After-index_mut) → IsSearch c.args.rows.now (after c)
 searched c =
@@ -49,33 +49,26 @@ searched c =
     record {
       one_each = s.one_each;
       below = s.below;
-      steps = rw (same c) s.steps;
+      steps = rw (same c).path s.steps;
       read = reads_on c.args.rows.now c.args.self.now.marks.items c.args.self.now.path.items (c.len-last.result - 1) c.first_not_done-place.result c.index-top.result.now (full (goal.at.After-index_mut c).After-index-top) c.index-top.ensures s.read high (passed c);
       order = s.order;
     }
 
-pub returns-in_err-head-clause-search : goal.returns-in_err-head-clause-search
-returns-in_err-head-clause-search c = searched (goal.at.returns-in_err-head-clause-search c).After-index_mut
-
-pub returns-in_err-head-clause-path : goal.returns-in_err-head-clause-path
-returns-in_err-head-clause-path c = same (goal.at.returns-in_err-head-clause-path c).After-index_mut
-
-pub returns-in_err-head-clause-done : goal.returns-in_err-head-clause-done
-returns-in_err-head-clause-done c =
-    let b = goal.at.returns-in_err-head-clause-done c in
+pub returns-in_err-head : goal.returns-in_err-head
+returns-in_err-head c =
+    let at = goal.at.returns-in_err-head c in
     let end = rw c.row-row.ensures at c.in_err-head.ensures.lookup in
-    rw (c.from_residual.ensures, ← c.len-last.ensures, node_is b.After-index-top)
-    (read_through c.args.rows.now c.args.self.now.marks.items c.index-top.result.now c.first_not_done-place.result (was b.After-index-top) (passed b.After-index_mut) end.3)
+    rw c.from_residual.ensures record {
+      search = searched at.After-index_mut;
+      same = same at.After-index_mut;
+      next = tt;
+      done = rw (← c.len-last.ensures, node_is at.After-index-top)
+          (read_through c.args.rows.now c.args.self.now.marks.items c.index-top.result.now c.first_not_done-place.result (was at.After-index-top) (passed at.After-index_mut) end.3);
+    }
 
-pub returns-clause-search : goal.returns-clause-search
-returns-clause-search c = searched (goal.at.returns-clause-search c).After-index_mut
-
-pub returns-clause-path : goal.returns-clause-path
-returns-clause-path c = same (goal.at.returns-clause-path c).After-index_mut
-
-pub returns-clause-leads : goal.returns-clause-leads
-returns-clause-leads c =
-    let b = goal.at.returns-clause-leads c in
+pub returns : goal.returns
+returns c =
+    let at = goal.at.returns c in
     let table = c.args.rows.now in
     let x = c.index-top.result.now.node in
     let place = c.first_not_done-place.result in
@@ -83,20 +76,17 @@ returns-clause-leads c =
     let seen = rw c.row-row.ensures at c.in_ok-head.ensures.lookup in
     let inside : place < length (row_of table x) = seen.3.0 in
     let read : get_or (row_of table x) place e ≡ e = sym seen.1 in
-    let out : e.1 ≡ Outward = rw (c.row-row.ensures, read) at (c.first_not_done-place.ensures.stops e (rw c.row-row.ensures inside)).0 in
-    let listed : Contains (row_of table x) (e.0, Outward) = (place, inside, sym (get_or_read (row_of table x) place e inside seen.1 (e.0, Outward)) ∙ entry_is e Outward out) in
-    λ k last.
-    let at : k ≡ c.len-last.result - 1 = omega (arith, last, full b.After-index-top, length-map c.args.self.now.path.items (λ (s : Step). s.node)) in
-    rw (at, node_is b.After-index-top) (shown_of_row (length table.rows) table x e.0 (below b.After-index-top) listed)
-
-pub returns-clause-below : goal.returns-clause-below
-returns-clause-below c =
-    let e = c.in_ok-head.field-0.now in
-    let seen = rw c.row-row.ensures at c.in_ok-head.ensures.lookup in
-    rw (sym seen.1) at (c.requires.search.below c.index-top.result.now.node c.first_not_done-place.result e seen.3.0)
-
-pub returns-clause-stops : goal.returns-clause-stops
-returns-clause-stops c =
-    let e = c.in_ok-head.field-0.now in
-    let seen = rw c.row-row.ensures at c.in_ok-head.ensures.lookup in
-    (rw (c.row-row.ensures, sym seen.1, c.deref.ensures.value) at (c.first_not_done-place.ensures.stops e (rw c.row-row.ensures seen.3.0))).1
+    let stops : LeadsToOther c.args.self.now.marks.items e = rw (c.row-row.ensures, read, c.deref.ensures.value) at (c.first_not_done-place.ensures.stops e (rw c.row-row.ensures inside)) in
+    let listed : Contains (row_of table x) (e.0, Outward) = (place, inside, sym (get_or_read (row_of table x) place e inside seen.1 (e.0, Outward)) ∙ entry_is e Outward stops.0) in
+    record {
+      search = searched at.After-index_mut;
+      same = same at.After-index_mut;
+      next = record {
+        leads = λ k last.
+            let is_last : k ≡ c.len-last.result - 1 = omega (arith, last, full at.After-index-top, length-map c.args.self.now.path.items (λ (s : Step). s.node)) in
+            rw (is_last, node_is at.After-index-top) (shown_of_row (length table.rows) table x e.0 (below at.After-index-top) listed);
+        below = rw read at (c.requires.search.below x place e inside);
+        other = stops.1;
+      };
+      done = tt;
+    }

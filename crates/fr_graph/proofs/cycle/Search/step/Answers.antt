@@ -1,11 +1,12 @@
-use Rattle.std.proofs.Common.{ap, arith, get_or, length, sym, ◌+◌, ◌-◌, ◌∙◌, ◌≡◌}
+use Rattle.std.proofs.Common.{arith, get_or, length, sym, ◌+◌, ◌-◌, ◌∙◌, ◌≡◌}
 use Rattle.std.proofs.lemmas.List.{get_or_read}
+use Rattle.fr_graph.proofs.Cycles.{kept_same}
 use Rattle.fr_graph.proofs.RowsRead.{nodes_counted, top_is}
 use Rattle.fr_graph.specs.CycleSearch.{LeadsTo, mark_of, nodes_of}
 use Rattle.fr_graph.specs.KeptRows.{net_in}
 use Rattle.fr_graph.specs.declared.cycle.Mark.TheVariants.{Fresh, Open}
 use Rattle.fr_graph.proofs.cycle.Search.step.Goals as goal
-use Rattle.fr_graph.proofs.cycle.Search.step.Goals.{After-index, In-Some}
+use Rattle.fr_graph.proofs.cycle.Search.step.Goals.{After-index, After-next_head, In-Some}
 
 top : (c : After-index) → get_or (nodes_of c.args.self.now.path.items) (c.args.self.now.path.len - 1) 0 ≡ c.index.result.now.node
 top c =
@@ -14,55 +15,56 @@ top c =
     top_is path.items (path.len - 1) c.index.result.now full (rw c.len.ensures at c.index.ensures)
 
 leads : (c : In-Some) → LeadsTo (net_in c.args.rows.now).links (nodes_of c.next_head.new.self.path.items) c.in-Some.head
-leads c = rw c.next_head.ensures.path c.in-Some.ensures.leads
+leads c = rw c.next_head.ensures.same.path c.in-Some.ensures.next.leads
+
+-- the path has as many nodes as before, once it was read on
+as_long : (c : After-next_head) → length c.next_head.new.self.path.items ≡ length c.args.self.now.path.items
+as_long c = nodes_counted c.next_head.new.self.path.items c.args.self.now.path.items c.next_head.ensures.same.path
 
 pub leave-requires-clause-full : goal.leave-requires-clause-full
 leave-requires-clause-full c =
-    let same : length c.next_head.new.self.path.items ≡ length c.args.self.now.path.items = nodes_counted c.next_head.new.self.path.items c.args.self.now.path.items c.next_head.ensures.path in
-    omega (arith, same, c.requires.full, c.args.self.now.path.ok.0, c.next_head.new.self.path.ok.0)
+    omega (arith, as_long (goal.at.leave-requires-clause-full c).After-next_head, c.requires.full, c.args.self.now.path.ok.0, c.next_head.new.self.path.ok.0)
 
-pub returns-in_default-clause-kept : goal.returns-in_default-clause-kept
-returns-in_default-clause-kept c x seen = c.in_ok-leave.ensures.kept x (rw c.next_head.ensures.marks seen)
-
-pub returns-in_default-clause-one_each : goal.returns-in_default-clause-one_each
-returns-in_default-clause-one_each c = c.in_ok-leave.ensures.one_each ∙ ap (λ m. length m.items) c.next_head.ensures.marks
-
-pub returns-in_default-clause-fewer : goal.returns-in_default-clause-fewer
-returns-in_default-clause-fewer c =
-    let same : length c.next_head.new.self.path.items ≡ length c.args.self.now.path.items = nodes_counted c.next_head.new.self.path.items c.args.self.now.path.items c.next_head.ensures.path in
-    rw (c.next_head.ensures.marks, same) at c.in_ok-leave.ensures.fewer
-
-pub returns-in-Open-clause-search : goal.returns-in-Open-clause-search
-returns-in-Open-clause-search c = c.next_head.ensures.search
-
-pub returns-in-Open-clause-kept : goal.returns-in-Open-clause-kept
-returns-in-Open-clause-kept c x seen = rw c.next_head.ensures.marks seen
-
-pub returns-in-Open-clause-one_each : goal.returns-in-Open-clause-one_each
-returns-in-Open-clause-one_each c = ap (λ m. length m.items) c.next_head.ensures.marks
-
-pub returns-in_default-clause-search : goal.returns-in_default-clause-search
-returns-in_default-clause-search c =
+pub returns-in_default : goal.returns-in_default
+returns-in_default c =
+    let at = goal.at.returns-in_default c in
     let e = c.next_head.ensures in
-    c.in_ok-leave.ensures.search c.args.rows.now e.search (rw (c.in_default.is, top (goal.at.returns-in_default-clause-search c).After-index) at e.done)
+    let left = c.in_ok-leave.ensures in
+    record {
+      on = record {
+        search = left.search c.args.rows.now e.search (rw (c.in_default.is, top at.After-index, ← e.same.marks) at e.done);
+        kept = rw e.same.marks at left.kept;
+        back = tt;
+      };
+      fewer = rw (e.same.marks, as_long at.After-next_head) at left.fewer;
+    }
 
-pub returns-in-Open-clause-back : goal.returns-in-Open-clause-back
-returns-in-Open-clause-back c =
+pub returns-in-Open : goal.returns-in-Open
+returns-in-Open c =
+    let e = c.next_head.ensures in
     let marks = c.next_head.new.self.marks.items in
     let head = c.in-Some.head in
-    let here = rw (← c.next_head.ensures.marks) at c.in-Some.ensures.below in
+    let here = rw (← e.same.marks) at c.in-Some.ensures.next.below in
     let on : mark_of marks head ≡ Open = sym (get_or_read marks head c.index-2.result.now here c.index-2.ensures Fresh) ∙ c.in-Open.is in
-    record { on_path = c.next_head.ensures.search.steps.open_on_path head on; leads = leads (goal.at.returns-in-Open-clause-back c).In-Some }
+    record {
+      on = record {
+        search = e.search;
+        kept = rw e.same.marks (kept_same c.args.self.now.marks.items);
+        back = record { on_path = e.search.steps.open_on_path head on; leads = leads (goal.at.returns-in-Open c).In-Some };
+      };
+      fewer = tt;
+    }
 
 pub returns : goal.returns
 returns c =
+    let at = goal.at.returns c in
     let e = c.next_head.ensures in
     let opened = c.in_ok-open-in_default-index.ensures in
-    let same : length c.next_head.new.self.path.items ≡ length c.args.self.now.path.items = nodes_counted c.next_head.new.self.path.items c.args.self.now.path.items e.path in
     record {
-      back = tt;
-      search = opened.search c.args.rows.now e.search (leads (goal.at.returns c).In-Some);
-      kept = λ x seen. opened.kept x (rw e.marks seen);
-      one_each = opened.one_each ∙ ap (λ m. length m.items) e.marks;
-      fewer = rw (e.marks, same) at opened.fewer;
+      on = record {
+        search = opened.search c.args.rows.now e.search (leads at.In-Some);
+        kept = rw e.same.marks at opened.kept;
+        back = tt;
+      };
+      fewer = rw (e.same.marks, as_long at.After-next_head) at opened.fewer;
     }

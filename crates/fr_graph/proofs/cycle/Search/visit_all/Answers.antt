@@ -1,41 +1,40 @@
 use Rattle.std.proofs.Common.{arith, below_more, ◌∙◌, ◌≢◌}
+use Rattle.fr_graph.proofs.Cycles.{kept_same, kept_through}
 use Rattle.fr_graph.proofs.LeavingOrder.{search_ends}
 use Rattle.fr_graph.specs.CycleSearch.{mark_of}
 use Rattle.fr_graph.specs.declared.cycle.Mark.TheVariants.{Fresh}
 use Rattle.fr_graph.proofs.cycle.Search.visit_all.Goals as goal
 
-pub visit-requires-clause-search : goal.visit-requires-clause-search
-visit-requires-clause-search c = c.loop-root.invariant.search
+pub loop-root-init : goal.loop-root-init
+loop-root-init c = record { rest = c.requires.rest; kept = kept_same _; met = λ x l. absurd (omega (arith, l)) }
 
-pub visit-requires-clause-empty : goal.visit-requires-clause-empty
-visit-requires-clause-empty c = c.loop-root.invariant.empty
+pub visit-requires-clause-rest : goal.visit-requires-clause-rest
+visit-requires-clause-rest c = c.loop-root.invariant.rest
 
-pub returns-in-Some-clause-back : goal.returns-in-Some-clause-back
-returns-in-Some-clause-back c = rw c.in-Some.is at c.in_ok-node.ensures.back
+pub visit-requires-clause-root : goal.visit-requires-clause-root
+visit-requires-clause-root c = omega (arith, c.loop-root.invariant.kept.one_each, c.requires.one_each)
 
-pub returns-in-Some-clause-search : goal.returns-in-Some-clause-search
-returns-in-Some-clause-search c = c.in_ok-node.ensures.search
+pub returns-in-Some-clause-on : goal.returns-in-Some-clause-on
+returns-in-Some-clause-on c =
+    let on = c.in_ok-node.ensures.on in
+    record { search = on.search; kept = kept_through c.loop-root.invariant.kept on.kept; back = rw c.in-Some.is at on.back }
 
 pub loop-root-preserved : goal.loop-root-preserved
 loop-root-preserved c =
     let visit = c.in_ok-node.ensures in
     let before = c.loop-root.invariant in
     record {
-      search = visit.search;
-      empty = rw c.in_default.is at visit.empty;
-      one_each = visit.one_each ∙ before.one_each;
-      seen = below_more (λ x. mark_of c.visit.new.self.marks.items x ≢ Fresh) c.loop-root.root (λ x l. visit.kept x (before.seen x l)) visit.seen;
+      rest = record { search = visit.on.search; empty = rw c.in_default.is at visit.empty };
+      kept = kept_through before.kept visit.on.kept;
+      met = below_more (λ x. mark_of c.visit.new.self.marks.items x ≢ Fresh) c.loop-root.root (λ x l. visit.on.kept.seen x (before.met x l)) visit.met;
     }
 
-pub returns-clause-search : goal.returns-clause-search
-returns-clause-search c = c.loop-root.invariant.search
-
-pub returns-clause-acyclic : goal.returns-clause-acyclic
-returns-clause-acyclic c =
-    let met = c.loop-root.invariant in
-    (search_ends c.args.nodes c.args.rows.now c.loop-root.self met.search met.empty met.one_each (λ x l. met.seen x (omega (arith, c.loop-root-test.false, l)))).0
-
-pub returns-clause-order : goal.returns-clause-order
-returns-clause-order c =
-    let met = c.loop-root.invariant in
-    (search_ends c.args.nodes c.args.rows.now c.loop-root.self met.search met.empty met.one_each (λ x l. met.seen x (omega (arith, c.loop-root-test.false, l)))).1
+pub returns : goal.returns
+returns c =
+    let inv = c.loop-root.invariant in
+    let ends = search_ends c.args.nodes c.args.rows.now c.loop-root.self inv.rest (inv.kept.one_each ∙ c.requires.one_each) (λ x l. inv.met x (omega (arith, c.loop-root-test.false, l))) in
+    record {
+      on = record { search = inv.rest.search; kept = inv.kept; back = tt };
+      acyclic = ends.0;
+      order = ends.1;
+    }

@@ -1,11 +1,8 @@
-use Rattle.std.proofs.Common.{ap, arith, length, subst, sym}
-use Rattle.fr_graph.proofs.AddedLinks.{added}
+use Rattle.std.proofs.Common.{ap, arith, subst, sym}
 use Rattle.fr_graph.proofs.Joining.{cycle_fault, no_path_free}
 use Rattle.fr_graph.proofs.Remaking.{same_through}
 use Rattle.fr_graph.proofs.Undoing.{IsPut, put_with_room}
-use Rattle.fr_graph.specs.Graph.{IsSame, shown}
-use Rattle.fr_graph.specs.Halves.{AreUnjoined}
-use Rattle.fr_graph.specs.Links.{IsAcyclic}
+use Rattle.fr_graph.specs.Graph.{CanPut, IsSame, shown}
 use Rattle.fr_graph.specs.Network.{Network}
 use Rattle.fr_graph.specs.PathSearch.{IsMeeting}
 use Rattle.fr_graph.proofs.graph.Graph.add.Goals as goal
@@ -49,16 +46,14 @@ returns-in-Some-clause-refused c _ =
     let tested = c.in_ok-test_join.ensures in
     cycle_fault g.nodes g.links c.args.u c.args.v c.in_ok-closed_walk.field-0 c.requires.faultless tested.few tested.nodes (c.in_ok-closed_walk.ensures g.links c.args.v c.args.u (met (goal.at.returns-in-Some-clause-refused c).In-Some))
 
-pub put-requires-clause-few : goal.put-requires-clause-few
-put-requires-clause-few c = omega (arith, ap (λ (m : Network). length m.links) (same (goal.at.put-requires-clause-few c).After-make_room).same, c.in_ok-test_join.ensures.few)
-
-pub put-requires-clause-nodes : goal.put-requires-clause-nodes
-put-requires-clause-nodes c = subst (λ (m : Network). AreUnjoined m.nodes m.links c.args.u c.args.v) (sym (same (goal.at.put-requires-clause-nodes c).After-make_room).same) c.in_ok-test_join.ensures.nodes
-
-pub put-requires-clause-acyclic : goal.put-requires-clause-acyclic
-put-requires-clause-acyclic c =
-    subst (λ (m : Network). IsAcyclic (added m.links c.args.u c.args.v)) (sym (same (goal.at.put-requires-clause-acyclic c).After-make_room).same)
-    (no_path_free (shown c.args.self.now).links c.args.u c.args.v c.requires.faultless.is_net.acyclic (rw c.in_default.is at c.in_ok-meeting.ensures.none))
+pub put-requires-clause-link : goal.put-requires-clause-link
+put-requires-clause-link c =
+    let tested = c.in_ok-test_join.ensures in
+    subst (λ (m : Network). CanPut m c.args.u c.args.v) (sym (same (goal.at.put-requires-clause-link c).After-make_room).same) record {
+      few = tested.few;
+      unjoined = tested.nodes;
+      acyclic = no_path_free (shown c.args.self.now).links c.args.u c.args.v c.requires.faultless.is_net.acyclic (rw c.in_default.is at c.in_ok-meeting.ensures.none);
+    }
 
 pub returns-clause-ok : goal.returns-clause-ok
 returns-clause-ok c =

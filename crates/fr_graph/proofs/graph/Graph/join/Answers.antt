@@ -1,9 +1,8 @@
-use Rattle.std.proofs.Common.{ap, arith, inl, inr, length, subst, sym}
-use Rattle.fr_graph.proofs.AddedLinks.{added}
+use Rattle.std.proofs.Common.{inl, inr, subst, sym}
 use Rattle.fr_graph.proofs.Joining.{no_path_free, one_way_free, path_closes, unjoined_turned}
 use Rattle.fr_graph.proofs.Remaking.{same_through}
 use Rattle.fr_graph.proofs.Undoing.{IsPut, put_with_room}
-use Rattle.fr_graph.specs.Graph.{IsSame, shown}
+use Rattle.fr_graph.specs.Graph.{CanPut, IsSame, shown}
 use Rattle.fr_graph.specs.Halves.{AreUnjoined}
 use Rattle.fr_graph.specs.Links.{IsAcyclic}
 use Rattle.fr_graph.specs.Network.{Network}
@@ -35,30 +34,31 @@ make_room-requires-clause-graph c = c.in_ok-leads_back.ensures.same.graph
 pub put-requires-clause-graph : goal.put-requires-clause-graph
 put-requires-clause-graph c = c.in_ok-make_room.ensures.same.graph
 
-pub put-requires-clause-few : goal.put-requires-clause-few
-put-requires-clause-few c = omega (arith, ap (λ (m : Network). length m.links) (same (goal.at.put-requires-clause-few c).After-make_room).same, c.in_ok-test_join.ensures.few)
-
-pub put-requires-clause-nodes : goal.put-requires-clause-nodes
-put-requires-clause-nodes c =
-    subst (λ (m : Network). AreUnjoined m.nodes m.links c.if-branch.tail.0 c.if-branch.tail.1) (sym (same (goal.at.put-requires-clause-nodes c).After-make_room).same) (ends (goal.at.put-requires-clause-nodes c).After-make_room)
-
-pub put-requires-clause-acyclic : goal.put-requires-clause-acyclic
-put-requires-clause-acyclic c =
+pub put-requires-clause-link : goal.put-requires-clause-link
+put-requires-clause-link c =
+    let at = (goal.at.put-requires-clause-link c).After-make_room in
     let links = (shown c.args.self.now).links in
     let u = c.args.u in
     let v = c.args.v in
+    let tested = c.in_ok-test_join.ensures in
+    let leads = c.in_ok-leads_back.ensures.leads in
     let acyclic : IsAcyclic links = c.requires.faultless.is_net.acyclic in
-    subst (λ (m : Network). IsAcyclic (added m.links c.if-branch.tail.0 c.if-branch.tail.1)) (sym (same (goal.at.put-requires-clause-acyclic c).After-make_room).same)
-    (elim c.if-branch.branch [
-      | then-branch w ↦ rw w.tail-is (one_way_free links u v acyclic c.in_ok-test_join.ensures.nodes.apart (path_closes links u v (c.in_ok-leads_back.ensures.leads.0 w.if-branch.true)))
-      | else-branch w ↦ rw w.tail-is (no_path_free links u v acyclic (λ path. cc (c.in_ok-leads_back.ensures.leads.1 path, w.if-branch.false)))
-    ])
+    subst (λ (m : Network). CanPut m c.if-branch.tail.0 c.if-branch.tail.1) (sym (same at).same) record {
+      few = tested.few;
+      unjoined = ends at;
+      acyclic = elim c.if-branch.branch [
+        | then-branch w ↦ rw w.tail-is (one_way_free links u v acyclic tested.nodes.apart (path_closes links u v (leads.0 w.if-branch.true)))
+        | else-branch w ↦ rw w.tail-is (no_path_free links u v acyclic (λ path. cc (leads.1 path, w.if-branch.false)))
+      ];
+    }
 
-pub put-requires-clause-tail_room : goal.put-requires-clause-tail_room
-put-requires-clause-tail_room c = elim c.if-branch.branch [ then-branch w ↦ rw w.tail-is c.in_ok-make_room.ensures.v_room | else-branch w ↦ rw w.tail-is c.in_ok-make_room.ensures.u_room ]
-
-pub put-requires-clause-head_room : goal.put-requires-clause-head_room
-put-requires-clause-head_room c = elim c.if-branch.branch [ then-branch w ↦ rw w.tail-is c.in_ok-make_room.ensures.u_room | else-branch w ↦ rw w.tail-is c.in_ok-make_room.ensures.v_room ]
+pub put-requires-clause-room : goal.put-requires-clause-room
+put-requires-clause-room c =
+    let made = c.in_ok-make_room.ensures.room in
+    elim c.if-branch.branch [
+      | then-branch w ↦ rw w.tail-is record { tail = made.head; head = made.tail }
+      | else-branch w ↦ rw w.tail-is made
+    ]
 
 pub returns-clause-ok : goal.returns-clause-ok
 returns-clause-ok c =

@@ -62,16 +62,14 @@ returns-then-falls-clause-none c =
     λ path. absurd (no_path_up (shown after).links after.heights.heights c.args.v c.args.u (same.graph.fit falls.0) falls.1 (subst (λ (m : Network). HasPath m.links c.args.v c.args.u) (sym same.same) path))
 
 pub path_between-requires-clause-rows : goal.path_between-requires-clause-rows
-path_between-requires-clause-rows c = shows_net c.renew_heights.new.self c.in_ok-renew_heights.ensures.same.graph
-
-pub path_between-requires-clause-one_each : goal.path_between-requires-clause-one_each
-path_between-requires-clause-one_each c = let is = c.in_ok-renew_heights.ensures.same.graph in is.height_each ∙ sym is.rows.one_each
-
-pub path_between-requires-clause-falling : goal.path_between-requires-clause-falling
-path_between-requires-clause-falling c =
+path_between-requires-clause-rows c =
     let after = c.renew_heights.new.self in
     let is = c.in_ok-renew_heights.ensures.same.graph in
-    subst (λ (m : Network). AreFalling after.heights.heights m.links) (sym (net_shown after is)) (is.fit c.in_ok-renew_heights.ensures.known)
+    record {
+      shown = shows_net after is;
+      one_each = is.height_each ∙ sym is.rows.one_each;
+      falling = subst (λ (m : Network). AreFalling after.heights.heights m.links) (sym (net_shown after is)) (is.fit c.in_ok-renew_heights.ensures.known);
+    }
 
 -- what the search found, in the network that the graph shows
 found : (c : In_ok-meeting) → IsPathAnswer (shown c.renew_heights.new.self) c.renew_heights.new.self.heights.heights c.args.v c.args.u c.in_ok-meeting.field-0

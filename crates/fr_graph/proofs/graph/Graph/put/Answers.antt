@@ -10,10 +10,10 @@ use Rattle.fr_graph.proofs.graph.Graph.put.Goals.{After-put_in_rows, Start}
 
 -- the rows without the link, and with it
 before : (c : Start) → ShowsNoLink (shown c.args.self.now) c.args.tail c.args.head c.args.self.now.rows
-before c = record { nodes = c.requires.nodes; rows = c.requires.graph.rows }
+before c = record { nodes = c.requires.link.unjoined; rows = c.requires.graph.rows }
 
 clear : (c : Start) → IsFaultless c.args.self.now.nodes (added (shown c.args.self.now).links c.args.tail c.args.head)
-clear c = faultless_added c.args.self.now.nodes (shown c.args.self.now).links c.args.tail c.args.head c.requires.graph.faultless c.requires.few c.requires.nodes c.requires.acyclic
+clear c = faultless_added c.args.self.now.nodes (shown c.args.self.now).links c.args.tail c.args.head c.requires.graph.faultless c.requires.link
 
 more : (c : Start) → length (added (shown c.args.self.now).links c.args.tail c.args.head) ≡ c.args.self.now.link_count + 1
 more c = omega (arith, length_push (shown c.args.self.now).links (c.args.tail, c.args.head), c.requires.graph.counted)
@@ -28,14 +28,14 @@ pub put_in_rows-requires-clause-few : goal.put_in_rows-requires-clause-few
 put_in_rows-requires-clause-few c = omega (arith, c.requires.graph.rows.one_each, c.requires.graph.faultless.limits.nodes_few)
 
 pub overflow_add-self : goal.overflow_add-self
-overflow_add-self c = omega (arith, c.requires.graph.counted, c.requires.few)
+overflow_add-self c = omega (arith, c.requires.graph.counted, c.requires.link.few)
 
 pub returns-clause-graph : goal.returns-clause-graph
 returns-clause-graph c =
     let at = goal.at.returns-clause-graph c in
     let links = (shown c.args.self.now).links in
     let graph = c.requires.graph in
-    graph_of _ (added links c.args.tail c.args.head) (clear at.Start) (sym (more at.Start)) (rows at.After-put_in_rows) (ap length c.admit.ensures.same ∙ graph.height_each) (c.admit.ensures.fit links graph.fit)
+    graph_of _ (added links c.args.tail c.args.head) (clear at.Start) (sym (more at.Start)) (rows at.After-put_in_rows) (ap length c.note_link.ensures.same ∙ graph.height_each) (c.note_link.ensures.fit links graph.fit)
 
 pub returns-clause-put : goal.returns-clause-put
 returns-clause-put c =

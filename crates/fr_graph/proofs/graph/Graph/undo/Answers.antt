@@ -1,5 +1,5 @@
 use Rattle.std.proofs.Common.{subst}
-use Rattle.fr_graph.proofs.Undoing.{put_back, put_stands, taken_acyclic, taken_back, taken_few, taken_room, taken_unjoined}
+use Rattle.fr_graph.proofs.Undoing.{put_back, put_stands, taken_back, taken_can_be_put, taken_room}
 use Rattle.fr_graph.specs.Graph.{IsDone, shown}
 use Rattle.fr_graph.specs.Network.{Network}
 use Rattle.fr_graph.specs.declared.graph.Done.{Done}
@@ -13,30 +13,15 @@ taken c net done = subst (λ (d : Done). IsDone net d (shown c.args.self.now)) c
 put : (c : In-Put) (net : Network) → IsDone net c.args.done (shown c.args.self.now) → IsDone net (Put c.in-Put.tail c.in-Put.head) (shown c.args.self.now)
 put c net done = subst (λ (d : Done). IsDone net d (shown c.args.self.now)) c.in-Put.is done
 
-pub put-requires-clause-few : goal.put-requires-clause-few
-put-requires-clause-few c =
+pub put-requires-clause-link : goal.put-requires-clause-link
+put-requires-clause-link c =
     let net = c.requires.done.0 in
-    taken_few net c.in-Taken.tail c.in-Taken.head (shown c.args.self.now) (taken (goal.at.put-requires-clause-few c).In-Taken net c.requires.done.1)
+    taken_can_be_put net c.in-Taken.tail c.in-Taken.head (shown c.args.self.now) (taken (goal.at.put-requires-clause-link c).In-Taken net c.requires.done.1)
 
-pub put-requires-clause-nodes : goal.put-requires-clause-nodes
-put-requires-clause-nodes c =
+pub put-requires-clause-room : goal.put-requires-clause-room
+put-requires-clause-room c =
     let net = c.requires.done.0 in
-    taken_unjoined net c.in-Taken.tail c.in-Taken.head (shown c.args.self.now) (taken (goal.at.put-requires-clause-nodes c).In-Taken net c.requires.done.1)
-
-pub put-requires-clause-acyclic : goal.put-requires-clause-acyclic
-put-requires-clause-acyclic c =
-    let net = c.requires.done.0 in
-    taken_acyclic net c.in-Taken.tail c.in-Taken.head (shown c.args.self.now) (taken (goal.at.put-requires-clause-acyclic c).In-Taken net c.requires.done.1)
-
-pub put-requires-clause-tail_room : goal.put-requires-clause-tail_room
-put-requires-clause-tail_room c =
-    let net = c.requires.done.0 in
-    (taken_room net c.in-Taken.tail c.in-Taken.head c.args.self.now c.requires.graph (taken (goal.at.put-requires-clause-tail_room c).In-Taken net c.requires.done.1) c.requires.done.2).0
-
-pub put-requires-clause-head_room : goal.put-requires-clause-head_room
-put-requires-clause-head_room c =
-    let net = c.requires.done.0 in
-    (taken_room net c.in-Taken.tail c.in-Taken.head c.args.self.now c.requires.graph (taken (goal.at.put-requires-clause-head_room c).In-Taken net c.requires.done.1) c.requires.done.2).1
+    taken_room net c.in-Taken.tail c.in-Taken.head c.args.self.now c.requires.graph (taken (goal.at.put-requires-clause-room c).In-Taken net c.requires.done.1) c.requires.done.2
 
 pub take_out-requires-clause-stands : goal.take_out-requires-clause-stands
 take_out-requires-clause-stands c =

@@ -1,6 +1,9 @@
 use Rattle.std.proofs.Common.{ap, arith, get_or, inl, inr, length, refl, slice_index, sym, true, ℕ, ◌+◌, ◌<◌, ◌∙◌, ◌≡◌}
 use Rattle.std.proofs.lemmas.List.{get_or_default}
-use Rattle.fr_graph.proofs.TwoEnds.{entry_below, entry_leads, entry_leads_by_height, leads_lies, meet_along, more_after, more_by_edges, more_read, next_below, passed_more, passed_stays, same_more, side_goes_on, side_moves, side_reads, with_edge_nearer}
+use Rattle.fr_graph.proofs.SideRows.{entry_below, entry_leads, entry_leads_by_height, leads_lies, passed_more, passed_stays, side_reads}
+use Rattle.fr_graph.proofs.TwoEnds.{meet_along}
+use Rattle.fr_graph.proofs.MetNodes.{more_after, more_by_edges, more_read, same_more, with_edge_nearer}
+use Rattle.fr_graph.proofs.Sides.{next_below, side_goes_on, side_moves}
 use Rattle.fr_graph.specs.KeptRows.{net_in}
 use Rattle.fr_graph.specs.PathSearch.{HasMet, HasPassed, IsBeyond, IsMetOrAside, IsPast, LeadsOn, LiesOn}
 use Rattle.fr_graph.specs.RowLists.{opposite}
@@ -12,14 +15,14 @@ use Rattle.fr_graph.proofs.path_search.Side.read_next.Goals as goal
 use Rattle.fr_graph.proofs.path_search.Side.read_next.Goals.{After-goes_on, After-row-row, else-goes_on-via-then-goes_on+else-meet, else-goes_on-via-else-goes_on}
 
 pub height-own-requires : goal.height-own-requires
-height-own-requires c = omega (arith, next_below c.index-node.result.now c.requires.side c.requires.unread c.index-node.ensures, c.requires.one_each)
+height-own-requires c = omega (arith, next_below c.index-node.result.now c.requires.side c.requires.unread c.index-node.ensures, c.requires.rows.one_each)
 
 pub row-row-requires : goal.row-row-requires
 row-row-requires c = next_below c.index-node.result.now c.requires.side c.requires.unread c.index-node.ensures
 
 -- the row that is read is that of a node
 row_is : (c : After-row-row) → c.row-row.result.now ≡ row (net_in c.args.rows.now).nodes (net_in c.args.rows.now).links c.index-node.result.now
-row_is c = c.row-row.ensures ∙ c.requires.rows.rows.shown c.index-node.result.now (next_below c.index-node.result.now c.requires.side c.requires.unread c.index-node.ensures)
+row_is c = c.row-row.ensures ∙ c.requires.rows.shown.rows.shown c.index-node.result.now (next_below c.index-node.result.now c.requires.side c.requires.unread c.index-node.ensures)
 
 pub loop-neighbour-init : goal.loop-neighbour-init
 loop-neighbour-init c = record {
@@ -33,7 +36,7 @@ loop-neighbour-init c = record {
 pub height-height-requires : goal.height-height-requires
 height-height-requires c =
     let net = net_in c.args.rows.now in
-    omega (arith, entry_below net.nodes net.links c.index-node.result.now c.row-row.result.now c.loop-neighbour.neighbour-index (0, Outward) (row_is (goal.at.height-height-requires c).After-row-row) c.loop-neighbour-test.true, c.requires.one_each)
+    omega (arith, entry_below net.nodes net.links c.index-node.result.now c.row-row.result.now c.loop-neighbour.neighbour-index (0, Outward) (row_is (goal.at.height-height-requires c).After-row-row) c.loop-neighbour-test.true, c.requires.rows.one_each)
 
 -- the entry that is read
 abbrev entry : (c : After-goes_on) → ℕ × First
@@ -57,7 +60,7 @@ step c is =
     let f = c.args.self.now.first in
     let x = c.index-node.result.now in
     let lies : LiesOn f (height_of c x) (height_of c (entry c).0) = rw (c.loop-neighbour.invariant.side.first_is, c.height-own.ensures, c.height-height.ensures) at (c.goes_on.ensures.lies is) in
-    entry_leads_by_height f net.nodes c.args.heights.now.heights net.links x c.row-row.result.now c.loop-neighbour.neighbour-index (0, Outward) c.requires.falling (row_is (goal.at.After-goes_on c).After-row-row) c.loop-neighbour-test.true lies
+    entry_leads_by_height f net.nodes c.args.heights.now.heights net.links x c.row-row.result.now c.loop-neighbour.neighbour-index (0, Outward) c.requires.rows.falling (row_is (goal.at.After-goes_on c).After-row-row) c.loop-neighbour-test.true lies
 
 -- the node whose row is read stands at its place
 at_read : (c : After-goes_on) → get_or c.loop-neighbour.self.nodes.items c.loop-neighbour.self.read 0 ≡ c.index-node.result.now
@@ -80,7 +83,7 @@ aside c other same =
     let f = c.args.self.now.first in
     let x = c.index-node.result.now in
     let leads = entry_leads f net.nodes net.links x c.row-row.result.now c.loop-neighbour.neighbour-index (0, Outward) (row_is (goal.at.After-goes_on c).After-row-row) c.loop-neighbour-test.true same in
-    let lies : LiesOn c.loop-neighbour.self.first c.height-own.result c.height-height.result = rw (c.loop-neighbour.invariant.side.first_is, c.height-own.ensures, c.height-height.ensures) (leads_lies f c.args.heights.now.heights net.links x (entry c).0 c.requires.falling leads) in
+    let lies : LiesOn c.loop-neighbour.self.first c.height-own.result c.height-height.result = rw (c.loop-neighbour.invariant.side.first_is, c.height-own.ensures, c.height-height.ensures) (leads_lies f c.args.heights.now.heights net.links x (entry c).0 c.requires.rows.falling leads) in
     let beyond = c.goes_on.ensures.beyond other lies in
     inr record { beyond = rw c.height-height.ensures at beyond; past = rw c.height-height.ensures at (c.nearer-edge.ensures.past beyond) }
 
@@ -102,9 +105,9 @@ returns-then-meet-clause-side c =
     let is = c.if-goes_on.true in
     (side_goes_on (entry at).0 (below at) (unread at) (from_read at is) (near at is) c.meet.ensures.change c.loop-neighbour.invariant.side).0
 
-pub returns-then-meet-clause-found : goal.returns-then-meet-clause-found
-returns-then-meet-clause-found c =
-    let at = (goal.at.returns-then-meet-clause-found c).After-goes_on in
+pub returns-then-meet-clause-answer : goal.returns-then-meet-clause-answer
+returns-then-meet-clause-answer c =
+    let at = (goal.at.returns-then-meet-clause-answer c).After-goes_on in
     let inv = c.loop-neighbour.invariant in
     let f = c.args.self.now.first in
     let is = c.if-goes_on.true in
@@ -155,10 +158,10 @@ returns-clause-side c =
     let at_read : get_or read.nodes.items read.read 0 ≡ x = rw inv.same_read (inv.more.stands c.args.self.now.read c.requires.unread ∙ get_or_default c.args.self.now.nodes.items c.args.self.now.read 0 x c.requires.unread ∙ sym c.index-node.ensures) in
     let all : c.loop-neighbour.neighbour-index ≡ length c.row-row.result.now = omega arith in
     let passed : HasPassed c.args.heights.now.heights c.args.self.now.first read c.loop-neighbour.met (row net.nodes net.links x) (length (row net.nodes net.links x)) = rw (all, row_is (goal.at.returns-clause-side c).After-row-row) at inv.passed in
-    side_reads x c.requires.rows.is_net (omega (arith, inv.same_read, inv.more.longer, c.requires.unread)) at_read passed (side_moves (with_edge_nearer inv.side.first_is inv.nearer) inv.side)
+    side_reads x c.requires.rows.shown.is_net (omega (arith, inv.same_read, inv.more.longer, c.requires.unread)) at_read passed (side_moves (with_edge_nearer inv.side.first_is inv.nearer) inv.side)
 
-pub returns-clause-read : goal.returns-clause-read
-returns-clause-read c = ap (λ (k : ℕ). k + 1) c.loop-neighbour.invariant.same_read
+pub returns-clause-answer : goal.returns-clause-answer
+returns-clause-answer c = ap (λ (k : ℕ). k + 1) c.loop-neighbour.invariant.same_read
 
 pub returns-clause-more : goal.returns-clause-more
 returns-clause-more c = more_read c.loop-neighbour.invariant.nearer c.loop-neighbour.invariant.more

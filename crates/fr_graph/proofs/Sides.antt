@@ -1,0 +1,161 @@
+-- A side of a search from both ends keeps its state as it begins, meets a node, leaves one aside, and as the other side goes on.
+use Rattle.std.proofs.Common.{Contains, List, [], ap, arith, get_or, inl, inr, length, refl, set, slice_index, subst, sym, ℕ, ◌++◌, ◌+◌, ◌<◌, ◌∙◌, ◌∷◌, ◌≡◌, ◌≤◌, ◌⊎◌}
+use Rattle.std.proofs.lemmas.Bool.{cases_lt}
+use Rattle.std.proofs.lemmas.List.{get_or_append_left, get_or_past, get_or_push, get_or-set_same, length_push}
+use Rattle.std.proofs.lemmas.List.Elements.{All-contains, All-push, Contains-append_left, Contains-push}
+use Rattle.std.specs.List.{All}
+use Rattle.fr_graph.proofs.Lists.{push_cases}
+use Rattle.fr_graph.specs.PathSearch.{HasBegun, HasMet, HasMetMore, HasMovedEdge, HasOrigins, IsBeyond, IsSide, LeadsOn, MeetsNew, met_by, never_count, start_of}
+use Rattle.fr_graph.specs.Network.{Network}
+use Rattle.fr_graph.specs.RowLists.{opposite}
+use Rattle.fr_graph.specs.declared.path_search.Met.{Met}
+use Rattle.fr_graph.specs.declared.path_search.Met.TheVariants.{Never}
+use Rattle.fr_graph.specs.declared.path_search.Side.{Side}
+use Rattle.fr_graph.specs.declared.first.First.{First}
+use Rattle.fr_graph.proofs.MetNodes.{never_apart, met_set, one_more, none_more, same_more, met_stays, settled_stays, other_was}
+
+-- one node more to which a side came from one of its nodes
+came_on : (f : First) (links : List (ℕ × ℕ)) (nodes origins : List ℕ) (x place : ℕ) → HasOrigins f links nodes origins → place < length nodes → LeadsOn f links (get_or nodes place 0) x → HasOrigins f links (nodes ++ x ∷ []) (origins ++ place ∷ [])
+came_on f links nodes origins x place came inside step =
+    let long = length_push nodes x in
+    let also = length_push origins place in
+    record {
+      begun = omega (arith, long);
+      one_each = omega (arith, long, also, came.one_each);
+      earlier = λ k some l. elim (push_cases nodes x k l) [
+        | inl w ↦ rw (get_or_append_left origins (place ∷ []) 0 k (omega (arith, w.0, came.one_each))) (came.earlier k some w.0)
+        | inr w ↦ rw (get_or_push origins place 0 k (omega (arith, w.0, came.one_each))) (omega (arith, w.0))
+      ];
+      leads = λ k some l. elim (push_cases nodes x k l) [
+        | inl w ↦
+            let before : get_or origins k 0 < length nodes = omega (arith, came.earlier k some w.0, w.0) in
+            rw (w.1, get_or_append_left origins (place ∷ []) 0 k (omega (arith, w.0, came.one_each)), get_or_append_left nodes (x ∷ []) 0 (get_or origins k 0) before) (came.leads k some w.0)
+        | inr w ↦ rw (w.1, get_or_push origins place 0 k (omega (arith, w.0, came.one_each)), get_or_append_left nodes (x ∷ []) 0 place inside) step
+      ];
+    }
+
+-- a side that has met its start alone
+pub side_begins : (net : Network) (heights : List ℕ) (f : First) (start limit : ℕ) (met : List Met) (side : Side) → length met ≡ net.nodes → HasMet f met start → ((x : ℕ) → HasMet f met x → x ≡ start) → never_count met + 1 ≤ net.nodes → ¬ IsBeyond f limit (slice_index heights start) → HasBegun f start limit net.nodes side → IsSide net heights f start limit met side
+side_begins net heights f start limit met side long here alone few near b =
+    let first : (P : ℕ → Type 0) → P start → All P side.nodes.items = λ P p. rw b.met_alone (All-push P [] start (λ k d h. absurd (omega arith)) p) in
+    record {
+      one_each = long;
+      first_is = b.first_is;
+      limit_is = b.limit_is;
+      start_is = rw b.met_alone refl;
+      came = rw (b.met_alone, b.came_alone) record {
+        begun = omega arith;
+        one_each = refl;
+        earlier = λ k some l. absurd (omega (arith, some, l));
+        leads = λ k some l. absurd (omega (arith, some, l));
+      };
+      all_met = first (HasMet f met) here;
+      listed = λ x h. rw (b.met_alone, alone x h) (Contains-push [] start);
+      inside = rw b.none_read (omega arith);
+      within = first (λ (x : ℕ). ¬ IsBeyond f limit (slice_index heights x)) near;
+      leads_on = λ k w l step. absurd (omega (arith, b.none_read, l));
+      room = record {
+        nodes = omega (arith, few, b.room, ap length b.met_alone);
+        origins = omega (arith, few, b.origin_room, ap length b.came_alone);
+      };
+    }
+
+-- a side that has met one node more
+side_meets : {net : Network} {heights : List ℕ} {f : First} {start limit : ℕ} {old new : List Met} {before after : Side} {x : ℕ} → x < net.nodes → before.read < length before.nodes.items → LeadsOn f net.links (get_or before.nodes.items before.read 0) x → ¬ IsBeyond f limit (slice_index heights x) → MeetsNew before after old new x → IsSide net heights f start limit old before → IsSide net heights f start limit new after
+side_meets {net} {heights} {f} {start} {limit} {old} {new} {before} {after} {x} below unread step near m s =
+    let l : x < length old = omega (arith, s.one_each) in
+    let more = one_more l m in
+    let new_is : new ≡ set old x (met_by f) = rw s.first_is at m.met in
+    let now : HasMet f new x = rw new_is (get_or-set_same old x (met_by f) Never l) in
+    record {
+      one_each = more.one_each ∙ s.one_each;
+      first_is = m.same_first ∙ s.first_is;
+      limit_is = m.same_limit ∙ s.limit_is;
+      start_is = more.stands 0 s.came.begun ∙ s.start_is;
+      came = rw (m.nodes, m.origins) (came_on f net.links before.nodes.items before.origins.items x before.read s.came unread step);
+      all_met = rw m.nodes (All-push (HasMet f new) before.nodes.items x (λ k d h. met_stays f _ s.first_is more (s.all_met k d h)) now);
+      listed = λ y h. rw m.nodes (elim (met_set old x y (met_by f) l) [
+        | inl w ↦ rw w.0 (Contains-push before.nodes.items x)
+        | inr w ↦ Contains-append_left before.nodes.items (x ∷ []) y (s.listed y (sym w ∙ rw new_is at h))
+      ]);
+      inside = rw m.same_read (omega (arith, s.inside, more.longer));
+      within = rw m.nodes (All-push (λ (y : ℕ). ¬ IsBeyond f limit (slice_index heights y)) before.nodes.items x s.within near);
+      leads_on = λ k w l step.
+          let early : k < before.read = omega (arith, l, m.same_read) in
+          settled_stays f w (slice_index heights w) s.first_is more (s.leads_on k w early (rw (more.stands k (omega (arith, early, s.inside))) at step));
+      room = record {
+        nodes = rw m.same_room (omega (arith, more.counted, s.room.nodes));
+        origins = rw m.same_origin_room (omega (arith, more.counted, s.room.origins, s.came.one_each, ap length m.nodes, ap length m.origins, length_push before.nodes.items x, length_push before.origins.items before.read));
+      };
+    }
+
+-- a side that may have left one node more aside
+pub side_moves : {net : Network} {heights : List ℕ} {f : First} {start limit : ℕ} {met : List Met} {before after : Side} → HasMovedEdge before after → IsSide net heights f start limit met before → IsSide net heights f start limit met after
+side_moves {net} {heights} {f} {start} {limit} {met} {before} {after} m s = record {
+  one_each = s.one_each;
+  first_is = m.same_first ∙ s.first_is;
+  limit_is = m.same_limit ∙ s.limit_is;
+  start_is = rw m.same_nodes s.start_is;
+  came = rw (m.same_nodes, m.same_origins) s.came;
+  all_met = rw m.same_nodes s.all_met;
+  listed = rw m.same_nodes s.listed;
+  inside = rw (m.same_nodes, m.same_read) s.inside;
+  within = rw m.same_nodes s.within;
+  leads_on = λ k w l step. settled_stays f w (slice_index heights w) s.first_is (none_more m) (s.leads_on k w (omega (arith, l, m.same_read)) (rw m.same_nodes at step));
+  room = record { nodes = rw m.same_nodes s.room.nodes; origins = rw m.same_origins s.room.origins };
+}
+
+-- so it keeps its state, whether it meets a node within the limit now, or has met it before
+pub side_goes_on : {net : Network} {heights : List ℕ} {f : First} {start limit : ℕ} {old new : List Met} {before after : Side} (x : ℕ) → x < net.nodes → before.read < length before.nodes.items → LeadsOn f net.links (get_or before.nodes.items before.read 0) x → ¬ IsBeyond f limit (slice_index heights x) → ((after ≡ before) × (new ≡ old)) ⊎ MeetsNew before after old new x → IsSide net heights f start limit old before → IsSide net heights f start limit new after × HasMetMore before after old new × (after.read ≡ before.read) × (after.edge ≡ before.edge)
+side_goes_on {old = old} {before = before} x below unread step near (inl m) s = rw (m.0, m.1) (s, same_more before old, refl, refl)
+side_goes_on x below unread step near (inr m) s = (side_meets below unread step near m s, one_more (omega (arith, s.one_each)) m, m.same_read, m.same_edge)
+
+-- the other side as a side meets more
+pub other_stays : {net : Network} {heights : List ℕ} {start limit : ℕ} {old new : List Met} {before after other : Side} (f : First) → before.first ≡ f → HasMetMore before after old new → IsSide net heights (opposite f) start limit old other → IsSide net heights (opposite f) start limit new other
+other_stays {net} {heights} {start} {limit} {old} {new} {before} {after} {other} f first_is more s =
+    let g = opposite f in
+    let met = rw first_is at more.met in
+    let stays : (y : ℕ) → HasMet g old y → HasMet g new y = λ y h. elim (met y) [ inl e ↦ e ∙ h | inr w ↦ absurd (never_apart g (sym h ∙ w.0)) ] in
+    record {
+      one_each = more.one_each ∙ s.one_each;
+      first_is = s.first_is;
+      limit_is = s.limit_is;
+      start_is = s.start_is;
+      came = s.came;
+      all_met = λ k d h. stays _ (s.all_met k d h);
+      listed = λ y h. s.listed y (other_was f y first_is more h);
+      inside = s.inside;
+      within = s.within;
+      leads_on = λ k w l step. elim (s.leads_on k w l step) [ inl h ↦ inl (stays w h) | inr aside ↦ inr aside ];
+      room = record {
+        nodes = omega (arith, more.counted, more.longer, s.room.nodes);
+        origins = omega (arith, more.counted, more.longer, s.room.origins);
+      };
+    }
+
+pub start_met : {net : Network} {heights : List ℕ} {f : First} {start limit : ℕ} {met : List Met} {side : Side} → IsSide net heights f start limit met side → HasMet f met start
+start_met s = rw s.start_is at (s.all_met 0 0 s.came.begun)
+
+pub listed_met : {net : Network} {heights : List ℕ} {f : First} {start limit : ℕ} {met : List Met} {side : Side} (x : ℕ) → IsSide net heights f start limit met side → Contains side.nodes.items x → HasMet f met x
+listed_met {net} {heights} {f} {start} {limit} {met} {side} x s h = All-contains (HasMet f met) side.nodes.items x s.all_met h
+
+-- the nodes of a side lie within the limit, and below the number of nodes
+pub near_met : {net : Network} {heights : List ℕ} {f : First} {start limit : ℕ} {met : List Met} {side : Side} (x : ℕ) → IsSide net heights f start limit met side → HasMet f met x → ¬ IsBeyond f limit (slice_index heights x)
+near_met {net} {heights} {f} {start} {limit} {met} {side} x s h = All-contains (λ (y : ℕ). ¬ IsBeyond f limit (slice_index heights y)) side.nodes.items x s.within (s.listed x h)
+
+pub met_below : {net : Network} {heights : List ℕ} {f : First} {start limit : ℕ} {met : List Met} {side : Side} (x : ℕ) → IsSide net heights f start limit met side → HasMet f met x → x < net.nodes
+met_below {net} {heights} {f} {start} {limit} {met} {side} x s h =
+    elim (cases_lt x net.nodes) [
+      | inl l ↦ l
+      | inr g ↦ absurd (never_apart f (sym h ∙ get_or_past met x Never (omega (arith, s.one_each))))
+    ]
+
+-- a side as it says itself where it goes
+pub own_side : {net : Network} {heights : List ℕ} {f : First} {start limit : ℕ} {met : List Met} {side : Side} → IsSide net heights f start limit met side → IsSide net heights side.first (start_of side) side.limit met side
+own_side {net} {heights} {f} {start} {limit} {met} {side} is =
+    subst (λ (g : First). IsSide net heights g (start_of side) side.limit met side) (sym is.first_is)
+    (subst (λ (a : ℕ). IsSide net heights f a side.limit met side) (sym is.start_is) (subst (λ (l : ℕ). IsSide net heights f start l met side) (sym is.limit_is) is))
+
+-- the node whose row is read next
+pub next_below : {net : Network} {heights : List ℕ} {f : First} {start limit : ℕ} {met : List Met} {side : Side} (x : ℕ) → IsSide net heights f start limit met side → side.read < length side.nodes.items → x ≡ get_or side.nodes.items side.read x → x < net.nodes
+next_below {side = side} x is unread at = met_below x is (listed_met x is (side.read, unread, sym at))
