@@ -20,6 +20,7 @@ mod seen;
 mod steps;
 mod terms;
 mod view;
+mod words;
 mod worker;
 
 pub use closing::Closed;

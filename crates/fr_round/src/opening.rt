@@ -6,18 +6,15 @@ ghost use Rattle.fr_round.specs.Knowledge.{new_workers};
 ghost use Rattle.fr_round.specs.Setups.{setup_of};
 ghost use Rattle.fr_round.specs.Seated.{IsTableOf};
 
-use crate::rule::{NumberWorker, Rule};
+use crate::rule::NumberWorker;
 use crate::seen::Seen;
 use crate::terms::Terms;
-use crate::view::View;
+use crate::words::RoundTable;
 use crate::worker::Worker;
 use atomic_table::Table;
 use std::alloc::{AllocError, Global};
 
-/// The words of a round.
-pub(crate) type RoundTable = Table<(), View, Terms, Rule, Global>;
-
-/// The words of a round, and its workers.
+/// The table of the words of a round, and its workers.
 struct Seated {
     table: RoundTable,
     workers: Vec<Worker>,

@@ -1,21 +1,19 @@
 //! An open round, which threads share by reference: how it is opened, the calls of its workers, and how it is closed.
 
-ghost use Rattle.std.specs.Prelude.{◌≡◌, ◌≤◌, ◌<◌, ℕ, MatchResult, IfOk, IfErr, length, slice_index};
+ghost use Rattle.std.specs.Prelude.{◌≡◌, ◌≤◌, IfOk, IfErr, length};
 ghost use Rattle.std.specs.List.{AllByRecursion as Each};
 ghost use Rattle.fr_core.specs.Replies.{IsReplyToTurn, IsReplyToLook};
 ghost use Rattle.fr_core.specs.Targets.{IsTurnable, IsLookable};
-ghost use Rattle.fr_round.specs.Histories.{entry};
-ghost use Rattle.fr_round.specs.Steps.{Extends};
-ghost use Rattle.fr_round.specs.Calls.{ShowsCount};
-ghost use Rattle.fr_round.specs.Knowledge.{IsOwn, IsKnowledge, IsOpenable, Refuses, RefusesLook, IsWhyNotOpened, new_workers};
+ghost use Rattle.fr_round.specs.Knowledge.{IsOwn, IsOpenable, IsWhyNotOpened, KeepsWorker, LearnsReply, Refuses, RefusesLook, new_workers};
 ghost use Rattle.fr_round.specs.Closing.{Closes};
 ghost use Rattle.fr_round.specs.Opening.{HasNotBegun};
 
 use crate::closing::{Closed, read_counts, take_over};
 use crate::faults::{OpenFault, OpenWhy, Refusal};
-use crate::opening::{Prepared, RoundTable, prepare};
+use crate::opening::{Prepared, prepare};
 use crate::rule::BeginClosing;
 use crate::terms::Terms;
+use crate::words::Words;
 use crate::worker::Worker;
 use fr_core::{MAX_WORKERS, Reply};
 use fr_graph::Net;
@@ -26,8 +24,7 @@ use std::marker::Model;
 /// nodes by a worker of its own.
 #[derive(Drop)]
 pub struct Round {
-    terms: Terms,
-    table: RoundTable,
+    words: Words,
     // The room that `close` needs.
     counts: Vec<u64>,
     turned: Vec<(u32, u64)>,
@@ -82,8 +79,7 @@ impl Round {
                 },
             ) => {
                 let round = Round {
-                    terms,
-                    table,
+                    words: Words { terms, table },
                     counts,
                     turned,
                 };
@@ -100,7 +96,7 @@ impl Round {
     pub fn workers(&self) -> u32
         ensures { result ≡ self.now.setup.workers }
     {
-        self.terms.workers
+        self.words.terms.workers
     }
 
     /// Its network, with the first links. It takes no step and no memory. `O(1)`.
@@ -108,14 +104,14 @@ impl Round {
         ensures nodes { result.now.nodes ≡ self.now.setup.nodes }
         ensures links { result.now.links ≡ self.now.setup.links }
     {
-        &self.terms.net
+        &self.words.terms.net
     }
 
     /// Its destination. It takes no step and no memory. `O(1)`.
     pub fn dest(&self) -> u32
         ensures { result ≡ self.now.setup.dest }
     {
-        self.terms.dest
+        self.words.terms.dest
     }
 
     /// Turns node `x` if it is a sink: full reversal (E. Gafni and D. Bertsekas, 1981), by single atomic loads and one
@@ -130,28 +126,14 @@ impl Round {
     /// seen count rises: `O(d²)`.
     pub fn try_turn(&self, worker: &mut Worker, x: u32) -> Result<Reply, Refusal>
         requires { IsOwn self.now worker.old }
-        ensures own { IsOwn self.now worker.new }
-        ensures number { worker.new.number ≡ worker.old.number }
+        ensures keeps { KeepsWorker worker.old worker.new }
         ensures decided { IfOk result (λ _. IsTurnable self.now.setup.nodes self.now.setup.dest self.now.setup.links x) }
         ensures refused { IfErr result (λ refusal. Refuses self.now.setup x refusal × (worker.new ≡ worker.old)) }
         ensures kind { IfOk result IsReplyToTurn }
-        ensures history { IfOk result
-            (λ reply. Extends self.now.setup worker.old.number worker.old.known (entry worker.old.number x reply) worker.new.known) }
-        ensures seen { (z : ℕ) → slice_index worker.old.seen z ≤ slice_index worker.new.seen z }
-        ensures count { IfOk result (λ reply. ShowsCount self.now.setup.nodes worker.old.seen worker.new.seen x reply) }
-        ensures known { IfOk result (λ _. IsKnowledge worker.new) }
+        ensures learns { IfOk result (λ reply. LearnsReply worker.old x reply worker.new) }
     {
-        let net = &self.terms.net;
-        if x >= net.nodes() {
-            return Err(Refusal::NoNode);
-        }
-        if x == self.terms.dest {
-            return Err(Refusal::Destination);
-        }
-        if net.degree(x) == 0 {
-            return Err(Refusal::Alone);
-        }
-        Ok(worker.turn(&self.terms, &self.table.shared, x))
+        self.words.terms.check_turn(x)?;
+        Ok(worker.turn(&self.words, x))
     }
 
     /// Looks where a link of node `x` points, and turns nothing: loads of the counts alone, by the steps of a call to turn it.
@@ -165,25 +147,14 @@ impl Round {
     /// loads, and a walk over the row of each node whose seen count rises: `O(d²)`.
     pub fn look(&self, worker: &mut Worker, x: u32) -> Result<Reply, Refusal>
         requires { IsOwn self.now worker.old }
-        ensures own { IsOwn self.now worker.new }
-        ensures number { worker.new.number ≡ worker.old.number }
+        ensures keeps { KeepsWorker worker.old worker.new }
         ensures decided { IfOk result (λ _. IsLookable self.now.setup.nodes self.now.setup.links x) }
         ensures refused { IfErr result (λ refusal. RefusesLook self.now.setup x refusal × (worker.new ≡ worker.old)) }
         ensures kind { IfOk result IsReplyToLook }
-        ensures history { IfOk result
-            (λ reply. Extends self.now.setup worker.old.number worker.old.known (entry worker.old.number x reply) worker.new.known) }
-        ensures seen { (z : ℕ) → slice_index worker.old.seen z ≤ slice_index worker.new.seen z }
-        ensures count { IfOk result (λ reply. ShowsCount self.now.setup.nodes worker.old.seen worker.new.seen x reply) }
-        ensures known { IfOk result (λ _. IsKnowledge worker.new) }
+        ensures learns { IfOk result (λ reply. LearnsReply worker.old x reply worker.new) }
     {
-        let net = &self.terms.net;
-        if x >= net.nodes() {
-            return Err(Refusal::NoNode);
-        }
-        if net.row(x).is_empty() {
-            return Err(Refusal::Alone);
-        }
-        Ok(worker.look(&self.terms, &self.table.shared, x))
+        self.words.terms.check_look(x)?;
+        Ok(worker.look(&self.words, x))
     }
 
     /// Ends the round: the network, the counts at the end, and the number and turns of each worker that is handed back. The
@@ -196,13 +167,12 @@ impl Round {
         ensures history { Closes self workers.items result.counts.items result.turned.items }
     {
         let Round {
-            terms,
-            table,
+            words: Words { terms, table },
             mut counts,
             mut turned,
         } = self;
         let (_, mut seat) = table.shared.load_new_seat::<BeginClosing>(0);
-        take_over(&table.shared, &mut seat, &mut turned, workers);
+        take_over(&table, &mut seat, &mut turned, workers);
         let closed = table.close_with(seat);
         read_counts(&closed, counts.as_mut_slice());
         closed.free();
