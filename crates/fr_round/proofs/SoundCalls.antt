@@ -1,5 +1,5 @@
 -- A call leaves a worker sound, and what it knows true.
-use Rattle.std.proofs.Common.{◌≡◌, ℕ, ◌+◌, ◌^◌, ◌<◌, ◌≤◌, List, [], ◌∷◌, ◌++◌, refl, sym, ap, ◌∙◌, subst, arith}
+use Rattle.std.proofs.Common.{◌≡◌, ℕ, ◌+◌, ◌^◌, ◌<◌, List, [], ◌∷◌, ◌++◌, refl, sym, ap, ◌∙◌, subst, arith}
 use Rattle.std.specs.Prelude.{slice_index}
 use Rattle.fr_graph.specs.Links.{IsNet}
 use Rattle.fr_core.specs.History.{part, turn_count}
@@ -16,7 +16,7 @@ use Rattle.fr_round.specs.Histories.{IsHistory, entry, reached}
 use Rattle.fr_round.specs.Calls.{ShowsCount}
 use Rattle.fr_round.specs.Callers.{Makes}
 use Rattle.fr_round.specs.Steps.{Extends}
-use Rattle.fr_round.specs.Knowledge.{IsKnowledge, KeepsWorker, LearnsReply}
+use Rattle.fr_round.specs.Knowledge.{IsKnowledge, LearnsReply}
 use Rattle.fr_round.specs.WorkerInside.{IsSoundWorker, knowledge_of}
 use Rattle.fr_round.proofs.Entries.{reached_count}
 use Rattle.fr_round.proofs.TurnCounts.{few_turns, turns_fit, turn_count_push, turn_of}
@@ -66,14 +66,6 @@ module _ (words : Words) (w : Inside) (p : Caller) (x : ℕ) (reply : Reply) (s 
             let r : reached b v.known z ≡ reached v.setup v.known z = ap (λ (i : Setup). reached i v.known z) (sym same_setup) in
             omega (arith, made.call.below z, e, r);
       }
-
-  pub keeps_after : (turned : ℕ) → KeepsWorker (knowledge_of w) (knowledge_of (with_caller w p turned))
-  keeps_after turned = record {
-    table = made.stays.seat.0;
-    setup = same_setup;
-    number = refl;
-    seen = subst (λ (l : List ℕ × List ℕ). (z : ℕ) → slice_index l.0 z ≤ slice_index l.1 z) (λ i. (s.noted i, made.stays.seen.counts i)) made.call.up;
-  }
 
   pub learns_after : (turned : ℕ) → LearnsReply (knowledge_of w) x reply (knowledge_of (with_caller w p turned))
   learns_after turned = record {

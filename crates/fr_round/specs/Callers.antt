@@ -27,7 +27,6 @@ pub record IsCaller (words : Words) (p : Caller) : Type 0 where
 pub record IsOfWords (words : Words) (k : Knowledge) : Type 0 where
   pub table : k.table ≡ words.table.shared.table_id
   pub one_each : words.table.shared.table_id.words ≡ words.terms.net.nodes
-  pub key : words.table.shared.key ≡ words.terms
   pub setup : k.setup ≡ setup_of words.terms
 
 -- a caller stays at its seat, and shows what it has seen

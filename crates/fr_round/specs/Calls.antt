@@ -66,7 +66,6 @@ pub record IsInCall (b : Setup) (x c : ℕ) (w : View) : Type 0 where
 pub record IsAtWords (words : Words) (seat : RoundSeat) : Type 0 where
   pub same : seat.table_id ≡ words.table.shared.table_id
   pub one_each : words.table.shared.table_id.words ≡ words.terms.net.nodes
-  pub key : words.table.shared.key ≡ words.terms
 
 -- a seat that takes workers back, at a table of words
 pub record IsClosing (table : TableId) (seat : RoundSeat) : Type 0 where

@@ -22,10 +22,8 @@ impl Caller {
         ensures made { Makes words.now self.old x result self.new }
         ensures kind { IsReplyToLook result }
     {
-        let found = words
-            .table
-            .shared
-            .load::<LoadAgain>(&mut self.seat, x as usize);
+        let shared = &words.table.shared;
+        let found = shared.load::<LoadAgain>(&mut self.seat, x as usize);
         self.seen.raise(&words.terms.net, x, found);
         if found == c {
             Reply::Sink
@@ -46,10 +44,8 @@ impl Caller {
         ensures kind { IsReplyToLook result }
     {
         words.terms.net.network_law();
-        let c = words
-            .table
-            .shared
-            .load::<LoadToLook>(&mut self.seat, x as usize);
+        let shared = &words.table.shared;
+        let c = shared.load::<LoadToLook>(&mut self.seat, x as usize);
         self.seen.raise(&words.terms.net, x, c);
         match self.held_by(words, x, c) {
             Some(by) => Reply::Held { by },

@@ -32,15 +32,16 @@ pub(crate) struct Caller {
 /// Loads the count of a neighbour of the node of the call. If that misses its bound, the call is decided.
 fn load_neighbour(words: &Words, seat: &mut RoundSeat, entry: (u16, First)) -> u64
     requires table { IsAtWords words.now seat.old }
-    requires call { IsInCall (setup_of words.now.table.shared.key) seat.old.me.0.node seat.old.me.0.count seat.old.me.0 }
-    requires entry { let b = setup_of words.now.table.shared.key in Contains (row b.nodes b.links seat.old.me.0.node) entry }
+    requires call { IsInCall (setup_of words.now.terms) seat.old.me.0.node seat.old.me.0.count seat.old.me.0 }
+    requires entry { let b = setup_of words.now.terms in Contains (row b.nodes b.links seat.old.me.0.node) entry }
     ensures { LoadsNeighbour seat.old entry result seat.new }
 {
     let (neighbour, first) = entry;
     let at = neighbour as usize;
+    let shared = &words.table.shared;
     match first {
-        First::Outward => words.table.shared.load::<LoadAlong>(seat, at),
-        First::Inward => words.table.shared.load::<LoadAgainst>(seat, at),
+        First::Outward => shared.load::<LoadAlong>(seat, at),
+        First::Inward => shared.load::<LoadAgainst>(seat, at),
     }
 }
 
@@ -87,16 +88,13 @@ impl Caller {
         ensures made { Makes words.now self.old x result self.new }
         ensures kind { IsReplyToTurn result }
     {
-        let net = &words.terms.net;
-        let found = words
-            .table
-            .shared
-            .compare_exchange::<Exchange>(&mut self.seat, x as usize, c, c + 1);
+        let shared = &words.table.shared;
+        let found = shared.compare_exchange::<Exchange>(&mut self.seat, x as usize, c, c + 1);
         if found == c {
-            self.seen.raise(net, x, c + 1);
+            self.seen.raise(&words.terms.net, x, c + 1);
             Reply::Turned { count: c + 1 }
         } else {
-            self.seen.raise(net, x, found);
+            self.seen.raise(&words.terms.net, x, found);
             Reply::Moved {
                 had: c,
                 count: found,
@@ -118,10 +116,8 @@ impl Caller {
         if had < nodes && self.seen.all_meet(x) {
             return self.exchange(words, x, had);
         }
-        let c = words
-            .table
-            .shared
-            .load::<LoadOwn>(&mut self.seat, x as usize);
+        let shared = &words.table.shared;
+        let c = shared.load::<LoadOwn>(&mut self.seat, x as usize);
         self.seen.raise(&words.terms.net, x, c);
         if c == nodes {
             return Reply::Cut;

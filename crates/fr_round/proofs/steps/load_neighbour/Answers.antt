@@ -1,9 +1,8 @@
-use Rattle.std.proofs.Common.{ap, arith, subst}
+use Rattle.std.proofs.Common.{arith, subst}
 use Rattle.std.specs.List.{Contains}
 use Rattle.fr_graph.proofs.Neighbours.{in_of_row, out_of_row, row_holds}
 use Rattle.fr_graph.specs.Rows.{row}
 use Rattle.fr_graph.specs.declared.first.First.{First}
-use Rattle.fr_round.specs.declared.terms.Terms.{Terms}
 use Rattle.fr_round.specs.Setups.{setup_of}
 use Rattle.fr_round.proofs.Keeping.{loads_along_at, loads_against_at}
 use Rattle.fr_round.proofs.steps.load_neighbour.Goals as goal
@@ -11,17 +10,15 @@ use Rattle.fr_round.proofs.steps.load_neighbour.Goals as goal
 pub load-requires : goal.load-requires
 load-requires c =
     let q = c.requires in
-    let b = setup_of c.args.words.now.table.shared.key in
-    let nodes = ap (λ (g : Terms). g.net.nodes) q.table.key in
+    let b = setup_of c.args.words.now.terms in
     let there = row_holds b.nodes b.links c.args.seat.now.me.0.node c.args.entry q.entry in
     let here = subst (λ (f : First). Contains (row b.nodes b.links c.args.seat.now.me.0.node) (c.args.entry.0, f)) c.in-Outward.is q.entry in
-    (q.table.same, omega (arith, q.table.one_each, nodes, there.0), loads_along_at b c.args.words.now.table.shared.table_id.slots c.args.seat.now.id c.args.seat.now.me c.args.seat.now.me.0.node c.args.seat.now.me.0.count c.args.entry.0 q.call (out_of_row b.nodes b.links c.args.seat.now.me.0.node c.args.entry.0 here))
+    (q.table.same, omega (arith, q.table.one_each, there.0), loads_along_at (setup_of c.args.words.now.table.shared.key) b c.args.words.now.table.shared.table_id.slots c.args.seat.now.id c.args.seat.now.me c.args.seat.now.me.0.node c.args.seat.now.me.0.count c.args.entry.0 q.call (out_of_row b.nodes b.links c.args.seat.now.me.0.node c.args.entry.0 here))
 
 pub load-requires-in-Inward : goal.load-requires-in-Inward
 load-requires-in-Inward c =
     let q = c.requires in
-    let b = setup_of c.args.words.now.table.shared.key in
-    let nodes = ap (λ (g : Terms). g.net.nodes) q.table.key in
+    let b = setup_of c.args.words.now.terms in
     let there = row_holds b.nodes b.links c.args.seat.now.me.0.node c.args.entry q.entry in
     let here = subst (λ (f : First). Contains (row b.nodes b.links c.args.seat.now.me.0.node) (c.args.entry.0, f)) c.in-Inward.is q.entry in
-    (q.table.same, omega (arith, q.table.one_each, nodes, there.0), loads_against_at b c.args.words.now.table.shared.table_id.slots c.args.seat.now.id c.args.seat.now.me c.args.seat.now.me.0.node c.args.seat.now.me.0.count c.args.entry.0 q.call (in_of_row b.nodes b.links c.args.seat.now.me.0.node c.args.entry.0 here))
+    (q.table.same, omega (arith, q.table.one_each, there.0), loads_against_at (setup_of c.args.words.now.table.shared.key) b c.args.words.now.table.shared.table_id.slots c.args.seat.now.id c.args.seat.now.me c.args.seat.now.me.0.node c.args.seat.now.me.0.count c.args.entry.0 q.call (in_of_row b.nodes b.links c.args.seat.now.me.0.node c.args.entry.0 here))

@@ -1,4 +1,4 @@
-use Rattle.std.proofs.Common.{ap, arith, sym}
+use Rattle.std.proofs.Common.{arith}
 use Rattle.fr_round.specs.Setups.{setup_of}
 use Rattle.fr_round.proofs.Keeping.{ends_look_at}
 use Rattle.fr_round.proofs.steps.Caller.confirm.Goals as goal
@@ -8,5 +8,5 @@ load-found-requires c =
     let q = c.requires in (
       q.caller.table.same,
       omega (arith, q.caller.table.one_each, q.node.inside),
-      ends_look_at (setup_of c.args.words.now.table.shared.key) (setup_of c.args.words.now.terms) (sym (ap setup_of q.caller.table.key)) c.args.words.now.table.shared.table_id.slots c.args.self.now.seat.id c.args.self.now.seat.me c.args.x c.args.c q.call q.node q.met,
+      ends_look_at (setup_of c.args.words.now.table.shared.key) (setup_of c.args.words.now.terms) c.args.words.now.table.shared.table_id.slots c.args.self.now.seat.id c.args.self.now.seat.me c.args.x c.args.c q.call q.node q.met,
     )

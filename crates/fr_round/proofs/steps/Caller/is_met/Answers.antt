@@ -5,7 +5,6 @@ use Rattle.fr_core.specs.Machine.{bound_of}
 use Rattle.std.specs.List.{Contains}
 use Rattle.fr_graph.specs.Rows.{row}
 use Rattle.fr_core.specs.declared.entry.Reply.TheVariants.{Held}
-use Rattle.fr_round.specs.declared.terms.Terms.{Terms}
 use Rattle.fr_round.specs.declared.view.Setup.{Setup}
 use Rattle.fr_round.specs.Setups.{setup_of}
 use Rattle.fr_round.specs.Calls.{IsInCall}
@@ -21,13 +20,12 @@ misses-requires c =
 pub load_neighbour-found-requires-clause-call : goal.load_neighbour-found-requires-clause-call
 load_neighbour-found-requires-clause-call c =
     let call = c.requires.call in
-    let key = c.requires.caller.table.key in
-    subst (λ (p : Terms × (ℕ × ℕ)). IsInCall (setup_of p.0) p.1.0 p.1.1 c.args.self.now.seat.me.0) (λ i. (sym key i, (sym call.node i, sym call.count i))) call
+    subst (λ (p : ℕ × ℕ). IsInCall (setup_of c.args.words.now.terms) p.0 p.1 c.args.self.now.seat.me.0) (λ i. (sym call.node i, sym call.count i)) call
 
 pub load_neighbour-found-requires-clause-entry : goal.load_neighbour-found-requires-clause-entry
 load_neighbour-found-requires-clause-entry c =
-    let key = c.requires.caller.table.key in
-    subst (λ (p : Terms × ℕ). Contains (row p.0.net.nodes p.0.net.links p.1) c.args.entry) (λ i. (sym key i, sym c.requires.call.node i)) c.requires.entry
+    let net = c.args.words.now.terms.net in
+    subst (λ (y : ℕ). Contains (row net.nodes net.links y) c.args.entry) (sym c.requires.call.node) c.requires.entry
 
 pub raise-requires-clause-node : goal.raise-requires-clause-node
 raise-requires-clause-node c =
