@@ -52,7 +52,7 @@ impl From<AllocError> for LiveFault {
     }
 }
 
-/// Walks on from node `x`, which is the only one in `nodes`, and pushes each node to which it hops.
+/// Walks on from node `x`, the only one in `nodes`, and pushes each node to which it hops.
 fn walk_on(round: &Round, worker: &mut Worker, nodes: &mut Vec<u32>, x: u32, limit: u32) -> LiveEnd
     requires own { IsOwn round.now worker.old }
     requires node { IsLookable round.now.setup.nodes round.now.setup.links x }
@@ -92,13 +92,14 @@ fn walk_on(round: &Round, worker: &mut Worker, nodes: &mut Vec<u32>, x: u32, lim
     }
 }
 
-/// Walks from node `x` by looks, while other workers turn: it hops to the neighbour that holds the node where it stands,
-/// looks again where the node moved meanwhile, and ends at the destination, at a sink, or after `limit` looks. Each look is
-/// true at its own moment, and no two need be true at one: the walk may come to a node twice. It waits for nobody.
+/// Walks from node `x` by looks, while other workers turn: it hops to the neighbour that holds the node where it is,
+/// and looks again if the node moved meanwhile. It ends at the destination, at a sink, or after `limit` looks. Each look
+/// is true at its own moment, and no two need be true at one: the walk may visit a node twice. It waits for nobody.
 ///
-/// The worker has to be one of this round. A walk from what is no node or from a node with no link is refused, by `NoNode` or `Alone`
-/// in this order; then room for `limit` and one nodes is taken, before the first look, and `Memory` answered where there is none. After
-/// a fault nothing has changed, and the worker knows what it knew. At most `limit` looks, `O(d²)` each.
+/// The worker has to be one of this round. A walk is refused with `NoNode` or `Alone`, tested in this order, if `x` is no
+/// node or a node with no link. Then it takes room for `limit` and one nodes, before the first look, and fails with
+/// `Memory` if the allocation is refused. After a fault nothing has changed, and the worker knows what it knew. At most
+/// `limit` looks, `O(d²)` each.
 pub fn live_walk(
     alloc: Global,
     round: &Round,

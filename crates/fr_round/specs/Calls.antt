@@ -1,5 +1,5 @@
--- What a call and its steps make of what a worker knows. Contracts of the public calls cite `ShowsCount` alone, and the laws what a step
--- needs: `IsWorker`, `IsInCall`, `AllMeet`.
+-- What a call and its steps make of what a worker knows. Contracts of the public calls cite `ShowsCount` alone, and
+-- the laws what a step needs: `IsWorker`, `IsInCall`, `AllMeet`.
 use Rattle.std.specs.Prelude.{◌≡◌, ℕ, ◌+◌, ◌<◌, ◌≤◌, true, false, List, [], slice_index, replicate}
 use Rattle.atomic_table.specs.Seated.{TableId}
 use Rattle.atomic_table.specs.declared.shared.Seat.{Seat}

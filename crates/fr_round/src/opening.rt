@@ -26,7 +26,8 @@ fn zeros(alloc: Global, count: u32) -> Result<Vec<u64>, AllocError>
     vec![in alloc; 0u64; count as usize]
 }
 
-/// The words, all 0, and the workers. The seat that gives out their numbers goes at the end: it could not be shared by threads.
+/// The words, all 0, and the workers. The seat that gives out their numbers goes at the end: it could not be shared
+/// by threads.
 fn make_table(alloc: Global, terms: &Terms) -> Result<Seated, AllocError>
     requires dest { terms.now.dest < terms.now.net.nodes }
     requires net { IsNet terms.now.net.nodes terms.now.net.links }

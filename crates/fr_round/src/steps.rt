@@ -1,5 +1,5 @@
-//! The steps of a call on a node: those loads of the machine of `fr_core` that what was seen does not settle, and its exchange,
-//! one by one, on atomic words.
+//! The steps of a call on a node: those loads of the machine of `fr_core` that what was seen does not settle, and its
+//! exchange, one by one, on atomic words.
 
 ghost use Rattle.std.specs.Prelude.{◌≡◌, ◌<◌, IfNone, IfSome, slice_index};
 ghost use Rattle.std.specs.List.{Contains};
@@ -46,8 +46,8 @@ fn load_neighbour(words: &Words, seat: &mut RoundSeat, entry: (u16, First)) -> u
 }
 
 impl Caller {
-    /// Whether a neighbour of `x` meets its bound for the count `c` of `x`: by what was seen, or else by a load. If not, the
-    /// call is decided.
+    /// Whether a neighbour of `x` meets its bound for the count `c` of `x`: by what was seen, or else by a load. If
+    /// not, the call is decided.
     fn is_met(&mut self, words: &Words, x: u32, c: u64, entry: (u16, First)) -> bool
         requires caller { IsCaller words.now self.old }
         requires call { IsInCall (setup_of words.now.terms) x c self.old.seat.me.0 }
@@ -62,7 +62,8 @@ impl Caller {
         !self.seen.misses(entry, c)
     }
 
-    /// The first neighbour of `x`, in the order of its row, that misses its bound for the count `c` of `x`. It decides the call.
+    /// The first neighbour of `x`, in the order of its row, that misses its bound for the count `c` of `x`. It
+    /// decides the call.
     pub(crate) fn held_by(&mut self, words: &Words, x: u32, c: u64) -> Option<u32>
         requires caller { IsCaller words.now self.old }
         requires call { IsInCall (setup_of words.now.terms) x c self.old.seat.me.0 }
@@ -102,9 +103,10 @@ impl Caller {
         }
     }
 
-    /// One call on node `x`, up to the step that decides it. If every neighbour was seen to meet its bound for the seen count of
-    /// `x`, it is the exchange of that count alone. Else its own count is loaded, then those of the neighbours that were not seen
-    /// to meet their bounds for it, in the order of its row, and then its own count is exchanged.
+    /// One call on node `x`, up to the step that decides it. If every neighbour was seen to meet its bound for the
+    /// seen count of `x`, it is the exchange of that count alone. Else its own count is loaded, then those of the
+    /// neighbours that were not seen to meet their bounds for it, in the order of its row, and then its own count is
+    /// exchanged.
     pub(crate) fn turn_at(&mut self, words: &Words, x: u32) -> Reply
         requires caller { IsCaller words.now self.old }
         requires node { IsTurnable words.now.terms.net.nodes words.now.terms.dest words.now.terms.net.links x }

@@ -16,8 +16,8 @@ use crate::words::Words;
 use fr_core::Reply;
 use std::marker::Model;
 
-/// A worker of a round, which one thread at a time holds. Contracts see what it knows: the history up to its last call, and
-/// counts that the nodes had reached.
+/// A worker of a round, which one thread at a time holds. Contracts see what it knows: the history up to its last
+/// call, and counts that the nodes had reached.
 #[derive(Drop)]
 pub struct Worker {
     caller: Caller,
@@ -88,7 +88,8 @@ impl Worker {
         self.turned
     }
 
-    /// A count that node `x`, which has to be one, had reached by the worker's last call. It never falls, and takes no step. `O(1)`.
+    /// A count that node `x`, which has to be one, had reached by the worker's last call. It never falls, and takes
+    /// no step. `O(1)`.
     pub fn seen(&self, x: u32) -> u64
         requires { x < self.now.setup.nodes }
         ensures seen { result ≡ slice_index self.now.seen x }
