@@ -1,5 +1,5 @@
 -- A walk under way, and what one look makes of it.
-use Rattle.std.proofs.Common.{◌≡◌, ◌≢◌, ◌∙◌, ◌++◌, ◌+◌, ◌<◌, ◌≤◌, ◌∷◌, [], ℕ, List, ap, arith, inl, inr, length, length-append, refl, slice_index, subst, sym, ⊎_elim}
+use Rattle.std.proofs.Common.{◌≡◌, ◌≢◌, ◌∙◌, ◌++◌, ◌+◌, ◌<◌, ◌∷◌, [], ℕ, List, ap, arith, inl, inr, length, length-append, refl, subst, sym, ⊎_elim}
 use Rattle.std.specs.List.{AllByRecursion as Each, flat_map}
 use Rattle.std.specs.Prelude.{Err, IfErr, Ok, Result}
 use Rattle.std.specs.Result.{IsErrAnd}
@@ -21,11 +21,10 @@ use Rattle.fr_round.specs.declared.faults.Refusal.{Refusal}
 use Rattle.fr_round.specs.declared.faults.Refusal.TheVariants.{Alone, Destination, NoNode}
 use Rattle.fr_round.specs.declared.view.Setup.{Setup}
 use Rattle.fr_round.specs.Histories.{IsHistory, StartsWith, entry, moment, start}
-use Rattle.fr_round.specs.Knowledge.{IsKnowledge, IsOwn, Knowledge, OpenRound, RefusesLook}
+use Rattle.fr_round.specs.Knowledge.{IsKnowledge, KeepsWorker, Knowledge, LearnsReply, RefusesLook}
 use Rattle.fr_round.specs.Steps.{Extends}
 use Rattle.fr_round.proofs.Entries.{lawful_after}
 use Rattle.fr_round.proofs.Keeping.{each_snoc}
-use Rattle.fr_crew.specs.Crews.{IsSameWorker}
 use Rattle.fr_crew.specs.LiveWalks.{AreLooksFrom, FindsNoSink, HasWalked, hop_of, node_after, trail}
 use Rattle.fr_crew.specs.declared.live_walks.LiveEnd.TheVariants.{AtSink}
 use Rattle.fr_crew.specs.declared.live_walks.LiveFault.{LiveFault}
@@ -51,7 +50,7 @@ trail-push x es e = ap (λ (l : List ℕ). x ∷ l) (flat_map-append (λ (f : En
 
 -- a walk from x after so many looks: it stands at the last of its nodes
 pub record IsWalking (old now : Knowledge) (d x made : ℕ) (nodes : List ℕ) (here : ℕ) : Type 0 where
-  pub same : IsSameWorker old now
+  pub keeps : KeepsWorker old now
   pub looks : List Entry
   pub begins : StartsWith now.known old.known
   pub own : part old.number now.known ≡ part old.number old.known ++ looks
@@ -62,12 +61,11 @@ pub record IsWalking (old now : Knowledge) (d x made : ℕ) (nodes : List ℕ) (
   pub nodes_are : nodes ≡ trail x looks
   pub front : List ℕ
   pub parted : nodes ≡ front ++ here ∷ []
-  pub up : (z : ℕ) → slice_index old.seen z ≤ slice_index now.seen z
-  pub knows : IsKnowledge now
+  pub known : IsKnowledge now
 
 pub walk_begins : (old : Knowledge) (d x : ℕ) (nodes : List ℕ) → nodes ≡ x ∷ [] → IsKnowledge old → IsWalking old old d x 0 nodes x
-walk_begins old d x nodes is knows = record {
-  same = record { table = refl; setup = refl; number = refl };
+walk_begins old d x nodes is known = record {
+  keeps = record { table = refl; setup = refl; number = refl; seen = λ z. omega arith };
   looks = [];
   begins = ([], sym (append-nil old.known));
   own = sym (append-nil (part old.number old.known));
@@ -78,37 +76,20 @@ walk_begins old d x nodes is knows = record {
   nodes_are = is;
   front = [];
   parted = is;
-  up = λ z. omega arith;
-  knows = knows;
+  known = known;
 }
 
 -- what one look leaves of what the worker knew
-pub record HasLooked (b : Setup) (now next : Knowledge) (here : ℕ) (reply : Reply) : Type 0 where
-  pub same : IsSameWorker now next
-  pub history : Extends b now.number now.known (entry now.number here reply) next.known
+pub record HasLooked (now next : Knowledge) (here : ℕ) (reply : Reply) : Type 0 where
+  pub keeps : KeepsWorker now next
+  pub learns : LearnsReply now here reply next
   pub kind : IsReplyToLook reply
-  pub up : (z : ℕ) → slice_index now.seen z ≤ slice_index next.seen z
-  pub knows : IsKnowledge next
 
-pub looked_by : (round : OpenRound) (old now next : Knowledge) (here : ℕ) (reply : Reply) → IsOwn round old → IsSameWorker old now → IsOwn round next → next.number ≡ now.number → IsReplyToLook reply
-    → Extends round.setup now.number now.known (entry now.number here reply) next.known → ((z : ℕ) → slice_index now.seen z ≤ slice_index next.seen z) → IsKnowledge next → HasLooked round.setup now next here reply
-looked_by round old now next here reply own same own' number kind history up knows = record {
-  same = record {
-    table = own'.table ∙ sym (same.table ∙ own.table);
-    setup = own'.setup ∙ sym (same.setup ∙ own.setup);
-    number = number;
-  };
-  history = history;
-  kind = kind;
-  up = up;
-  knows = knows;
-}
-
-module _ (b : Setup) (old now next : Knowledge) (d x made : ℕ) (nodes : List ℕ) (here : ℕ) (w : IsWalking old now d x made nodes here) (reply : Reply) (looked : HasLooked b now next here reply) where
+module _ (old now next : Knowledge) (d x made : ℕ) (nodes : List ℕ) (here : ℕ) (w : IsWalking old now d x made nodes here) (reply : Reply) (looked : HasLooked now next here reply) where
   begins_on : StartsWith next.known old.known
   begins_on =
       let e = entry now.number here reply in
-      let h = looked.history in (
+      let h = looked.learns.history in (
         w.begins.0 ++ (h.between ++ e ∷ []),
         h.begins
             ∙ (append_assoc now.known h.between (e ∷ [])
@@ -119,8 +100,16 @@ module _ (b : Setup) (old now next : Knowledge) (d x made : ℕ) (nodes : List �
   own_more : part old.number next.known ≡ part old.number old.known ++ (w.looks ++ entry now.number here reply ∷ [])
   own_more =
       let e = entry now.number here reply in
-      subst (λ (k : ℕ). part k next.known ≡ part k now.known ++ e ∷ []) w.same.number looked.history.own
+      subst (λ (k : ℕ). part k next.known ≡ part k now.known ++ e ∷ []) w.keeps.number looked.learns.history.own
       ∙ (ap (λ (l : List Entry). l ++ e ∷ []) w.own ∙ append_assoc (part old.number old.known) w.looks (e ∷ []))
+
+  pub keeps_after : KeepsWorker old next
+  keeps_after = record {
+    table = looked.keeps.table ∙ w.keeps.table;
+    setup = looked.keeps.setup ∙ w.keeps.setup;
+    number = looked.keeps.number ∙ w.keeps.number;
+    seen = λ z. omega (arith, w.keeps.seen z, looked.keeps.seen z);
+  }
 
   length_more : length (w.looks ++ entry now.number here reply ∷ []) ≡ made + 1
   length_more = omega (arith, length-append w.looks (entry now.number here reply ∷ []), w.count)
@@ -131,11 +120,7 @@ module _ (b : Setup) (old now next : Knowledge) (d x made : ℕ) (nodes : List �
   -- the walk goes on, after a look that found no sink
   pub walks_on : (more : List ℕ) (front : List ℕ) → here ≢ d → reply ≢ Sink → more ≡ nodes ++ hop_of reply → more ≡ front ++ node_after here reply ∷ [] → IsWalking old next d x (made + 1) more (node_after here reply)
   walks_on more front other none is parted = record {
-    same = record {
-      table = looked.same.table ∙ w.same.table;
-      setup = looked.same.setup ∙ w.same.setup;
-      number = looked.same.number ∙ w.same.number;
-    };
+    keeps = keeps_after;
     looks = w.looks ++ entry now.number here reply ∷ [];
     begins = begins_on;
     own = own_more;
@@ -146,38 +131,38 @@ module _ (b : Setup) (old now next : Knowledge) (d x made : ℕ) (nodes : List �
     nodes_are = is ∙ (ap (λ (l : List ℕ). l ++ hop_of reply) w.nodes_are ∙ sym (trail-push x w.looks (entry now.number here reply)));
     front = front;
     parted = parted;
-    up = λ z. omega (arith, w.up z, looked.up z);
-    knows = looked.knows;
+    known = looked.learns.known;
   }
 
 -- it hops, or it stays
-pub walks_held : (b : Setup) (old now next : Knowledge) (d x made : ℕ) (nodes : List ℕ) (here : ℕ) → IsWalking old now d x made nodes here → (by : ℕ) → HasLooked b now next here (Held by) → here ≢ d
+pub walks_held : (old now next : Knowledge) (d x made : ℕ) (nodes : List ℕ) (here : ℕ) → IsWalking old now d x made nodes here → (by : ℕ) → HasLooked now next here (Held by) → here ≢ d
     → (more : List ℕ) → more ≡ nodes ++ by ∷ [] → IsWalking old next d x (made + 1) more by
-walks_held b old now next d x made nodes here w by looked other more is = walks_on b old now next d x made nodes here w (Held by) looked more nodes other (held_is_no_sink by) is is
+walks_held old now next d x made nodes here w by looked other more is = walks_on old now next d x made nodes here w (Held by) looked more nodes other (held_is_no_sink by) is is
   where
     held_is_no_sink : (k : ℕ) → ◌≢◌ {A = Reply} (Held k) Sink
     held_is_no_sink k e = cc
 
-pub walks_moved : (b : Setup) (old now next : Knowledge) (d x made : ℕ) (nodes : List ℕ) (here : ℕ) → IsWalking old now d x made nodes here → (had k : ℕ) → HasLooked b now next here (Moved had k) → here ≢ d
+pub walks_moved : (old now next : Knowledge) (d x made : ℕ) (nodes : List ℕ) (here : ℕ) → IsWalking old now d x made nodes here → (had k : ℕ) → HasLooked now next here (Moved had k) → here ≢ d
     → IsWalking old next d x (made + 1) nodes here
-walks_moved b old now next d x made nodes here w had k looked other = walks_on b old now next d x made nodes here w (Moved had k) looked nodes w.front other (moved_is_no_sink had k) (sym (append-nil nodes)) w.parted
+walks_moved old now next d x made nodes here w had k looked other = walks_on old now next d x made nodes here w (Moved had k) looked nodes w.front other (moved_is_no_sink had k) (sym (append-nil nodes)) w.parted
   where
     moved_is_no_sink : (h j : ℕ) → ◌≢◌ {A = Reply} (Moved h j) Sink
     moved_is_no_sink h j e = cc
 
 -- a walk that ends at a sink
-pub ends_at_sink : (b : Setup) (old now next : Knowledge) (d x made limit : ℕ) (nodes : List ℕ) (here : ℕ) → IsWalking old now d x made nodes here → HasLooked b now next here Sink → here ≢ d → made < limit → HasWalked old next d x limit nodes AtSink
-ends_at_sink b old now next d x made limit nodes here w looked other few = record {
+pub ends_at_sink : (old now next : Knowledge) (d x made limit : ℕ) (nodes : List ℕ) (here : ℕ) → IsWalking old now d x made nodes here → HasLooked now next here Sink → here ≢ d → made < limit → HasWalked old next d x limit nodes AtSink
+ends_at_sink old now next d x made limit nodes here w looked other few = record {
   looks = w.looks ++ entry now.number here Sink ∷ [];
-  begins = begins_on b old now next d x made nodes here w Sink looked;
-  own = own_more b old now next d x made nodes here w Sink looked;
-  along = along_more b old now next d x made nodes here w Sink looked other;
-  few = omega (arith, length_more b old now next d x made nodes here w Sink looked, few);
+  begins = begins_on old now next d x made nodes here w Sink looked;
+  own = own_more old now next d x made nodes here w Sink looked;
+  along = along_more old now next d x made nodes here w Sink looked other;
+  few = omega (arith, length_more old now next d x made nodes here w Sink looked, few);
   nodes_are = w.nodes_are ∙ (sym (append-nil (trail x w.looks)) ∙ sym (trail-push x w.looks (entry now.number here Sink)));
   front = w.front;
   last = here;
   parted = w.parted;
   ends = (w.looks, entry now.number here Sink, refl, refl, refl);
+  known = looked.learns.known;
 }
 
 -- the neighbour that holds a node has a link, and can be looked at

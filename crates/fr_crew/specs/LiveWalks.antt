@@ -1,5 +1,7 @@
 -- A walk by looks, hop by hop, while workers turn.
-use Rattle.std.specs.Prelude.{◌≡◌, ◌≢◌, ℕ, ◌<◌, ◌≤◌, List, [], ◌∷◌, ◌++◌, length}
+use Rattle.std.specs.Prelude.{◌≡◌, ◌≢◌, ℕ, ◌<◌, ◌≤◌, List, [], ◌∷◌, ◌++◌, ◌+◌, length, vec_capacity, vec_len}
+use Rattle.std.specs.declared.vec.Vec.{Vec}
+use Rattle.std.specs.declared.alloc.Global.{Global}
 use Rattle.std.specs.List.{AllByRecursion as Each, flat_map}
 use Rattle.fr_graph.specs.Links.{IsAlone}
 use Rattle.fr_core.specs.History.{part}
@@ -10,7 +12,7 @@ use Rattle.fr_core.specs.declared.entry.Reply.{Reply}
 use Rattle.fr_core.specs.declared.entry.Reply.TheVariants.{Turned, Held, Moved, Cut, Sink}
 use Rattle.fr_round.specs.declared.view.Setup.{Setup}
 use Rattle.fr_round.specs.Histories.{StartsWith}
-use Rattle.fr_round.specs.Knowledge.{Knowledge}
+use Rattle.fr_round.specs.Knowledge.{IsKnowledge, Knowledge}
 use Rattle.fr_crew.specs.declared.live_walks.LiveEnd.{LiveEnd}
 use Rattle.fr_crew.specs.declared.live_walks.LiveEnd.TheVariants.{Here, AtSink, Limit}
 use Rattle.fr_crew.specs.declared.live_walks.LiveFault.{LiveFault}
@@ -52,6 +54,12 @@ EndsBy d limit last looks Here = last ≡ d
 EndsBy d limit last looks AtSink = (before : List Entry) × (e : Entry) × (looks ≡ before ++ e ∷ []) × (e.node ≡ last) × (e.reply ≡ Sink)
 EndsBy d limit last looks Limit = (last ≢ d) × (length looks ≡ limit) × Each FindsNoSink looks
 
+-- the only node is x, and there is room for one more by each look
+pub record HasRoomToWalk (nodes : Vec ℕ Global) (x limit : ℕ) : Type 0 where
+  pub first : nodes.items ≡ x ∷ []
+  pub one : vec_len nodes ≡ 1
+  pub room : limit + 1 ≤ vec_capacity nodes
+
 -- a worker has walked from x along these nodes:
 pub record HasWalked (old new : Knowledge) (d x limit : ℕ) (nodes : List ℕ) (end : LiveEnd) : Type 0 where
   -- its history goes on, and its own part of that by these looks alone,
@@ -61,12 +69,14 @@ pub record HasWalked (old new : Knowledge) (d x limit : ℕ) (nodes : List ℕ) 
   -- which are those of the walk, no more than the limit,
   pub along : AreLooksFrom d x looks
   pub few : length looks ≤ limit
-  -- and it ends at the last of its nodes
+  -- it ends at the last of its nodes,
   pub nodes_are : nodes ≡ trail x looks
   pub front : List ℕ
   pub last : ℕ
   pub parted : nodes ≡ front ++ last ∷ []
   pub ends : EndsBy d limit last looks end
+  -- and what the worker knows is true
+  pub known : IsKnowledge new
 
 abbrev pub IsLiveWalk : Knowledge → Knowledge → ℕ → ℕ → ℕ → LiveWalk → Type 0
 IsLiveWalk old new d x limit walk = HasWalked old new d x limit walk.nodes.items walk.end

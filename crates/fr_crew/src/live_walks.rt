@@ -1,9 +1,9 @@
 //! Walks along the links of an open round, while workers turn its nodes.
 
-ghost use Rattle.std.specs.Prelude.{◌≡◌, ◌≢◌, ◌≤◌, ◌+◌, ℕ, [], ◌∷◌, IfOk, IfErr, slice_index, vec_len, vec_capacity};
+ghost use Rattle.std.specs.Prelude.{◌≡◌, IfOk, IfErr};
 ghost use Rattle.fr_core.specs.Targets.{IsLookable};
-ghost use Rattle.fr_round.specs.Knowledge.{IsOwn, IsKnowledge};
-ghost use Rattle.fr_crew.specs.LiveWalks.{IsLiveWalk, IsLiveFault, HasWalked};
+ghost use Rattle.fr_round.specs.Knowledge.{IsOwn, KeepsWorker};
+ghost use Rattle.fr_crew.specs.LiveWalks.{IsLiveWalk, IsLiveFault, HasRoomToWalk, HasWalked};
 ghost use Rattle.fr_crew.specs.declared.live_walks.LiveFault.TheVariants.{Memory};
 
 use fr_core::Reply;
@@ -52,19 +52,16 @@ impl From<AllocError> for LiveFault {
     }
 }
 
-/// Walks on from node `x`, which is the only one in `nodes`, and pushes each node to which it hops.
+/// Walks on from node `x`, the only one in `nodes`, and pushes each node to which it hops.
 fn walk_on(round: &Round, worker: &mut Worker, nodes: &mut Vec<u32>, x: u32, limit: u32) -> LiveEnd
     requires own { IsOwn round.now worker.old }
-    requires knows { IsKnowledge worker.old }
     requires node { IsLookable round.now.setup.nodes round.now.setup.links x }
-    requires nodes { nodes.old.items ≡ x ∷ [] }
-    requires room { (vec_len nodes.old ≡ 1) × (limit + 1 ≤ vec_capacity nodes.old) }
-    ensures own { IsOwn round.now worker.new }
-    ensures number { worker.new.number ≡ worker.old.number }
+    requires room { HasRoomToWalk nodes.old x limit }
+    ensures keeps { KeepsWorker worker.old worker.new }
     ensures walked { HasWalked worker.old worker.new round.now.setup.dest x limit nodes.new.items result }
-    ensures seen { (z : ℕ) → slice_index worker.old.seen z ≤ slice_index worker.new.seen z }
-    ensures known { IsKnowledge worker.new }
 {
+    // What it has seen shows that what it knows is true, also where the walk makes no look.
+    let _seen = worker.seen(x);
     // By the law a link joins two nodes of the network.
     round.net().network_law();
     let dest = round.dest();
@@ -95,13 +92,14 @@ fn walk_on(round: &Round, worker: &mut Worker, nodes: &mut Vec<u32>, x: u32, lim
     }
 }
 
-/// Walks from node `x` by looks, while other workers turn: it hops to the neighbour that holds the node where it stands,
-/// looks again where the node moved meanwhile, and ends at the destination, at a sink, or after `limit` looks. Each look is
-/// true at its own moment, and no two need be true at one: the walk may come to a node twice. It waits for nobody.
+/// Walks from node `x` by looks, while other workers turn: it hops to the neighbour that holds the node where it is,
+/// and looks again if the node moved meanwhile. It ends at the destination, at a sink, or after `limit` looks. Each look
+/// is true at its own moment, and no two need be true at one: the walk may visit a node twice. It waits for nobody.
 ///
-/// The worker has to be one of this round. A walk from what is no node or from a node with no link is refused, by `NoNode` or `Alone`
-/// in this order; then room for `limit` and one nodes is taken, before the first look, and `Memory` answered where there is none. After
-/// a fault nothing has changed, and the worker knows what it knew. At most `limit` looks, `O(d²)` each.
+/// The worker has to be one of this round. A walk is refused with `NoNode` or `Alone`, tested in this order, if `x` is no
+/// node or a node with no link. Then it takes room for `limit` and one nodes, before the first look, and fails with
+/// `Memory` if the allocation is refused. After a fault nothing has changed, and the worker knows what it knew. At most
+/// `limit` looks, `O(d²)` each.
 pub fn live_walk(
     alloc: Global,
     round: &Round,
@@ -110,13 +108,10 @@ pub fn live_walk(
     limit: u32,
 ) -> Result<LiveWalk, LiveFault>
     requires { IsOwn round.now worker.old }
-    ensures own { IsOwn round.now worker.new }
-    ensures number { worker.new.number ≡ worker.old.number }
+    ensures keeps { KeepsWorker worker.old worker.new }
     ensures begun { IfOk result (λ _. IsLookable round.now.setup.nodes round.now.setup.links x) }
     ensures refused { IfErr result (λ fault. IsLiveFault round.now.setup x fault × (worker.new ≡ worker.old)) }
     ensures walked { IfOk result (λ walk. IsLiveWalk worker.old worker.new round.now.setup.dest x limit walk) }
-    ensures seen { (z : ℕ) → slice_index worker.old.seen z ≤ slice_index worker.new.seen z }
-    ensures known { IfOk result (λ _. IsKnowledge worker.new) }
 {
     let net = round.net();
     if x >= net.nodes() {
@@ -127,8 +122,6 @@ pub fn live_walk(
     }
     let mut nodes = Vec::with_capacity(alloc, limit as usize + 1)?;
     nodes.push_reserved(x);
-    // That what it knows is true is said of a worker by what it has seen, also where the walk makes no look.
-    let _seen = worker.seen(x);
     let end = walk_on(round, worker, &mut nodes, x, limit);
     Ok(LiveWalk { nodes, end })
 }

@@ -46,7 +46,6 @@ looks_on b v w w' x c i y g is le other here =
         own = ap (λ l. slice_index l x) set_is ∙ (get_or-set_other w.seen y x f 0 (λ e. other (sym e)) ∙ l.own);
       };
       enough = enough_next (row b.nodes b.links x) i c w.seen w'.seen risen g.enough here;
-      low = g.low;
     }
 
 -- every neighbour meets its bound where each entry of the row does,

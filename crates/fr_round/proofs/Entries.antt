@@ -22,12 +22,7 @@ lawful_after b h net run = run_keeps b.nodes b.dest b.links net (start b) (recor
 pub reached_count : (b : Setup) (h : List Entry) → IsHistory b h → (y : ℕ) → reached b h y ≡ turn_count_of y h
 reached_count b h run y = omega (arith, run_count b.nodes b.dest (start b) h (length-replicate b.nodes 0) run y, zeros b.nodes y)
 
-pub set_same_value : (xs : List ℕ) (i : ℕ) → set xs i (get_or xs i 0) ≡ xs
-set_same_value [] i = refl
-set_same_value (x ∷ xs) zero = refl
-set_same_value (x ∷ xs) (suc i) = ap (λ l. x ∷ l) (set_same_value xs i)
-
-pub set_or : (xs : List ℕ) (i v y : ℕ) → (get_or (set xs i v) y 0 ≡ get_or xs y 0) ⊎ ((y ≡ i) × (get_or (set xs i v) y 0 ≡ v))
+set_or : (xs : List ℕ) (i v y : ℕ) → (get_or (set xs i v) y 0 ≡ get_or xs y 0) ⊎ ((y ≡ i) × (get_or (set xs i v) y 0 ≡ v))
 set_or [] i v y = inl refl
 set_or (x ∷ xs) zero v zero = inr (refl, refl)
 set_or (x ∷ xs) zero v (suc y) = inl refl
@@ -55,3 +50,9 @@ part_mine k h e is = filter-append (λ (e : Entry). eqb e.worker k) h (e ∷ [])
 
 pub part_other : (k : ℕ) (h : List Entry) (e : Entry) → e.worker ≢ k → part k (h ++ e ∷ []) ≡ part k h
 part_other k h e not = filter-append (λ (e : Entry). eqb e.worker k) h (e ∷ []) ∙ (ap (λ (b : Bool). part k h ++ cond b (e ∷ []) []) (ne_eqb e.worker k not) ∙ append-nil (part k h))
+
+pub part_more : (k : ℕ) (e : Entry) (h : List Entry) → e.worker ≡ k → part k (e ∷ h) ≡ e ∷ part k h
+part_more k e h is = ap (λ (b : Bool). cond b (e ∷ part k h) (part k h)) (eq-eqb e.worker k is)
+
+pub part_same : (k : ℕ) (e : Entry) (h : List Entry) → e.worker ≢ k → part k (e ∷ h) ≡ part k h
+part_same k e h ne = ap (λ (b : Bool). cond b (e ∷ part k h) (part k h)) (ne_eqb e.worker k ne)

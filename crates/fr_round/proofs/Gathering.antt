@@ -1,7 +1,8 @@
 -- The closing of a round.
 use Rattle.std.proofs.Common.{◌≡◌, ◌≢◌, ℕ, zero, suc, ◌+◌, ◌<◌, ◌≤◌, true, List, [], ◌∷◌, ◌++◌, map, length, get_or, set, refl, sym, ap, ◌∙◌, subst, arith, append_assoc, append-nil, length-append, get_or-set_same, get_or-set_other, ext_get_or, sum_by}
 use mathlib.Core.List.{map-append}
-use Rattle.std.proofs.lemmas.List.{nil_from_length}
+use Rattle.std.proofs.lemmas.List.{length-map, nil_from_length}
+use Rattle.std.proofs.lemmas.Simd.{map-map}
 use Rattle.std.specs.List.{AllByRecursion as Each}
 use mathlib.Core.Option.{some, some-ne-none, some-injective}
 use mathlib.Core.Logic.{dite}
@@ -53,14 +54,10 @@ taking_more p q r first turned turned' done rest rest' all x w t cut same new le
 
 pub taking_room : (p q : RoundSeat) (first turned : List (ℕ × ℕ)) (done rest rest' all : List Knowledge) (x : Knowledge) → IsPartGathered p q first turned done rest all → rest ≡ x ∷ rest' → length turned < length first + length all
 taking_room p q first turned done rest rest' all x t cut =
-    let a : length turned ≡ length first + length done = ap (λ (l : List (ℕ × ℕ)). length l) t.scores ∙ (length-append first (map number_and_turns done) ∙ ap (λ (n : ℕ). length first + n) (length_map done)) in
+    let a : length turned ≡ length first + length done = ap (λ (l : List (ℕ × ℕ)). length l) t.scores ∙ (length-append first (map number_and_turns done) ∙ ap (λ (n : ℕ). length first + n) (length-map done number_and_turns)) in
     let b : length done + length rest ≡ length all = sym (length-append done rest) ∙ ap (λ (l : List Knowledge). length l) t.parted in
     let c : length rest ≡ suc (length rest') = ap (λ (l : List Knowledge). length l) cut in
     omega arith
-  where
-    length_map : (ks : List Knowledge) → length (map number_and_turns ks) ≡ length ks
-    length_map [] = refl
-    length_map (k ∷ ks) = ap suc (length_map ks)
 
 pub each_in : {X : Type 0} (P : X → Type 0) (xs : List X) (x : X) (ys : List X) → Each P (xs ++ x ∷ ys) → P x
 each_in P [] x ys a = a.0
@@ -69,10 +66,6 @@ each_in P (z ∷ xs) x ys a = each_in P xs x ys a.1
 each_map : {X Y : Type 0} (P : Y → Type 0) (f : X → Y) (xs : List X) → Each P (map f xs) → Each (λ x. P (f x)) xs
 each_map P f [] a = a
 each_map P f (x ∷ xs) a = (a.0, each_map P f xs a.1)
-
-left_numbers : (ks : List Knowledge) → map (λ (t : ℕ × List Entry). t.0) (map number_and_known ks) ≡ map (λ (k : Knowledge). k.number) ks
-left_numbers [] = refl
-left_numbers (k ∷ ks) = ap (λ l. k.number ∷ l) (left_numbers ks)
 
 -- behind the words of a state that the rule allows stands a run
 pub some_run : {S : Type 0} (b : Setup) (s : State S View) (r : KeepsRule b s) → IsRunTo b.nodes b.dest b.links r.history s.words
@@ -94,7 +87,7 @@ closes r workers words xs id v turned final closes' taken pairs =
     each_weaker (λ (e : Entry). e.worker < k.next) (λ (e : Entry). e.worker < r.setup.workers) (λ e lt. let m = k.most in omega arith) k.history k.given_out in
     let parts : Each (IsPartOf k.history) workers =
     each_weaker (λ (x : Knowledge). IsTaken k.next k.seat_of id k.history (number_and_known x)) (IsPartOf k.history) (λ x t. record { begins = t.begins; own = t.own }) workers all in
-    let apart : AreApart (map (λ (x : Knowledge). x.number) workers) = subst AreApart (ap (map (λ (t : ℕ × List Entry). t.0)) taken ∙ left_numbers workers) mine.apart in
+    let apart : AreApart (map (λ (x : Knowledge). x.number) workers) = subst AreApart (ap (map (λ (t : ℕ × List Entry). t.0)) taken ∙ map-map (λ (t : ℕ × List Entry). t.0) number_and_known workers) mine.apart in
     let numbered : Each (λ (x : Knowledge). x.number < r.setup.workers) workers =
     each_weaker (λ (x : Knowledge). IsTaken k.next k.seat_of id k.history (number_and_known x)) (λ (x : Knowledge). x.number < r.setup.workers) (λ x t. let m = k.most in let l = t.numbered in omega arith) workers all in
     record {

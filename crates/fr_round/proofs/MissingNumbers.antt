@@ -48,7 +48,7 @@ row_before p q (suc m) links x w same le =
     )
 
 -- and over one that reaches it they count alike but for that entry
-pub row_but_for : (p q : ℕ × First → Bool) (n : ℕ) (links : List (ℕ × ℕ)) (x w : ℕ) → ((e : ℕ × First) → e.0 ≢ w → p e ≡ q e) → w < n
+row_but_for : (p q : ℕ × First → Bool) (n : ℕ) (links : List (ℕ × ℕ)) (x w : ℕ) → ((e : ℕ × First) → e.0 ≢ w → p e ≡ q e) → w < n
     → count_by p (row n links x) + count_by q (option_to_list (row_entry links x w)) ≡ count_by q (row n links x) + count_by p (option_to_list (row_entry links x w))
 row_but_for p q zero links x w same lt = absurd (omega arith)
 row_but_for p q (suc m) links x w same lt =
@@ -112,7 +112,7 @@ seen_both_ways P Q D y z false true bar same = same Inward
 seen_both_ways P Q D y z false false bar same = refl
 
 -- the number of z as it was is the new one, and one more if y is a neighbour that begins to meet its bound
-pub missing_lowered : (n : ℕ) (links : List (ℕ × ℕ)) (counts : List ℕ) (y z count : ℕ) → IsNet n links → y < n → z < n → z ≢ y → length counts ≡ n → slice_index counts y ≤ count
+missing_lowered : (n : ℕ) (links : List (ℕ × ℕ)) (counts : List ℕ) (y z count : ℕ) → IsNet n links → y < n → z < n → z ≢ y → length counts ≡ n → slice_index counts y ≤ count
     → missing_of n links counts z ≡ missing_of n links (slice_set counts y count) z + count_by (lowers counts (slice_index counts y) count z) (row n links y)
 missing_lowered n links counts y z count net y_in z_in other long up =
     let had : ℕ = slice_index counts y in

@@ -16,7 +16,7 @@ use Rattle.fr_round.specs.declared.view.View.{View}
 use Rattle.fr_round.specs.Histories.{entry}
 use Rattle.fr_round.specs.Laws.{ComesToTheSame, ExchangeIsTheMachines, LookBeginsAsTheMachines, LookEndsAsTheMachines, NeighbourLoadIsTheMachines, OwnLoadIsTheMachines, more_of, phase_past}
 use Rattle.fr_round.specs.Steps.{Extends}
-use Rattle.fr_round.proofs.Entries.{set_same_value}
+use Rattle.std.proofs.lemmas.List.{set-get_or}
 
 by_test : (P : Outcome → Type 0) (b : Bool) (one other : Outcome) → (b ≡ true → P one) → (b ≡ false → P other) → P (if b then one else other)
 by_test P true one other passed failed = passed refl
@@ -101,7 +101,7 @@ exchange_same s me me' found first words targets at (up, low, wins, loses, same)
             worker = refl;
           })
           (λ e. let d = loses (λ is. eqb-false word c e (at ∙ is)) in record {
-            counts = sym (set_same_value words x) ∙ ap (λ (k : ℕ). slice_set words x k) (at ∙ tested false e);
+            counts = sym (set-get_or words x 0) ∙ ap (λ (k : ℕ). slice_set words x k) (at ∙ tested false e);
             decided = subst (λ (k : ℕ). Extends me.0.setup me.0.number me.0.known (entry me.0.number x (Moved c k)) me'.0.known) (sym at) d.extends;
             worker = refl;
           }),

@@ -16,8 +16,8 @@ use Rattle.fr_round.specs.declared.view.View.{View}
 use Rattle.fr_core.specs.History.{part}
 use Rattle.fr_round.specs.Histories.{AreApart}
 use Rattle.fr_round.specs.Rule.{KeepsRule, ViewFits, IsTaken, opening_view, numbered_next, worker_view, closing_view, with_taken, spent_view}
-use Rattle.fr_round.proofs.Entries.{zeros}
-use Rattle.fr_round.proofs.Keeping.{each_weaker, each_snoc}
+use Rattle.fr_round.proofs.Entries.{part_same, zeros}
+use Rattle.fr_round.proofs.Keeping.{each_append, each_mapped, each_snoc, each_weaker}
 
 off : false ≡ true → ⊥
 off e = true≢false (sym e)
@@ -33,8 +33,7 @@ none_of : (k : ℕ) (h : List Entry) → Each (λ (e : Entry). e.worker < k) h �
 none_of k [] a = refl
 none_of k (e ∷ es) a =
     let low : e.worker < k = a.0 in
-    let other : e.worker ≢ k = λ (i : e.worker ≡ k). omega arith in
-    ap (λ (b : Bool). cond b (e ∷ part k es) (part k es)) (ne_eqb e.worker k other) ∙ none_of k es a.1
+    part_same k e es (λ (i : e.worker ≡ k). omega arith) ∙ none_of k es a.1
 
 -- the seats by number, with one number at another place
 abbrev moved : (ℕ → ℕ) → ℕ → ℕ → ℕ → ℕ
@@ -46,14 +45,9 @@ moved_here seat_of k j = ap (λ (b : Bool). cond b j (seat_of k)) (eq-eqb k k re
 moved_else : (seat_of : ℕ → ℕ) (k j i : ℕ) → i ≢ k → moved seat_of k j i ≡ seat_of i
 moved_else seat_of k j i other = ap (λ (b : Bool). cond b j (seat_of i)) (ne_eqb i k other)
 
--- one number more, which is none of those before
-apart_more : (ks : List ℕ) (k : ℕ) → AreApart ks → Each (λ (j : ℕ). j ≢ k) ks → AreApart (ks ++ k ∷ [])
-apart_more [] k a other = (tt, tt)
-apart_more (j ∷ js) k a other = (each_snoc (λ (i : ℕ). i ≢ j) js k a.0 (λ e. other.0 (sym e)), apart_more js k a.1 other.1)
-
-pub each_number : (P : ℕ × List Entry → Type 0) (Q : ℕ → Type 0) → ((t : ℕ × List Entry) → P t → Q t.0) → (ts : List (ℕ × List Entry)) → Each P ts → Each Q (map (λ (t : ℕ × List Entry). t.0) ts)
-each_number P Q f [] a = tt
-each_number P Q f (t ∷ ts) a = (f t a.0, each_number P Q f ts a.1)
+pub apart_append : (ks js : List ℕ) → AreApart ks → AreApart js → Each (λ (k : ℕ). Each (λ (j : ℕ). j ≢ k) js) ks → AreApart (ks ++ js)
+apart_append [] js a c other = c
+apart_append (k ∷ ks) js a c other = (each_append (λ (j : ℕ). j ≢ k) ks js a.0 other.0, apart_append ks js a.1 c other.1)
 
 module _ {S : Type 0} where
   pub first_keeps : (b : Setup) (xs : List S) → IsNet b.nodes b.links → KeepsRule b (opening (replicate b.nodes 0) xs (opening_view b))
@@ -206,8 +200,9 @@ module _ {S : Type 0} where
               closing = λ _. record {
                 setup = mine.setup;
                 apart = subst AreApart (sym (map-append (λ (t : ℕ × List Entry). t.0) v.taken ((w.number, w.known) ∷ [])))
-                    (apart_more (map (λ (t : ℕ × List Entry). t.0) v.taken) w.number mine.apart
-                    (each_number (IsTaken r.next r.seat_of id r.history) (λ (k : ℕ). k ≢ w.number) (λ t known e. other_seat (sym (sym known.placed ∙ (ap r.seat_of e ∙ theirs.placed)))) v.taken mine.taken));
+                    (apart_append (map (λ (t : ℕ × List Entry). t.0) v.taken) (w.number ∷ []) mine.apart (tt, tt)
+                    (each_mapped (IsTaken r.next r.seat_of id r.history) (λ (k : ℕ). (w.number ≢ k) × Unit {0}) (λ (t : ℕ × List Entry). t.0)
+                    (λ t known. ((λ e. other_seat (sym (sym known.placed ∙ (ap r.seat_of (sym e) ∙ theirs.placed)))), tt)) v.taken mine.taken));
                 taken = each_snoc (IsTaken r.next seat_of' id r.history) v.taken (w.number, w.known)
                     (each_weaker (IsTaken r.next r.seat_of id r.history) (IsTaken r.next seat_of' id r.history)
                     (λ k known. record {

@@ -19,16 +19,8 @@ use Rattle.fr_round.specs.Opening.{HasNotBegun, KnowsNothing}
 use Rattle.fr_round.specs.Knowledge.{Knowledge, OpenRound, new_worker, new_workers}
 use Rattle.fr_round.specs.Rule.{IsTaken, ViewFits, opening_view}
 use Rattle.fr_round.proofs.Gathering.{some_run}
-use Rattle.fr_round.proofs.Keeping.{begins_look, each_weaker, ends_look_at, exchanges_at, loads_against_at, loads_along_at, loads_own}
-use Rattle.fr_round.proofs.Seating.{each_number, enters, first_keeps, joins, splits}
-
-each_append : {X : Type 0} (P : X → Type 0) (xs ys : List X) → Each P xs → Each P ys → Each P (xs ++ ys)
-each_append P [] ys a c = c
-each_append P (x ∷ xs) ys a c = (a.0, each_append P xs ys a.1 c)
-
-apart_append : (ks js : List ℕ) → AreApart ks → AreApart js → Each (λ (k : ℕ). Each (λ (j : ℕ). j ≢ k) js) ks → AreApart (ks ++ js)
-apart_append [] js a c other = c
-apart_append (k ∷ ks) js a c other = (each_append (λ (j : ℕ). j ≢ k) ks js a.0 other.0, apart_append ks js a.1 c other.1)
+use Rattle.fr_round.proofs.Keeping.{begins_look, each_append, each_mapped, each_weaker, ends_look_at, exchanges_at, loads_against_at, loads_along_at, loads_own}
+use Rattle.fr_round.proofs.Seating.{apart_append, enters, first_keeps, joins, splits}
 
 abbrev numbers : List (ℕ × List Entry) → List ℕ
 numbers ws = map (λ (w : ℕ × List Entry). w.0) ws
@@ -77,8 +69,8 @@ module _ (b : Setup) (next : ℕ) (seat_of : ℕ → ℕ) (at : ℕ) (h : List E
             (λ w t. record { knows = t.knows; numbered = t.numbered; placed = let p = t.placed in omega arith }) (workers_of vs) others.0),
         subst AreApart (sym (map-append (λ (w : ℕ × List Entry). w.0) (workers_at v) (workers_of vs)))
             (apart_append (numbers (workers_at v)) (numbers (workers_of vs)) one.1 others.1
-            (each_number (IsTaken next seat_of (i + 0) h) (λ (k : ℕ). Each (λ (j : ℕ). j ≢ k) (numbers (workers_of vs)))
-            (λ w t. each_number (IsSeatedFrom next seat_of h (i + 1)) (λ (j : ℕ). j ≢ w.0)
+            (each_mapped (IsTaken next seat_of (i + 0) h) (λ (k : ℕ). Each (λ (j : ℕ). j ≢ k) (numbers (workers_of vs))) (λ (w : ℕ × List Entry). w.0)
+            (λ w t. each_mapped (IsSeatedFrom next seat_of h (i + 1)) (λ (j : ℕ). j ≢ w.0) (λ (u : ℕ × List Entry). u.0)
             (λ u q is. let same : seat_of u.0 ≡ seat_of w.0 = ap seat_of is in let p = t.placed in let past = q.placed in absurd (omega arith)) (workers_of vs) others.0)
             (workers_at v) one.0)),
       )
@@ -140,11 +132,11 @@ only_first b words r =
 pub steps_keep : EveryStepKeepsTheRule
 steps_keep b = record {
   own_load = λ slots id me x worker inside. loads_own b slots id me x worker.works (omega (arith, inside, ap (λ (z : Setup). z.nodes) worker.setup));
-  exchange = λ slots id me x c worker may room had met. exchanges_at b b refl slots id me x c (c + 1) refl room had worker may met;
-  along = λ slots id me x c w call link. loads_along_at b slots id me x c w call link;
-  against = λ slots id me x c w call link. loads_against_at b slots id me x c w call link;
+  exchange = λ slots id me x c worker may room had met. exchanges_at b b slots id me x c (c + 1) refl room had worker may met;
+  along = λ slots id me x c w call link. loads_along_at b b slots id me x c w call link;
+  against = λ slots id me x c w call link. loads_against_at b b slots id me x c w call link;
   look_begins = λ slots id me x worker. begins_look b slots id me x worker.works;
-  look_ends = λ slots id me x c call may met. ends_look_at b b refl slots id me x c call may met;
+  look_ends = λ slots id me x c call may met. ends_look_at b b slots id me x c call may met;
   numbers = splits b;
   closing_comes = enters b;
   takes_back = joins b;

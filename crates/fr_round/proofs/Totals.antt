@@ -1,7 +1,7 @@
 -- Where all workers are handed back, their turns are all the turns of the history.
-use Rattle.std.proofs.Common.{◌≡◌, ◌≢◌, ◌⊎◌, ℕ, suc, ◌+◌, ◌<◌, Bool, cond, eqb, Contains, List, [], ◌∷◌, map, length, replicate, refl, sym, ap, ◌∙◌, subst, ⊎_elim, inl, inr, arith, eq-eqb, ne_eqb, sum, sum_by}
+use Rattle.std.proofs.Common.{◌≡◌, ◌≢◌, ◌⊎◌, ℕ, ◌+◌, ◌<◌, eqb, Contains, List, [], ◌∷◌, map, length, refl, sym, ap, ◌∙◌, subst, ⊎_elim, inl, inr, arith, sum, sum_by}
 use Rattle.std.proofs.lemmas.Bool.{cases_eq}
-use Rattle.std.proofs.lemmas.List.{length-replicate}
+use Rattle.std.proofs.lemmas.List.{length-map, length-replicate}
 use Rattle.std.proofs.lemmas.List.Folds.{sum_by-replicate}
 use Rattle.std.proofs.lemmas.List.Sums.{sum_by-cons}
 use Rattle.std.specs.List.{AllByRecursion as Each, IsDistinct}
@@ -15,6 +15,8 @@ use Rattle.fr_round.specs.declared.view.Setup.{Setup}
 use Rattle.fr_round.specs.Closing.{IsPartOf, number_and_turns}
 use Rattle.fr_round.specs.Histories.{AreApart, start}
 use Rattle.fr_round.specs.Knowledge.{Knowledge}
+use Rattle.fr_round.proofs.Entries.{part_more, part_same}
+use Rattle.fr_round.proofs.Keeping.{each_mapped}
 use Rattle.fr_round.proofs.TurnCounts.{turn_count_cons, turn_of}
 
 each_at : (P : ℕ → Type 0) (xs : List ℕ) (y : ℕ) → Each P xs → Contains xs y → P y
@@ -42,12 +44,6 @@ all_in n ks apart below long j lt = ⊎_elim (λ h. h)
           (λ q h. ⊎_elim (λ e. omega (arith, e, lt)) (λ r. each_at (λ (k : ℕ). k < n) ks q below r) (Contains-cases q j ks h)),
     )))
     (cases_in ks j)
-
-part_more : (k : ℕ) (e : Entry) (h : List Entry) → e.worker ≡ k → part k (e ∷ h) ≡ e ∷ part k h
-part_more k e h is = ap (λ (b : Bool). cond b (e ∷ part k h) (part k h)) (eq-eqb e.worker k is)
-
-part_same : (k : ℕ) (e : Entry) (h : List Entry) → e.worker ≢ k → part k (e ∷ h) ≡ part k h
-part_same k e h ne = ap (λ (b : Bool). cond b (e ∷ part k h) (part k h)) (ne_eqb e.worker k ne)
 
 abbrev part_turns : List Entry → ℕ → ℕ
 part_turns h k = turn_count (part k h)
@@ -111,28 +107,17 @@ sum_of_pairs h (k ∷ ks) a = omega (
   sum_of_pairs h ks a.1,
 )
 
-sum_zeros : (n : ℕ) → sum (replicate n 0) ≡ 0
-sum_zeros n = omega (arith, sum_by-replicate (λ (y : ℕ). y) n 0)
-
-length_numbers : (workers : List Knowledge) → length (map (λ (k : Knowledge). k.number) workers) ≡ length workers
-length_numbers [] = refl
-length_numbers (k ∷ ks) = ap suc (length_numbers ks)
-
-numbers_below : (n : ℕ) (workers : List Knowledge) → Each (λ (k : Knowledge). k.number < n) workers → Each (λ (k : ℕ). k < n) (map (λ (k : Knowledge). k.number) workers)
-numbers_below n [] a = tt
-numbers_below n (k ∷ ks) a = (a.0, numbers_below n ks a.1)
-
 pub all_handed_back : (b : Setup) (h : List Entry) (counts : List ℕ) (workers : List Knowledge) → IsRunTo b.nodes b.dest b.links h counts → Each (λ (e : Entry). e.worker < b.workers) h → Each (IsPartOf h) workers
     → AreApart (map (λ (k : Knowledge). k.number) workers) → Each (λ (k : Knowledge). k.number < b.workers) workers → length workers ≡ b.workers
     → sum_by (λ (p : ℕ × ℕ). p.1) (map number_and_turns workers) ≡ sum counts
 all_handed_back b h counts workers run opened parts apart numbered long =
     let ks : List ℕ = map (λ (k : Knowledge). k.number) workers in
-    let all = all_in b.workers ks apart (numbers_below b.workers workers numbered) (length_numbers workers ∙ long) in
+    let all = all_in b.workers ks apart (each_mapped (λ (k : Knowledge). k.number < b.workers) (λ (k : ℕ). k < b.workers) (λ (k : Knowledge). k.number) (λ k lt. lt) workers numbered) (length-map workers (λ (k : Knowledge). k.number) ∙ long) in
     omega (
       arith,
       sum_of_pairs h workers parts,
       sum_of_parts ks h apart (each_in_all b.workers ks h all opened),
       run_sum b.nodes b.dest (start b) h (length-replicate b.nodes 0) run.run,
-      sum_zeros b.nodes,
+      sum_by-replicate (λ (y : ℕ). y) b.nodes 0,
       ap (λ (m : Moment). sum m.counts) run.ends,
     )

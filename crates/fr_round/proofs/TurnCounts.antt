@@ -1,5 +1,5 @@
 -- How many turns a history has: no worker has more than the counts allow.
-use Rattle.std.proofs.Common.{◌≡◌, ℕ, ◌+◌, ◌*◌, ◌^◌, ◌<◌, ◌≤◌, Bool, true, false, cond, eqb, List, [], ◌∷◌, ◌++◌, arith, le_refl, mul-le-mul, refl}
+use Rattle.std.proofs.Common.{◌≡◌, ℕ, ◌+◌, ◌*◌, ◌^◌, ◌<◌, ◌≤◌, Bool, true, false, cond, eqb, List, [], ◌∷◌, ◌++◌, arith, le_refl, mul-le-mul}
 use Rattle.std.proofs.lemmas.List.{length-replicate}
 use Rattle.std.proofs.lemmas.List.Sums.{sum_by-cons, sum_by_push}
 use Rattle.fr_graph.specs.Links.{IsNet}
@@ -7,7 +7,6 @@ use Rattle.fr_core.proofs.Runs.{lawful_sum, run_sum}
 use Rattle.fr_core.specs.History.{is_turned, part, turn_count}
 use Rattle.fr_core.specs.declared.entry.Entry.{Entry}
 use Rattle.fr_core.specs.declared.entry.Reply.{Reply}
-use Rattle.fr_core.specs.declared.entry.Reply.TheVariants.{Turned, Held, Moved, Cut, Sink}
 use Rattle.fr_round.specs.declared.view.Setup.{Setup}
 use Rattle.fr_round.specs.Histories.{IsHistory, moment, start}
 use Rattle.fr_round.proofs.Entries.{lawful_after}
@@ -43,10 +42,3 @@ turns_fit n t small le =
     let k : n ≤ 4294967295 = omega arith in
     let a : n * n ≤ 4294967295 * 4294967295 = mul-le-mul k k in
     omega arith
-
-pub not_turned : (r : Reply) → ((k : ℕ) → r ≡ Turned k → ⊥) → turn_of r ≡ 0
-not_turned (Turned k) other = absurd (other k refl)
-not_turned (Held w) other = refl
-not_turned (Moved had k) other = refl
-not_turned Cut other = refl
-not_turned Sink other = refl

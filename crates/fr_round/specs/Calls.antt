@@ -1,8 +1,8 @@
--- What a call and its steps make of what a worker knows. Contracts of the public calls cite `ShowsCount` alone, and the laws what a step
--- needs: `IsWorker`, `IsInCall`, `AllMeet`.
-use Rattle.std.specs.Prelude.{◌≡◌, ℕ, ◌+◌, ◌<◌, ◌≤◌, true, List, [], slice_index, replicate}
+-- What a call and its steps make of what a worker knows. Contracts of the public calls cite `ShowsCount` alone, and
+-- the laws what a step needs: `IsWorker`, `IsInCall`, `AllMeet`.
+use Rattle.std.specs.Prelude.{◌≡◌, ℕ, ◌+◌, ◌<◌, ◌≤◌, true, false, List, [], slice_index, replicate}
+use Rattle.atomic_table.specs.Seated.{TableId}
 use Rattle.atomic_table.specs.declared.shared.Seat.{Seat}
-use Rattle.atomic_table.specs.declared.shared.Shared.{Shared}
 use Rattle.fr_graph.specs.Links.{Points}
 use Rattle.fr_graph.specs.Rows.{row}
 use Rattle.fr_graph.specs.declared.first.First.{First}
@@ -11,10 +11,7 @@ use Rattle.fr_core.specs.declared.entry.Reply.{Reply}
 use Rattle.fr_core.specs.declared.entry.Reply.TheVariants.{Turned, Held, Moved, Cut, Sink}
 use Rattle.fr_round.specs.declared.view.Setup.{Setup}
 use Rattle.fr_round.specs.declared.view.View.{View}
-use Rattle.fr_round.specs.declared.seen.Seen.{Seen}
-use Rattle.fr_round.specs.declared.terms.Terms.{Terms}
-use Rattle.fr_round.specs.declared.rule.Rule.{Rule}
-use Rattle.fr_round.specs.Missing.{IsCounted}
+use Rattle.fr_round.specs.declared.words.Words.{Words}
 use Rattle.fr_round.specs.Histories.{reached, entry}
 use Rattle.fr_round.specs.Steps.{Extends}
 
@@ -56,7 +53,6 @@ AreEnough neighbours j seen c = (i : ℕ) → i < j → bound_of (neighbour_at n
 pub record IsUnderWay (b : Setup) (v : View) (x c j : ℕ) (w : View) : Type 0 where
   pub looking : IsLooking v x c w
   pub enough : AreEnough (row b.nodes b.links x) j w.seen c
-  pub low : c ≤ b.nodes
 
 -- a worker is in a call on x, with the own count c
 pub record IsInCall (b : Setup) (x c : ℕ) (w : View) : Type 0 where
@@ -66,16 +62,18 @@ pub record IsInCall (b : Setup) (x c : ℕ) (w : View) : Type 0 where
   pub own : slice_index w.seen x ≡ c
   pub in_range : x < b.nodes
 
--- a seat at the words of a round with these terms
-pub record IsAtWords (g : Terms) (words : Shared (Unit {0}) View Terms Rule) (seat : RoundSeat) : Type 0 where
-  pub same : seat.table_id ≡ words.table_id
-  pub one_each : words.table_id.words ≡ g.net.nodes
-  pub key : words.key ≡ g
+-- a seat at the words of a round
+pub record IsAtWords (words : Words) (seat : RoundSeat) : Type 0 where
+  pub same : seat.table_id ≡ words.table.shared.table_id
+  pub one_each : words.table.shared.table_id.words ≡ words.terms.net.nodes
 
--- what a worker has seen is what its seat knows, with the right numbers
-pub record ShowsSeen (g : Terms) (seat : RoundSeat) (seen : Seen) : Type 0 where
-  pub counts : seat.me.0.seen ≡ seen.counts.items
-  pub numbers : IsCounted g.net.nodes g.net.links seen
+-- a seat that takes workers back, at a table of words
+pub record IsClosing (table : TableId) (seat : RoundSeat) : Type 0 where
+  pub same : seat.table_id ≡ table
+  pub some : 0 < table.words
+  pub closes : seat.me.0.closes ≡ true
+  pub idle : seat.me.0.works ≡ false
+  pub not_opening : seat.me.0.opens ≡ false
 
 -- the same seat at the same table, with the slots that it had
 abbrev pub IsSameSeat : RoundSeat → RoundSeat → Type 0

@@ -25,7 +25,8 @@ pub record IsPartOf (history : List Entry) (k : Knowledge) : Type 0 where
 -- a round ends: one history
 pub record Closes (r : OpenRound) (workers : List Knowledge) (counts : List ℕ) (turned : List (ℕ × ℕ)) : Type 0 where
   pub history : List Entry
-  -- is a run of full reversal by one thread from the first links to the counts at the end, and no closed walk stands there,
+  -- is a run of full reversal by one thread from the first links to the counts at the end, and no closed walk stands
+  -- there,
   pub run : IsRunTo r.setup.nodes r.setup.dest r.setup.links history counts
   -- each of its entries is of a worker with which the round was opened,
   pub opened : Each (λ (e : Entry). e.worker < r.setup.workers) history

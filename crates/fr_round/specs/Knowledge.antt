@@ -10,7 +10,10 @@ use Rattle.fr_round.specs.declared.faults.Refusal.{Refusal}
 use Rattle.fr_round.specs.declared.faults.Refusal.TheVariants.{NoNode, Destination, Alone}
 use Rattle.fr_round.specs.declared.faults.OpenWhy.{OpenWhy}
 use Rattle.fr_round.specs.declared.faults.OpenWhy.TheVariants.{Range, Memory}
-use Rattle.fr_round.specs.Histories.{IsHistory}
+use Rattle.fr_core.specs.declared.entry.Reply.{Reply}
+use Rattle.fr_round.specs.Calls.{ShowsCount}
+use Rattle.fr_round.specs.Histories.{IsHistory, entry}
+use Rattle.fr_round.specs.Steps.{Extends}
 
 -- a worker: the table of words of its round, and what the round was opened with; its number; the history up to its last
 -- call; and counts that the nodes had reached
@@ -35,6 +38,25 @@ pub record IsOwn (r : OpenRound) (w : Knowledge) : Type 0 where
 pub record IsKnowledge (k : Knowledge) : Type 0 where
   pub run : IsHistory k.setup k.known
   pub below : (z : ℕ) → slice_index k.seen z ≤ turn_count_of z k.known
+
+-- a worker is the same one later on,
+pub record KeepsWorker (before after : Knowledge) : Type 0 where
+  -- of the same round,
+  pub table : after.table ≡ before.table
+  pub setup : after.setup ≡ before.setup
+  -- with its number,
+  pub number : after.number ≡ before.number
+  -- and no count that it has seen has fallen
+  pub seen : (z : ℕ) → slice_index before.seen z ≤ slice_index after.seen z
+
+-- a worker learns the reply to its call on x:
+pub record LearnsReply (before : Knowledge) (x : ℕ) (reply : Reply) (after : Knowledge) : Type 0 where
+  -- its history goes on, by calls of others, and ends with this call, which alone its own part gains,
+  pub history : Extends before.setup before.number before.known (entry before.number x reply) after.known
+  -- it has seen the count that the reply gives,
+  pub count : ShowsCount before.setup.nodes before.seen after.seen x reply
+  -- and what it knows is true
+  pub known : IsKnowledge after
 
 -- a call on x is refused, each refusal just in its case and in this order
 abbrev pub Refuses : Setup → ℕ → Refusal → Type 0

@@ -27,7 +27,8 @@ use Rattle.fr_round.specs.Steps.{Extends, own_loaded, neighbour_loaded, exchange
 
 -- One history behind all
 
--- the workers at a seat: the one that works there, and those taken back there; each is a number with the history that it knows
+-- the workers at a seat: the one that works there, and those taken back there; each is a number with the history that
+-- it knows
 abbrev pub workers_at : View → List (ℕ × List Entry)
 workers_at v = (if v.works then (v.number, v.known) ∷ [] else []) ++ (if v.closes then v.taken else [])
 
@@ -42,8 +43,8 @@ pub record KnowsPartOf (history : List Entry) (w : ℕ × List Entry) : Type 0 w
 
 -- a history stands behind the words and behind what the workers know:
 pub record StandsBehind (b : Setup) (s : State (Unit {0}) View) (history : List Entry) : Type 0 where
-  -- it is a run of full reversal by one thread, from the first links to the words as counts and to the links that these give,
-  -- and no closed walk stands among those links,
+  -- it is a run of full reversal by one thread, from the first links to the words as counts and to the links that
+  -- these give, and no closed walk stands among those links,
   pub run : IsRunTo b.nodes b.dest b.links history s.words
   -- each of its entries is of a worker with which the round was opened,
   pub opened : Each (λ (e : Entry). e.worker < b.workers) history
@@ -69,8 +70,8 @@ RuleHoldsAtFirst = (b : Setup) → IsNet b.nodes b.links → KeepsRule b (first_
 abbrev pub NoOtherStateIsFirst : Type 0
 NoOtherStateIsFirst = (b : Setup) (words : List ℕ) → KeepsRule b (opening {S = Unit {0}} words [] (opening_view b)) → opening words [] (opening_view b) ≡ first_state b
 
--- each step at a seat, whatever the other threads do meanwhile, leads from states that the rule allows to such states, and tells the
--- seat what `specs/Steps.antt` says of it:
+-- each step at a seat, whatever the other threads do meanwhile, leads from states that the rule allows to such
+-- states, and tells the seat what `specs/Steps.antt` says of it:
 pub record StepsKeepTheRule (b : Setup) : Type 0 where
   -- a worker's load of the own count of its node, in a turn,
   pub own_load : (slots id : ℕ) (me : Me (Unit {0}) View) (x : ℕ) → IsWorker b me.0 → x < b.nodes → Allows (KeepsRule b) slots id me x (λ n. n) (own_loaded (step slots x 0 0 none) me)
@@ -94,12 +95,14 @@ EveryStepKeepsTheRule = (b : Setup) → StepsKeepTheRule b
 
 -- Each step is the machine's
 
--- what a step decides by the table of the machine, the worker's known history gains; it stays where the step decides nothing
+-- what a step decides by the table of the machine, the worker's known history gains; it stays where the step decides
+-- nothing
 abbrev pub IsDecidedAs : View → View → Option (ℕ × Reply) → Type 0
 IsDecidedAs v w None = w.known ≡ v.known
 IsDecidedAs v w (Some d) = Extends v.setup v.number v.known (entry v.number d.0 d.1) w.known
 
--- the machine's worker after a step: in this phase where the step decides nothing, and else idle, with its first target used up
+-- the machine's worker after a step: in this phase where the step decides nothing, and else idle, with its first
+-- target used up
 abbrev pub worker_after : List Target → Phase → Option (ℕ × Reply) → WorkerState
 worker_after targets phase None = record { left = targets; phase = phase }
 worker_after targets phase (Some d) = record { left = all_but_first targets; phase = Idle }
@@ -113,8 +116,8 @@ pub record ComesToTheSame (v w : View) (words : List ℕ) (targets : List Target
   -- and where it decides nothing the machine's worker goes on in this phase
   pub worker : o.worker ≡ worker_after targets phase o.decided
 
--- the load of a node's own count is the first step of the machine's call, at the same words: these stay, and where nothing is
--- decided the machine looks at neighbour 0 next, with the node and the count of the view
+-- the load of a node's own count is the first step of the machine's call, at the same words: these stay, and where
+-- nothing is decided the machine looks at neighbour 0 next, with the node and the count of the view
 abbrev pub OwnLoadIsTheMachines : Type 0
 OwnLoadIsTheMachines = (s : Step (Unit {0})) (me me' : Me (Unit {0}) View) (found : ℕ) (first : List (ℕ × ℕ)) (words : List ℕ) (rest : List Target) → slice_index words s.word ≡ found
     → own_loaded s me found me'
@@ -125,27 +128,28 @@ abbrev pub more_of : First → ℕ
 more_of Outward = 1
 more_of Inward = 0
 
--- the phase once neighbour j of a row met its bound: the next neighbour, and after the last one the step that ends the call
+-- the phase once neighbour j of a row met its bound: the next neighbour, and after the last one the step that ends
+-- the call
 abbrev pub phase_past : List (ℕ × First) → Target → ℕ → ℕ → Phase
 phase_past neighbours t c j = if j + 1 == length neighbours then phase_unheld t c else Looking t c (j + 1)
 
--- the load of a neighbour's count is the machine's load of it, in a turn and in a look: the words stay, and where nothing is
--- decided the machine goes past this neighbour, with the node and the count of the view
+-- the load of a neighbour's count is the machine's load of it, in a turn and in a look: the words stay, and where
+-- nothing is decided the machine goes past this neighbour, with the node and the count of the view
 abbrev pub NeighbourLoadIsTheMachines : Type 0
 NeighbourLoadIsTheMachines = (s : Step (Unit {0})) (me me' : Me (Unit {0}) View) (found j : ℕ) (f : First) (t : Target) (first : List (ℕ × ℕ)) (words : List ℕ) (targets : List Target) → slice_index words s.word ≡ found
     → node_of t ≡ me.0.node → neighbour_at (row me.0.setup.nodes first me.0.node) j ≡ (s.word, f) → neighbour_loaded (more_of f) s me found me'
     → ComesToTheSame me.0 me'.0 words targets (phase_past (row me.0.setup.nodes first me.0.node) t me'.0.count j) (outcome me.0.setup.nodes first words targets (Looking t me.0.count j))
 
--- the exchange of a count for the next one is the machine's exchange: where the word was that count it becomes the next one, and
--- else it stays; and the call is decided
+-- the exchange of a count for the next one is the machine's exchange: where the word was that count it becomes the
+-- next one, and else it stays; and the call is decided
 abbrev pub ExchangeIsTheMachines : Type 0
 ExchangeIsTheMachines = (s : Step (Unit {0})) (me me' : Me (Unit {0}) View) (found : ℕ) (first : List (ℕ × ℕ)) (words : List ℕ) (targets : List Target) → slice_index words s.word ≡ found
     → exchange_made s me found me'
     → ComesToTheSame me.0 me'.0 (slice_set words s.word (if found == s.first then s.first + 1 else found)) targets Idle (outcome me.0.setup.nodes first words targets (Swapping s.word s.first))
     × IsSome (outcome me.0.setup.nodes first words targets (Swapping s.word s.first)).decided
 
--- the first load of a look is the first step of the machine's look: the words stay, and the machine looks at neighbour 0 next, with
--- the node and the count of the view
+-- the first load of a look is the first step of the machine's look: the words stay, and the machine looks at
+-- neighbour 0 next, with the node and the count of the view
 abbrev pub LookBeginsAsTheMachines : Type 0
 LookBeginsAsTheMachines = (s : Step (Unit {0})) (me me' : Me (Unit {0}) View) (found : ℕ) (first : List (ℕ × ℕ)) (words : List ℕ) (rest : List Target) → slice_index words s.word ≡ found
     → look_begun s me found me'

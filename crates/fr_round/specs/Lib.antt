@@ -5,6 +5,7 @@ pub mod Steps
 pub mod Missing
 pub mod Calls
 pub mod Knowledge
+pub mod Callers
 pub mod Closing
 pub mod WorkerInside
 pub mod RoundInside

@@ -13,7 +13,8 @@ misses counts c entry = nat_lt (slice_index counts entry.0) (bound_of entry.1 c)
 abbrev pub missing_of : ℕ → List (ℕ × ℕ) → List ℕ → ℕ → ℕ
 missing_of n links counts x = count_by (misses counts (slice_index counts x)) (row n links x)
 
--- for the fields of a worker: one seen count and one number for each node, and each number is what counting anew would give
+-- for the fields of a worker: one seen count and one number for each node, and each number is what counting anew
+-- would give
 pub record IsCounted (n : ℕ) (links : List (ℕ × ℕ)) (seen : Seen) : Type 0 where
   pub one_each : length seen.counts.items ≡ n
   pub as_many : length seen.missing.items ≡ n

@@ -11,8 +11,8 @@ use Rattle.fr_round.specs.declared.view.Setup.{Setup}
 use Rattle.fr_round.specs.declared.view.View.{View}
 use Rattle.fr_round.specs.Histories.{IsHistory, moment, StartsWith, AreApart}
 
--- the worker's seat j is the one of its number, no count that it has seen is above the word, and what it knows is a beginning
--- of the history, in which its own calls are those that it made
+-- the worker's seat j is the one of its number, no count that it has seen is above the word, and what it knows is a
+-- beginning of the history, in which its own calls are those that it made
 pub record WorkerFits (b : Setup) (next : ℕ) (seat_of : ℕ → ℕ) (h : List Entry) (words : List ℕ) (j : ℕ) (v : View) : Type 0 where
   pub setup : v.setup ≡ b
   pub begins : StartsWith h v.known
@@ -49,7 +49,8 @@ pub record ViewFits (b : Setup) (next : ℕ) (seat_of : ℕ → ℕ) (at : ℕ) 
   pub opening : v.opens ≡ true → OpeningFits b next at j v
   pub closing : v.closes ≡ true → ClosingFits b next seat_of h j v
 
--- the words and the views of all seats: there is one history, which is a run that leads to the words, and each view fits it
+-- the words and the views of all seats: there is one history, which is a run that leads to the words, and each view
+-- fits it
 pub record KeepsRule {S : Type 0} (b : Setup) (s : State S View) : Type 0 where
   pub net : IsNet b.nodes b.links
   pub history : List Entry

@@ -7,14 +7,14 @@ use Rattle.fr_round.specs.Histories.{IsHistory, reached}
 use Rattle.fr_round.specs.Knowledge.{Knowledge}
 
 abbrev pub knowledge_of : Inside → Knowledge
-knowledge_of w = record { table = w.seat.table_id; setup = w.seat.me.0.setup; number = w.number; known = w.seat.me.0.known; seen = w.seen.counts.items }
+knowledge_of w = record { table = w.caller.seat.table_id; setup = w.caller.seat.me.0.setup; number = w.number; known = w.caller.seat.me.0.known; seen = w.caller.seen.counts.items }
 
 pub record IsSoundWorker (w : Inside) : Type 0 where
-  pub works : w.seat.me.0.works ≡ true
-  pub no_slot : w.seat.me.1 ≡ []
-  pub noted : w.seat.me.0.seen ≡ w.seen.counts.items
-  pub numbers : IsCounted w.seat.me.0.setup.nodes w.seat.me.0.setup.links w.seen
-  pub numbered : w.seat.me.0.number ≡ w.number
-  pub counted : w.turned ≡ turn_count (part w.number w.seat.me.0.known)
-  pub run : IsHistory w.seat.me.0.setup w.seat.me.0.known
-  pub below : (z : ℕ) → slice_index w.seen.counts.items z ≤ reached w.seat.me.0.setup w.seat.me.0.known z
+  pub works : w.caller.seat.me.0.works ≡ true
+  pub no_slot : w.caller.seat.me.1 ≡ []
+  pub noted : w.caller.seat.me.0.seen ≡ w.caller.seen.counts.items
+  pub numbers : IsCounted w.caller.seat.me.0.setup.nodes w.caller.seat.me.0.setup.links w.caller.seen
+  pub numbered : w.caller.seat.me.0.number ≡ w.number
+  pub counted : w.turned ≡ turn_count (part w.number w.caller.seat.me.0.known)
+  pub run : IsHistory w.caller.seat.me.0.setup w.caller.seat.me.0.known
+  pub below : (z : ℕ) → slice_index w.caller.seen.counts.items z ≤ reached w.caller.seat.me.0.setup w.caller.seat.me.0.known z

@@ -1,14 +1,15 @@
 //! How a round takes its workers back and reads its words at the end.
 
-ghost use Rattle.std.specs.Prelude.{◌≡◌, ◌+◌, ◌<◌, ◌≤◌, ◌++◌, map, true, false, length, vec_capacity};
+ghost use Rattle.std.specs.Prelude.{◌≡◌, ◌+◌, ◌≤◌, ◌++◌, map, length, vec_capacity};
 ghost use Rattle.std.specs.List.{AllByRecursion as Each};
 ghost use Rattle.std.specs.Slots.{slots_items, IsFull};
-ghost use Rattle.fr_round.specs.Calls.{IsSameSeat};
+ghost use Rattle.fr_round.specs.Calls.{IsClosing, IsSameSeat};
 ghost use Rattle.fr_round.specs.Knowledge.{Knowledge};
 ghost use Rattle.fr_round.specs.Closing.{number_and_known, number_and_turns};
 
 use crate::rule::TakeWorker;
-use crate::steps::{RoundSeat, RoundWords};
+use crate::steps::RoundSeat;
+use crate::words::RoundTable;
 use crate::worker::Worker;
 use atomic_table::Closed as ClosedWords;
 use fr_graph::Net;
@@ -27,14 +28,13 @@ pub struct Closed {
 
 /// A closing seat takes the workers back, and their numbers and turns are written down.
 pub(crate) fn take_over(
-    words: &RoundWords,
+    table: &RoundTable,
     seat: &mut RoundSeat,
     turned: &mut Vec<(u32, u64)>,
     workers: Vec<Worker>,
 )
-    requires table { (seat.old.table_id ≡ words.now.table_id) × (0 < words.now.table_id.words) }
-    requires seat { (seat.old.me.0.closes ≡ true) × (seat.old.me.0.works ≡ false) × (seat.old.me.0.opens ≡ false) }
-    requires own { Each (λ (k : Knowledge). k.table ≡ words.now.table_id) workers.items }
+    requires closing { IsClosing table.now.shared.table_id seat.old }
+    requires own { Each (λ (k : Knowledge). k.table ≡ table.now.shared.table_id) workers.items }
     requires room { length turned.old.items + length workers.items ≤ vec_capacity turned.old }
     ensures seat { IsSameSeat seat.old seat.new }
     ensures taken { seat.new.me.0 ≡ record seat.old.me.0 { taken = seat.old.me.0.taken ++ map number_and_known workers.items } }
@@ -42,7 +42,9 @@ pub(crate) fn take_over(
 {
     for worker in workers {
         turned.push_reserved((worker.number(), worker.turned()));
-        words.join_seat::<TakeWorker>(seat, worker.into_seat());
+        table
+            .shared
+            .join_seat::<TakeWorker>(seat, worker.into_seat());
     }
 }
 

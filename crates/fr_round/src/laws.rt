@@ -4,13 +4,14 @@ ghost use Rattle.fr_round.specs.Laws.{OneHistoryStandsBehindAll, RuleHoldsAtFirs
 ghost use Rattle.fr_round.specs.Laws.{OwnLoadIsTheMachines, NeighbourLoadIsTheMachines, ExchangeIsTheMachines};
 ghost use Rattle.fr_round.specs.Laws.{LookBeginsAsTheMachines, LookEndsAsTheMachines};
 
-/// At each moment of a round the calls so far stand in one list, in which each reply is the one that full reversal on one
-/// thread (E. Gafni and D. Bertsekas, 1981) gives at that point: its counts are the words, its links are those that the
-/// words give, and no loop stands among them. What each worker knows is a beginning of the list, the worker's own calls stand
-/// in it in their order, and no two workers have one number. The rule that this starts from holds when a round is opened,
-/// when the list is empty, and each step at a seat keeps it, whatever the other threads do. That an open round is in a state that the
-/// rule allows is by its table of `Rule`, which is made in no other: of the states in which no number was given out, the rule allows the
-/// one with all words 0 alone. `Round::close` hands out the words of a state that it allows.
+/// At each moment of a round the calls so far stand in one list, in which each reply is the one that full reversal on
+/// one thread (E. Gafni and D. Bertsekas, 1981) gives at that point: its counts are the words, its links are those
+/// that the words give, and no loop stands among them. What each worker knows is a beginning of the list, the
+/// worker's own calls stand in it in their order, and no two workers have one number. The rule that this starts from
+/// holds when a round is opened, when the list is empty, and each step at a seat keeps it, whatever the other threads
+/// do. That an open round is in a state that the rule allows is by its table of `Rule`, which is made in no other: of
+/// the states in which no number was given out, the rule allows the one with all words 0 alone. `Round::close` hands
+/// out the words of a state that it allows.
 pub fn round_law()
     ensures run { OneHistoryStandsBehindAll }
     ensures first { RuleHoldsAtFirst }
@@ -18,9 +19,10 @@ pub fn round_law()
     ensures kept { EveryStepKeepsTheRule }
 {}
 
-/// Each load and each exchange that a worker makes on the words is a step of the machine of `fr_core` at the same words: it
-/// leaves the words that are the machine's counts after it, what the machine decides there the worker's known history gains,
-/// and where nothing is decided the machine's worker goes on with the node and the count of the worker's call.
+/// Each load and each exchange that a worker makes on the words is a step of the machine of `fr_core` at the same
+/// words: it leaves the words that are the machine's counts after it, what the machine decides there the worker's
+/// known history gains, and where nothing is decided the machine's worker goes on with the node and the count of the
+/// worker's call.
 pub fn step_law()
     ensures own { OwnLoadIsTheMachines }
     ensures neighbour { NeighbourLoadIsTheMachines }

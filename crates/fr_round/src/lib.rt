@@ -2,9 +2,10 @@
 //! threads share with no lock, and workers that turn its nodes.
 //!
 //! [`Round::open`] takes a network and answers an open round with its workers. A thread that holds a [`Worker`] calls
-//! [`Round::try_turn`] on the nodes that it likes, or [`Round::look`] to see where their links point, and [`Round::close`] ends
-//! the round once no thread shares it. At each moment the calls so far stand in one list in which each reply is the one that
-//! full reversal on one thread gives at that point; [`round_law`] says it in one sentence.
+//! [`Round::try_turn`] on the nodes that it likes, or [`Round::look`] to see where their links point, and
+//! [`Round::close`] ends the round once no thread shares it. At each moment the calls so far stand in one list in
+//! which each reply is the one that full reversal on one thread gives at that point; [`round_law`] says it in one
+//! sentence.
 //!
 //! Costs are told for n nodes, m links, and d links at a node, as read off the code.
 #![tactic(auto)]
@@ -20,6 +21,7 @@ mod seen;
 mod steps;
 mod terms;
 mod view;
+mod words;
 mod worker;
 
 pub use closing::Closed;

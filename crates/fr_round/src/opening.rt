@@ -6,18 +6,15 @@ ghost use Rattle.fr_round.specs.Knowledge.{new_workers};
 ghost use Rattle.fr_round.specs.Setups.{setup_of};
 ghost use Rattle.fr_round.specs.Seated.{IsTableOf};
 
-use crate::rule::{NumberWorker, Rule};
+use crate::rule::NumberWorker;
 use crate::seen::Seen;
 use crate::terms::Terms;
-use crate::view::View;
+use crate::words::RoundTable;
 use crate::worker::Worker;
 use atomic_table::Table;
 use std::alloc::{AllocError, Global};
 
-/// The words of a round.
-pub(crate) type RoundTable = Table<(), View, Terms, Rule, Global>;
-
-/// The words of a round, and its workers.
+/// The table of the words of a round, and its workers.
 struct Seated {
     table: RoundTable,
     workers: Vec<Worker>,
@@ -29,7 +26,8 @@ fn zeros(alloc: Global, count: u32) -> Result<Vec<u64>, AllocError>
     vec![in alloc; 0u64; count as usize]
 }
 
-/// The words, all 0, and the workers. The seat that gives out their numbers goes at the end: it could not be shared by threads.
+/// The words, all 0, and the workers. The seat that gives out their numbers goes at the end: it could not be shared
+/// by threads.
 fn make_table(alloc: Global, terms: &Terms) -> Result<Seated, AllocError>
     requires dest { terms.now.dest < terms.now.net.nodes }
     requires net { IsNet terms.now.net.nodes terms.now.net.links }

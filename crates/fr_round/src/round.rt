@@ -1,21 +1,19 @@
 //! An open round, which threads share by reference: how it is opened, the calls of its workers, and how it is closed.
 
-ghost use Rattle.std.specs.Prelude.{◌≡◌, ◌≤◌, ◌<◌, ℕ, MatchResult, IfOk, IfErr, length, slice_index};
+ghost use Rattle.std.specs.Prelude.{◌≡◌, ◌≤◌, IfOk, IfErr, length};
 ghost use Rattle.std.specs.List.{AllByRecursion as Each};
 ghost use Rattle.fr_core.specs.Replies.{IsReplyToTurn, IsReplyToLook};
 ghost use Rattle.fr_core.specs.Targets.{IsTurnable, IsLookable};
-ghost use Rattle.fr_round.specs.Histories.{entry};
-ghost use Rattle.fr_round.specs.Steps.{Extends};
-ghost use Rattle.fr_round.specs.Calls.{ShowsCount};
-ghost use Rattle.fr_round.specs.Knowledge.{IsOwn, IsKnowledge, IsOpenable, Refuses, RefusesLook, IsWhyNotOpened, new_workers};
+ghost use Rattle.fr_round.specs.Knowledge.{IsOwn, IsOpenable, IsWhyNotOpened, KeepsWorker, LearnsReply, Refuses, RefusesLook, new_workers};
 ghost use Rattle.fr_round.specs.Closing.{Closes};
 ghost use Rattle.fr_round.specs.Opening.{HasNotBegun};
 
 use crate::closing::{Closed, read_counts, take_over};
 use crate::faults::{OpenFault, OpenWhy, Refusal};
-use crate::opening::{Prepared, RoundTable, prepare};
+use crate::opening::{Prepared, prepare};
 use crate::rule::BeginClosing;
 use crate::terms::Terms;
+use crate::words::Words;
 use crate::worker::Worker;
 use fr_core::{MAX_WORKERS, Reply};
 use fr_graph::Net;
@@ -26,8 +24,7 @@ use std::marker::Model;
 /// nodes by a worker of its own.
 #[derive(Drop)]
 pub struct Round {
-    terms: Terms,
-    table: RoundTable,
+    words: Words,
     // The room that `close` needs.
     counts: Vec<u64>,
     turned: Vec<(u32, u64)>,
@@ -46,11 +43,12 @@ impl Model for Round {
 }
 
 impl Round {
-    /// Opens a round on a network, in which nothing has happened yet: no call stands in its list, all counts are 0, no worker knows of a
-    /// call, and none has seen a turn. It answers the round and its workers, whose numbers are 0, 1 and so on.
+    /// Opens a round on a network, and returns it with its workers, whose numbers are 0, 1 and so on. Nothing has
+    /// happened yet: the list of calls is empty, all counts are 0, and no worker knows of a call or has seen a turn.
     ///
-    /// `Range` where the destination is no node of the network, or `workers` is not 1 to [`MAX_WORKERS`], and then `Memory` where there is
-    /// none; the fault hands the network back. All memory that the round needs up to its end is taken here. `O(m + k n)` for k workers.
+    /// Fails with `Range` if the destination is no node of the network, or if `workers` is not 1 to [`MAX_WORKERS`],
+    /// and else with `Memory` if an allocation is refused; the fault hands the network back. The round takes all its
+    /// memory here. `O(m + k n)` for k workers.
     pub fn open(
         alloc: Global,
         net: Net,
@@ -82,8 +80,7 @@ impl Round {
                 },
             ) => {
                 let round = Round {
-                    terms,
-                    table,
+                    words: Words { terms, table },
                     counts,
                     turned,
                 };
@@ -100,7 +97,7 @@ impl Round {
     pub fn workers(&self) -> u32
         ensures { result ≡ self.now.setup.workers }
     {
-        self.terms.workers
+        self.words.terms.workers
     }
 
     /// Its network, with the first links. It takes no step and no memory. `O(1)`.
@@ -108,87 +105,74 @@ impl Round {
         ensures nodes { result.now.nodes ≡ self.now.setup.nodes }
         ensures links { result.now.links ≡ self.now.setup.links }
     {
-        &self.terms.net
+        &self.words.terms.net
     }
 
     /// Its destination. It takes no step and no memory. `O(1)`.
     pub fn dest(&self) -> u32
         ensures { result ≡ self.now.setup.dest }
     {
-        self.terms.dest
+        self.words.terms.dest
     }
 
-    /// Turns node `x` if it is a sink: full reversal (E. Gafni and D. Bertsekas, 1981), by single atomic loads and one
-    /// exchange. It takes no memory, and waits for nobody, whatever other threads do or leave undone.
+    /// Turns node `x` if it is a sink: full reversal (E. Gafni and D. Bertsekas, 1981), by single atomic loads and
+    /// one exchange. It takes no memory, and waits for nobody, whatever other threads do or leave undone.
     ///
-    /// The worker has to be one of this round. A call on what is no node, on the destination or on a node with no link is
-    /// refused, by `NoNode`, `Destination` or `Alone` in this order, with no step, and nothing changes. Every other call is decided:
-    /// `Turned` where it turned the node, `Held` by a neighbour to which a link points, `Moved` where another worker has turned the node
-    /// since this one saw its count, which may have been before the call, and `Cut` where the node has turned as often as there are
-    /// nodes. Each reply is one that full reversal by one thread gives after a history that goes on from all that the worker knew; with
-    /// it, the history is what the worker knows now. At most d + 1 loads and an exchange, and a walk over the row of each node whose
-    /// seen count rises: `O(d²)`.
+    /// The worker has to be one of this round. A call is refused with `NoNode`, `Destination` or `Alone`, tested in
+    /// this order, if `x` is no node, the destination, or a node with no link. A refused call takes no step and
+    /// changes nothing. Every other call is decided:
+    ///
+    /// - `Turned`: the call turned the node.
+    /// - `Held`: a link points to this neighbour.
+    /// - `Moved`: another worker has turned the node since this one saw its count, which may have been before the
+    ///   call.
+    /// - `Cut`: the node has turned as often as there are nodes.
+    ///
+    /// Each reply is one that full reversal by one thread gives after a history that goes on from all that the worker
+    /// knew. With the reply, that history is what the worker knows now. At most d + 1 loads and an exchange, and a
+    /// walk over the row of each node whose seen count rises: `O(d²)`.
     pub fn try_turn(&self, worker: &mut Worker, x: u32) -> Result<Reply, Refusal>
         requires { IsOwn self.now worker.old }
-        ensures own { IsOwn self.now worker.new }
-        ensures number { worker.new.number ≡ worker.old.number }
+        ensures keeps { KeepsWorker worker.old worker.new }
         ensures decided { IfOk result (λ _. IsTurnable self.now.setup.nodes self.now.setup.dest self.now.setup.links x) }
         ensures refused { IfErr result (λ refusal. Refuses self.now.setup x refusal × (worker.new ≡ worker.old)) }
         ensures kind { IfOk result IsReplyToTurn }
-        ensures history { IfOk result
-            (λ reply. Extends self.now.setup worker.old.number worker.old.known (entry worker.old.number x reply) worker.new.known) }
-        ensures seen { (z : ℕ) → slice_index worker.old.seen z ≤ slice_index worker.new.seen z }
-        ensures count { IfOk result (λ reply. ShowsCount self.now.setup.nodes worker.old.seen worker.new.seen x reply) }
-        ensures known { IfOk result (λ _. IsKnowledge worker.new) }
+        ensures learns { IfOk result (λ reply. LearnsReply worker.old x reply worker.new) }
     {
-        let net = &self.terms.net;
-        if x >= net.nodes() {
-            return Err(Refusal::NoNode);
-        }
-        if x == self.terms.dest {
-            return Err(Refusal::Destination);
-        }
-        if net.degree(x) == 0 {
-            return Err(Refusal::Alone);
-        }
-        Ok(worker.turn(&self.terms, &self.table.shared, x))
+        self.words.terms.check_turn(x)?;
+        Ok(worker.turn(&self.words, x))
     }
 
-    /// Looks where a link of node `x` points, and turns nothing: loads of the counts alone, by the steps of a call to turn it.
-    /// It takes no memory, and waits for nobody, whatever other threads do or leave undone.
+    /// Looks where a link of node `x` points, and turns nothing: it only loads counts. It takes no memory, and waits
+    /// for nobody, whatever other threads do or leave undone.
     ///
-    /// The worker has to be one of this round. A look at what is no node or at a node with no link is refused, by `NoNode` or `Alone` in
-    /// this order, with no step, and nothing changes; the destination and a node that turns no more are looked at like any other. Every
-    /// other look is decided: `Held` by a neighbour to which a link points, `Sink` where all links point to the node, and
-    /// `Moved` where another worker turned the node between the two loads of its count. Each reply holds at one point of a history that
-    /// goes on from all that the worker knew, the point of its entry; with it, the history is what the worker knows now. At most d + 2
-    /// loads, and a walk over the row of each node whose seen count rises: `O(d²)`.
+    /// The worker has to be one of this round. A look is refused with `NoNode` or `Alone`, tested in this order, if
+    /// `x` is no node or a node with no link. A refused look takes no step and changes nothing. The destination and a
+    /// node that turns no more are looked at like any other. Every other look is decided:
+    ///
+    /// - `Held`: a link points to this neighbour.
+    /// - `Sink`: all links point to the node.
+    /// - `Moved`: another worker turned the node between the two loads of its count.
+    ///
+    /// Each reply holds at one point of a history that goes on from all that the worker knew: the point of its entry.
+    /// With the reply, that history is what the worker knows now. At most d + 2 loads, and a walk over the row of
+    /// each node whose seen count rises: `O(d²)`.
     pub fn look(&self, worker: &mut Worker, x: u32) -> Result<Reply, Refusal>
         requires { IsOwn self.now worker.old }
-        ensures own { IsOwn self.now worker.new }
-        ensures number { worker.new.number ≡ worker.old.number }
+        ensures keeps { KeepsWorker worker.old worker.new }
         ensures decided { IfOk result (λ _. IsLookable self.now.setup.nodes self.now.setup.links x) }
         ensures refused { IfErr result (λ refusal. RefusesLook self.now.setup x refusal × (worker.new ≡ worker.old)) }
         ensures kind { IfOk result IsReplyToLook }
-        ensures history { IfOk result
-            (λ reply. Extends self.now.setup worker.old.number worker.old.known (entry worker.old.number x reply) worker.new.known) }
-        ensures seen { (z : ℕ) → slice_index worker.old.seen z ≤ slice_index worker.new.seen z }
-        ensures count { IfOk result (λ reply. ShowsCount self.now.setup.nodes worker.old.seen worker.new.seen x reply) }
-        ensures known { IfOk result (λ _. IsKnowledge worker.new) }
+        ensures learns { IfOk result (λ reply. LearnsReply worker.old x reply worker.new) }
     {
-        let net = &self.terms.net;
-        if x >= net.nodes() {
-            return Err(Refusal::NoNode);
-        }
-        if net.row(x).is_empty() {
-            return Err(Refusal::Alone);
-        }
-        Ok(worker.look(&self.terms, &self.table.shared, x))
+        self.words.terms.check_look(x)?;
+        Ok(worker.look(&self.words, x))
     }
 
-    /// Ends the round: the network, the counts at the end, and the number and turns of each worker that is handed back. The
-    /// workers have to be of this round, and no more than it was opened with; some may be missing. It takes no memory, and
-    /// waits for nobody: that no thread shares the round any more shows in its being owned. `O(n + k)` for k workers.
+    /// Ends the round, and returns the network, the counts at the end, and the number and turns of each worker that
+    /// is handed back. The workers have to be of this round, and no more than it was opened with; some may be
+    /// missing. It takes no memory, and waits for nobody: the caller owns the round, so no thread shares it any more.
+    /// `O(n + k)` for k workers.
     pub fn close(self, workers: Vec<Worker>) -> Closed
         requires own { Each (IsOwn self) workers.items }
         requires few { length workers.items ≤ self.setup.workers }
@@ -196,13 +180,12 @@ impl Round {
         ensures history { Closes self workers.items result.counts.items result.turned.items }
     {
         let Round {
-            terms,
-            table,
+            words: Words { terms, table },
             mut counts,
             mut turned,
         } = self;
         let (_, mut seat) = table.shared.load_new_seat::<BeginClosing>(0);
-        take_over(&table.shared, &mut seat, &mut turned, workers);
+        take_over(&table, &mut seat, &mut turned, workers);
         let closed = table.close_with(seat);
         read_counts(&closed, counts.as_mut_slice());
         closed.free();

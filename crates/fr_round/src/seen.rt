@@ -8,8 +8,9 @@ ghost use Rattle.fr_round.specs.Missing.{misses, missing_of, IsCounted};
 use fr_graph::{First, Net};
 use std::alloc::{AllocError, Global};
 
-/// The counts that a worker has seen, one for each node of a network, and beside each the number of its node: how many of its
-/// neighbours miss their bounds by what was seen. Counts never fall, so a bound that was seen to be met is met.
+/// The counts that a worker has seen, one for each node of a network, and beside each the number of its node: how
+/// many of its neighbours miss their bounds by what was seen. Counts never fall, so a bound that was seen to be met
+/// is met.
 #[derive(Drop)]
 pub(crate) struct Seen {
     counts: Vec<u16>,
@@ -33,15 +34,16 @@ fn is_below(first: First, own: u16, count: u16) -> bool
     u32::from(count) < bound(first, own)
 }
 
-/// Whether a node whose count rises from `had` to `count` begins to meet its bound for a neighbour of the count `other`, where their link
-/// was `first` from the node: it does where the neighbour begins to miss its own.
+/// Whether a node whose count rises from `had` to `count` begins to meet its bound for a neighbour of the count
+/// `other`, where their link was `first` from the node: it does where the neighbour begins to miss its own.
 fn begins_to_meet(first: First, other: u16, had: u16, count: u16) -> bool
     ensures { result ≡ (nat_lt had (bound_of (opposite first) other) && not (nat_lt count (bound_of (opposite first) other))) }
 {
     is_below(first, count, other) && !is_below(first, had, other)
 }
 
-/// How many links of node `x` point away from it first: so many of its neighbours miss their bounds while no node has turned.
+/// How many links of node `x` point away from it first: so many of its neighbours miss their bounds while no node has
+/// turned.
 fn count_outward(net: &Net, x: u32) -> u16
     requires { x < net.now.nodes }
     ensures { result ≡ missing_of net.now.nodes net.now.links (replicate net.now.nodes 0) x }
@@ -56,8 +58,9 @@ fn count_outward(net: &Net, x: u32) -> u16
     outward
 }
 
-/// Walks over the row of node `y`, of which this count is seen now, and with the counts as they were seen before. It takes the node
-/// off the number of each neighbour for which it begins to meet its bound, and answers how many neighbours miss theirs for it.
+/// Walks over the row of node `y`, of which this count is seen now, and with the counts as they were seen before. It
+/// takes the node off the number of each neighbour for which it begins to meet its bound, and answers how many
+/// neighbours miss theirs for it.
 fn pass_row(net: &Net, counts: &[u16], missing: &mut [u16], y: u32, count: u16) -> u16
     requires node { y < net.now.nodes }
     requires one_each { (length counts.now ≡ net.now.nodes) × (length missing.old ≡ net.now.nodes) }
@@ -82,7 +85,8 @@ fn pass_row(net: &Net, counts: &[u16], missing: &mut [u16], y: u32, count: u16) 
 }
 
 impl Seen {
-    /// No turn of any node: all counts are 0, and the neighbours that miss their bounds are those to which a link points first.
+    /// No turn of any node: all counts are 0, and the neighbours that miss their bounds are those to which a link
+    /// points first.
     pub fn new(alloc: Global, net: &Net) -> Result<Seen, AllocError>
         ensures counts { IfOk result (λ seen. seen.counts.items ≡ replicate net.now.nodes 0) }
         ensures counted { IfOk result (IsCounted net.now.nodes net.now.links) }
@@ -135,8 +139,8 @@ impl Seen {
         }
     }
 
-    /// Notes a count of node `y`, which is no less than what was seen of it. Where it is more, the numbers of `y` and of its
-    /// neighbours are brought up to date, by a walk over the row of `y`.
+    /// Notes a count of node `y`, which is no less than what was seen of it. Where it is more, the numbers of `y` and
+    /// of its neighbours are brought up to date, by a walk over the row of `y`.
     #[inline(always)]
     pub fn raise(&mut self, net: &Net, y: u32, count: u64)
         requires node { y < net.now.nodes }

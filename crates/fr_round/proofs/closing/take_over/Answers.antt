@@ -29,11 +29,11 @@ join_seat-requires c =
     let w = c.into_seat.result in
     let e = c.into_seat.ensures in
     let all : c.args.workers.items ≡ c.loop-worker.yielded ++ x ∷ into_iter_items c.next.new.self = sym t.parted ∙ ap (λ l. c.loop-worker.yielded ++ l) c.in-Some.ensures.steps.0 in
-    let own : x.table ≡ c.args.words.now.table_id = each_in (λ (k : Knowledge). k.table ≡ c.args.words.now.table_id) c.loop-worker.yielded x (into_iter_items c.next.new.self) (subst (λ l. Each (λ (k : Knowledge). k.table ≡ c.args.words.now.table_id) l) all q.own) in
-    let closes : c.loop-worker.seat.me.0.closes ≡ true = ap (λ (u : View). u.closes) t.taken ∙ q.seat.0 in
-    let not_opening : c.loop-worker.seat.me.0.opens ≡ false = ap (λ (u : View). u.opens) t.taken ∙ q.seat.2 in
-    let idle : c.loop-worker.seat.me.0.works ≡ false = ap (λ (u : View). u.works) t.taken ∙ q.seat.1 in
-    (t.seat.0 ∙ q.table.0, e.0 ∙ own, e.1, q.table.1, joins (setup_of c.args.words.now.key) c.loop-worker.seat.id c.loop-worker.seat.me.0 w.id w.me.0 closes idle not_opening e.2)
+    let own : x.table ≡ c.args.table.now.shared.table_id = each_in (λ (k : Knowledge). k.table ≡ c.args.table.now.shared.table_id) c.loop-worker.yielded x (into_iter_items c.next.new.self) (subst (λ l. Each (λ (k : Knowledge). k.table ≡ c.args.table.now.shared.table_id) l) all q.own) in
+    let closes : c.loop-worker.seat.me.0.closes ≡ true = ap (λ (u : View). u.closes) t.taken ∙ q.closing.closes in
+    let not_opening : c.loop-worker.seat.me.0.opens ≡ false = ap (λ (u : View). u.opens) t.taken ∙ q.closing.not_opening in
+    let idle : c.loop-worker.seat.me.0.works ≡ false = ap (λ (u : View). u.works) t.taken ∙ q.closing.idle in
+    (t.seat.0 ∙ q.closing.same, e.0 ∙ own, e.1, q.closing.some, joins (setup_of c.args.table.now.shared.key) c.loop-worker.seat.id c.loop-worker.seat.me.0 w.id w.me.0 closes idle not_opening e.2)
 
 pub loop-worker-preserved : goal.loop-worker-preserved
 loop-worker-preserved c =

@@ -10,15 +10,15 @@ use Rattle.fr_round.proofs.steps.load_neighbour.Goals as goal
 pub load-requires : goal.load-requires
 load-requires c =
     let q = c.requires in
-    let b = setup_of c.args.words.now.key in
-    let there = row_holds b.nodes b.links c.args.x c.args.entry q.entry in
-    let here = subst (λ (f : First). Contains (row b.nodes b.links c.args.x) (c.args.entry.0, f)) c.in-Outward.is q.entry in
-    (q.table.same, omega (arith, q.table.one_each, there.0), loads_along_at b c.args.words.now.table_id.slots c.args.seat.now.id c.args.seat.now.me c.args.x c.args.c c.args.entry.0 q.call (out_of_row b.nodes b.links c.args.x c.args.entry.0 here))
+    let b = setup_of c.args.words.now.terms in
+    let there = row_holds b.nodes b.links c.args.seat.now.me.0.node c.args.entry q.entry in
+    let here = subst (λ (f : First). Contains (row b.nodes b.links c.args.seat.now.me.0.node) (c.args.entry.0, f)) c.in-Outward.is q.entry in
+    (q.table.same, omega (arith, q.table.one_each, there.0), loads_along_at (setup_of c.args.words.now.table.shared.key) b c.args.words.now.table.shared.table_id.slots c.args.seat.now.id c.args.seat.now.me c.args.seat.now.me.0.node c.args.seat.now.me.0.count c.args.entry.0 q.call (out_of_row b.nodes b.links c.args.seat.now.me.0.node c.args.entry.0 here))
 
 pub load-requires-in-Inward : goal.load-requires-in-Inward
 load-requires-in-Inward c =
     let q = c.requires in
-    let b = setup_of c.args.words.now.key in
-    let there = row_holds b.nodes b.links c.args.x c.args.entry q.entry in
-    let here = subst (λ (f : First). Contains (row b.nodes b.links c.args.x) (c.args.entry.0, f)) c.in-Inward.is q.entry in
-    (q.table.same, omega (arith, q.table.one_each, there.0), loads_against_at b c.args.words.now.table_id.slots c.args.seat.now.id c.args.seat.now.me c.args.x c.args.c c.args.entry.0 q.call (in_of_row b.nodes b.links c.args.x c.args.entry.0 here))
+    let b = setup_of c.args.words.now.terms in
+    let there = row_holds b.nodes b.links c.args.seat.now.me.0.node c.args.entry q.entry in
+    let here = subst (λ (f : First). Contains (row b.nodes b.links c.args.seat.now.me.0.node) (c.args.entry.0, f)) c.in-Inward.is q.entry in
+    (q.table.same, omega (arith, q.table.one_each, there.0), loads_against_at (setup_of c.args.words.now.table.shared.key) b c.args.words.now.table.shared.table_id.slots c.args.seat.now.id c.args.seat.now.me c.args.seat.now.me.0.node c.args.seat.now.me.0.count c.args.entry.0 q.call (in_of_row b.nodes b.links c.args.seat.now.me.0.node c.args.entry.0 here))

@@ -1,43 +1,21 @@
-use Rattle.std.proofs.Common.{rules, ◌≡◌, ◌+◌, ◌<◌, ◌^◌, arith, ap, ◌∙◌}
-use Rattle.fr_round.specs.Setups.{setup_of}
-use Rattle.fr_round.specs.Knowledge.{Knowledge}
-use Rattle.fr_round.proofs.TurnCounts.{not_turned, turn_of}
-use Rattle.fr_round.proofs.SoundCalls.{turned_fits, sound_after, knowledge_after}
+use Rattle.std.proofs.Common.{rules, ◌+◌, ◌<◌, ◌^◌, ◌∙◌, ap, arith, subst}
+use Rattle.fr_round.specs.Knowledge.{Knowledge, LearnsReply}
+use Rattle.fr_round.specs.WorkerInside.{knowledge_of}
+use Rattle.fr_round.proofs.SoundCalls.{learns_after, turned_fits, with_caller}
 use Rattle.fr_round.proofs.worker.Worker.turn.Goals as goal
 
 pub overflow_add-self : goal.overflow_add-self
 overflow_add-self c =
-    let w = c.self.inside in
-    let is : turn_of c.turn_at-reply.result ≡ 1 = ap turn_of c.in-Turned.is in
-    let setup = ap (λ (k : Knowledge). k.setup) c.self.view_is ∙ c.requires.setup in
-    let small : c.args.terms.now.net.nodes < 2 ^ 32 = search rules in
-    let fits = turned_fits (setup_of c.args.terms.now) w c.turn_at-reply.new.seat.me.0 c.args.x c.turn_at-reply.result c.network_law.ensures.is_net small setup c.self.invariant c.turn_at-reply.ensures.call in
-    omega arith
+    let setup = ap (λ (k : Knowledge). k.setup) c.self.view_is ∙ c.requires.own.setup in
+    let small : c.args.words.now.terms.net.nodes < 2 ^ 32 = search rules in
+    let fits = turned_fits c.args.words.now c.self.inside c.turn_at-reply.new.self c.args.x c.turn_at-reply.result c.self.invariant setup c.turn_at-reply.ensures.made c.network_law.ensures.is_net small in
+    omega (arith, fits, c.turns.ensures)
 
-pub invariant_of-self : goal.invariant_of-self
-invariant_of-self c =
+pub returns-clause-learns : goal.returns-clause-learns
+returns-clause-learns c =
     let w = c.self.inside in
     let r = c.turn_at-reply in
-    let is : turn_of r.result ≡ 1 = ap turn_of c.in-Turned.is in
-    let setup : w.seat.me.0.setup ≡ setup_of c.args.terms.now = ap (λ (k : Knowledge). k.setup) c.self.view_is ∙ c.requires.setup in
-    sound_after w c.args.terms.now r.new.seat r.new.seen (w.turned + 1) c.args.x r.result c.self.invariant setup r.ensures.seat r.ensures.seen r.ensures.call (omega arith)
-
-pub invariant_of-self-in_default : goal.invariant_of-self-in_default
-invariant_of-self-in_default c =
-    let w = c.self.inside in
-    let r = c.turn_at-reply in
-    let is : turn_of r.result ≡ 0 = not_turned r.result c.in_default.not-Turned in
-    let setup : w.seat.me.0.setup ≡ setup_of c.args.terms.now = ap (λ (k : Knowledge). k.setup) c.self.view_is ∙ c.requires.setup in
-    sound_after w c.args.terms.now r.new.seat r.new.seen w.turned c.args.x r.result c.self.invariant setup r.ensures.seat r.ensures.seen r.ensures.call (omega arith)
-
-pub returns-in-Turned-clause-known : goal.returns-in-Turned-clause-known
-returns-in-Turned-clause-known c =
-    let w = c.self.inside in
-    let r = c.turn_at-reply in
-    knowledge_after w r.new.seat r.new.seen (w.turned + 1) c.args.x r.result r.ensures.seen.counts r.ensures.call
-
-pub returns-in_default-clause-known : goal.returns-in_default-clause-known
-returns-in_default-clause-known c =
-    let w = c.self.inside in
-    let r = c.turn_at-reply in
-    knowledge_after w r.new.seat r.new.seen w.turned c.args.x r.result r.ensures.seen.counts r.ensures.call
+    let setup = ap (λ (k : Knowledge). k.setup) c.self.view_is ∙ c.requires.own.setup in
+    let turned = w.turned + c.turns.result in
+    subst (λ (k : Knowledge). LearnsReply k c.args.x r.result (knowledge_of (with_caller w r.new.self turned))) c.self.view_is
+    (learns_after c.args.words.now w r.new.self c.args.x r.result c.self.invariant setup r.ensures.made turned)

@@ -1,0 +1,12 @@
+use Rattle.std.proofs.Common.{arith}
+use Rattle.fr_round.specs.Setups.{setup_of}
+use Rattle.fr_round.proofs.Keeping.{ends_look_at}
+use Rattle.fr_round.proofs.steps.Caller.confirm.Goals as goal
+
+pub load-found-requires : goal.load-found-requires
+load-found-requires c =
+    let q = c.requires in (
+      q.caller.table.same,
+      omega (arith, q.caller.table.one_each, q.node.inside),
+      ends_look_at (setup_of c.args.words.now.table.shared.key) (setup_of c.args.words.now.terms) c.args.words.now.table.shared.table_id.slots c.args.self.now.seat.id c.args.self.now.seat.me c.args.x c.args.c q.call q.node q.met,
+    )

@@ -1,0 +1,17 @@
+//! The words of a round.
+
+use crate::rule::Rule;
+use crate::terms::Terms;
+use crate::view::View;
+use atomic_table::Table;
+use std::alloc::Global;
+
+/// The table of the words of a round.
+pub(crate) type RoundTable = Table<(), View, Terms, Rule, Global>;
+
+/// What a round was opened with, and its words.
+#[derive(Drop)]
+pub(crate) struct Words {
+    pub terms: Terms,
+    pub table: RoundTable,
+}
