@@ -78,7 +78,7 @@ mark_begins mark text rest is stands =
 
 -- an array that opens with a word that needs no escape
 pub opens_with : (letters text inside rest : List ℕ) → escape letters ≡ letters → are_ascii (34 ∷ (letters ++ 34 ∷ [])) ≡ true
-    → Begins text (token Token.begin_array ∷ []) inside → unspaced inside ≡ 34 ∷ (letters ++ 34 ∷ rest)
+    → Begins text (token Token.begin_array ∷ []) inside → unspaced inside ≡ (34 ∷ (letters ++ 34 ∷ [])) ++ rest
     → Begins text (opening letters) rest
 unfolding lex
 opens_with letters text inside rest plain_word ascii opens stands =
@@ -86,7 +86,7 @@ opens_with letters text inside rest plain_word ascii opens stands =
     let within : content plain (letters ++ 34 ∷ rest) ≡ Some letters = ap (λ w. content plain (w ++ 34 ∷ rest)) (sym plain_word) ∙ content-escape letters rest in
     let over : lex in_string (letters ++ 34 ∷ rest) ≡ lex between rest = ap (λ w. lex in_string (w ++ 34 ∷ rest)) (sym plain_word) ∙ lex-escape letters rest in
     begins_more text inside rest (token Token.begin_array ∷ []) (token (Token.string letters) ∷ []) opens
-    (begins inside (34 ∷ (letters ++ 34 ∷ [])) rest (token (Token.string letters) ∷ []) (stands ∙ ap (λ bs. 34 ∷ bs) (sym whole)) (IsUtf8-are_ascii _ ascii)
+    (begins inside (34 ∷ (letters ++ 34 ∷ [])) rest (token (Token.string letters) ∷ []) stands (IsUtf8-are_ascii _ ascii)
     (ap (λ bs. lex between (34 ∷ bs)) whole ∙ (λ i. token (string_token (within i)) ∷ over i)))
 
 or_true : (p : Bool) → (p || true) ≡ true

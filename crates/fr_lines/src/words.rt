@@ -1,6 +1,6 @@
 //! The words that open requests and edits, by the bytes of a line.
 
-ghost use Rattle.std.specs.Prelude.{◌≡◌, ◌∷◌, ◌++◌, IfSome};
+ghost use Rattle.std.specs.Prelude.{◌≡◌, ◌∷◌, ◌++◌, [], IfSome};
 ghost use Rattle.fr_lines.specs.LineLexemes.{Begins, letters, opening};
 
 use crate::fronts::{behind_mark, behind_space};
@@ -25,38 +25,51 @@ pub(crate) enum EditWord {
     Join,
 }
 
+impl Word {
+    /// The word between its quotes.
+    #[inline(always)]
+    fn quoted(self) -> &'static [u8]
+        ensures { result.now ≡ 34 ∷ (letters self ++ 34 ∷ []) }
+    {
+        match self {
+            Word::Network => b"\"net\"",
+            Word::Edit(EditWord::Cut) => b"\"cut\"",
+            Word::Edit(EditWord::Add) => b"\"add\"",
+            Word::Edit(EditWord::Join) => b"\"join\"",
+            Word::Batch => b"\"batch\"",
+            Word::Destination => b"\"dest\"",
+            Word::Walk => b"\"walk\"",
+            Word::Ask(Question::Links) => b"\"links\"",
+            Word::Ask(Question::Counts) => b"\"counts\"",
+            Word::Ask(Question::Hops) => b"\"hops\"",
+        }
+    }
+}
+
 /// The word that opens the array at the front, and what is behind it.
 #[inline(always)]
 pub(crate) fn opening_word(text: &[u8]) -> Option<(Word, &[u8])>
     ensures { IfSome result (λ next. Begins text.now (opening (letters next.0)) next.1.now) }
 {
-    quoted_word(behind_space(behind_mark(b'[', text)?))
+    let quoted = behind_space(behind_mark(b'[', text)?);
+    let word = word_like(quoted)?;
+    Some((word, quoted.strip_prefix(word.quoted())?))
 }
 
-/// The word between quotes at the front, and what is behind it: an arm for each word.
+/// The one word that begins as this text does. The letters behind are not looked at.
 #[inline(always)]
-fn quoted_word(text: &[u8]) -> Option<(Word, &[u8])>
-    ensures { IfSome result (λ next. text.now ≡ 34 ∷ (letters next.0 ++ 34 ∷ next.1.now)) }
-{
-    match text {
-        [b'"', b'c', b'u', b't', b'"', behind @ ..] => Some((Word::Edit(EditWord::Cut), behind)),
-        [b'"', b'a', b'd', b'd', b'"', behind @ ..] => Some((Word::Edit(EditWord::Add), behind)),
-        [b'"', b'j', b'o', b'i', b'n', b'"', behind @ ..] => {
-            Some((Word::Edit(EditWord::Join), behind))
-        }
-        [b'"', b'd', b'e', b's', b't', b'"', behind @ ..] => Some((Word::Destination, behind)),
-        [b'"', b'w', b'a', b'l', b'k', b'"', behind @ ..] => Some((Word::Walk, behind)),
-        [b'"', b'n', b'e', b't', b'"', behind @ ..] => Some((Word::Network, behind)),
-        [b'"', b'b', b'a', b't', b'c', b'h', b'"', behind @ ..] => Some((Word::Batch, behind)),
-        [b'"', b'l', b'i', b'n', b'k', b's', b'"', behind @ ..] => {
-            Some((Word::Ask(Question::Links), behind))
-        }
-        [b'"', b'c', b'o', b'u', b'n', b't', b's', b'"', behind @ ..] => {
-            Some((Word::Ask(Question::Counts), behind))
-        }
-        [b'"', b'h', b'o', b'p', b's', b'"', behind @ ..] => {
-            Some((Word::Ask(Question::Hops), behind))
-        }
+fn word_like(quoted: &[u8]) -> Option<Word> {
+    match quoted {
+        [b'"', b'n', ..] => Some(Word::Network),
+        [b'"', b'c', b'u', ..] => Some(Word::Edit(EditWord::Cut)),
+        [b'"', b'a', ..] => Some(Word::Edit(EditWord::Add)),
+        [b'"', b'j', ..] => Some(Word::Edit(EditWord::Join)),
+        [b'"', b'b', ..] => Some(Word::Batch),
+        [b'"', b'd', ..] => Some(Word::Destination),
+        [b'"', b'w', ..] => Some(Word::Walk),
+        [b'"', b'l', ..] => Some(Word::Ask(Question::Links)),
+        [b'"', b'c', b'o', ..] => Some(Word::Ask(Question::Counts)),
+        [b'"', b'h', ..] => Some(Word::Ask(Question::Hops)),
         _ => None,
     }
 }
