@@ -22,8 +22,9 @@ use std::str::from_utf8;
 /// How deep arrays and objects may nest, as `serde_json` has it.
 const DEPTH: usize = 127;
 
-/// A reader of many lines. A short request that is written without whitespace, as `["walk",3]`, it reads by its bytes, and so a network
-/// or a batch. From the first other line on it keeps the memory that reading takes: a table of 16 KB, and room for the longest line so far.
+/// A reader of many lines. It reads most requests by their bytes. From the first line on that has a sign, a fraction, an exponent, an
+/// escape or an empty list, and from the first that is no request, it keeps the memory that reading takes: a table of 16 KB, and room for
+/// the longest line so far.
 pub struct LineReader {
     scratch: Option<Box<Scratch>>,
 }
