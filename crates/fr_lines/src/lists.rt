@@ -1,27 +1,38 @@
-//! The links of a network and the edits of a batch, by the bytes of a line.
+//! The links of a network and the edits of a batch: as items, and by the bytes of a line.
 
-ghost use Rattle.std.specs.Prelude.{◌≡◌, ◌∷◌, ◌++◌, [], List, IfOk, IfErr, IfSome, true};
+ghost use Rattle.std.specs.Prelude.{◌≡◌, ◌∷◌, ◌++◌, [], List, Option, IfOk, IfErr, IfSome, true};
+ghost use Rattle.serde_json.specs.Data.{Data};
+ghost use Rattle.serde_json.specs.View.{view};
+ghost use Rattle.fr_lines.specs.Requests.{edit_in, link_in};
 ghost use Rattle.json.specs.Lex.{Lexeme, token, comma};
 ghost use Rattle.json.specs.Token.{end_array};
 ghost use Rattle.fr_lines.specs.declared.requests.LineFault.TheVariants.{Memory};
 ghost use Rattle.fr_lines.specs.LineLexemes.{Begins, Each, AreSmall, HasSmallEnds, letters_of_edit, ends_lexemes, link_lexemes, edit_lexemes, list_lexemes, word_of, edit_ends};
 
 use crate::fronts::{behind_mark, ends_line, number_before};
+use crate::read::{edit, link};
 use crate::requests::LineFault;
 use crate::words::{EditWord, Word, opening_word};
 use fr_graph::Edit;
+use serde_json::Value;
 use std::alloc::Global;
 
-/// What a list of a line has as its items.
+/// What a list has as its items: links or edits.
 pub(crate) trait Item: Drop {
     ghost lexemes: { Self → List Lexeme };
 
     ghost IsSmall: { Self → Type 0 };
 
+    ghost in_data: { Data → Option Self };
+
     /// The item at the front, and what is behind it.
     fn at_front(text: &[u8]) -> Option<(Self, &[u8])>
         ensures read { IfSome result (λ next. Begins text.now (lexemes next.0) next.1.now) }
         ensures small { IfSome result (λ next. IsSmall next.0) };
+
+    /// The item that a value of JSON is.
+    fn of_value(value: &Value) -> Option<Self>
+        ensures { result ≡ in_data (view value.now) };
 }
 
 impl Item for (u32, u32) {
@@ -29,9 +40,15 @@ impl Item for (u32, u32) {
 
     ghost IsSmall = { AreSmall };
 
+    ghost in_data = { link_in };
+
     #[inline(always)]
     fn at_front(text: &[u8]) -> Option<((u32, u32), &[u8])> {
         ends(behind_mark(b'[', text)?)
+    }
+
+    fn of_value(value: &Value) -> Option<(u32, u32)> {
+        link(value)
     }
 }
 
@@ -40,12 +57,18 @@ impl Item for Edit {
 
     ghost IsSmall = { HasSmallEnds };
 
+    ghost in_data = { edit_in };
+
     #[inline(always)]
     fn at_front(text: &[u8]) -> Option<(Edit, &[u8])> {
         let (Word::Edit(word), rest) = opening_word(text)? else {
             return None;
         };
         edit_after(word, rest)
+    }
+
+    fn of_value(value: &Value) -> Option<Edit> {
+        edit(value)
     }
 }
 
