@@ -1,3 +1,8 @@
+-- parts of a list, put together
 pub mod Pieces
+-- cutting off the first line
 pub mod Cutting
+-- lines, and where they end
 pub mod Ending
+-- what holds of results
+pub mod Results

@@ -1,5 +1,9 @@
 //! Why a run, a service, a play or a drawing stopped.
 
+ghost use Rattle.std.specs.Prelude.{◌≡◌};
+ghost use Rattle.fr_bytes.specs.declared.fault.RunFault.TheVariants.{Memory};
+
+use std::alloc::AllocError;
 use thiserror::Error;
 
 /// Why a run, a service, a play or a drawing stopped. Plays and drawings write only at their end, so a fault other than `Write` has
@@ -23,4 +27,13 @@ pub enum RunFault {
     /// input of a run found no room.
     #[error("no memory")]
     Memory,
+}
+
+// By hand, since clauses say which fault a `?` gives.
+impl From<AllocError> for RunFault {
+    ghost from_gives = { λ _ fault. fault ≡ Memory };
+
+    fn from(_refused: AllocError) -> RunFault {
+        RunFault::Memory
+    }
 }

@@ -1,7 +1,8 @@
 //! Writing all of some bytes, or a beginning of them where a write fails.
 
-ghost use Rattle.std.specs.Prelude.{◌≡◌, ℕ, OnOk, OnErr, IfErr, take};
-ghost use Rattle.std.specs.Io.KnownBytes.{Appends};
+ghost use Rattle.std.specs.Prelude.{◌≡◌, ℕ, List, OnOk, OnErr, IfErr, take};
+ghost use Rattle.std.specs.Io.KnownBytes.{Appends, Keeps};
+ghost use Rattle.fr_bytes.specs.Bytes.{IsBeginning};
 
 use crate::fault::RunFault;
 use std::io::Write;
@@ -21,4 +22,26 @@ pub fn write_whole<W: Write>(writer: &mut W, bytes: &[u8]) -> Result<(), RunFaul
         }
     }
     Ok(())
+}
+
+/// Writes all of the bytes, and flushes once. Any error, and a write that takes no byte, is the fault `Write`: what went out is then a
+/// beginning of the bytes. `O(b)` for b bytes.
+pub fn write_out<W: Write>(writer: &mut W, bytes: &[u8]) -> Result<(), RunFault>
+    ensures ok { OnOk result (Appends (W.contents writer.old) (W.contents writer.new) bytes.now) }
+    ensures err { OnErr result ((front : List ℕ) × IsBeginning front bytes.now × Appends (W.contents writer.old) (W.contents writer.new) front) }
+    ensures kind { IfErr result (λ fault. fault ≡ RunFault.Write) }
+{
+    write_whole(writer, bytes)?;
+    flush(writer)
+}
+
+/// Flushes a writer. Any error is the fault `Write`. It costs what the flush does.
+pub fn flush<W: Write>(writer: &mut W) -> Result<(), RunFault>
+    ensures kept { Keeps (W.contents writer.old) (W.contents writer.new) }
+    ensures kind { IfErr result (λ fault. fault ≡ RunFault.Write) }
+{
+    match writer.flush() {
+        Ok(()) => Ok(()),
+        Err(_) => Err(RunFault::Write),
+    }
 }

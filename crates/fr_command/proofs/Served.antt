@@ -1,5 +1,5 @@
 -- How far an input was served.
-use Rattle.std.proofs.Common.{◌≡◌, ◌≢◌, ◌∙◌, ℕ, ◌+◌, ◌<◌, ◌≤◌, List, [], ◌∷◌, ◌++◌, length, take, drop, take-append-drop, length-append, append_assoc, append-nil, refl, sym, ap, subst, Option, Result, Ok, Err, OnOk, OnErr, true, false, not, arith}
+use Rattle.std.proofs.Common.{◌≡◌, ◌≢◌, ◌∙◌, ℕ, ◌+◌, ◌<◌, ◌≤◌, List, [], ◌∷◌, ◌++◌, length, take, drop, take-append-drop, length-append, append_assoc, append-nil, refl, sym, ap, subst, Option, true, false, not, arith}
 use Rattle.std.proofs.Math.Seq.{take-add}
 use Rattle.std.proofs.lemmas.List.{take-append-le}
 use Rattle.std.proofs.lemmas.List.Folds.{length-prefix_len}
@@ -21,15 +21,6 @@ use Rattle.fr_command.proofs.Determined.{output_unique, begins-trans, begins_beh
 use Rattle.fr_command.proofs.EachOutput.{each_output}
 use Rattle.fr_bytes.proofs.Ending.{lines_go_on, line_goes_on, begun_alone, begun_short, first_line_is, one_line, ends_line}
 use Rattle.fr_command.proofs.Taking.{takes_on, takes_none, answer_stands, output_ends}
-
--- a fact is one for each result
-pub on_ok : {T E : Type 0} (r : Result T E) (P : Type 0) → P → OnOk r P
-on_ok (Ok x) P h = h
-on_ok (Err e) P h = tt
-
-pub on_err : {T E : Type 0} (r : Result T E) (P : Type 0) → P → OnErr r P
-on_err (Ok x) P h = tt
-on_err (Err e) P h = h
 
 -- nothing was taken yet
 pub says_nothing : (talk : Talk) (w : Option (List ℕ)) → lines_of talk.begun ≡ talk.begun ∷ [] → Says talk [] talk w w

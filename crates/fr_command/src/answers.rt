@@ -7,50 +7,29 @@ ghost use Rattle.fr_route.specs.Answers.{AreAnswers};
 ghost use Rattle.fr_command.specs.InLines.{IsAnsweringFault, IsLineFault};
 ghost use Rattle.fr_command.specs.Outputs.{WritesOutput};
 
+use crate::crew::Crew;
 use crate::fault::run_fault;
 use fr_bytes::{Lines, RunFault, write_whole};
-use fr_crew::{Gate, Plan};
+use fr_crew::Gate;
 use fr_route::{AnswerFault, Session};
-use std::alloc::Global;
 use std::io::Write;
 use std::sync::Wait;
 use std::thread::Threads;
 
 /// Writes the answer to each line of the input that is not blank, and tells how many were answered.
 pub(crate) fn answer_all<T: Threads + Wait + Sync, W: Write, G: Gate + Sync>(
-    rt: &T,
-    alloc: Global,
+    crew: &Crew<'_, T, G>,
     input: &[u8],
     writer: &mut W,
-    plan: &Plan,
-    gate: &G,
 ) -> Result<u64, RunFault>
     ensures ok { IfOk result (WritesOutput input.now (W.contents writer.old) (W.contents writer.new)) }
     ensures fault { IfErr result (IsAnsweringFault input.now (W.contents writer.old) (W.contents writer.new)) }
-    ensures no_start { plan.now.budget ≡ 0 → result ≢ Err RunFault.Start }
+    ensures no_start { crew.now.plan.now.budget ≡ 0 → result ≢ Err RunFault.Start }
 {
     let mut session = Session::new();
-    answer_each(rt, alloc, &mut session, input, writer, plan, gate)
-}
-
-/// The same, of a session that was asked nothing yet.
-fn answer_each<T: Threads + Wait + Sync, W: Write, G: Gate + Sync>(
-    rt: &T,
-    alloc: Global,
-    session: &mut Session,
-    input: &[u8],
-    writer: &mut W,
-    plan: &Plan,
-    gate: &G,
-) -> Result<u64, RunFault>
-    requires { session.old ≡ None }
-    ensures ok { IfOk result (WritesOutput input.now (W.contents writer.old) (W.contents writer.new)) }
-    ensures fault { IfErr result (IsAnsweringFault input.now (W.contents writer.old) (W.contents writer.new)) }
-    ensures no_start { plan.now.budget ≡ 0 → result ≢ Err RunFault.Start }
-{
     let mut count = 0;
     for line in Lines::new(input) {
-        let answered = answer_one(rt, alloc, session, line, writer, plan, gate)?;
+        let answered = answer_one(crew, &mut session, line, writer)?;
         count += answered;
     }
     Ok(count)
@@ -58,21 +37,18 @@ fn answer_each<T: Threads + Wait + Sync, W: Write, G: Gate + Sync>(
 
 /// Writes the answer to a line, with byte 10 behind it, and tells how many there are: a blank line has none, and any other one.
 fn answer_one<T: Threads + Wait + Sync, W: Write, G: Gate + Sync>(
-    rt: &T,
-    alloc: Global,
+    crew: &Crew<'_, T, G>,
     session: &mut Session,
     line: &[u8],
     writer: &mut W,
-    plan: &Plan,
-    gate: &G,
 ) -> Result<u64, RunFault>
     ensures asks { IfOk result (λ answered. answered ≡ (if not (is_blank line.now) then 1 else 0)) }
     ensures ok { IfOk result (λ asks. (out : List ℕ) × AreAnswers session.old (line.now ∷ []) out session.new
         × Appends (W.contents writer.old) (W.contents writer.new) out) }
     ensures fault { IfErr result (IsLineFault session.old line.now (W.contents writer.old) (W.contents writer.new)) }
-    ensures no_start { plan.now.budget ≡ 0 → result ≢ Err RunFault.Start }
+    ensures no_start { crew.now.plan.now.budget ≡ 0 → result ≢ Err RunFault.Start }
 {
-    match answer_text(rt, alloc, session, line, plan, gate) {
+    match answer_text(crew, session, line) {
         Ok(Some(text)) => {
             write_whole(writer, text.as_bytes())?;
             Ok(1)
@@ -84,20 +60,18 @@ fn answer_one<T: Threads + Wait + Sync, W: Write, G: Gate + Sync>(
 
 /// The answer to a line, with byte 10 behind it, if there is one.
 fn answer_text<T: Threads + Wait + Sync, G: Gate + Sync>(
-    rt: &T,
-    alloc: Global,
+    crew: &Crew<'_, T, G>,
     session: &mut Session,
     line: &[u8],
-    plan: &Plan,
-    gate: &G,
 ) -> Result<Option<String>, AnswerFault>
     ensures blank { IfOk result (λ answer. IfNone answer ((is_blank line.now ≡ true) × (session.new ≡ session.old))) }
     ensures text { IfOk result (λ answer. IfSome answer (λ text. (is_blank line.now ≡ false)
         × AreAnswers session.old (line.now ∷ []) (string_bytes text) session.new)) }
     ensures asks { IfErr result (λ _. is_blank line.now ≡ false) }
-    ensures no_start { plan.now.budget ≡ 0 → result ≢ Err AnswerFault.Start }
+    ensures no_start { crew.now.plan.now.budget ≡ 0 → result ≢ Err AnswerFault.Start }
 {
-    let Some(mut text) = session.answer_line(rt, alloc, line, plan, gate)? else {
+    let Some(mut text) = session.answer_line(crew.rt, crew.alloc, line, crew.plan, crew.gate)?
+    else {
         return Ok(None);
     };
     match text.push('\n') {

@@ -28,7 +28,7 @@ pub(crate) fn targets_of(
     let nodes = turnable_nodes(alloc, net, dest)?;
     let mut targets = Vec::with_capacity(alloc, draw.workers as usize)?;
     for _worker in 0..draw.workers {
-        targets.push(turns_of(alloc, &nodes, draw.steps as usize)?)?;
+        targets.push(targets_in_turn(alloc, &nodes, draw.steps as usize)?)?;
     }
     Ok(targets)
 }
@@ -47,7 +47,7 @@ fn turnable_nodes(alloc: Global, net: &Net, dest: u32) -> Result<Vec<u32>, Alloc
 }
 
 /// So many turns: of each of the nodes, and again from the first. None if there is no node.
-fn turns_of(alloc: Global, nodes: &[u32], most: usize) -> Result<Vec<Target>, AllocError>
+fn targets_in_turn(alloc: Global, nodes: &[u32], most: usize) -> Result<Vec<Target>, AllocError>
     ensures { IfOk result (λ turns. turns.items ≡ map Turn (take most (repeat most nodes.now))) }
 {
     let mut turns = Vec::new(alloc);

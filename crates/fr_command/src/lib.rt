@@ -10,6 +10,7 @@
 
 mod answers;
 mod conversation;
+mod crew;
 mod entries;
 mod fault;
 pub mod laws;

@@ -12,7 +12,7 @@ ghost use Rattle.fr_command.specs.Faults.{IsDrawnPlayFault};
 ghost use Rattle.fr_command.specs.Plays.{targets_for, IsRefusal, IsPlayText, IsPlayOf, IsPlayOutput, WritesPlay};
 
 use crate::entries::{end_text, push_count, targets_of};
-use fr_bytes::{Lines, RunFault, read_input, write_whole};
+use fr_bytes::{Lines, RunFault, read_input, write_out};
 use fr_core::{Entry, play};
 use fr_graph::{Net, NetFault};
 use fr_lines::{LineFault, Request, read_line};
@@ -45,14 +45,9 @@ pub fn play_drawn<R: Read, W: Write>(
         (W.contents writer.old) (W.contents writer.new)) }
 {
     let input = read_input(alloc, reader)?;
-    let Ok((text, count)) = play_input(alloc, &input, draw) else {
-        return Err(RunFault::Memory);
-    };
-    write_whole(writer, text.as_bytes())?;
-    match writer.flush() {
-        Ok(()) => Ok(count),
-        Err(_) => Err(RunFault::Write),
-    }
+    let (text, count) = play_input(alloc, &input, draw)?;
+    write_out(writer, text.as_bytes())?;
+    Ok(count)
 }
 
 /// What the play of an input prints, and how many entries it has.

@@ -6,7 +6,8 @@ ghost use Rattle.fr_command.specs.Faults.{IsRunFault};
 ghost use Rattle.fr_command.specs.Outputs.{WritesOutput};
 
 use crate::answers::answer_all;
-use fr_bytes::{RunFault, read_input};
+use crate::crew::Crew;
+use fr_bytes::{RunFault, flush, read_input};
 use fr_crew::{Gate, Plan};
 use std::alloc::Global;
 use std::io::{Read, Write};
@@ -40,9 +41,13 @@ pub fn run<T: Threads + Wait + Sync, R: Read, W: Write, G: Gate + Sync>(
     ensures no_start { plan.now.budget ≡ 0 → result ≢ Err RunFault.Start }
 {
     let input = read_input(alloc, reader)?;
-    let count = answer_all(rt, alloc, &input, writer, plan, gate)?;
-    match writer.flush() {
-        Ok(()) => Ok(count),
-        Err(_) => Err(RunFault::Write),
-    }
+    let crew = Crew {
+        rt,
+        alloc,
+        plan,
+        gate,
+    };
+    let count = answer_all(&crew, &input, writer)?;
+    flush(writer)?;
+    Ok(count)
 }

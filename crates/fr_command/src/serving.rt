@@ -1,17 +1,18 @@
 //! Serving: each line of an input is answered before more is read.
 
 ghost use Rattle.std.specs.Prelude.{◌≡◌, ◌≢◌, ◌∷◌, [], ℕ, List, take, IfOk, OnOk, OnErr, IfErr};
-ghost use Rattle.std.specs.Io.KnownBytes.{Appends, Consumes, IsAtEnd, Keeps};
+ghost use Rattle.std.specs.Io.KnownBytes.{Appends, Consumes, IsAtEnd};
 ghost use Rattle.fr_bytes.specs.Lines.{lines_of};
 ghost use Rattle.fr_bytes.specs.Bytes.{IsBeginning};
 ghost use Rattle.fr_command.specs.Outputs.{asking_count, WritesOutput};
-ghost use Rattle.fr_command.specs.Conversations.{Ends, Says, silence, line_size, text_of};
+ghost use Rattle.fr_command.specs.Conversations.{Ends, Says, line_size, text_of};
 ghost use Rattle.fr_command.specs.Faults.{IsServeFault};
 ghost use Rattle.fr_command.specs.InLines.{IsLineFault};
 ghost use Rattle.fr_command.specs.InPieces.{IsFrontFault, IsPieceFault};
 
 use crate::conversation::Conversation;
-use fr_bytes::{MAX_BYTES, PIECE, RunFault, read_piece, write_whole};
+use crate::crew::Crew;
+use fr_bytes::{MAX_BYTES, PIECE, RunFault, flush, read_piece, write_whole};
 use fr_crew::{Gate, Plan};
 use std::alloc::Global;
 use std::io::{Read, Write};
@@ -40,59 +41,41 @@ pub fn serve<T: Threads + Wait + Sync, R: Read, W: Write, G: Gate + Sync>(
         (W.contents writer.old) (W.contents writer.new)) }
     ensures no_start { plan.now.budget ≡ 0 → result ≢ Err RunFault.Start }
 {
+    let crew = Crew {
+        rt,
+        alloc,
+        plan,
+        gate,
+    };
     let mut conversation = Conversation::new(alloc);
-    converse(rt, alloc, &mut conversation, reader, writer, plan, gate)
-}
-
-/// The same, of a conversation in which nothing was said yet.
-fn converse<T: Threads + Wait + Sync, R: Read, W: Write, G: Gate + Sync>(
-    rt: &T,
-    alloc: Global,
-    conversation: &mut Conversation,
-    reader: &mut R,
-    writer: &mut W,
-    plan: &Plan,
-    gate: &G,
-) -> Result<(), RunFault>
-    requires { conversation.old ≡ silence }
-    ensures ok { OnOk result ((bytes : List ℕ)
-        × Consumes (R.remaining reader.old) (R.remaining reader.new) bytes × IsAtEnd (R.remaining reader.new)
-        × WritesOutput bytes (W.contents writer.old) (W.contents writer.new) (asking_count (lines_of bytes))) }
-    ensures fault { IfErr result (IsServeFault (R.remaining reader.old) (R.remaining reader.new)
-        (W.contents writer.old) (W.contents writer.new)) }
-    ensures no_start { plan.now.budget ≡ 0 → result ≢ Err RunFault.Start }
-{
     let mut piece = [0u8; PIECE];
     'reads: for _ in rt.forever() {
         let room = PIECE.min(MAX_BYTES + 1 - conversation.begun().len());
         let count = read_piece(reader, &mut piece[..room])?;
         if count == 0 {
-            return answer_end(rt, alloc, conversation, writer, plan, gate);
+            return answer_end(&crew, &mut conversation, writer);
         }
-        answer_piece(rt, alloc, conversation, &piece[..count], writer, plan, gate)?;
+        answer_piece(&crew, &mut conversation, &piece[..count], writer)?;
     }
     unreachable!()
 }
 
 /// Answers the lines that end in a piece, and flushes.
 fn answer_piece<T: Threads + Wait + Sync, W: Write, G: Gate + Sync>(
-    rt: &T,
-    alloc: Global,
+    crew: &Crew<'_, T, G>,
     conversation: &mut Conversation,
     piece: &[u8],
     writer: &mut W,
-    plan: &Plan,
-    gate: &G,
 ) -> Result<(), RunFault>
     requires { lines_of conversation.old.begun ≡ conversation.old.begun ∷ [] }
     ensures ok { OnOk result (Says conversation.old piece.now conversation.new (W.contents writer.old) (W.contents writer.new)) }
     ensures fault { IfErr result (IsPieceFault conversation.old piece.now conversation.new
         (W.contents writer.old) (W.contents writer.new)) }
-    ensures no_start { plan.now.budget ≡ 0 → result ≢ Err RunFault.Start }
+    ensures no_start { crew.now.plan.now.budget ≡ 0 → result ≢ Err RunFault.Start }
 {
     let mut done = 0;
     while done < piece.len() {
-        let count = answer_front(rt, alloc, conversation, &piece[done..], writer, plan, gate)?;
+        let count = answer_front(crew, conversation, &piece[done..], writer)?;
         done += count;
     }
     flush(writer)
@@ -100,41 +83,35 @@ fn answer_piece<T: Threads + Wait + Sync, W: Write, G: Gate + Sync>(
 
 /// Answers the line that ends in the front of a piece, if one does, and tells how many bytes were taken.
 fn answer_front<T: Threads + Wait + Sync, W: Write, G: Gate + Sync>(
-    rt: &T,
-    alloc: Global,
+    crew: &Crew<'_, T, G>,
     conversation: &mut Conversation,
     piece: &[u8],
     writer: &mut W,
-    plan: &Plan,
-    gate: &G,
 ) -> Result<usize, RunFault>
     ensures count { IfOk result (λ count. count ≡ line_size piece.now) }
     ensures ok { IfOk result (λ count. Says conversation.old (take count piece.now) conversation.new (W.contents writer.old) (W.contents writer.new)) }
     ensures fault { IfErr result (IsFrontFault conversation.old piece.now conversation.new
         (W.contents writer.old) (W.contents writer.new)) }
-    ensures no_start { plan.now.budget ≡ 0 → result ≢ Err RunFault.Start }
+    ensures no_start { crew.now.plan.now.budget ≡ 0 → result ≢ Err RunFault.Start }
 {
-    let taken = conversation.take(rt, alloc, piece, plan, gate)?;
+    let taken = conversation.take(crew.rt, crew.alloc, piece, crew.plan, crew.gate)?;
     write_answer(writer, taken.answer)?;
     Ok(taken.count)
 }
 
 /// Answers the line that the end of the input ends, and flushes.
 fn answer_end<T: Threads + Wait + Sync, W: Write, G: Gate + Sync>(
-    rt: &T,
-    alloc: Global,
+    crew: &Crew<'_, T, G>,
     conversation: &mut Conversation,
     writer: &mut W,
-    plan: &Plan,
-    gate: &G,
 ) -> Result<(), RunFault>
     ensures ok { OnOk result ((text : List ℕ) × Ends conversation.old text conversation.new
         × Appends (W.contents writer.old) (W.contents writer.new) text) }
     ensures fault { IfErr result (IsLineFault conversation.old.state conversation.old.begun
         (W.contents writer.old) (W.contents writer.new)) }
-    ensures no_start { plan.now.budget ≡ 0 → result ≢ Err RunFault.Start }
+    ensures no_start { crew.now.plan.now.budget ≡ 0 → result ≢ Err RunFault.Start }
 {
-    let answer = conversation.finish(rt, alloc, plan, gate)?;
+    let answer = conversation.finish(crew.rt, crew.alloc, crew.plan, crew.gate)?;
     write_answer(writer, answer)?;
     flush(writer)
 }
@@ -151,14 +128,4 @@ fn write_answer<W: Write>(writer: &mut W, answer: Option<String>) -> Result<(), 
     };
     write_whole(writer, text.as_bytes())?;
     write_whole(writer, b"\n")
-}
-
-fn flush<W: Write>(writer: &mut W) -> Result<(), RunFault>
-    ensures kept { Keeps (W.contents writer.old) (W.contents writer.new) }
-    ensures kind { IfErr result (λ fault. fault ≡ RunFault.Write) }
-{
-    match writer.flush() {
-        Ok(()) => Ok(()),
-        Err(_) => Err(RunFault::Write),
-    }
 }

@@ -7,12 +7,16 @@ use Rattle.json.proofs.Printed.Decimals.{IsNumber-decimal}
 use Rattle.json.proofs.Printed.Numbers.{lex-number}
 use Rattle.json.proofs.Printed.Strings.{content-escape, lex-escape}
 use Rattle.json.proofs.Printed.Utf8.{IsUtf8-are_ascii, are_ascii}
-use Rattle.json.specs.Lex.{Lexeme, between, class, comma, in_string, lex, lex_byte, operator, operator_lexeme, space, string_token, token}
-use Rattle.json.specs.Print.{escape}
+use Rattle.json.specs.Lex.{Lexeme, between, class, in_string, lex, lex_byte, operator, operator_lexeme, space, string_token, token}
+use Rattle.json.specs.Print.{escape, escape_byte}
 use Rattle.json.specs.Text.{content, plain}
 use Rattle.json.specs.Token.{Token}
 use Rattle.json.specs.Word.{ends_word, is_operator, is_space}
-use Rattle.fr_lines.specs.ListLines.{Begins, number_lexeme, unspaced, word_lexeme}
+use Rattle.fr_lines.specs.LineLexemes.{Begins, letters, number_lexeme, opening, unspaced}
+use Rattle.fr_lines.specs.declared.requests.Question.TheVariants.{Counts, Hops, Links}
+use Rattle.fr_lines.specs.declared.words.EditWord.TheVariants as edit_word
+use Rattle.fr_lines.specs.declared.words.Word.{Word}
+use Rattle.fr_lines.specs.declared.words.Word.TheVariants as word
 
 either : (p q : Bool) (P : Type 0) → (p || q) ≡ true → (p ≡ true → P) → (q ≡ true → P) → P
 either p q P h f g = elim (or_cases p q h) [ inl e ↦ f e | inr e ↦ g e ]
@@ -61,6 +65,10 @@ pub begins_more : (text mid rest : List ℕ) (xs ys : List Lexeme) → Begins te
 begins_more text mid rest xs ys first next =
     (first.0 ∙ ap (λ ls. xs ++ ls) next.0 ∙ sym (append_assoc xs ys (lex between rest)), λ utf8. first.1 (next.1 utf8))
 
+-- a mark is no white space
+pub mark_stays : (mark : ℕ) (bs : List ℕ) → is_operator mark ≡ true → unspaced (mark ∷ bs) ≡ mark ∷ bs
+mark_stays mark bs is = mark_is (λ k. unspaced (k ∷ bs) ≡ k ∷ bs) mark is refl refl refl refl refl refl
+
 pub mark_begins : (mark : ℕ) (text rest : List ℕ) → is_operator mark ≡ true → unspaced text ≡ mark ∷ rest → Begins text (operator_lexeme mark ∷ []) rest
 unfolding lex
 mark_begins mark text rest is stands =
@@ -68,16 +76,18 @@ mark_begins mark text rest is stands =
     let ascii : are_ascii (mark ∷ []) ≡ true = mark_is (λ k. are_ascii (k ∷ []) ≡ true) mark is refl refl refl refl refl refl in
     begins text (mark ∷ []) rest (operator_lexeme mark ∷ []) stands (IsUtf8-are_ascii (mark ∷ []) ascii) (ap (λ c. lex_byte between c mark rest (λ next. lex next rest)) its)
 
--- a word that needs no escape, between quotes
-pub word_begins : (word text rest : List ℕ) → escape word ≡ word → are_ascii (34 ∷ (word ++ 34 ∷ [])) ≡ true → unspaced text ≡ 34 ∷ (word ++ 34 ∷ rest)
-    → Begins text (word_lexeme word ∷ []) rest
+-- an array that opens with a word that needs no escape
+pub opens_with : (letters text inside rest : List ℕ) → escape letters ≡ letters → are_ascii (34 ∷ (letters ++ 34 ∷ [])) ≡ true
+    → Begins text (token Token.begin_array ∷ []) inside → unspaced inside ≡ (34 ∷ (letters ++ 34 ∷ [])) ++ rest
+    → Begins text (opening letters) rest
 unfolding lex
-word_begins word text rest plain_word ascii stands =
-    let whole = append_assoc word (34 ∷ []) rest in
-    let inside : content plain (word ++ 34 ∷ rest) ≡ Some word = ap (λ w. content plain (w ++ 34 ∷ rest)) (sym plain_word) ∙ content-escape word rest in
-    let over : lex in_string (word ++ 34 ∷ rest) ≡ lex between rest = ap (λ w. lex in_string (w ++ 34 ∷ rest)) (sym plain_word) ∙ lex-escape word rest in
-    begins text (34 ∷ (word ++ 34 ∷ [])) rest (word_lexeme word ∷ []) (stands ∙ ap (λ bs. 34 ∷ bs) (sym whole)) (IsUtf8-are_ascii _ ascii)
-    (ap (λ bs. lex between (34 ∷ bs)) whole ∙ (λ i. token (string_token (inside i)) ∷ over i))
+opens_with letters text inside rest plain_word ascii opens stands =
+    let whole = append_assoc letters (34 ∷ []) rest in
+    let within : content plain (letters ++ 34 ∷ rest) ≡ Some letters = ap (λ w. content plain (w ++ 34 ∷ rest)) (sym plain_word) ∙ content-escape letters rest in
+    let over : lex in_string (letters ++ 34 ∷ rest) ≡ lex between rest = ap (λ w. lex in_string (w ++ 34 ∷ rest)) (sym plain_word) ∙ lex-escape letters rest in
+    begins_more text inside rest (token Token.begin_array ∷ []) (token (Token.string letters) ∷ []) opens
+    (begins inside (34 ∷ (letters ++ 34 ∷ [])) rest (token (Token.string letters) ∷ []) stands (IsUtf8-are_ascii _ ascii)
+    (ap (λ bs. lex between (34 ∷ bs)) whole ∙ (λ i. token (string_token (within i)) ∷ over i)))
 
 or_true : (p : Bool) → (p || true) ≡ true
 or_true true = refl
@@ -102,23 +112,9 @@ number_begins n mark text between_them rest small is stands follows =
     (begins text (decimal n) between_them (number_lexeme n ∷ []) stands (IsUtf8-from_ascii (decimal n) (IsAscii-decimal n small)) (lex-number (decimal n) between_them (IsNumber-decimal n small) ended))
     (mark_begins mark between_them rest is follows)
 
--- a line or an edit that opens with its word
-pub opens_with_word : (word line inside behind rest : List ℕ) → escape word ≡ word → are_ascii (34 ∷ (word ++ 34 ∷ [])) ≡ true → unspaced line ≡ 91 ∷ inside
-    → unspaced inside ≡ 34 ∷ (word ++ 34 ∷ behind)
-    → unspaced behind ≡ 44 ∷ rest → Begins line (token Token.begin_array ∷ word_lexeme word ∷ comma ∷ []) rest
-opens_with_word word line inside behind rest plain_word ascii opens stands follows =
-    begins_more line behind rest (token Token.begin_array ∷ word_lexeme word ∷ []) (comma ∷ [])
-    (begins_more line inside behind (token Token.begin_array ∷ []) (word_lexeme word ∷ []) (mark_begins 91 line inside refl opens) (word_begins word inside behind plain_word ascii stands))
-    (mark_begins 44 behind rest refl follows)
-
 -- nothing but white space is left
 pub over_begins : (text : List ℕ) → unspaced text ≡ [] → Begins text [] []
 over_begins text over = let passed = space_passes text in (passed.0 ∙ ap (lex between) over, λ utf8. passed.1 (subst IsUtf8 (sym over) utf8))
-
--- a mark, and then just white space
-pub closed_line : (mark : ℕ) (text behind : List ℕ) → is_operator mark ≡ true → unspaced text ≡ mark ∷ behind → unspaced behind ≡ [] → Begins text (operator_lexeme mark ∷ []) []
-closed_line mark text behind is closes over =
-    begins_more text behind [] (operator_lexeme mark ∷ []) [] (mark_begins mark text behind is closes) (over_begins behind over)
 
 -- a word has ended before white space that ends the text
 ends_at_end : (text : List ℕ) → unspaced text ≡ [] → ends_word text ≡ true
@@ -135,3 +131,29 @@ number_ends n text behind small is over =
     begins_more text behind [] (number_lexeme n ∷ []) []
     (begins text (decimal n) behind (number_lexeme n ∷ []) is (IsUtf8-from_ascii (decimal n) (IsAscii-decimal n small)) (lex-number (decimal n) behind (IsNumber-decimal n small) (ends_at_end behind over)))
     (over_begins behind over)
+
+-- the words of requests need no escape
+pub letters_plain : (word : Word) → escape (letters word) ≡ letters word
+unfolding escape_byte
+letters_plain word.Network = refl
+letters_plain (word.Edit edit_word.Cut) = refl
+letters_plain (word.Edit edit_word.Add) = refl
+letters_plain (word.Edit edit_word.Join) = refl
+letters_plain word.Batch = refl
+letters_plain word.Destination = refl
+letters_plain word.Walk = refl
+letters_plain (word.Ask Links) = refl
+letters_plain (word.Ask Counts) = refl
+letters_plain (word.Ask Hops) = refl
+
+pub letters_ascii : (word : Word) → are_ascii (34 ∷ (letters word ++ 34 ∷ [])) ≡ true
+letters_ascii word.Network = refl
+letters_ascii (word.Edit edit_word.Cut) = refl
+letters_ascii (word.Edit edit_word.Add) = refl
+letters_ascii (word.Edit edit_word.Join) = refl
+letters_ascii word.Batch = refl
+letters_ascii word.Destination = refl
+letters_ascii word.Walk = refl
+letters_ascii (word.Ask Links) = refl
+letters_ascii (word.Ask Counts) = refl
+letters_ascii (word.Ask Hops) = refl

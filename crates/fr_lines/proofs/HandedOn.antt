@@ -1,5 +1,7 @@
--- What a `?` hands on.
-use Rattle.std.proofs.Common.{Err, Ok, Result, subst, sym, ◌≡◌, ◌≢◌}
+-- What a `?` and a `then_some` hand on.
+use Rattle.std.proofs.Common.{Bool, Err, Ok, Result, false, refl, subst, sym, true, ◌≡◌, ◌≢◌}
+use Rattle.std.specs.Bool.{then_some}
+use Rattle.std.specs.Option.{IfSome}
 use Rattle.std.specs.Result.{IfErr, IsErrAnd}
 use Rattle.fr_lines.specs.declared.requests.LineFault.{LineFault}
 use Rattle.fr_lines.specs.declared.requests.LineFault.TheVariants.{Memory}
@@ -9,3 +11,8 @@ pub handed_on : {T : Type 0} (why : LineFault) (P : Type 0) (r : Result T LineFa
     → (f ≢ Memory → (f ≡ why) × P) → IfErr r (λ fault. fault ≢ Memory → (fault ≡ why) × P)
 handed_on why P (Ok x) f is refused = tt
 handed_on why P (Err fault) f is refused = subst (λ e. e ≢ Memory → (e ≡ why) × P) (sym is) refused
+
+-- what holds of a value if the test does holds of what is left of it
+pub if_then_some : {T : Type 0} (P : T → Type 0) (test : Bool) (x : T) → (test ≡ true → P x) → IfSome (then_some test x) P
+if_then_some P true x holds = holds refl
+if_then_some P false x holds = tt

@@ -1,10 +1,16 @@
+-- the items of an array, as values and as data
 pub mod Items
+-- the value of a line, from what serde_json promises
 pub mod LineValues
+-- values of JSON from tokens
 pub mod TokenItems
+-- the request of tokens
 pub mod WordLines
-pub mod ShortLineTexts
+-- bytes as a pattern finds them
+pub mod FoundBytes
+-- the front of a text as a lexeme
 pub mod FrontTexts
-pub mod ListLineValues
-pub mod ShortLineValues
-pub mod NumberLineValues
+-- a line that is read by its bytes
+pub mod ByteLines
+-- what a ? hands on
 pub mod HandedOn

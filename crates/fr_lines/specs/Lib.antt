@@ -1,5 +1,3 @@
 pub mod Requests
 pub mod LineTokens
-pub mod ShortLines
-pub mod ListLines
-pub mod NumberLines
+pub mod LineLexemes

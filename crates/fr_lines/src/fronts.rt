@@ -3,7 +3,7 @@
 ghost use Rattle.std.specs.Prelude.{◌≡◌, ◌<◌, ◌∷◌, ◌++◌, [], true, IfSome, decimal};
 ghost use Rattle.json.specs.Lex.{operator_lexeme};
 ghost use Rattle.json.specs.Word.{is_operator};
-ghost use Rattle.fr_lines.specs.ListLines.{unspaced, Begins, number_lexeme};
+ghost use Rattle.fr_lines.specs.LineLexemes.{unspaced, Begins, number_lexeme};
 
 /// A number above this is too large once a digit is behind it.
 const TENTH: u64 = 429_496_729;
@@ -35,7 +35,8 @@ fn behind_some_space(text: &[u8]) -> &[u8]
 #[inline(always)]
 pub(crate) fn behind_mark(mark: u8, text: &[u8]) -> Option<&[u8]>
     requires { is_operator mark ≡ true }
-    ensures { IfSome result (λ behind. unspaced text.now ≡ mark ∷ behind.now) }
+    ensures bytes { IfSome result (λ behind. unspaced text.now ≡ mark ∷ behind.now) }
+    ensures read { IfSome result (λ behind. Begins text.now (operator_lexeme mark ∷ []) behind.now) }
 {
     match text {
         [first, behind @ ..] if *first == mark => Some(behind),
@@ -57,7 +58,8 @@ fn behind_spaced_mark(mark: u8, text: &[u8]) -> Option<&[u8]>
 /// Whether just white space is left.
 #[inline(always)]
 pub(crate) fn is_over(text: &[u8]) -> bool
-    ensures { result ≡ true → unspaced text.now ≡ [] }
+    ensures bytes { result ≡ true → unspaced text.now ≡ [] }
+    ensures read { result ≡ true → Begins text.now [] [] }
 {
     behind_space(text).is_empty()
 }

@@ -6,12 +6,13 @@
 
 mod fronts;
 mod line_reader;
-mod list_lines;
+mod lists;
 mod no_requests;
 mod read;
 mod requests;
-mod short_lines;
 mod values;
+mod word_lines;
+mod words;
 
 pub use line_reader::LineReader;
 pub use read::read_line;

@@ -8,12 +8,12 @@ ghost use Rattle.fr_lines.specs.Requests.{plain, reading};
 ghost use Rattle.fr_lines.specs.LineTokens.{Tells, reading_of_tokens};
 
 use crate::fronts::{behind_mark, behind_space};
-use crate::list_lines::list_request;
 use crate::no_requests::is_no_request;
 use crate::read::{request_by_word, request_in};
 use crate::requests::{LineFault, Request};
-use crate::short_lines::short_request;
 use crate::values::{items, value};
+use crate::word_lines::request_after;
+use crate::words::opening_word;
 use json::{Reader, Scratch, Token};
 use std::alloc::Global;
 use std::fmt;
@@ -22,8 +22,9 @@ use std::str::from_utf8;
 /// How deep arrays and objects may nest, as `serde_json` has it.
 const DEPTH: usize = 127;
 
-/// A reader of many lines. A short request that is written without whitespace, as `["walk",3]`, it reads by its bytes, and so a network
-/// or a batch. From the first other line on it keeps the memory that reading takes: a table of 16 KB, and room for the longest line so far.
+/// A reader of many lines. It reads most requests by their bytes. From the first line on that has a sign, a fraction, an exponent, an
+/// escape or an empty list, and from the first that is no request, it keeps the memory that reading takes: a table of 16 KB, and room for
+/// the longest line so far.
 pub struct LineReader {
     scratch: Option<Box<Scratch>>,
 }
@@ -48,39 +49,19 @@ impl LineReader {
         ensures ok { IfOk result (λ request. reading line.now ≡ Ok (plain request)) }
         ensures refused { IfErr result (λ fault. fault ≢ Memory → reading line.now ≡ Err fault) }
     {
-        match short_request(line) {
-            Some(request) => Ok(request),
-            None => self.read_longer(alloc, line),
+        if let Some((word, rest)) = opening_word(line) {
+            if let Some(request) = request_after(alloc, word, rest)? {
+                return Ok(request);
+            }
+        } else if is_no_request(line) {
+            return Err(LineFault::NotRequest);
         }
+        self.read_tokens(alloc, line)
     }
 
-    /// The request that a line is which is no short one. It is kept out of the short lines' way, which pays for no locals then.
+    /// The request that a line is, by its tokens. It is kept out of the way of other lines, which pay for no locals then.
     #[inline(never)]
-    fn read_longer(&mut self, alloc: Global, line: &[u8]) -> Result<Request, LineFault>
-        ensures ok { IfOk result (λ request. reading line.now ≡ Ok (plain request)) }
-        ensures refused { IfErr result (λ fault. fault ≢ Memory → reading line.now ≡ Err fault) }
-    {
-        if !opens_with_word(line) {
-            return if is_no_request(line) {
-                Err(LineFault::NotRequest)
-            } else {
-                self.read_tokens(alloc, line, false)
-            };
-        }
-        match list_request(alloc, line)? {
-            Some(request) => Ok(request),
-            None => self.read_tokens(alloc, line, true),
-        }
-    }
-
-    /// The request that a line is, by its tokens, where it is told whether a word seems to open it.
-    #[inline(never)]
-    fn read_tokens(
-        &mut self,
-        alloc: Global,
-        line: &[u8],
-        by_word: bool,
-    ) -> Result<Request, LineFault>
+    fn read_tokens(&mut self, alloc: Global, line: &[u8]) -> Result<Request, LineFault>
         ensures ok { IfOk result (λ request. reading line.now ≡ Ok (plain request)) }
         ensures refused { IfErr result (λ fault. fault ≢ Memory → reading line.now ≡ Err fault) }
     {
@@ -91,7 +72,7 @@ impl LineReader {
             Some(scratch) => scratch,
             None => new_scratch(alloc)?,
         };
-        let request = request_of_text(alloc, text, by_word, &mut scratch);
+        let request = request_of_text(alloc, text, &mut scratch);
         self.scratch = Some(scratch);
         request
     }
@@ -119,19 +100,13 @@ fn opens_with_word(line: &[u8]) -> bool {
     }
 }
 
-/// The request that a text is. Where it is told that a word seems to open the text, and none does, the text is begun again; it is read as
-/// one value then.
-fn request_of_text(
-    alloc: Global,
-    text: &str,
-    by_word: bool,
-    scratch: &mut Scratch,
-) -> Result<Request, LineFault>
+/// The request that a text is. Where a word seems to open the text and none does, the text is begun again, and read as one value.
+fn request_of_text(alloc: Global, text: &str, scratch: &mut Scratch) -> Result<Request, LineFault>
     ensures { Tells (reading_of_tokens (tokens text.now)) result }
 {
-    if by_word {
+    if opens_with_word(text.as_bytes()) {
         let mut reader = Reader::new(text, scratch)?;
-        if let Some(word) = opening_word(&mut reader) {
+        if let Some(word) = first_word(&mut reader) {
             return request_of_items(alloc, word, &mut reader);
         }
     }
@@ -141,7 +116,7 @@ fn request_of_text(
 
 /// The word that opens an array, and the bracket before it. Where there is none, some tokens are taken all the same.
 #[inline(always)]
-fn opening_word<'a>(reader: &mut Reader<'a>) -> Option<&'a str>
+fn first_word<'a>(reader: &mut Reader<'a>) -> Option<&'a str>
     ensures { IfSome result (λ word. reader.old ≡ begin_array ∷ string word.now ∷ reader.new) }
 {
     let Some(Token::BeginArray) = reader.next() else {

@@ -1,11 +1,12 @@
 //! Reading a line as a request. `specs/Requests.antt` says which line is which.
 
-ghost use Rattle.std.specs.Prelude.{◌≡◌, ◌≢◌, Ok, Err, Some, None, IfOk, IfErr, OnOk, map, ok_or, option_map};
+ghost use Rattle.std.specs.Prelude.{◌≡◌, ◌≢◌, Ok, Err, Some, None, IfOk, IfErr, OnOk, map, ok_or, option_and_then, option_map};
 ghost use Rattle.serde_json.specs.View.{view};
 ghost use Rattle.fr_lines.specs.declared.requests.LineFault.TheVariants.{NotRequest, Memory};
 ghost use Rattle.fr_lines.specs.LineTokens.{IsReadNext, Tells};
-ghost use Rattle.fr_lines.specs.Requests.{plain, reading, request_of, request_of_word, cut_link, add_link, join_nodes, move_dest, walk_from, network_request, pair_request, batch_request, node_request, ask_request, items_in, links_in, link_in, edits_in, edit_in, edit_of_word, number_pair, single_number, number_in};
+ghost use Rattle.fr_lines.specs.Requests.{plain, reading, request_of, request_of_word, cut_link, add_link, join_nodes, move_dest, walk_from, network_request, pair_request, batch_request, node_request, ask_request, items_in, link_in, edit_in, edit_of_word, number_pair, read_all, single_number, number_in};
 
+use crate::lists::Item;
 use crate::requests::{LineFault, Question, Request};
 use fr_graph::Edit;
 use serde_json::Value;
@@ -105,7 +106,7 @@ fn batch(alloc: Global, rest: &[Value]) -> Result<Request, LineFault>
     let [edits] = rest else {
         return Err(LineFault::NotRequest);
     };
-    let edits = edit_list(alloc, edits)?;
+    let edits = item_list(alloc, edits)?;
     Ok(Request::Batch { edits })
 }
 
@@ -139,75 +140,48 @@ fn network(alloc: Global, rest: &[Value]) -> Result<Request, LineFault>
     let (Some(nodes), Some(dest)) = (number(nodes), number(dest)) else {
         return Err(LineFault::NotRequest);
     };
-    let links = link_list(alloc, links)?;
+    let links = item_list(alloc, links)?;
     Ok(Request::Network { nodes, dest, links })
 }
 
-/// The links that an array lists.
-fn link_list(alloc: Global, value: &Value) -> Result<Vec<(u32, u32)>, LineFault>
-    ensures ok { IfOk result (λ links. links_in (view value.now) ≡ Some links.items) }
-    ensures refused { IfErr result (λ fault. fault ≢ Memory → (fault ≡ NotRequest) × (links_in (view value.now) ≡ None)) }
+/// The items that an array lists.
+fn item_list<T: Item>(alloc: Global, value: &Value) -> Result<Vec<T>, LineFault>
+    ensures ok { IfOk result (λ items. option_and_then (read_all T.in_data) (items_in (view value.now)) ≡ Some items.items) }
+    ensures refused { IfErr result (λ fault. fault ≢ Memory
+        → (fault ≡ NotRequest) × (option_and_then (read_all T.in_data) (items_in (view value.now)) ≡ None)) }
 {
-    let Some(items) = items_of(value) else {
+    let Some(values) = items_of(value) else {
         return Err(LineFault::NotRequest);
     };
-    let mut links = Vec::new(alloc);
-    for item in items {
-        push_link(&mut links, item)?;
+    let mut items = Vec::new(alloc);
+    for item in values {
+        push_item(&mut items, item)?;
     }
-    Ok(links)
+    Ok(items)
 }
 
-/// Puts the link that an item is behind those of the items before it.
+/// Puts the item that a value is behind those before it.
 #[inline(always)]
-fn push_link(links: &mut Vec<(u32, u32)>, item: &Value) -> Result<(), LineFault>
-    ensures ok { OnOk result (IsReadNext link_in links.old.items (view item.now) links.new.items) }
-    ensures refused { IfErr result (λ fault. fault ≢ Memory → (fault ≡ NotRequest) × (link_in (view item.now) ≡ None)) }
+fn push_item<T: Item>(items: &mut Vec<T>, value: &Value) -> Result<(), LineFault>
+    ensures ok { OnOk result (IsReadNext T.in_data items.old.items (view value.now) items.new.items) }
+    ensures refused { IfErr result (λ fault. fault ≢ Memory → (fault ≡ NotRequest) × (T.in_data (view value.now) ≡ None)) }
 {
-    let Some(link) = link(item) else {
+    let Some(item) = T::of_value(value) else {
         return Err(LineFault::NotRequest);
     };
-    links.push(link)?;
+    items.push(item)?;
     Ok(())
 }
 
 /// A link: an array of its tail and its head.
-fn link(value: &Value) -> Option<(u32, u32)>
+pub(crate) fn link(value: &Value) -> Option<(u32, u32)>
     ensures { result ≡ link_in (view value.now) }
 {
     two_numbers(items_of(value)?)
 }
 
-/// The edits that an array lists.
-fn edit_list(alloc: Global, value: &Value) -> Result<Vec<Edit>, LineFault>
-    ensures ok { IfOk result (λ edits. edits_in (view value.now) ≡ Some edits.items) }
-    ensures refused { IfErr result (λ fault. fault ≢ Memory → (fault ≡ NotRequest) × (edits_in (view value.now) ≡ None)) }
-{
-    let Some(items) = items_of(value) else {
-        return Err(LineFault::NotRequest);
-    };
-    let mut edits = Vec::new(alloc);
-    for item in items {
-        push_edit(&mut edits, item)?;
-    }
-    Ok(edits)
-}
-
-/// Puts the edit that an item is behind those of the items before it.
-#[inline(always)]
-fn push_edit(edits: &mut Vec<Edit>, item: &Value) -> Result<(), LineFault>
-    ensures ok { OnOk result (IsReadNext edit_in edits.old.items (view item.now) edits.new.items) }
-    ensures refused { IfErr result (λ fault. fault ≢ Memory → (fault ≡ NotRequest) × (edit_in (view item.now) ≡ None)) }
-{
-    let Some(edit) = edit(item) else {
-        return Err(LineFault::NotRequest);
-    };
-    edits.push(edit)?;
-    Ok(())
-}
-
 /// An edit: an array of its word and two nodes.
-fn edit(value: &Value) -> Option<Edit>
+pub(crate) fn edit(value: &Value) -> Option<Edit>
     ensures { result ≡ edit_in (view value.now) }
 {
     let [first, rest @ ..] = items_of(value)? else {

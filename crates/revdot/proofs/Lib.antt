@@ -5,3 +5,4 @@ pub mod Beginnings
 pub mod OneDrawing
 pub mod Telling
 pub mod OnePage
+pub mod Written

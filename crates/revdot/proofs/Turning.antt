@@ -1,27 +1,29 @@
 -- How far the turns of a round have come.
-use Rattle.std.proofs.Common.{◌≡◌, ◌∙◌, ℕ, ◌+◌, ◌<◌, List, [], ◌∷◌, ◌++◌, drop, length, map, replicate, slice_index, slice_set, ap, append_assoc, append-nil, length-append, eq-eqb, ne_eqb, ◌==◌, Bool, true, false, cond, refl, subst, sym, take, arith, inl, inr}
-use Rattle.std.proofs.lemmas.List.{length-map, length-set, length-replicate}
+use Rattle.std.proofs.Common.{Err, IfOk, IfSome, MatchOption, None, Ok, Option, Result, Some, ◌^◌, ◌≤◌, ◌⊎◌, ◌≡◌, ◌∙◌, ℕ, ◌+◌, ◌<◌, List, [], ◌∷◌, ◌++◌, drop, length, map, slice_index, ap, append_assoc, append-nil, length-append, eq-eqb, ne_eqb, ◌==◌, Bool, true, false, cond, refl, subst, sym, take, arith, inl, inr}
+use Rattle.std.proofs.lemmas.List.{length-map}
 use Rattle.std.proofs.lemmas.List.Elements.{All-map, All-weaker}
 use Rattle.std.proofs.lemmas.Bool.{cases_eq, cond-false, cond-true}
 use Rattle.std.proofs.Math.Seq.{take-append_seam}
 use Rattle.fr_graph.specs.Links.{AreBelow}
 use Rattle.fr_graph.specs.Turn.{turn, turned_link}
 use Rattle.fr_core.specs.History.{Moment}
+use Rattle.fr_core.specs.Legal.{NoneCanTurn}
 use Rattle.fr_route.specs.States.{State}
-use Rattle.revdot.specs.Strips.{moment, beginning, first_link, after_turn, after_turns, IsNext, AreTurns, turn_text, turns_text}
+use Rattle.revdot.specs.Replays.{IsReplay, moment_of}
+use Rattle.revdot.specs.Strips.{beginning, first_link, after_turn, after_turns, IsNext, AreAllTurns, AreTurns, turn_text, turns_text}
+use Rattle.revdot.specs.declared.turns.Replay.{Replay}
 
--- so many turns were made since the round began, of these nodes, and left these links and counts
-pub record HaveTurned (s : State) (number : ℕ) (turns : List ℕ) (links : List (ℕ × ℕ)) (counts : List ℕ) : Type 0 where
+-- so many turns of a round were made, of these nodes
+pub record HaveTurned (s : State) (number : ℕ) (turns : List ℕ) (replay : Replay) : Type 0 where
+  pub is_replay : IsReplay s replay
   pub are_turns : AreTurns s.nodes s.dest (beginning s) turns
-  pub now : after_turns (beginning s) turns ≡ moment links counts
+  pub now : after_turns (beginning s) turns ≡ moment_of replay
   pub counted : length turns ≡ number
-  pub below : AreBelow s.nodes links
-  pub one_each : length counts ≡ s.nodes
 
 -- the same, and each turn is drawn
-pub record HasTurned (s : State) (number : ℕ) (links : List (ℕ × ℕ)) (counts : List ℕ) (old new : List ℕ) : Type 0 where
+pub record HasTurned (s : State) (number : ℕ) (replay : Replay) (old new : List ℕ) : Type 0 where
   pub turns : List ℕ
-  pub have : HaveTurned s number turns links counts
+  pub have : HaveTurned s number turns replay
   pub text : new ≡ old ++ turns_text s (beginning s) 1 turns
 
 turns_more : (n d : ℕ) (m : Moment) (xs : List ℕ) (x : ℕ) → AreTurns n d m xs → IsNext n d (after_turns m xs) x → AreTurns n d m (xs ++ x ∷ [])
@@ -59,47 +61,70 @@ below_map n f each links below =
     All-map (λ (l : ℕ × ℕ). (l.0 < n) × (l.1 < n)) f links
     (All-weaker (λ (l : ℕ × ℕ). (l.0 < n) × (l.1 < n)) (λ (l : ℕ × ℕ). ((f l).0 < n) × ((f l).1 < n)) each links below)
 
-pub none_turned : (s : State) → AreBelow s.nodes s.links → HaveTurned s 0 [] (map (first_link s.counts) s.links) (replicate s.nodes 0)
-none_turned s below = record {
+pub first_below : (s : State) → AreBelow s.nodes s.links → AreBelow s.nodes (map (first_link s.counts) s.links)
+first_below s below = below_map s.nodes (first_link s.counts) (first-below s.nodes s.counts) s.links below
+
+pub turn_below : (n x : ℕ) (links : List (ℕ × ℕ)) → AreBelow n links → AreBelow n (turn x links)
+turn_below n x links below = below_map n (turned_link x) (turned-below n x) links below
+
+pub none_turned : (s : State) (replay : Replay) → IsReplay s replay → moment_of replay ≡ beginning s → HaveTurned s 0 [] replay
+none_turned s replay is first = record {
+  is_replay = is;
   are_turns = tt;
-  now = refl;
+  now = sym first;
   counted = refl;
-  below = below_map s.nodes (first_link s.counts) (first-below s.nodes s.counts) s.links below;
-  one_each = length-replicate s.nodes 0;
 }
 
-pub one_more_turned : (s : State) (number : ℕ) (turns : List ℕ) (links : List (ℕ × ℕ)) (counts : List ℕ) (x : ℕ) → HaveTurned s number turns links counts
-    → IsNext s.nodes s.dest (moment links counts) x → HaveTurned s (number + 1) (turns ++ x ∷ []) (turn x links) (slice_set counts x (slice_index counts x + 1))
-one_more_turned s number turns links counts x h next = record {
-  are_turns = turns_more s.nodes s.dest (beginning s) turns x h.are_turns (subst (λ (m : Moment). IsNext s.nodes s.dest m x) (sym h.now) next);
-  now = after_more (beginning s) turns x ∙ ap (λ (m : Moment). after_turn m x) h.now;
-  counted = length-append turns (x ∷ []) ∙ ap (λ (k : ℕ). k + 1) h.counted;
-  below = below_map s.nodes (turned_link x) (turned-below s.nodes x) links h.below;
-  one_each = length-set counts x (slice_index counts x + 1) ∙ h.one_each;
-}
-
-pub at_start : (s : State) (old : List ℕ) → AreBelow s.nodes s.links → HasTurned s 0 (map (first_link s.counts) s.links) (replicate s.nodes 0) old old
-at_start s old below = record {
+pub at_start : (s : State) (replay : Replay) (old : List ℕ) → IsReplay s replay → moment_of replay ≡ beginning s → HasTurned s 0 replay old old
+at_start s replay old is first = record {
   turns = [];
-  have = none_turned s below;
+  have = none_turned s replay is first;
   text = sym (append-nil old);
 }
 
-module _ (s : State) (number : ℕ) (links : List (ℕ × ℕ)) (counts : List ℕ) (old new : List ℕ) (h : HasTurned s number links counts old new) where
-  -- one turn more is drawn and made
-  pub one_turn_more : (x : ℕ) (more : List ℕ) → IsNext s.nodes s.dest (moment links counts) x → more ≡ new ++ turn_text s (moment links counts) (number + 1) x
-      → HasTurned s (number + 1) (turn x links) (slice_set counts x (slice_index counts x + 1)) old more
-  one_turn_more x more next text = record {
+-- one turn more
+module _ (s : State) (number : ℕ) (replay after : Replay) (x : ℕ) (next : IsNext s.nodes s.dest (moment_of replay) x) (turned : moment_of after ≡ after_turn (moment_of replay) x)
+    (kept : (s : State) → IsReplay s replay → IsReplay s after) where
+  pub one_more_turned : (turns : List ℕ) → HaveTurned s number turns replay → HaveTurned s (number + 1) (turns ++ x ∷ []) after
+  one_more_turned turns h = record {
+    is_replay = kept s h.is_replay;
+    are_turns = turns_more s.nodes s.dest (beginning s) turns x h.are_turns (subst (λ (m : Moment). IsNext s.nodes s.dest m x) (sym h.now) next);
+    now = after_more (beginning s) turns x ∙ ap (λ (m : Moment). after_turn m x) h.now ∙ sym turned;
+    counted = length-append turns (x ∷ []) ∙ ap (λ (k : ℕ). k + 1) h.counted;
+  }
+
+  -- it is drawn, too
+  pub one_turn_more : (old new more : List ℕ) → HasTurned s number replay old new → more ≡ new ++ turn_text s (moment_of replay) (number + 1) x → HasTurned s (number + 1) after old more
+  one_turn_more old new more h text = record {
     turns = h.turns ++ x ∷ [];
-    have = one_more_turned s number h.turns links counts x h.have next;
+    have = one_more_turned h.turns h.have;
     text =
         let place : 1 + length h.turns ≡ number + 1 = let counted = h.have.counted in omega arith in
-        let last : turn_text s (after_turns (beginning s) h.turns) (1 + length h.turns) x ≡ turn_text s (moment links counts) (number + 1) x =
-        ap (λ (m : Moment). turn_text s m (1 + length h.turns) x) h.have.now ∙ ap (λ (k : ℕ). turn_text s (moment links counts) k x) place in
-        text ∙ (ap (λ (t : List ℕ). t ++ turn_text s (moment links counts) (number + 1) x) h.text
-        ∙ (append_assoc old (turns_text s (beginning s) 1 h.turns) (turn_text s (moment links counts) (number + 1) x)
+        let last : turn_text s (after_turns (beginning s) h.turns) (1 + length h.turns) x ≡ turn_text s (moment_of replay) (number + 1) x =
+        ap (λ (m : Moment). turn_text s m (1 + length h.turns) x) h.have.now ∙ ap (λ (k : ℕ). turn_text s (moment_of replay) k x) place in
+        text ∙ (ap (λ (t : List ℕ). t ++ turn_text s (moment_of replay) (number + 1) x) h.text
+        ∙ (append_assoc old (turns_text s (beginning s) 1 h.turns) (turn_text s (moment_of replay) (number + 1) x)
         ∙ ap (λ (t : List ℕ). old ++ t) (ap (λ (t : List ℕ). turns_text s (beginning s) 1 h.turns ++ t) (sym last) ∙ sym (text_more s (beginning s) 1 h.turns x))));
   }
+
+-- no turn is left, or the most were made
+pub all_turned : (most : ℕ) (s : State) (number : ℕ) (turns : List ℕ) (replay : Replay) → HaveTurned s number turns replay → number ≤ most
+    → (number ≡ most) ⊎ NoneCanTurn s.nodes s.dest (moment_of replay) → AreAllTurns most s.nodes s.dest (beginning s) turns
+all_turned most s number turns replay h few end = record {
+  turns = h.are_turns;
+  few = let counted = h.counted in omega arith;
+  all = elim end [
+    | inl all ↦ inl (h.counted ∙ all)
+    | inr none ↦ inr (subst (NoneCanTurn s.nodes s.dest) (sym h.now) none)
+  ];
+}
+
+-- the next to turn has not turned often yet
+pub next_is_few : {E : Type 0} (n d : ℕ) (m : Moment) (r : Result (Option ℕ) E) → n < 2 ^ 32 → IfOk r (λ next. MatchOption next (NoneCanTurn n d m) (IsNext n d m))
+    → IfOk r (λ next. IfSome next (λ x. slice_index m.counts x < 2 ^ 32))
+next_is_few n d m (Ok None) small is = tt
+next_is_few n d m (Ok (Some x)) small is = let cap = is.can.below_cap in omega arith
+next_is_few n d m (Err e) small is = tt
 
 -- the links once they are written back
 pub written_back : (x len : ℕ) (links new : List (ℕ × ℕ)) → new ≡ turn x links → len ≡ length links → take len (new ++ drop (length new) links) ≡ turn x links

@@ -6,3 +6,5 @@ pub mod Ends
 pub mod Asked
 pub mod Stories
 pub mod Pages
+pub mod Written
+pub mod Replays

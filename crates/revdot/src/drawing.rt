@@ -1,15 +1,14 @@
 //! From an input to its picture.
 
-ghost use Rattle.std.specs.Prelude.{◌≡◌, ◌≢◌, List, ℕ, IfOk, IfErr, string_bytes};
-ghost use Rattle.std.specs.Io.KnownBytes.{Keeps};
-ghost use Rattle.fr_bytes.specs.Bytes.{ReadsInput, ReadsOneTooMany, ReadsAtMostOneTooMany};
-ghost use Rattle.revdot.specs.Drawings.{IsDrawing, IsPictureOf, WritesDrawing, WritesBeginningOfDrawing};
+ghost use Rattle.std.specs.Prelude.{IfOk, IfErr, OnOk, string_bytes};
+ghost use Rattle.fr_bytes.specs.Bytes.{ReadsAtMostOneTooMany};
+ghost use Rattle.revdot.specs.Drawings.{IsDrawing, IsPictureOf};
+ghost use Rattle.revdot.specs.Written.{WritesText, IsTextFault};
 
 use crate::settled::push_settled;
 use crate::standing::session_after;
 use crate::strips::push_strip;
-use crate::writing::write_out;
-use fr_bytes::{RunFault, read_input};
+use fr_bytes::{RunFault, read_input, write_out};
 use fr_route::Session;
 use std::alloc::{AllocError, Global};
 use std::io::{Read, Write};
@@ -32,21 +31,14 @@ pub fn draw<R: Read, W: Write>(
     writer: &mut W,
     picture: Picture,
 ) -> Result<(), RunFault>
-    ensures ok { IfOk result (λ _. (bytes : List ℕ)
-        × ReadsInput (R.remaining reader.old) (R.remaining reader.new) bytes
-        × WritesDrawing picture bytes (W.contents writer.old) (W.contents writer.new)) }
+    ensures ok { OnOk result (WritesText (IsDrawing picture) (R.remaining reader.old) (R.remaining reader.new)
+        (W.contents writer.old) (W.contents writer.new)) }
     ensures limit { ReadsAtMostOneTooMany (R.remaining reader.old) (R.remaining reader.new) }
-    ensures too_long { result ≡ Err RunFault.TooLong → ReadsOneTooMany (R.remaining reader.old) (R.remaining reader.new) }
-    ensures write { result ≡ Err RunFault.Write → (bytes : List ℕ)
-        × ReadsInput (R.remaining reader.old) (R.remaining reader.new) bytes
-        × WritesBeginningOfDrawing picture bytes (W.contents writer.old) (W.contents writer.new) }
-    ensures no_start { result ≢ Err RunFault.Start }
-    ensures nothing { IfErr result (λ fault. fault ≢ RunFault.Write → Keeps (W.contents writer.old) (W.contents writer.new)) }
+    ensures fault { IfErr result (IsTextFault (IsDrawing picture) (R.remaining reader.old) (R.remaining reader.new)
+        (W.contents writer.old) (W.contents writer.new)) }
 {
     let input = read_input(alloc, reader)?;
-    let Ok(text) = drawn(alloc, &input, picture) else {
-        return Err(RunFault::Memory);
-    };
+    let text = drawn(alloc, &input, picture)?;
     write_out(writer, text.as_bytes())
 }
 

@@ -13,7 +13,6 @@ mod story;
 mod strips;
 mod turns;
 mod viewer;
-mod writing;
 
 use drawing::{Picture, draw};
 use fr_bytes::RunFault;

@@ -1,13 +1,12 @@
 //! From an input to a page that tells its story.
 
-ghost use Rattle.std.specs.Prelude.{◌≡◌, ◌≢◌, List, ℕ, IfOk, IfErr, string_bytes};
-ghost use Rattle.std.specs.Io.KnownBytes.{Keeps};
-ghost use Rattle.fr_bytes.specs.Bytes.{ReadsInput, ReadsOneTooMany, ReadsAtMostOneTooMany};
-ghost use Rattle.revdot.specs.Pages.{IsPage, WritesPage, WritesBeginningOfPage};
+ghost use Rattle.std.specs.Prelude.{IfOk, IfErr, OnOk, string_bytes};
+ghost use Rattle.fr_bytes.specs.Bytes.{ReadsAtMostOneTooMany};
+ghost use Rattle.revdot.specs.Pages.{IsPage};
+ghost use Rattle.revdot.specs.Written.{WritesText, IsTextFault};
 
 use crate::story::push_story;
-use crate::writing::write_out;
-use fr_bytes::{RunFault, read_input};
+use fr_bytes::{RunFault, read_input, write_out};
 use std::alloc::{AllocError, Global};
 use std::io::{Read, Write};
 
@@ -22,21 +21,14 @@ pub fn page<R: Read, W: Write>(
     first_part: &str,
     last_part: &str,
 ) -> Result<(), RunFault>
-    ensures ok { IfOk result (λ _. (bytes : List ℕ)
-        × ReadsInput (R.remaining reader.old) (R.remaining reader.new) bytes
-        × WritesPage first_part.now last_part.now bytes (W.contents writer.old) (W.contents writer.new)) }
+    ensures ok { OnOk result (WritesText (IsPage first_part.now last_part.now) (R.remaining reader.old) (R.remaining reader.new)
+        (W.contents writer.old) (W.contents writer.new)) }
     ensures limit { ReadsAtMostOneTooMany (R.remaining reader.old) (R.remaining reader.new) }
-    ensures too_long { result ≡ Err RunFault.TooLong → ReadsOneTooMany (R.remaining reader.old) (R.remaining reader.new) }
-    ensures write { result ≡ Err RunFault.Write → (bytes : List ℕ)
-        × ReadsInput (R.remaining reader.old) (R.remaining reader.new) bytes
-        × WritesBeginningOfPage first_part.now last_part.now bytes (W.contents writer.old) (W.contents writer.new) }
-    ensures no_start { result ≢ Err RunFault.Start }
-    ensures nothing { IfErr result (λ fault. fault ≢ RunFault.Write → Keeps (W.contents writer.old) (W.contents writer.new)) }
+    ensures fault { IfErr result (IsTextFault (IsPage first_part.now last_part.now) (R.remaining reader.old) (R.remaining reader.new)
+        (W.contents writer.old) (W.contents writer.new)) }
 {
     let input = read_input(alloc, reader)?;
-    let Ok(text) = page_of(alloc, &input, first_part, last_part) else {
-        return Err(RunFault::Memory);
-    };
+    let text = page_of(alloc, &input, first_part, last_part)?;
     write_out(writer, text.as_bytes())
 }
 

@@ -1,14 +1,14 @@
 //! What a story tells of a round: how it began, its turns one by one, what it left, and the nodes that get new hops.
 
 ghost use Rattle.std.specs.Prelude.{◌≡◌, ◌++◌, ℕ, List, true, Some, IfOk, OnOk, codes, decimal, length, string_bytes};
-ghost use Rattle.fr_graph.specs.Links.{AreBelow};
 ghost use Rattle.fr_lines.specs.Requests.{ask};
 ghost use Rattle.fr_route.specs.Answers.{IsAnswer};
+ghost use Rattle.revdot.specs.Replays.{IsReplay, moment_of};
 ghost use Rattle.revdot.specs.Strips.{AreAllTurns, beginning};
 ghost use Rattle.fr_route.specs.Texts.{spaced, spaced_links};
 ghost use Rattle.revdot.specs.Stories.{IsRoundStory, AreSettledLines, IsAnswerLine, beginning_text, first_text, is_short, most_told_turns, net_text, nodes_line};
 
-use crate::turns::{first_links, links_of, next_to_turn, turn_node};
+use crate::turns::Replay;
 use fr_lines::{Question, Request};
 use fr_route::{Router, Session};
 use std::alloc::{AllocError, Global};
@@ -62,12 +62,9 @@ fn push_beginning(story: &mut String, alloc: Global, router: &Router) -> Result<
     ensures { OnOk result ((turns : List ℕ) × AreAllTurns most_told_turns router.now.nodes router.now.dest (beginning router.now) turns
         × (string_bytes story.new ≡ string_bytes story.old ++ beginning_text router.now turns)) }
 {
-    let net = router.net();
-    net.network_law();
-    let settled = links_of(alloc, net)?;
-    let first = first_links(alloc, &settled, router.counts())?;
-    push_first(story, &first)?;
-    let turns = turns_of(alloc, router, first)?;
+    let replay = Replay::begin(alloc, router)?;
+    push_first(story, &replay.links)?;
+    let turns = turns_of(alloc, router, replay)?;
     push_nodes_line(story, "turns", &turns)
 }
 
@@ -113,26 +110,19 @@ fn push_nodes(story: &mut String, nodes: &[u32]) -> Result<(), AllocError>
     Ok(())
 }
 
-/// The nodes that turn in a round on these links, one by one.
-fn turns_of(
-    alloc: Global,
-    router: &Router,
-    mut links: Vec<(u32, u32)>,
-) -> Result<Vec<u32>, AllocError>
-    requires first { links.items ≡ (beginning router.now).links }
-    requires below { AreBelow router.now.nodes router.now.links }
+/// The nodes that turn in a round, one by one.
+fn turns_of(alloc: Global, router: &Router, mut replay: Replay) -> Result<Vec<u32>, AllocError>
+    requires replay { IsReplay router.now replay }
+    requires first { moment_of replay ≡ beginning router.now }
     ensures { IfOk result (λ turns. AreAllTurns most_told_turns router.now.nodes router.now.dest (beginning router.now) turns.items) }
 {
-    let nodes = router.net().nodes();
-    let mut counts = vec![in alloc; 0u64; nodes as usize]?;
     let mut turns = Vec::new(alloc);
     for turn in 0..MOST_TURNS {
-        let Some(x) = next_to_turn(alloc, nodes, router.dest(), &links, &counts)? else {
+        let Some(x) = replay.next_to_turn(alloc, router)? else {
             return Ok(turns);
         };
         turns.push(x)?;
-        turn_node(&mut links, x);
-        counts[x as usize] += 1;
+        replay.turn(x);
     }
     Ok(turns)
 }
@@ -147,13 +137,13 @@ fn push_settled_lines(
         × (string_bytes story.new ≡ string_bytes story.old ++ told)) }
     ensures same { OnOk result (session.new ≡ session.old) }
 {
-    push_asked(story, alloc, session, Question::Links)?;
-    push_asked(story, alloc, session, Question::Counts)?;
-    push_asked(story, alloc, session, Question::Hops)
+    push_answer_to(story, alloc, session, Question::Links)?;
+    push_answer_to(story, alloc, session, Question::Counts)?;
+    push_answer_to(story, alloc, session, Question::Hops)
 }
 
 /// Adds the answer of a session to a question.
-fn push_asked(
+fn push_answer_to(
     story: &mut String,
     alloc: Global,
     session: &mut Session,
@@ -163,13 +153,13 @@ fn push_asked(
         × (string_bytes story.new ≡ string_bytes story.old ++ asked)) }
     ensures same { OnOk result (session.new ≡ session.old) }
 {
-    let answer = asked(alloc, session, question)?;
+    let answer = answer_to(alloc, session, question)?;
     story.push_str(&answer)?;
     story.push_str("\n")
 }
 
 /// The answer of a session to a question.
-fn asked(alloc: Global, session: &mut Session, question: Question) -> Result<String, AllocError>
+fn answer_to(alloc: Global, session: &mut Session, question: Question) -> Result<String, AllocError>
     ensures text { IfOk result (λ text. IsAnswer session.old (ask question) (string_bytes text) session.old) }
     ensures same { OnOk result (session.new ≡ session.old) }
 {

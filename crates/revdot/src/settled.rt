@@ -41,13 +41,14 @@ fn settled_nodes(alloc: Global, router: &Router, hops: &[Hop]) -> Result<Vec<Dra
         nodes.push(DrawnNode {
             node: x,
             count: counts[x as usize],
-            look: look_of_node(hops[x as usize]),
+            look: look_by_hop(hops[x as usize]),
         })?;
     }
     Ok(nodes)
 }
 
-fn look_of_node(hop: Hop) -> NodeLook
+/// How a node is drawn, by where it sends on to.
+fn look_by_hop(hop: Hop) -> NodeLook
     ensures { result ≡ node_look hop }
 {
     match hop {

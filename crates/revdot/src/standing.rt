@@ -1,6 +1,6 @@
 //! The session that the lines of an input leave.
 
-ghost use Rattle.std.specs.Prelude.{◌≡◌, ◌∷◌, [], ℕ, IfOk, List, None, OnOk};
+ghost use Rattle.std.specs.Prelude.{◌≡◌, ◌∷◌, [], ℕ, IfOk, List, OnOk};
 ghost use Rattle.fr_route.specs.Answers.{AreAnswers};
 ghost use Rattle.revdot.specs.Drawings.{IsLeftBy};
 
@@ -13,19 +13,10 @@ pub fn session_after(alloc: Global, input: &[u8]) -> Result<Session, AllocError>
     ensures { IfOk result (IsLeftBy input.now) }
 {
     let mut session = Session::new();
-    ask_each(alloc, &mut session, input)?;
-    Ok(session)
-}
-
-/// Asks a session that was asked nothing yet each line of the input.
-fn ask_each(alloc: Global, session: &mut Session, input: &[u8]) -> Result<(), AllocError>
-    requires { session.old ≡ None }
-    ensures { OnOk result (IsLeftBy input.now session.new) }
-{
     for line in Lines::new(input) {
-        ask(alloc, session, line)?;
+        ask(alloc, &mut session, line)?;
     }
-    Ok(())
+    Ok(session)
 }
 
 /// Asks a session a line, and drops the answer.

@@ -1,6 +1,6 @@
 //! The story of an input: the answer to each line, and each round turn by turn, with the nodes that get new hops.
 
-ghost use Rattle.std.specs.Prelude.{◌≡◌, ◌++◌, ℕ, List, None, IfNone, IfOk, IfSome, OnOk, false, true, codes, string_bytes};
+ghost use Rattle.std.specs.Prelude.{◌≡◌, ◌++◌, ℕ, List, IfNone, IfOk, IfSome, OnOk, false, true, codes, string_bytes};
 ghost use Rattle.fr_lines.specs.Requests.{ask, reading};
 ghost use Rattle.fr_route.specs.Answers.{IsAnswer, IsLineAnswer};
 ghost use Rattle.fr_route.specs.Blank.{is_blank};
@@ -19,23 +19,11 @@ use std::fmt::Write;
 pub fn push_story(story: &mut String, alloc: Global, input: &[u8]) -> Result<(), AllocError>
     ensures { OnOk result ((told : List ℕ) × IsStory input.now told × (string_bytes story.new ≡ string_bytes story.old ++ told)) }
 {
-    push_each(story, alloc, &mut Session::new(), input)
-}
-
-/// Adds what is told of each line, asked of a session that was asked nothing yet.
-fn push_each(
-    story: &mut String,
-    alloc: Global,
-    session: &mut Session,
-    input: &[u8],
-) -> Result<(), AllocError>
-    requires { session.old ≡ None }
-    ensures { OnOk result ((told : List ℕ) × IsStory input.now told × (string_bytes story.new ≡ string_bytes story.old ++ told)) }
-{
+    let mut session = Session::new();
     let mut number = 0u64;
     for line in Lines::new(input) {
         number += 1;
-        push_line(story, alloc, session, number, line)?;
+        push_line(story, alloc, &mut session, number, line)?;
     }
     Ok(())
 }

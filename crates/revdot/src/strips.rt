@@ -2,11 +2,12 @@
 
 ghost use Rattle.std.specs.Prelude.{◌≡◌, ◌++◌, ◌<◌, ◌≤◌, ℕ, List, length, map, IfOk, OnOk, string_bytes};
 ghost use Rattle.std.specs.List.{range_with_len, zip};
-ghost use Rattle.revdot.specs.Strips.{IsStripOf, AreAllTurns, most_turns, moment, beginning, turn_look, turn_node as turn_node_of, turn_link, turn_text, turns_text};
+ghost use Rattle.revdot.specs.Replays.{IsReplay, moment_of};
+ghost use Rattle.revdot.specs.Strips.{IsStripOf, AreAllTurns, most_turns, beginning, turn_look, turn_node as turn_node_of, turn_link, turn_text, turns_text};
 
 use crate::graphs::{DrawnLink, DrawnNode, LinkLook, NodeLook, Title, push_graph};
 use crate::settled::push_settled;
-use crate::turns::{first_links, links_of, next_to_turn, turn_node};
+use crate::turns::Replay;
 use fr_route::Router;
 use std::alloc::{AllocError, Global};
 
@@ -26,57 +27,42 @@ fn push_turns(text: &mut String, alloc: Global, router: &Router) -> Result<(), A
     ensures { OnOk result ((turns : List ℕ) × AreAllTurns most_turns router.now.nodes router.now.dest (beginning router.now) turns
         × (string_bytes text.new ≡ string_bytes text.old ++ turns_text router.now (beginning router.now) 1 turns)) }
 {
-    let net = router.net();
-    net.network_law();
-    let nodes = net.nodes();
-    let settled = links_of(alloc, net)?;
-    let mut links = first_links(alloc, &settled, router.counts())?;
-    let mut counts = vec![in alloc; 0u64; nodes as usize]?;
+    let mut replay = Replay::begin(alloc, router)?;
     for turn in 0..MAX_TURNS {
-        let Some(x) = next_to_turn(alloc, nodes, router.dest(), &links, &counts)? else {
+        let Some(node) = replay.next_to_turn(alloc, router)? else {
             return Ok(());
         };
-        push_turn(
-            text,
-            alloc,
-            router,
-            &settled,
-            &links,
-            &counts,
-            Title {
-                turn: turn + 1,
-                node: x,
-            },
-        )?;
-        turn_node(&mut links, x);
-        counts[x as usize] += 1;
+        let title = Title {
+            turn: turn + 1,
+            node,
+        };
+        push_turn(text, alloc, router, &replay, title)?;
+        replay.turn(node);
     }
     Ok(())
 }
 
-/// Adds the graph of a turn, with the settled links, and the links and the counts before the turn.
+/// Adds the graph of the next turn of a round.
 fn push_turn(
     text: &mut String,
     alloc: Global,
     router: &Router,
-    settled: &[(u32, u32)],
-    links: &[(u32, u32)],
-    counts: &[u64],
+    replay: &Replay,
     title: Title,
 ) -> Result<(), AllocError>
-    requires settled { settled.now ≡ router.now.links }
-    requires one_each { length counts.now ≡ router.now.nodes }
-    ensures { OnOk result (string_bytes text.new ≡ string_bytes text.old ++ turn_text router.now (moment links.now counts.now) title.turn title.node) }
+    requires { IsReplay router.now replay.now }
+    ensures { OnOk result (string_bytes text.new ≡ string_bytes text.old ++ turn_text router.now (moment_of replay.now) title.turn title.node) }
 {
-    let drawn_nodes = turn_nodes(
+    let x = title.node;
+    let nodes = turn_nodes(
         alloc,
         router.net().nodes(),
         router.dest(),
-        counts,
-        title.node,
+        &replay.counts,
+        x,
     )?;
-    let drawn_links = turn_links(alloc, settled, links, title.node)?;
-    push_graph(text, Some(title), router.dest(), &drawn_nodes, &drawn_links)
+    let links = turn_links(alloc, &replay.settled, &replay.links, x)?;
+    push_graph(text, Some(title), router.dest(), &nodes, &links)
 }
 
 /// The nodes at the turn of `x`.
@@ -95,14 +81,14 @@ fn turn_nodes(
         drawn.push(DrawnNode {
             node: y,
             count: counts[y as usize],
-            look: look_of_node(y, dest, x),
+            look: look_at_turn(y, dest, x),
         })?;
     }
     Ok(drawn)
 }
 
 /// How node `y` is drawn at the turn of `x`.
-fn look_of_node(y: u32, dest: u32, x: u32) -> NodeLook
+fn look_at_turn(y: u32, dest: u32, x: u32) -> NodeLook
     ensures { result ≡ turn_look dest x y }
 {
     if y == dest {

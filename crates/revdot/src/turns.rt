@@ -1,24 +1,85 @@
 //! The turns of the last round.
 
-ghost use Rattle.std.specs.Prelude.{◌≡◌, ◌<◌, length, map, IfOk, IfSome, MatchOption};
+ghost use Rattle.std.specs.Prelude.{◌≡◌, ◌<◌, ◌^◌, length, map, slice_index, IfOk, IfSome, MatchOption};
 ghost use Rattle.fr_graph.specs.Links.{AreBelow};
-ghost use Rattle.fr_graph.specs.Turn.{turn, turned_link};
+ghost use Rattle.fr_graph.specs.Turn.{turn as turn_of, turned_link};
 ghost use Rattle.fr_core.specs.Legal.{NoneCanTurn};
-ghost use Rattle.revdot.specs.Strips.{first_link as first_link_of, moment, IsNext};
+ghost use Rattle.fr_route.specs.States.{State};
+ghost use Rattle.revdot.specs.Strips.{first_link as first_link_of, after_turn, beginning, moment, IsNext};
+ghost use Rattle.revdot.specs.Replays.{IsReplay, moment_of};
 ghost use Rattle.revdot.specs.Ends.{HaveEnds};
 
 use fr_graph::Net;
+use fr_route::Router;
 use std::alloc::{AllocError, Global};
 
+/// The last round of a router, gone through again turn by turn.
+#[derive(Drop)]
+pub struct Replay {
+    /// The links as the round left them.
+    pub settled: Vec<(u32, u32)>,
+    /// The same links, as they point before the next turn.
+    pub links: Vec<(u32, u32)>,
+    /// How often each node has turned before.
+    pub counts: Vec<u64>,
+}
+
+impl Replay {
+    /// The round before its first turn.
+    pub fn begin(alloc: Global, router: &Router) -> Result<Replay, AllocError>
+        ensures replay { IfOk result (IsReplay router.now) }
+        ensures first { IfOk result (λ replay. moment_of replay ≡ beginning router.now) }
+    {
+        let net = router.net();
+        net.network_law();
+        let settled = links_of(alloc, net)?;
+        let links = first_links(alloc, &settled, router.counts())?;
+        let counts = vec![in alloc; 0u64; net.nodes() as usize]?;
+        Ok(Replay {
+            settled,
+            links,
+            counts,
+        })
+    }
+
+    /// The next node to turn: the least that can.
+    pub fn next_to_turn(&self, alloc: Global, router: &Router) -> Result<Option<u32>, AllocError>
+        requires { IsReplay router.now self.now }
+        ensures next { IfOk result (λ next. MatchOption next
+            (NoneCanTurn router.now.nodes router.now.dest (moment_of self.now)) (IsNext router.now.nodes router.now.dest (moment_of self.now))) }
+        ensures node { IfOk result (λ next. IfSome next (λ x. x < router.now.nodes)) }
+        ensures few { IfOk result (λ next. IfSome next (λ x. slice_index self.now.counts.items x < 2 ^ 32)) }
+    {
+        next_to_turn(
+            alloc,
+            router.net().nodes(),
+            router.dest(),
+            &self.links,
+            &self.counts,
+        )
+    }
+
+    /// Turns a node.
+    pub fn turn(&mut self, x: u32)
+        requires node { x < length self.old.counts.items }
+        requires few { slice_index self.old.counts.items x < 2 ^ 32 }
+        ensures turned { moment_of self.new ≡ after_turn (moment_of self.old) x }
+        ensures replay { (s : State) → IsReplay s self.old → IsReplay s self.new }
+    {
+        turn_node(&mut self.links, x);
+        self.counts[x as usize] += 1;
+    }
+}
+
 /// A list of the links of a network.
-pub fn links_of(alloc: Global, net: &Net) -> Result<Vec<(u32, u32)>, AllocError>
+fn links_of(alloc: Global, net: &Net) -> Result<Vec<(u32, u32)>, AllocError>
     ensures { IfOk result (λ links. links.items ≡ net.now.links) }
 {
     net.links().collect(alloc)
 }
 
 /// How the settled links pointed when the round began.
-pub fn first_links(
+fn first_links(
     alloc: Global,
     settled: &[(u32, u32)],
     counts: &[u64],
@@ -48,11 +109,11 @@ fn first_link(counts: &[u64], link: (u32, u32)) -> (u32, u32)
 
 /// For each node whether a link points away from it, and whether one points to it.
 #[derive(Drop)]
-pub struct Ends {
+struct Ends {
     /// Whether the node is the tail of a link.
-    pub tails: Vec<bool>,
+    tails: Vec<bool>,
     /// Whether the node is the head of a link.
-    pub heads: Vec<bool>,
+    heads: Vec<bool>,
 }
 
 /// The ends of the links among so many nodes.
@@ -70,7 +131,7 @@ fn ends_of(alloc: Global, nodes: u32, links: &[(u32, u32)]) -> Result<Ends, Allo
 }
 
 /// The next node to turn: the least that can.
-pub fn next_to_turn(
+fn next_to_turn(
     alloc: Global,
     nodes: u32,
     dest: u32,
@@ -94,8 +155,8 @@ pub fn next_to_turn(
 }
 
 /// Turns a node: each of its links points away from it then.
-pub fn turn_node(links: &mut [(u32, u32)], x: u32)
-    ensures { links.new ≡ turn x links.old }
+fn turn_node(links: &mut [(u32, u32)], x: u32)
+    ensures { links.new ≡ turn_of x links.old }
 {
     for link in links.iter_mut() {
         *link = turned(*link, x);

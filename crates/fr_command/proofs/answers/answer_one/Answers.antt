@@ -1,6 +1,6 @@
 use Rattle.std.proofs.Common.{List, ℕ, drop, string_bytes, subst, sym, take}
 use Rattle.std.proofs.lemmas.List.{take-append-drop}
-use Rattle.fr_command.proofs.Faults.{handed_on}
+use Rattle.fr_bytes.proofs.Results.{handed_on}
 use Rattle.fr_command.specs.InLines.{BeginsAnswer, IsLineFault}
 use Rattle.fr_command.proofs.answers.answer_one.Goals as goal
 

@@ -1,6 +1,6 @@
 use Rattle.std.proofs.Common.{List, ℕ, append-nil, [], sym}
 use Rattle.std.proofs.KnownBytes.{Appends-kept}
-use Rattle.fr_command.proofs.Faults.{only_fault}
+use Rattle.fr_bytes.proofs.Results.{only_fault}
 use Rattle.fr_bytes.specs.declared.fault.RunFault.TheVariants.{Write}
 use Rattle.fr_command.specs.Conversations.{text_of}
 use Rattle.fr_command.specs.InLines.{IsLineFault}

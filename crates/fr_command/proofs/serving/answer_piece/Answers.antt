@@ -1,11 +1,11 @@
 use Rattle.std.proofs.Common.{◌≡◌, ◌-◌, List, ℕ, length-drop, length, take, drop, sym, subst, arith}
 use Rattle.std.proofs.Math.Seq.{take-add}
 use Rattle.std.proofs.lemmas.List.{take_all}
-use Rattle.fr_command.proofs.Faults.{handed_on, only_fault}
+use Rattle.fr_bytes.proofs.Results.{handed_on, on_ok, only_fault}
 use Rattle.fr_bytes.specs.declared.fault.RunFault.TheVariants.{Write}
 use Rattle.fr_command.specs.Conversations.{Says, line_size}
 use Rattle.fr_command.specs.InPieces.{IsPieceFault}
-use Rattle.fr_command.proofs.Served.{says_nothing, says_on, says_kept, says_begins, fails_later, on_ok}
+use Rattle.fr_command.proofs.Served.{says_nothing, says_on, says_kept, says_begins, fails_later}
 use Rattle.fr_command.proofs.serving.answer_piece.Goals as goal
 
 -- what is left of a piece

@@ -4,7 +4,8 @@ use Rattle.std.proofs.lemmas.Result.{on_err_weaker}
 use Rattle.std.specs.Io.KnownBytes.{Appends}
 use Rattle.fr_command.specs.Conversations.{text_of}
 use Rattle.fr_bytes.specs.Bytes.{IsBeginning}
-use Rattle.fr_command.proofs.Served.{text_begun, end_begun, on_err}
+use Rattle.fr_bytes.proofs.Results.{on_err}
+use Rattle.fr_command.proofs.Served.{text_begun, end_begun}
 use Rattle.fr_command.proofs.serving.write_answer.Goals as goal
 
 -- a beginning of an answer that there is

@@ -1,5 +1,5 @@
 use Rattle.std.proofs.Common.{length, ◌≡◌}
-use Rattle.fr_lines.specs.ListLines.{unspaced}
+use Rattle.fr_lines.specs.LineLexemes.{unspaced}
 use Rattle.fr_lines.proofs.fronts.behind_some_space.Given as goal
 
 -- white space stood before the rest

@@ -1,5 +1,5 @@
 use Rattle.std.proofs.Common.{[], ap, arith, decimal, get_or, refl, ◌*◌, ◌+◌, ◌++◌, ◌-◌, ◌<◌, ◌∙◌, ◌∷◌, ◌≡◌, ◌≤◌, ◌^◌}
-use Rattle.fr_lines.proofs.ShortLineTexts.{front_and_rest, one_digit_more}
+use Rattle.fr_lines.proofs.FoundBytes.{front_and_rest, one_digit_more}
 use Rattle.fr_lines.proofs.fronts.more_digits.Goals as goal
 
 pub more-preserved : goal.more-preserved

@@ -1,6 +1,6 @@
 use Rattle.std.proofs.Common.{List, Option, None, Some, IfSome, Bor, [], ap, arith, decimal, drop, get_or, length, refl, sym, take, ℕ, ◌+◌, ◌++◌, ◌-◌, ◌∙◌, ◌∷◌, ◌≡◌, ◌≤◌}
 use Rattle.std.proofs.lemmas.Fmt.{decimal_digit}
-use Rattle.fr_lines.proofs.ShortLineTexts.{front_and_rest}
+use Rattle.fr_lines.proofs.FoundBytes.{front_and_rest}
 use Rattle.fr_lines.proofs.fronts.number.Goals as goal
 
 pub returns-in-48 : goal.returns-in-48

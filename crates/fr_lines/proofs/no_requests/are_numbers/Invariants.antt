@@ -1,14 +1,12 @@
 use Rattle.std.proofs.Common.{List, length, ℕ}
 use Rattle.json.specs.Lex.{between, lex}
-use Rattle.fr_lines.specs.ListLines.{Begins}
-use Rattle.fr_lines.specs.NumberLines.{AreSmall}
-use Rattle.fr_lines.proofs.ListLineValues.{each_before_comma}
-use Rattle.fr_lines.proofs.NumberLineValues.{one_number}
+use Rattle.fr_lines.specs.LineLexemes.{Begins, Each, IsSmall, number_lexemes}
+use Rattle.fr_lines.proofs.ByteLines.{each_before_comma}
 use Rattle.fr_lines.proofs.no_requests.are_numbers.Given as goal
 
 -- numbers stood before the rest, each with its comma
 abbrev pub invariant-numbers : goal.invariant-numbers
-invariant-numbers l = (ns : List ℕ) × AreSmall ns × Begins l.items (each_before_comma one_number ns) l.rest
+invariant-numbers l = (ns : List ℕ) × Each IsSmall ns × Begins l.items (each_before_comma number_lexemes ns) l.rest
 
 abbrev pub decreases-numbers : goal.decreases-numbers
 decreases-numbers l = length (lex between l.rest)

@@ -1,6 +1,5 @@
 use Rattle.std.proofs.Common.{arith, sym, ◌<◌, ◌∙◌, ◌^◌}
 use Rattle.fr_lines.proofs.FrontTexts.{number_ends}
-use Rattle.fr_lines.proofs.NumberLineValues.{number_closes}
 use Rattle.fr_lines.proofs.no_requests.is_number.Goals as goal
 
 pub returns-in-Some : goal.returns-in-Some
@@ -8,4 +7,4 @@ returns-in-Some c over =
     let n = c.in-Some._number in
     let wide : n < 2 ^ 64 = grind arith in
     let small : n < 2 ^ 32 = grind arith in
-    number_closes _ n small (number_ends n _ _ wide (sym c.behind_space.ensures ∙ c.in-Some.ensures) (c.is_over.ensures over))
+    (n, small, number_ends n _ _ wide (sym c.behind_space.ensures ∙ c.in-Some.ensures) (c.is_over.ensures.bytes over))

@@ -1,25 +1,24 @@
-use Rattle.std.proofs.Common.{List, string_bytes, ℕ}
-use Rattle.std.proofs.lemmas.Result.{IfErr-at_err, on_ok_weaker}
-use Rattle.std.specs.Io.KnownBytes.{Appends}
-use Rattle.fr_bytes.specs.Bytes.{IsBeginning}
-use Rattle.revdot.specs.Drawings.{IsDrawing, IsOnly}
+use Rattle.std.proofs.Common.{string_bytes}
+use Rattle.revdot.specs.Drawings.{IsDrawing}
+use Rattle.revdot.specs.Written.{IsOne}
 use Rattle.revdot.proofs.OneDrawing.{drawing_unique}
+use Rattle.revdot.proofs.Written.{text_begun, text_written}
 use Rattle.revdot.proofs.drawing.draw.Goals as goal
 
 pub returns-clause-ok : goal.returns-clause-ok
 returns-clause-ok g c =
+    let picture = c.args.picture in
     let bytes = c.in_ok-input.input.items in
-    let out = string_bytes c.in-Ok.text in
-    let drawing : IsDrawing c.args.picture bytes out = rw c.deref.ensures.value at c.in-Ok.ensures in
-    let only : IsOnly c.args.picture bytes out = λ other is. drawing_unique c.args.picture bytes other out is drawing in
-    on_ok_weaker c.write_out.result (λ (written : Appends (g.W.Write.contents c.args.writer.now) (g.W.Write.contents c.write_out.new.writer) out). (bytes, c.in_ok-input.ensures.ok, (out, drawing, only, written)))
-    (rw c.as_bytes.ensures.value at c.write_out.ensures.ok)
+    let out = string_bytes c.in_ok-text.text in
+    let drawing : IsDrawing picture bytes out = rw c.deref.ensures.value at c.in_ok-text.ensures in
+    let one : IsOne (IsDrawing picture) bytes out = record { is = drawing; only = λ other is. drawing_unique picture bytes other out is drawing } in
+    text_written (IsDrawing picture) bytes out _ _ _ _ c.in_ok-input.ensures.ok one c.write_out.result (rw c.as_bytes.ensures.value at c.write_out.ensures.ok)
 
-pub returns-clause-write : goal.returns-clause-write
-returns-clause-write g c = λ fault.
+pub returns-clause-fault : goal.returns-clause-fault
+returns-clause-fault g c =
+    let picture = c.args.picture in
     let bytes = c.in_ok-input.input.items in
-    let out = string_bytes c.in-Ok.text in
-    let drawing : IsDrawing c.args.picture bytes out = rw c.deref.ensures.value at c.in-Ok.ensures in
-    let only : IsOnly c.args.picture bytes out = λ other is. drawing_unique c.args.picture bytes other out is drawing in
-    let part = IfErr-at_err (λ _. (front : List ℕ) × IsBeginning front out × Appends (g.W.Write.contents c.args.writer.now) (g.W.Write.contents c.write_out.new.writer) front) fault (rw c.as_bytes.ensures.value at c.write_out.ensures.err) in
-    (bytes, c.in_ok-input.ensures.ok, (out, part.0, drawing, only, part.1, part.2))
+    let out = string_bytes c.in_ok-text.text in
+    let drawing : IsDrawing picture bytes out = rw c.deref.ensures.value at c.in_ok-text.ensures in
+    let one : IsOne (IsDrawing picture) bytes out = record { is = drawing; only = λ other is. drawing_unique picture bytes other out is drawing } in
+    text_begun (IsDrawing picture) bytes out _ _ _ _ c.in_ok-input.ensures.ok one c.write_out.result (rw c.as_bytes.ensures.value at c.write_out.ensures.err) c.write_out.ensures.kind

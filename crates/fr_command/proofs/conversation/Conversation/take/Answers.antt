@@ -8,7 +8,7 @@ use Rattle.fr_bytes.specs.Lines.{lines_of}
 use Rattle.fr_bytes.specs.declared.fault.RunFault.{RunFault}
 use Rattle.fr_bytes.specs.declared.fault.RunFault.TheVariants.{Read, Write, TooLong, Start, Memory}
 use Rattle.fr_bytes.proofs.Ending.{ends_line, first_line_ends, front_alone, one_line}
-use Rattle.fr_command.proofs.Faults.{handed_on}
+use Rattle.fr_bytes.proofs.Results.{handed_on}
 use Rattle.fr_command.specs.Conversations.{Talk, carried, text_of}
 use Rattle.fr_command.specs.Faults.{IsTakeFault}
 use Rattle.fr_command.specs.InPieces.{IsHoldFault}

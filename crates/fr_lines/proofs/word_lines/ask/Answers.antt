@@ -1,0 +1,14 @@
+use Rattle.fr_lines.specs.LineLexemes.{IsReadAs, letters}
+use Rattle.fr_lines.specs.Requests.{plain}
+use Rattle.fr_lines.specs.declared.requests.Request.TheVariants as request
+use Rattle.fr_lines.specs.declared.words.Word.TheVariants as word
+use Rattle.fr_lines.proofs.ByteLines.{question_reads}
+use Rattle.fr_lines.proofs.HandedOn.{if_then_some}
+use Rattle.fr_lines.proofs.word_lines.ask.Goals as goal
+
+pub returns : goal.returns
+returns c =
+    let rest = c.args.rest.now in
+    let question = c.args.question in
+    rw c.then_some.ensures
+    (if_then_some (λ asked. IsReadAs (letters (word.Ask question)) rest (plain asked)) c.ends_line.result (request.Ask question) (λ over. question_reads rest question (c.ends_line.ensures over)))

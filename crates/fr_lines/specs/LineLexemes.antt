@@ -1,0 +1,113 @@
+-- The lines that are read by their bytes, as lexemes, whatever white space stands in them; for private clauses.
+use Rattle.std.specs.Prelude.{ℕ, List, [], ◌∷◌, ◌++◌, ◌≡◌, ◌<◌, ◌^◌, if◌then◌else◌, Ok, codes, decimal, ⊤}
+use Rattle.std.specs.Str.{IsUtf8}
+use Rattle.json.specs.Lex.{Lexeme, token, comma, between, lex}
+use Rattle.json.specs.Token.{Token}
+use Rattle.json.specs.Word.{is_space}
+use Rattle.fr_graph.specs.declared.edit.Edit.{Edit}
+use Rattle.fr_graph.specs.declared.edit.Edit.TheVariants.{Cut, Add, Join}
+use Rattle.fr_lines.specs.declared.requests.Question.TheVariants.{Links, Counts, Hops}
+use Rattle.fr_lines.specs.declared.words.EditWord.{EditWord}
+use Rattle.fr_lines.specs.declared.words.EditWord.TheVariants as edit_word
+use Rattle.fr_lines.specs.declared.words.Word.{Word}
+use Rattle.fr_lines.specs.declared.words.Word.TheVariants as word
+use Rattle.fr_lines.specs.Requests.{PlainRequest, cut_link, add_link, join_nodes, reading}
+
+-- a text without the white space at its front
+abbrev pub unspaced : List ℕ → List ℕ
+unspaced [] = []
+unspaced (b ∷ bs) = if is_space b then unspaced bs else b ∷ bs
+
+-- a text begins with these lexemes, and the rest is behind them
+abbrev pub Begins : List ℕ → List Lexeme → List ℕ → Type 0
+Begins text front rest = (lex between text ≡ front ++ lex between rest) × (IsUtf8 rest → IsUtf8 text)
+
+-- the words of edits, and of requests
+abbrev pub letters_of_edit : EditWord → List ℕ
+letters_of_edit edit_word.Cut = codes "cut"
+letters_of_edit edit_word.Add = codes "add"
+letters_of_edit edit_word.Join = codes "join"
+
+abbrev pub letters : Word → List ℕ
+letters word.Network = codes "net"
+letters (word.Edit edit) = letters_of_edit edit
+letters word.Batch = codes "batch"
+letters word.Destination = codes "dest"
+letters word.Walk = codes "walk"
+letters (word.Ask Links) = codes "links"
+letters (word.Ask Counts) = codes "counts"
+letters (word.Ask Hops) = codes "hops"
+
+-- an array that a word with no escape in it opens
+abbrev pub opening : List ℕ → List Lexeme
+opening letters = token Token.begin_array ∷ token (Token.string letters) ∷ []
+
+-- each line that this word opens and that goes on with this text is the request
+abbrev pub IsReadAs : List ℕ → List ℕ → PlainRequest → Type 0
+IsReadAs letters rest request = (line : List ℕ) → Begins line (opening letters) rest → reading line ≡ Ok request
+
+-- a number
+abbrev pub number_lexeme : ℕ → Lexeme
+number_lexeme n = token (Token.number (decimal n))
+
+-- the two ends of a link, and the bracket behind them
+abbrev pub ends_lexemes : ℕ × ℕ → List Lexeme
+ends_lexemes ends = number_lexeme ends.0 ∷ comma ∷ number_lexeme ends.1 ∷ token Token.end_array ∷ []
+
+-- a link: [u, v]
+abbrev pub link_lexemes : ℕ × ℕ → List Lexeme
+link_lexemes link = token Token.begin_array ∷ ends_lexemes link
+
+-- what an edit begins with, and which nodes it names
+abbrev pub word_of : Edit → List ℕ
+word_of (Cut u v) = codes "cut"
+word_of (Add u v) = codes "add"
+word_of (Join u v) = codes "join"
+
+abbrev pub edit_ends : Edit → ℕ × ℕ
+edit_ends (Cut u v) = (u, v)
+edit_ends (Add u v) = (u, v)
+edit_ends (Join u v) = (u, v)
+
+-- an edit: ["cut", u, v], and its like
+abbrev pub edit_lexemes : Edit → List Lexeme
+edit_lexemes edit = opening (word_of edit) ++ comma ∷ ends_lexemes (edit_ends edit)
+
+-- the request for an edit alone
+abbrev pub plain_edit : Edit → PlainRequest
+plain_edit (Cut u v) = cut_link u v
+plain_edit (Add u v) = add_link u v
+plain_edit (Join u v) = join_nodes u v
+
+-- numbers of 32 bits
+abbrev pub IsSmall : ℕ → Type 0
+IsSmall n = n < 2 ^ 32
+
+abbrev pub AreSmall : ℕ × ℕ → Type 0
+AreSmall ends = IsSmall ends.0 × IsSmall ends.1
+
+abbrev pub HasSmallEnds : Edit → Type 0
+HasSmallEnds edit = AreSmall (edit_ends edit)
+
+-- P holds of each item
+abbrev pub Each : {X : Type 0} → (X → Type 0) → List X → Type 0
+Each P [] = ⊤
+Each P (x ∷ xs) = P x × Each P xs
+
+-- the items of a list, commas between them, and the bracket behind them
+abbrev pub list_lexemes : {X : Type 0} → (X → List Lexeme) → List X → List Lexeme
+list_lexemes of_one [] = token Token.end_array ∷ []
+list_lexemes of_one (x ∷ []) = of_one x ++ token Token.end_array ∷ []
+list_lexemes of_one (x ∷ y ∷ ys) = of_one x ++ comma ∷ list_lexemes of_one (y ∷ ys)
+
+-- a number as an item
+abbrev pub number_lexemes : ℕ → List Lexeme
+number_lexemes n = number_lexeme n ∷ []
+
+-- a text is a number
+abbrev pub IsNumber : List ℕ → Type 0
+IsNumber text = (n : ℕ) × IsSmall n × Begins text (number_lexemes n) []
+
+-- a text is numbers, commas between them, and the bracket behind them
+abbrev pub AreNumbers : List ℕ → Type 0
+AreNumbers text = (ns : List ℕ) × Each IsSmall ns × Begins text (list_lexemes number_lexemes ns) []
