@@ -10,18 +10,45 @@ use Rattle.fr_graph.specs.declared.fault.NetFault.TheVariants.{TooMany, Range, S
 use Rattle.fr_route.specs.Answers.{IsAccepted, fault_number}
 use Rattle.fr_route.specs.States.{State, IsReport, net_at}
 use Rattle.fr_route.specs.Told.{TellsOf}
+use Rattle.revroute_c.specs.Engines.{Held}
 use Rattle.revroute_c.specs.Records.{AreKnown, edit_of, is_unknown}
+use Rattle.revroute_c.specs.Statuses.{REVROUTE_ANSWERED, REVROUTE_REFUSED}
 use Rattle.revroute_c.specs.declared.records.LinkEdit.{LinkEdit}
 use Rattle.revroute_c.specs.declared.records.Refusal.{Refusal}
 use Rattle.revroute_c.specs.declared.records.Round.{Round}
 
+-- what a call leaves that may begin a round: its status, and the caller's round and refusal before and after it
+pub record RoundOutcome : Type 0 where
+  pub status : ℕ
+  pub round_before : Round
+  pub round_after : Round
+  pub refusal_before : Refusal
+  pub refusal_after : Refusal
+
+abbrev pub round_outcome : ℕ → Round → Round → Refusal → Refusal → RoundOutcome
+round_outcome status round round' refusal refusal' = record {
+  status = status;
+  round_before = round;
+  round_after = round';
+  refusal_before = refusal;
+  refusal_after = refusal';
+}
+
 -- the request is accepted: then come the state after it, the nodes that it tells of in place of those before, and what its round reports
-pub record IsNewRound (old : Option State) (request : PlainRequest) (new : Option State) (before told : List ℕ) (round : Round) : Type 0 where
+pub record IsNewRound (request : PlainRequest) (old new : Held) (round : Round) : Type 0 where
   pub after : State
-  pub accepted : IsAccepted old request after
-  pub new_is : new ≡ Some after
-  pub tells : TellsOf old request after before told
+  pub accepted : IsAccepted old.session request after
+  pub new_is : new.session ≡ Some after
+  pub tells : TellsOf old.session request after old.rerouted new.rerouted
   pub report : IsReport after round.turned round.cut_off
+
+-- a call makes the request, with a round behind it, or refuses it, for such a reason; the engine goes from `old` to `new`
+pub record BeginsRound (request : PlainRequest) (IsRefused : Refusal → Type 0) (old new : Held) (o : RoundOutcome) : Type 0 where
+  pub answered : o.status ≡ REVROUTE_ANSWERED → IsNewRound request old new o.round_after
+  pub refused : o.status ≡ REVROUTE_REFUSED → IsRefused o.refusal_after
+  pub unchanged : ¬ (o.status ≡ REVROUTE_ANSWERED) → (new ≡ old) × (o.round_after ≡ o.round_before)
+  pub unrefused : ¬ (o.status ≡ REVROUTE_REFUSED) → o.refusal_after ≡ o.refusal_before
+  pub begun : new.begun ≡ old.begun
 
 -- the first step of a walk
 abbrev pub first_step : List ℕ → ℕ × ℕ

@@ -4,20 +4,19 @@
 //! allocator takes no bytes, so C passes nothing for it.
 #![tactic(auto)]
 
-ghost use Rattle.std.specs.Prelude.{◌≡◌, ◌≤◌, ◌<◌, ◌⊎◌, ◌↔◌, true, [], None, length, IfSome, ◌==◌, ◌≢◌, ◌++◌, ℕ, List, map, position};
+ghost use Rattle.std.specs.Prelude.{◌≡◌, ◌≢◌, ◌≤◌, ◌<◌, ◌⊎◌, ◌↔◌, [], None, length, map, IfSome};
 ghost use denote.RawPtr.{null_ptr};
-ghost use Rattle.fr_lines.specs.Requests.{make_edits, move_dest, new_network, reading};
-ghost use Rattle.fr_route.specs.Blank.{is_blank as is_blank_line};
+ghost use Rattle.fr_lines.specs.Requests.{make_edits, move_dest, new_network};
 ghost use Rattle.fr_route.specs.States.{IsReport};
-ghost use Rattle.fr_route.specs.Told.{IsLineTold};
-ghost use Rattle.revroute_c.specs.Replies.{least_room, IsAnswered, IsGiven, IsLength, IsWanted, IsWritten};
-ghost use Rattle.revroute_c.specs.Statuses.{REVROUTE_ANSWERED, REVROUTE_BLANK, REVROUTE_TOO_SHORT, REVROUTE_NO_MEMORY, REVROUTE_NO_NETWORK};
-ghost use Rattle.revroute_c.specs.Statuses.{REVROUTE_NO_ROUTE, REVROUTE_REFUSED, REVROUTE_NO_WALK, REVROUTE_BEGUN, REVROUTE_TOO_LONG, REVROUTE_NO_TABLE};
-ghost use Rattle.revroute_c.specs.Pieces.{longest_line, EndsBlank, EndsLine, IsTooLong, IsWantedAtEnd};
 ghost use Rattle.revroute_c.specs.ClosedWalks.{HasNoWalkOfChange, HasNoWalkOfNetwork, IsWalkOfChange, IsWalkOfNetwork};
+ghost use Rattle.revroute_c.specs.Lending.{held_by, IsUnchanged};
+ghost use Rattle.revroute_c.specs.Pieces.{TakesPiece};
+ghost use Rattle.revroute_c.specs.Questions.{AreCounts, AreEnds, AreHopsWritten, AreOnePerNode, HasNoRoute, IsRouteFrom, TellsHop};
 ghost use Rattle.revroute_c.specs.Records.{AreKnown, edit_of, link_of};
-ghost use Rattle.revroute_c.specs.Rounds.{IsChangeRefused, IsMoveRefused, IsNewRefused, IsNewRound};
-ghost use Rattle.revroute_c.specs.Questions.{AreHopsWritten, HasNoRoute, IsRouteLength, IsRouteWritten, TellsHop, ends};
+ghost use Rattle.revroute_c.specs.Replies.{outcome, AnswersApart, AnswersLine, GivesList, IsWritten};
+ghost use Rattle.revroute_c.specs.Rounds.{round_outcome, BeginsRound, IsChangeRefused, IsMoveRefused, IsNewRefused};
+ghost use Rattle.revroute_c.specs.Statuses.{REVROUTE_ANSWERED, REVROUTE_BLANK, REVROUTE_TOO_SHORT, REVROUTE_NO_MEMORY, REVROUTE_NO_NETWORK};
+ghost use Rattle.revroute_c.specs.Statuses.{REVROUTE_NO_ROUTE, REVROUTE_REFUSED, REVROUTE_NO_WALK, REVROUTE_BEGUN, REVROUTE_NO_TABLE};
 ghost use Rattle.revroute_c.specs.Tables.{ArePushesOf, IsNoTable};
 
 mod closed_walks;
@@ -41,7 +40,7 @@ use questions::{
 };
 use records::{Link, LinkEdit, Refusal, Round, first_unknown, unknown_at};
 use replies::{LEAST_ROOM, hand_out, reply, reply_anew};
-use rounds::{change_in, move_in, open_anew, open_in};
+use rounds::{NewNetwork, change_in, move_in, open_anew, open_in};
 use statuses::{BLANK, NO_NETWORK, REFUSED, TOO_SHORT};
 use std::alloc::Global;
 use tables::pushes_in;
@@ -60,18 +59,8 @@ pub extern "C" fn revroute_answer(
     answer: &mut [u8],
     size: &mut usize,
 ) -> u32
-    ensures answered { result ≡ REVROUTE_ANSWERED → IsAnswered handle.old.session line.now handle.new.session answer.old answer.new size.new }
-    ensures told { result ≡ REVROUTE_ANSWERED → IsLineTold handle.old.session (reading line.now) handle.new.session handle.old.rerouted handle.new.rerouted }
-    ensures blank { result ≡ REVROUTE_BLANK → (is_blank_line line.now ≡ true) × (size.new ≡ 0) }
-    ensures blank_line { is_blank_line line.now ≡ true → least_room ≤ length answer.old → result ≡ REVROUTE_BLANK }
-    ensures too_short { result ≡ REVROUTE_TOO_SHORT → (length answer.old < size.new) × IsWanted handle.old.session line.now (length answer.old) size.new }
-    ensures no_memory { result ≡ REVROUTE_NO_MEMORY → size.new ≡ 0 }
-    ensures unchanged { ¬ (result ≡ REVROUTE_ANSWERED) → (handle.new.session ≡ handle.old.session) × (answer.new ≡ answer.old) }
-    ensures untold { ¬ (result ≡ REVROUTE_ANSWERED) → handle.new.rerouted ≡ handle.old.rerouted }
-    ensures begun { handle.new.begun ≡ handle.old.begun }
+    ensures answers { AnswersApart line.now (held_by handle.old) (held_by handle.new) (outcome result answer.old answer.new size.new) }
     ensures kept { ¬ (result ≡ REVROUTE_ANSWERED) → handle.new.at ≡ handle.old.at }
-    ensures room { length answer.old < least_room → result ≡ REVROUTE_TOO_SHORT }
-    ensures status { result ≤ REVROUTE_NO_MEMORY }
 {
     *size = 0;
     if answer.len() < LEAST_ROOM {
@@ -102,25 +91,8 @@ pub extern "C" fn revroute_take(
     size: &mut usize,
     taken: &mut usize,
 ) -> u32
-    ensures answered { result ≡ REVROUTE_ANSWERED → (line : List ℕ) × EndsLine handle.old.begun piece.now line taken.new
-        × IsAnswered handle.old.session line handle.new.session answer.old answer.new size.new
-        × IsLineTold handle.old.session (reading line) handle.new.session handle.old.rerouted handle.new.rerouted }
-    ensures blank { result ≡ REVROUTE_BLANK → (line : List ℕ) × EndsLine handle.old.begun piece.now line taken.new
-        × (is_blank_line line ≡ true) × (size.new ≡ 0) }
-    ensures blank_line { EndsBlank handle.old.begun piece.now → least_room ≤ length answer.old → result ≡ REVROUTE_BLANK }
-    ensures ended { result ≤ REVROUTE_BLANK → handle.new.begun ≡ [] }
-    ensures kept { result ≡ REVROUTE_BEGUN → (position (λ x. x == 10) piece.now ≡ None) × (handle.new.begun ≡ handle.old.begun ++ piece.now)
-        × (taken.new ≡ length piece.now) × (size.new ≡ 0) }
-    ensures too_short { result ≡ REVROUTE_TOO_SHORT → (length answer.old < size.new)
-        × IsWantedAtEnd handle.old.session handle.old.begun piece.now (length answer.old) size.new }
-    ensures within { result ≡ REVROUTE_BEGUN → length handle.new.begun ≤ longest_line }
-    ensures no_memory { result ≡ REVROUTE_NO_MEMORY → size.new ≡ 0 }
-    ensures too_long { result ≡ REVROUTE_TOO_LONG → IsTooLong handle.old.begun piece.now × (size.new ≡ 0) }
-    ensures unchanged { ¬ (result ≡ REVROUTE_ANSWERED) → (handle.new.session ≡ handle.old.session) × (handle.new.rerouted ≡ handle.old.rerouted) × (answer.new ≡ answer.old) }
-    ensures untaken { REVROUTE_BLANK < result → result ≢ REVROUTE_BEGUN → (handle.new.begun ≡ handle.old.begun) × (taken.new ≡ 0) }
+    ensures takes { TakesPiece piece.now (held_by handle.old) (held_by handle.new) taken.new (outcome result answer.old answer.new size.new) }
     ensures same_handle { result ≢ REVROUTE_ANSWERED → result ≢ REVROUTE_BEGUN → handle.new.at ≡ handle.old.at }
-    ensures room { length answer.old < least_room → result ≡ REVROUTE_TOO_SHORT }
-    ensures status { (result ≤ REVROUTE_NO_MEMORY) ⊎ (result ≡ REVROUTE_BEGUN) ⊎ (result ≡ REVROUTE_TOO_LONG) }
 {
     *size = 0;
     *taken = 0;
@@ -129,8 +101,8 @@ pub extern "C" fn revroute_take(
         return TOO_SHORT;
     }
     match handle.engine_mut() {
-        Some(engine) => take_front(engine, alloc, piece, answer, size, taken),
-        None => take_anew(handle, alloc, piece, answer, size, taken),
+        Some(engine) => take_front(engine, alloc, piece, answer, size).tell(taken),
+        None => take_anew(handle, alloc, piece, answer, size).tell(taken),
     }
 }
 
@@ -142,18 +114,10 @@ pub extern "C" fn revroute_finish(
     answer: &mut [u8],
     size: &mut usize,
 ) -> u32
-    ensures answered { result ≡ REVROUTE_ANSWERED → IsAnswered handle.old.session handle.old.begun handle.new.session answer.old answer.new size.new
-        × IsLineTold handle.old.session (reading handle.old.begun) handle.new.session handle.old.rerouted handle.new.rerouted }
-    ensures blank { result ≡ REVROUTE_BLANK → (is_blank_line handle.old.begun ≡ true) × (size.new ≡ 0) }
-    ensures blank_line { is_blank_line handle.old.begun ≡ true → least_room ≤ length answer.old → result ≡ REVROUTE_BLANK }
+    ensures answers { AnswersLine handle.old.begun (held_by handle.old) (held_by handle.new) (outcome result answer.old answer.new size.new) }
     ensures ended { result ≤ REVROUTE_BLANK → handle.new.begun ≡ [] }
-    ensures too_short { result ≡ REVROUTE_TOO_SHORT → (length answer.old < size.new) × IsWanted handle.old.session handle.old.begun (length answer.old) size.new }
-    ensures no_memory { result ≡ REVROUTE_NO_MEMORY → size.new ≡ 0 }
-    ensures unchanged { ¬ (result ≡ REVROUTE_ANSWERED) → (handle.new.session ≡ handle.old.session) × (handle.new.rerouted ≡ handle.old.rerouted) × (answer.new ≡ answer.old) }
     ensures still { REVROUTE_BLANK < result → handle.new.begun ≡ handle.old.begun }
     ensures same_handle { handle.new.at ≡ handle.old.at }
-    ensures room { length answer.old < least_room → result ≡ REVROUTE_TOO_SHORT }
-    ensures status { result ≤ REVROUTE_NO_MEMORY }
 {
     *size = 0;
     if answer.len() < LEAST_ROOM {
@@ -181,17 +145,15 @@ pub extern "C" fn revroute_open(
     round: &mut Round,
     refusal: &mut Refusal,
 ) -> u32
-    ensures answered { result ≡ REVROUTE_ANSWERED → IsNewRound handle.old.session (new_network nodes dest (map link_of links.now)) handle.new.session handle.old.rerouted handle.new.rerouted round.new }
-    ensures refused { result ≡ REVROUTE_REFUSED → IsNewRefused nodes dest (map link_of links.now) refusal.new }
-    ensures unchanged { ¬ (result ≡ REVROUTE_ANSWERED) → (handle.new.session ≡ handle.old.session) × (handle.new.rerouted ≡ handle.old.rerouted) × (round.new ≡ round.old) }
-    ensures unrefused { ¬ (result ≡ REVROUTE_REFUSED) → refusal.new ≡ refusal.old }
-    ensures begun { handle.new.begun ≡ handle.old.begun }
+    ensures begins { BeginsRound (new_network nodes dest (map link_of links.now)) (IsNewRefused nodes dest (map link_of links.now))
+        (held_by handle.old) (held_by handle.new) (round_outcome result round.old round.new refusal.old refusal.new) }
     ensures kept { ¬ (result ≡ REVROUTE_ANSWERED) → handle.new.at ≡ handle.old.at }
     ensures status { (result ≡ REVROUTE_ANSWERED) ⊎ (result ≡ REVROUTE_NO_MEMORY) ⊎ (result ≡ REVROUTE_REFUSED) }
 {
+    let asked = NewNetwork { nodes, dest, links };
     match handle.engine_mut() {
-        Some(engine) => open_in(engine, alloc, nodes, dest, links, round, refusal),
-        None => open_anew(handle, alloc, nodes, dest, links, round, refusal),
+        Some(engine) => open_in(engine, alloc, &asked, round, refusal),
+        None => open_anew(handle, alloc, &asked, round, refusal),
     }
 }
 
@@ -208,14 +170,11 @@ pub extern "C" fn revroute_change(
     round: &mut Round,
     refusal: &mut Refusal,
 ) -> u32
+    ensures begins { BeginsRound (make_edits (map edit_of edits.now)) (IsChangeRefused handle.old.session edits.now)
+        (held_by handle.old) (held_by handle.new) (round_outcome result round.old round.new refusal.old refusal.new) }
     ensures known { result ≡ REVROUTE_ANSWERED → AreKnown edits.now }
-    ensures answered { result ≡ REVROUTE_ANSWERED → IsNewRound handle.old.session (make_edits (map edit_of edits.now)) handle.new.session handle.old.rerouted handle.new.rerouted round.new }
-    ensures refused { result ≡ REVROUTE_REFUSED → IsChangeRefused handle.old.session edits.now refusal.new }
     ensures unknown { ¬ AreKnown edits.now → result ≡ REVROUTE_REFUSED }
     ensures no_network { (result ≡ REVROUTE_NO_NETWORK) ↔ (AreKnown edits.now × (handle.old.session ≡ None)) }
-    ensures unchanged { ¬ (result ≡ REVROUTE_ANSWERED) → (handle.new.session ≡ handle.old.session) × (handle.new.rerouted ≡ handle.old.rerouted) × (round.new ≡ round.old) }
-    ensures unrefused { ¬ (result ≡ REVROUTE_REFUSED) → refusal.new ≡ refusal.old }
-    ensures begun { handle.new.begun ≡ handle.old.begun }
     ensures kept { handle.new.at ≡ handle.old.at }
     ensures status { (result ≡ REVROUTE_ANSWERED) ⊎ (result ≡ REVROUTE_NO_MEMORY) ⊎ (result ≡ REVROUTE_NO_NETWORK) ⊎ (result ≡ REVROUTE_REFUSED) }
 {
@@ -239,12 +198,9 @@ pub extern "C" fn revroute_move(
     round: &mut Round,
     refusal: &mut Refusal,
 ) -> u32
-    ensures answered { result ≡ REVROUTE_ANSWERED → IsNewRound handle.old.session (move_dest dest) handle.new.session handle.old.rerouted handle.new.rerouted round.new }
-    ensures refused { result ≡ REVROUTE_REFUSED → IsMoveRefused handle.old.session dest refusal.new }
+    ensures begins { BeginsRound (move_dest dest) (IsMoveRefused handle.old.session dest)
+        (held_by handle.old) (held_by handle.new) (round_outcome result round.old round.new refusal.old refusal.new) }
     ensures no_network { (result ≡ REVROUTE_NO_NETWORK) ↔ (handle.old.session ≡ None) }
-    ensures unchanged { ¬ (result ≡ REVROUTE_ANSWERED) → (handle.new.session ≡ handle.old.session) × (handle.new.rerouted ≡ handle.old.rerouted) × (round.new ≡ round.old) }
-    ensures unrefused { ¬ (result ≡ REVROUTE_REFUSED) → refusal.new ≡ refusal.old }
-    ensures begun { handle.new.begun ≡ handle.old.begun }
     ensures kept { handle.new.at ≡ handle.old.at }
     ensures status { (result ≡ REVROUTE_ANSWERED) ⊎ (result ≡ REVROUTE_NO_MEMORY) ⊎ (result ≡ REVROUTE_NO_NETWORK) ⊎ (result ≡ REVROUTE_REFUSED) }
 {
@@ -265,14 +221,10 @@ pub extern "C" fn revroute_closed_walk(
     nodes: &mut [u32],
     size: &mut usize,
 ) -> u32
-    ensures same { (handle.new.session ≡ handle.old.session) × (handle.new.rerouted ≡ handle.old.rerouted) × (handle.new.begun ≡ handle.old.begun) }
-    ensures kept { handle.new.at ≡ handle.old.at }
-    ensures written { result ≡ REVROUTE_ANSWERED → IsGiven (IsWalkOfChange handle.old.session edits.now) nodes.old nodes.new size.new }
-    ensures too_short { result ≡ REVROUTE_TOO_SHORT → (length nodes.old < size.new) × IsLength (IsWalkOfChange handle.old.session edits.now) size.new }
+    ensures same { IsUnchanged handle.old handle.new }
+    ensures gives { GivesList (IsWalkOfChange handle.old.session edits.now) (outcome result nodes.old nodes.new size.new) }
     ensures no_network { (result ≡ REVROUTE_NO_NETWORK) ↔ (handle.old.session ≡ None) }
     ensures no_walk { result ≡ REVROUTE_NO_WALK → HasNoWalkOfChange handle.old.session edits.now }
-    ensures unchanged { ¬ (result ≡ REVROUTE_ANSWERED) → nodes.new ≡ nodes.old }
-    ensures none { REVROUTE_TOO_SHORT < result → size.new ≡ 0 }
     ensures status { (result ≡ REVROUTE_ANSWERED) ⊎ ((REVROUTE_TOO_SHORT ≤ result) × (result ≤ REVROUTE_NO_NETWORK)) ⊎ (result ≡ REVROUTE_NO_WALK) }
 {
     *size = 0;
@@ -291,11 +243,8 @@ pub extern "C" fn revroute_closed_walk_of(
     walk: &mut [u32],
     size: &mut usize,
 ) -> u32
-    ensures written { result ≡ REVROUTE_ANSWERED → IsGiven (IsWalkOfNetwork nodes (map link_of links.now)) walk.old walk.new size.new }
-    ensures too_short { result ≡ REVROUTE_TOO_SHORT → (length walk.old < size.new) × IsLength (IsWalkOfNetwork nodes (map link_of links.now)) size.new }
+    ensures gives { GivesList (IsWalkOfNetwork nodes (map link_of links.now)) (outcome result walk.old walk.new size.new) }
     ensures no_walk { result ≡ REVROUTE_NO_WALK → HasNoWalkOfNetwork nodes (map link_of links.now) }
-    ensures unchanged { ¬ (result ≡ REVROUTE_ANSWERED) → walk.new ≡ walk.old }
-    ensures none { REVROUTE_TOO_SHORT < result → size.new ≡ 0 }
     ensures status { (result ≡ REVROUTE_ANSWERED) ⊎ (result ≡ REVROUTE_TOO_SHORT) ⊎ (result ≡ REVROUTE_NO_MEMORY) ⊎ (result ≡ REVROUTE_NO_WALK) }
 {
     *size = 0;
@@ -330,8 +279,7 @@ pub extern "C" fn revroute_version(text: &mut [u8], size: &mut usize) -> u32
 #[unsafe(no_mangle)]
 pub extern "C" fn revroute_next_hop(handle: &mut Handle, node: u32) -> u32
     ensures hop { TellsHop handle.old.session node result }
-    ensures same { (handle.new.session ≡ handle.old.session) × (handle.new.rerouted ≡ handle.old.rerouted) × (handle.new.begun ≡ handle.old.begun) }
-    ensures kept { handle.new.at ≡ handle.old.at }
+    ensures same { IsUnchanged handle.old handle.new }
 {
     match handle.engine_mut() {
         Some(engine) => hop_in(&engine.session, node),
@@ -344,14 +292,10 @@ pub extern "C" fn revroute_next_hop(handle: &mut Handle, node: u32) -> u32
 /// `O(n)`.
 #[unsafe(no_mangle)]
 pub extern "C" fn revroute_next_hops(handle: &mut Handle, hops: &mut [u32], size: &mut usize) -> u32
-    ensures same { (handle.new.session ≡ handle.old.session) × (handle.new.rerouted ≡ handle.old.rerouted) × (handle.new.begun ≡ handle.old.begun) }
-    ensures kept { handle.new.at ≡ handle.old.at }
-    ensures written { result ≡ REVROUTE_ANSWERED → IfSome handle.old.session (λ s. AreHopsWritten s hops.old hops.new) }
-    ensures too_short { result ≡ REVROUTE_TOO_SHORT → length hops.old < size.new }
-    ensures size { IfSome handle.old.session (λ s. size.new ≡ s.nodes) }
+    ensures same { IsUnchanged handle.old handle.new }
+    ensures gives { GivesList (AreOnePerNode handle.old.session) (outcome result hops.old hops.new size.new) }
+    ensures hops { result ≡ REVROUTE_ANSWERED → IfSome handle.old.session (λ s. AreHopsWritten s hops.old hops.new) }
     ensures no_network { (result ≡ REVROUTE_NO_NETWORK) ↔ (handle.old.session ≡ None) }
-    ensures unchanged { ¬ (result ≡ REVROUTE_ANSWERED) → hops.new ≡ hops.old }
-    ensures none { result ≡ REVROUTE_NO_NETWORK → size.new ≡ 0 }
     ensures status { (result ≡ REVROUTE_ANSWERED) ⊎ (result ≡ REVROUTE_TOO_SHORT) ⊎ (result ≡ REVROUTE_NO_NETWORK) }
 {
     *size = 0;
@@ -366,11 +310,8 @@ pub extern "C" fn revroute_next_hops(handle: &mut Handle, hops: &mut [u32], size
 /// there. `TOO_SHORT` says that the place is as it was, and has less room. `O(r)` for r nodes.
 #[unsafe(no_mangle)]
 pub extern "C" fn revroute_rerouted(handle: &mut Handle, nodes: &mut [u32], size: &mut usize) -> u32
-    ensures same { (handle.new.session ≡ handle.old.session) × (handle.new.rerouted ≡ handle.old.rerouted) × (handle.new.begun ≡ handle.old.begun) }
-    ensures kept { handle.new.at ≡ handle.old.at }
-    ensures written { result ≡ REVROUTE_ANSWERED → IsWritten handle.old.rerouted nodes.old nodes.new }
-    ensures too_short { result ≡ REVROUTE_TOO_SHORT → (length nodes.old < size.new) × (nodes.new ≡ nodes.old) }
-    ensures size { size.new ≡ length handle.old.rerouted }
+    ensures same { IsUnchanged handle.old handle.new }
+    ensures gives { GivesList (λ listed. listed ≡ handle.old.rerouted) (outcome result nodes.old nodes.new size.new) }
     ensures status { (result ≡ REVROUTE_ANSWERED) ⊎ (result ≡ REVROUTE_TOO_SHORT) }
 {
     match handle.engine_mut() {
@@ -391,14 +332,10 @@ pub extern "C" fn revroute_pushes(
     nodes: &mut [u32],
     size: &mut usize,
 ) -> u32
-    ensures same { (handle.new.session ≡ handle.old.session) × (handle.new.rerouted ≡ handle.old.rerouted) × (handle.new.begun ≡ handle.old.begun) }
-    ensures kept { handle.new.at ≡ handle.old.at }
-    ensures written { result ≡ REVROUTE_ANSWERED → IsGiven (ArePushesOf handle.old.session table.now) nodes.old nodes.new size.new }
-    ensures too_short { result ≡ REVROUTE_TOO_SHORT → (length nodes.old < size.new) × IsLength (ArePushesOf handle.old.session table.now) size.new }
+    ensures same { IsUnchanged handle.old handle.new }
+    ensures gives { GivesList (ArePushesOf handle.old.session table.now) (outcome result nodes.old nodes.new size.new) }
     ensures no_network { (result ≡ REVROUTE_NO_NETWORK) ↔ (handle.old.session ≡ None) }
     ensures no_table { result ≡ REVROUTE_NO_TABLE → IsNoTable handle.old.session table.now }
-    ensures unchanged { ¬ (result ≡ REVROUTE_ANSWERED) → nodes.new ≡ nodes.old }
-    ensures none { REVROUTE_TOO_SHORT < result → size.new ≡ 0 }
     ensures status { (result ≡ REVROUTE_ANSWERED) ⊎ ((REVROUTE_TOO_SHORT ≤ result) × (result ≤ REVROUTE_NO_NETWORK)) ⊎ (result ≡ REVROUTE_NO_TABLE) }
 {
     *size = 0;
@@ -411,14 +348,9 @@ pub extern "C" fn revroute_pushes(
 /// Writes how often each node turned in the last round, in the order of the nodes, as [`revroute_next_hops`] does the hops. `O(n)`.
 #[unsafe(no_mangle)]
 pub extern "C" fn revroute_counts(handle: &mut Handle, counts: &mut [u64], size: &mut usize) -> u32
-    ensures same { (handle.new.session ≡ handle.old.session) × (handle.new.rerouted ≡ handle.old.rerouted) × (handle.new.begun ≡ handle.old.begun) }
-    ensures kept { handle.new.at ≡ handle.old.at }
-    ensures written { result ≡ REVROUTE_ANSWERED → IfSome handle.old.session (λ s. IsWritten s.counts counts.old counts.new) }
-    ensures too_short { result ≡ REVROUTE_TOO_SHORT → length counts.old < size.new }
-    ensures size { IfSome handle.old.session (λ s. size.new ≡ length s.counts) }
+    ensures same { IsUnchanged handle.old handle.new }
+    ensures gives { GivesList (AreCounts handle.old.session) (outcome result counts.old counts.new size.new) }
     ensures no_network { (result ≡ REVROUTE_NO_NETWORK) ↔ (handle.old.session ≡ None) }
-    ensures unchanged { ¬ (result ≡ REVROUTE_ANSWERED) → counts.new ≡ counts.old }
-    ensures none { result ≡ REVROUTE_NO_NETWORK → size.new ≡ 0 }
     ensures status { (result ≡ REVROUTE_ANSWERED) ⊎ (result ≡ REVROUTE_TOO_SHORT) ⊎ (result ≡ REVROUTE_NO_NETWORK) }
 {
     *size = 0;
@@ -440,14 +372,10 @@ pub extern "C" fn revroute_route(
     nodes: &mut [u32],
     size: &mut usize,
 ) -> u32
-    ensures same { (handle.new.session ≡ handle.old.session) × (handle.new.rerouted ≡ handle.old.rerouted) × (handle.new.begun ≡ handle.old.begun) }
-    ensures kept { handle.new.at ≡ handle.old.at }
-    ensures written { result ≡ REVROUTE_ANSWERED → IfSome handle.old.session (λ s. IsRouteWritten s node nodes.old nodes.new size.new) }
-    ensures too_short { result ≡ REVROUTE_TOO_SHORT → (length nodes.old < size.new) × IfSome handle.old.session (λ s. IsRouteLength s node size.new) }
+    ensures same { IsUnchanged handle.old handle.new }
+    ensures gives { GivesList (IsRouteFrom handle.old.session node) (outcome result nodes.old nodes.new size.new) }
     ensures no_network { (result ≡ REVROUTE_NO_NETWORK) ↔ (handle.old.session ≡ None) }
     ensures no_route { result ≡ REVROUTE_NO_ROUTE → IfSome handle.old.session (λ s. HasNoRoute s node) }
-    ensures unchanged { ¬ (result ≡ REVROUTE_ANSWERED) → nodes.new ≡ nodes.old }
-    ensures none { REVROUTE_TOO_SHORT < result → size.new ≡ 0 }
     ensures status { (result ≡ REVROUTE_ANSWERED) ⊎ ((REVROUTE_TOO_SHORT ≤ result) × (result ≤ REVROUTE_NO_ROUTE)) }
 {
     *size = 0;
@@ -467,13 +395,9 @@ pub extern "C" fn revroute_links(
     place: &mut [u32],
     size: &mut usize,
 ) -> u32
-    ensures same { (handle.new.session ≡ handle.old.session) × (handle.new.rerouted ≡ handle.old.rerouted) × (handle.new.begun ≡ handle.old.begun) }
-    ensures kept { handle.new.at ≡ handle.old.at }
-    ensures written { result ≡ REVROUTE_ANSWERED → IfSome handle.old.session (λ s. IsWritten (ends s.links) place.old place.new × (size.new ≡ length (ends s.links))) }
-    ensures too_short { result ≡ REVROUTE_TOO_SHORT → (length place.old < size.new) × IfSome handle.old.session (λ s. size.new ≡ length (ends s.links)) }
+    ensures same { IsUnchanged handle.old handle.new }
+    ensures gives { GivesList (AreEnds handle.old.session) (outcome result place.old place.new size.new) }
     ensures no_network { (result ≡ REVROUTE_NO_NETWORK) ↔ (handle.old.session ≡ None) }
-    ensures unchanged { ¬ (result ≡ REVROUTE_ANSWERED) → place.new ≡ place.old }
-    ensures none { REVROUTE_TOO_SHORT < result → size.new ≡ 0 }
     ensures status { (result ≡ REVROUTE_ANSWERED) ⊎ ((REVROUTE_TOO_SHORT ≤ result) × (result ≤ REVROUTE_NO_NETWORK)) }
 {
     *size = 0;
@@ -487,8 +411,7 @@ pub extern "C" fn revroute_links(
 /// is no network yet; both are then 0. `O(1)`.
 #[unsafe(no_mangle)]
 pub extern "C" fn revroute_report(handle: &mut Handle, turned: &mut u64, cut_off: &mut u64) -> u32
-    ensures same { (handle.new.session ≡ handle.old.session) × (handle.new.rerouted ≡ handle.old.rerouted) × (handle.new.begun ≡ handle.old.begun) }
-    ensures kept { handle.new.at ≡ handle.old.at }
+    ensures same { IsUnchanged handle.old handle.new }
     ensures report { result ≡ REVROUTE_ANSWERED → IfSome handle.old.session (λ s. IsReport s turned.new cut_off.new) }
     ensures no_network { (result ≡ REVROUTE_NO_NETWORK) ↔ (handle.old.session ≡ None) }
     ensures none { result ≡ REVROUTE_NO_NETWORK → (turned.new ≡ 0) × (cut_off.new ≡ 0) }
@@ -505,8 +428,7 @@ pub extern "C" fn revroute_report(handle: &mut Handle, turned: &mut u64, cut_off
 /// How many nodes and links there are, to `nodes` and `links`. `NO_NETWORK` says that there is no network yet; both are then 0. `O(1)`.
 #[unsafe(no_mangle)]
 pub extern "C" fn revroute_size(handle: &mut Handle, nodes: &mut u32, links: &mut usize) -> u32
-    ensures same { (handle.new.session ≡ handle.old.session) × (handle.new.rerouted ≡ handle.old.rerouted) × (handle.new.begun ≡ handle.old.begun) }
-    ensures kept { handle.new.at ≡ handle.old.at }
+    ensures same { IsUnchanged handle.old handle.new }
     ensures size { result ≡ REVROUTE_ANSWERED → IfSome handle.old.session (λ s. (nodes.new ≡ s.nodes) × (links.new ≡ length s.links)) }
     ensures no_network { (result ≡ REVROUTE_NO_NETWORK) ↔ (handle.old.session ≡ None) }
     ensures none { result ≡ REVROUTE_NO_NETWORK → (nodes.new ≡ 0) × (links.new ≡ 0) }
