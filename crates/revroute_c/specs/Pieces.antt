@@ -1,5 +1,6 @@
 -- Lines whose bytes come in pieces.
-use Rattle.std.specs.Prelude.{◌≡◌, ◌≢◌, ◌==◌, ℕ, ◌+◌, ◌<◌, ◌≤◌, ◌⊎◌, ◌++◌, [], List, length, take, position, Some, None, Option, true}
+use Rattle.std.specs.Prelude.{◌≡◌, ◌≢◌, ◌==◌, ℕ, ◌+◌, ◌<◌, ◌≤◌, ◌⊎◌, ◌++◌, [], List, length, take, position}
+use Rattle.std.specs.Prelude.{Some, None, Option, true}
 use Rattle.fr_bytes.specs.Bytes.{most_bytes}
 use Rattle.fr_lines.specs.Requests.{reading}
 use Rattle.fr_route.specs.Blank.{is_blank}
@@ -7,10 +8,11 @@ use Rattle.fr_route.specs.States.{State}
 use Rattle.fr_route.specs.Told.{IsLineTold}
 use Rattle.revroute_c.specs.Engines.{Held}
 use Rattle.revroute_c.specs.Replies.{least_room, IsAnswered, IsAnswerLength, Outcome}
-use Rattle.revroute_c.specs.Statuses.{REVROUTE_ANSWERED, REVROUTE_BLANK, REVROUTE_TOO_SHORT, REVROUTE_NO_MEMORY, REVROUTE_BEGUN, REVROUTE_TOO_LONG}
+use Rattle.revroute_c.specs.Statuses.{REVROUTE_ANSWERED, REVROUTE_BLANK, REVROUTE_TOO_SHORT}
+use Rattle.revroute_c.specs.Statuses.{REVROUTE_NO_MEMORY, REVROUTE_BEGUN, REVROUTE_TOO_LONG}
 
--- the line that has begun ends in this piece, is this one then, no longer than may be, and so many bytes of the piece are in it, with the
--- byte 10 that ends it
+-- the line that has begun ends in this piece: it is then this line, no longer than may be, and so many bytes of the
+-- piece are in it, with the newline
 pub record EndsLine (begun piece line : List ℕ) (count : ℕ) : Type 0 where
   pub end : ℕ
   pub at : position (λ x. x == 10) piece ≡ Some end
@@ -31,11 +33,15 @@ pub record EndsWithAnswer (old : Option State) (begun piece : List ℕ) (size : 
 
 -- the room that is wanted in place of so much: the least room, or else that of the answer
 abbrev pub IsWantedAtEnd : Option State → List ℕ → List ℕ → ℕ → ℕ → Type 0
-IsWantedAtEnd old begun piece room size = ((room < least_room) × (size ≡ least_room)) ⊎ EndsWithAnswer old begun piece size
+IsWantedAtEnd old begun piece room size =
+    ((room < least_room) × (size ≡ least_room))
+    ⊎ EndsWithAnswer old begun piece size
 
 -- the line that has begun would be too long with what the piece has of it
 abbrev pub IsTooLong : List ℕ → List ℕ → Type 0
-IsTooLong begun piece = (most_bytes < length begun + length piece) × ((end : ℕ) → position (λ x. x == 10) piece ≡ Some end → most_bytes < length begun + end)
+IsTooLong begun piece =
+    (most_bytes < length begun + length piece)
+    × ((end : ℕ) → position (λ x. x == 10) piece ≡ Some end → most_bytes < length begun + end)
 
 -- a line ends in the piece, behind this many bytes of it, and is answered
 pub record AnswersEnd (piece : List ℕ) (old new : Held) (taken : ℕ) (o : Outcome) : Type 0 where
@@ -48,7 +54,8 @@ pub record AnswersEnd (piece : List ℕ) (old new : Held) (taken : ℕ) (o : Out
 -- a call takes so many bytes of the piece, and answers the line that ends there; the engine goes from `old` to `new`
 pub record TakesPiece (piece : List ℕ) (old new : Held) (taken : ℕ) (o : Outcome) : Type 0 where
   pub answered : o.status ≡ REVROUTE_ANSWERED → AnswersEnd piece old new taken o
-  pub blank : o.status ≡ REVROUTE_BLANK → (line : List ℕ) × EndsLine old.begun piece line taken × (is_blank line ≡ true) × (o.size ≡ 0)
+  pub blank : o.status ≡ REVROUTE_BLANK → (line : List ℕ) × EndsLine old.begun piece line taken
+      × (is_blank line ≡ true) × (o.size ≡ 0)
   -- whether there is memory or not
   pub blank_line : EndsBlank old.begun piece → least_room ≤ length o.before → o.status ≡ REVROUTE_BLANK
   pub ended : o.status ≤ REVROUTE_BLANK → new.begun ≡ []
@@ -60,7 +67,8 @@ pub record TakesPiece (piece : List ℕ) (old new : Held) (taken : ℕ) (o : Out
       × IsWantedAtEnd old.session old.begun piece (length o.before) o.size
   pub no_memory : o.status ≡ REVROUTE_NO_MEMORY → o.size ≡ 0
   pub too_long : o.status ≡ REVROUTE_TOO_LONG → IsTooLong old.begun piece × (o.size ≡ 0)
-  pub unchanged : ¬ (o.status ≡ REVROUTE_ANSWERED) → (new.session ≡ old.session) × (new.rerouted ≡ old.rerouted) × (o.after ≡ o.before)
+  pub unchanged : ¬ (o.status ≡ REVROUTE_ANSWERED) → (new.session ≡ old.session)
+      × (new.rerouted ≡ old.rerouted) × (o.after ≡ o.before)
   pub untaken : REVROUTE_BLANK < o.status → o.status ≢ REVROUTE_BEGUN → (new.begun ≡ old.begun) × (taken ≡ 0)
   pub room : length o.before < least_room → o.status ≡ REVROUTE_TOO_SHORT
   pub status : (o.status ≤ REVROUTE_NO_MEMORY) ⊎ (o.status ≡ REVROUTE_BEGUN) ⊎ (o.status ≡ REVROUTE_TOO_LONG)

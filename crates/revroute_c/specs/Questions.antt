@@ -6,7 +6,8 @@ use Rattle.fr_tables.specs.declared.hop.Hop.{Hop}
 use Rattle.fr_tables.specs.declared.hop.Hop.TheVariants.{Here, To, CutOff}
 use Rattle.revroute_c.specs.Replies.{IsWritten}
 
--- the values that are no node, above all nodes: the node is the destination, it is cut off, it is none, and there is no network
+-- the values that are no node, above all nodes: the node is the destination, it is cut off, there is no such node, and
+-- there is no network
 abbrev pub here : ℕ
 here = 4294967295
 

@@ -60,7 +60,9 @@ pub record IsAnswerLength (old : Option State) (line : List ℕ) (size : ℕ) : 
 
 -- the room that is wanted in place of so much: the least room, or else that of the answer
 abbrev pub IsWanted : Option State → List ℕ → ℕ → ℕ → Type 0
-IsWanted old line room size = ((room < least_room) × (size ≡ least_room)) ⊎ ((least_room ≤ room) × IsAnswerLength old line size)
+IsWanted old line room size =
+    ((room < least_room) × (size ≡ least_room))
+    ⊎ ((least_room ≤ room) × IsAnswerLength old line size)
 
 -- a call answers the line in the caller's place; the engine goes from `old` to `new`
 pub record AnswersLine (line : List ℕ) (old new : Held) (o : Outcome) : Type 0 where
@@ -70,9 +72,11 @@ pub record AnswersLine (line : List ℕ) (old new : Held) (o : Outcome) : Type 0
   pub blank : o.status ≡ REVROUTE_BLANK → (is_blank line ≡ true) × (o.size ≡ 0)
   -- whether there is memory or not
   pub blank_line : is_blank line ≡ true → least_room ≤ length o.before → o.status ≡ REVROUTE_BLANK
-  pub too_short : o.status ≡ REVROUTE_TOO_SHORT → (length o.before < o.size) × IsWanted old.session line (length o.before) o.size
+  pub too_short : o.status ≡ REVROUTE_TOO_SHORT → (length o.before < o.size)
+      × IsWanted old.session line (length o.before) o.size
   pub no_memory : o.status ≡ REVROUTE_NO_MEMORY → o.size ≡ 0
-  pub unchanged : ¬ (o.status ≡ REVROUTE_ANSWERED) → (new.session ≡ old.session) × (new.rerouted ≡ old.rerouted) × (o.after ≡ o.before)
+  pub unchanged : ¬ (o.status ≡ REVROUTE_ANSWERED) → (new.session ≡ old.session)
+      × (new.rerouted ≡ old.rerouted) × (o.after ≡ o.before)
   pub room : length o.before < least_room → o.status ≡ REVROUTE_TOO_SHORT
   pub status : o.status ≤ REVROUTE_NO_MEMORY
 

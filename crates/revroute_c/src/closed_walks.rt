@@ -2,7 +2,8 @@
 
 ghost use Rattle.std.specs.Prelude.{◌≡◌, ◌≢◌, ◌≤◌, ◌⊎◌, ◌↔◌, map, None};
 ghost use Rattle.fr_graph.specs.declared.fault.NetFault.TheVariants.{Memory};
-ghost use Rattle.revroute_c.specs.ClosedWalks.{HasNoWalkOfChange, HasNoWalkOfNetwork, IsNoWalk, IsWalkOf, IsWalkOfChange, IsWalkOfNetwork};
+ghost use Rattle.revroute_c.specs.ClosedWalks.{HasNoWalkOfChange, HasNoWalkOfNetwork, IsNoWalk};
+ghost use Rattle.revroute_c.specs.ClosedWalks.{IsWalkOf, IsWalkOfChange, IsWalkOfNetwork};
 ghost use Rattle.revroute_c.specs.Records.{link_of};
 ghost use Rattle.revroute_c.specs.Replies.{outcome, GivesList};
 
@@ -49,7 +50,8 @@ pub(crate) fn walk_of_network(
     size: &mut usize,
 ) -> u32
     requires { size.old ≡ 0 }
-    ensures gives { GivesList (IsWalkOfNetwork count (map link_of links.now)) (outcome result nodes.old nodes.new size.new) }
+    ensures gives { GivesList (IsWalkOfNetwork count (map link_of links.now))
+        (outcome result nodes.old nodes.new size.new) }
     ensures no_walk { result ≡ NO_WALK → HasNoWalkOfNetwork count (map link_of links.now) }
     ensures status { (result ≡ ANSWERED) ⊎ (result ≡ TOO_SHORT) ⊎ (result ≡ NO_MEMORY) ⊎ (result ≡ NO_WALK) }
 {

@@ -1,6 +1,6 @@
 //! The engine for programs in C, and for whatever calls C: a session behind a handle, with no thread and no lock.
 //!
-//! `embed/c/revroute.h` declares what stands here, and says what a caller owes. A slice is a pointer and a length there, and the
+//! `embed/c/revroute.h` declares these calls, and says what a caller owes. A slice is a pointer and a length there. The
 //! allocator takes no bytes, so C passes nothing for it.
 #![tactic(auto)]
 
@@ -8,15 +8,18 @@ ghost use Rattle.std.specs.Prelude.{◌≡◌, ◌≢◌, ◌≤◌, ◌<◌, �
 ghost use denote.RawPtr.{null_ptr};
 ghost use Rattle.fr_lines.specs.Requests.{make_edits, move_dest, new_network};
 ghost use Rattle.fr_route.specs.States.{IsReport};
-ghost use Rattle.revroute_c.specs.ClosedWalks.{HasNoWalkOfChange, HasNoWalkOfNetwork, IsWalkOfChange, IsWalkOfNetwork};
+ghost use Rattle.revroute_c.specs.ClosedWalks.{HasNoWalkOfChange, HasNoWalkOfNetwork};
+ghost use Rattle.revroute_c.specs.ClosedWalks.{IsWalkOfChange, IsWalkOfNetwork};
 ghost use Rattle.revroute_c.specs.Lending.{held_by, IsUnchanged};
 ghost use Rattle.revroute_c.specs.Pieces.{TakesPiece};
-ghost use Rattle.revroute_c.specs.Questions.{AreCounts, AreEnds, AreHopsWritten, AreOnePerNode, HasNoRoute, IsRouteFrom, TellsHop};
+ghost use Rattle.revroute_c.specs.Questions.{AreCounts, AreEnds, AreHopsWritten, AreOnePerNode};
+ghost use Rattle.revroute_c.specs.Questions.{HasNoRoute, IsRouteFrom, TellsHop};
 ghost use Rattle.revroute_c.specs.Records.{AreKnown, edit_of, link_of};
 ghost use Rattle.revroute_c.specs.Replies.{outcome, AnswersApart, AnswersLine, GivesList, IsWritten};
 ghost use Rattle.revroute_c.specs.Rounds.{round_outcome, BeginsRound, IsChangeRefused, IsMoveRefused, IsNewRefused};
-ghost use Rattle.revroute_c.specs.Statuses.{REVROUTE_ANSWERED, REVROUTE_BLANK, REVROUTE_TOO_SHORT, REVROUTE_NO_MEMORY, REVROUTE_NO_NETWORK};
-ghost use Rattle.revroute_c.specs.Statuses.{REVROUTE_NO_ROUTE, REVROUTE_REFUSED, REVROUTE_NO_WALK, REVROUTE_BEGUN, REVROUTE_NO_TABLE};
+ghost use Rattle.revroute_c.specs.Statuses.{REVROUTE_ANSWERED, REVROUTE_BLANK, REVROUTE_TOO_SHORT};
+ghost use Rattle.revroute_c.specs.Statuses.{REVROUTE_NO_MEMORY, REVROUTE_NO_NETWORK, REVROUTE_NO_ROUTE};
+ghost use Rattle.revroute_c.specs.Statuses.{REVROUTE_REFUSED, REVROUTE_NO_WALK, REVROUTE_BEGUN, REVROUTE_NO_TABLE};
 ghost use Rattle.revroute_c.specs.Tables.{ArePushesOf, IsNoTable};
 
 mod closed_walks;
@@ -45,12 +48,16 @@ use statuses::{BLANK, NO_NETWORK, REFUSED, TOO_SHORT};
 use std::alloc::Global;
 use tables::pushes_in;
 
-/// Answers a line, without its line end, in the session behind the handle; a null handle is a session that holds no network yet.
-/// The answer goes to the front of the buffer, with no line end, and its length to `size`. `BLANK` says that the line is blank and
-/// has none, and takes no memory; `size` is then 0. `TOO_SHORT` says that `size` is the room that is wanted: the answer's length, or
-/// [`LEAST_ROOM`] for a buffer that has less, which is tested first. `NO_MEMORY` says that an allocation was refused. After each of
-/// these the session is as it was, and so are the handle's own bytes: null stays null, and owns nothing. It costs what
-/// [`Session::answer_line_telling_alone`](fr_route::Session::answer_line_telling_alone) does.
+/// Answers a line, given without its line end. A null handle stands for a session that holds no network yet. The
+/// answer goes to the front of the buffer, without a line end, and its length to `size`.
+///
+/// - `BLANK`: the line is blank and has no answer. `size` is 0. A blank line takes no memory.
+/// - `TOO_SHORT`: the buffer has too little room. `size` is the length of the answer. For a buffer of less than
+///   [`LEAST_ROOM`] bytes it is [`LEAST_ROOM`]; this is tested first.
+/// - `NO_MEMORY`: an allocation was refused.
+///
+/// After each of these the session is unchanged, and so are the handle's own bytes: null stays null, and owns
+/// nothing. It costs what [`Session::answer_line_telling_alone`](fr_route::Session::answer_line_telling_alone) does.
 #[unsafe(no_mangle)]
 pub extern "C" fn revroute_answer(
     alloc: Global,
@@ -59,7 +66,8 @@ pub extern "C" fn revroute_answer(
     answer: &mut [u8],
     size: &mut usize,
 ) -> u32
-    ensures answers { AnswersApart line.now (held_by handle.old) (held_by handle.new) (outcome result answer.old answer.new size.new) }
+    ensures answers { AnswersApart line.now (held_by handle.old) (held_by handle.new)
+        (outcome result answer.old answer.new size.new) }
     ensures kept { ¬ (result ≡ REVROUTE_ANSWERED) → handle.new.at ≡ handle.old.at }
 {
     *size = 0;
@@ -76,11 +84,15 @@ pub extern "C" fn revroute_answer(
     }
 }
 
-/// Takes the front of a piece, up to its first byte 10 and with it, and answers the line that ends there, of what had begun and this
-/// front; without one, all of the piece is kept behind what has begun, and `BEGUN` says so. How many bytes were taken goes to `taken`.
-/// The answer and its length are as [`revroute_answer`]'s, and a blank line that ends takes no memory. `TOO_LONG` says that the line has
-/// more than 16,777,216 bytes; none of more is answered or kept. After it, `TOO_SHORT` and `NO_MEMORY` nothing was taken, and all is as it
-/// was, the handle's own bytes too: the piece can be handed in again. `O(b)` for b bytes taken, and at a line end what
+/// Takes the front of a piece, up to and with its first newline, and answers the line that ends there. The line is
+/// what had begun and this front. How many bytes were taken goes to `taken`.
+///
+/// - `BEGUN`: the piece has no newline. All of it is kept behind what had begun.
+/// - `TOO_LONG`: the line has more than 16,777,216 bytes. No line of more is answered or kept.
+/// - All else is as for [`revroute_answer`]. A blank line that ends takes no memory.
+///
+/// After `TOO_LONG`, `TOO_SHORT` and `NO_MEMORY` nothing was taken, and everything is unchanged, the handle's own
+/// bytes too: the caller can hand in the piece again. `O(b)` for b bytes taken, and at a newline what
 /// [`revroute_answer`] costs.
 #[unsafe(no_mangle)]
 pub extern "C" fn revroute_take(
@@ -91,7 +103,8 @@ pub extern "C" fn revroute_take(
     size: &mut usize,
     taken: &mut usize,
 ) -> u32
-    ensures takes { TakesPiece piece.now (held_by handle.old) (held_by handle.new) taken.new (outcome result answer.old answer.new size.new) }
+    ensures takes { TakesPiece piece.now (held_by handle.old) (held_by handle.new) taken.new
+        (outcome result answer.old answer.new size.new) }
     ensures same_handle { result ≢ REVROUTE_ANSWERED → result ≢ REVROUTE_BEGUN → handle.new.at ≡ handle.old.at }
 {
     *size = 0;
@@ -114,7 +127,8 @@ pub extern "C" fn revroute_finish(
     answer: &mut [u8],
     size: &mut usize,
 ) -> u32
-    ensures answers { AnswersLine handle.old.begun (held_by handle.old) (held_by handle.new) (outcome result answer.old answer.new size.new) }
+    ensures answers { AnswersLine handle.old.begun (held_by handle.old) (held_by handle.new)
+        (outcome result answer.old answer.new size.new) }
     ensures ended { result ≤ REVROUTE_BLANK → handle.new.begun ≡ [] }
     ensures still { REVROUTE_BLANK < result → handle.new.begun ≡ handle.old.begun }
     ensures same_handle { handle.new.at ≡ handle.old.at }
@@ -130,11 +144,15 @@ pub extern "C" fn revroute_finish(
     }
 }
 
-/// Takes the network with nodes 0 to `nodes - 1`, this destination and these links in place of the one that was there, as a line `["net",..]`
-/// does, and begins a round: `ANSWERED`, and `round` has how many turns it took and how many nodes are cut off. `REFUSED` says that there are
-/// too many nodes or links, or that they are no network, or else that the destination is no node: `refusal` has the number of the lines, and
-/// the nodes of the first fault. `NO_MEMORY` says that an allocation was refused. After these two the session, the handle's own bytes and
-/// `round` are as they were. `O(n + m)`, and what [`Router::open_alone`](fr_route::Router::open_alone) costs.
+/// Puts a network in place of the last one, as a line `["net",..]` does, and begins a round. Its nodes are 0 to
+/// `nodes - 1`. `round` gets the number of turns and the number of nodes that are cut off.
+///
+/// - `REFUSED`: there are too many nodes or links, or they are no network, or else the destination is no node.
+///   `refusal` gets the number that lines use for the reason, and the nodes of the first fault.
+/// - `NO_MEMORY`: an allocation was refused.
+///
+/// After both the session, the handle's own bytes and `round` are unchanged. `O(n + m)`, and what
+/// [`Router::open_alone`](fr_route::Router::open_alone) costs.
 #[unsafe(no_mangle)]
 pub extern "C" fn revroute_open(
     alloc: Global,
@@ -145,8 +163,9 @@ pub extern "C" fn revroute_open(
     round: &mut Round,
     refusal: &mut Refusal,
 ) -> u32
-    ensures begins { BeginsRound (new_network nodes dest (map link_of links.now)) (IsNewRefused nodes dest (map link_of links.now))
-        (held_by handle.old) (held_by handle.new) (round_outcome result round.old round.new refusal.old refusal.new) }
+    ensures begins { BeginsRound (new_network nodes dest (map link_of links.now))
+        (IsNewRefused nodes dest (map link_of links.now)) (held_by handle.old) (held_by handle.new)
+        (round_outcome result round.old round.new refusal.old refusal.new) }
     ensures kept { ¬ (result ≡ REVROUTE_ANSWERED) → handle.new.at ≡ handle.old.at }
     ensures status { (result ≡ REVROUTE_ANSWERED) ⊎ (result ≡ REVROUTE_NO_MEMORY) ⊎ (result ≡ REVROUTE_REFUSED) }
 {
@@ -157,11 +176,17 @@ pub extern "C" fn revroute_open(
     }
 }
 
-/// Makes edits one after the other, with one round behind the last, as a line `["batch",..]` does, and as that of a single change does for one
-/// edit. `REFUSED` says that an edit is of an unknown kind, which is tested first, or that there are more than 1,024, or else that one
-/// cannot be made: `refusal` has the number of the lines, which edit it is, and its nodes. `NO_NETWORK` says that there is no network yet,
-/// and the rest is as for [`revroute_open`]. It costs what [`Router::change_telling_alone`](fr_route::Router::change_telling_alone) does, and
-/// where an edit is refused `O(n + m)` more for the evidence.
+/// Makes edits one after the other, with one round after the last, as a line `["batch",..]` does. One edit has the
+/// same effect as a line with that change.
+///
+/// - `REFUSED`: an edit is of an unknown kind, which is tested first; or there are more than 1,024 edits; or else one
+///   of them cannot be made. `refusal` gets the number that lines use for the reason, the place of the edit and its
+///   nodes.
+/// - `NO_NETWORK`: there is no network yet.
+/// - All else is as for [`revroute_open`].
+///
+/// It costs what [`Router::change_telling_alone`](fr_route::Router::change_telling_alone) does. Where an edit is
+/// refused, the evidence costs `O(n + m)` more.
 #[unsafe(no_mangle)]
 pub extern "C" fn revroute_change(
     alloc: Global,
@@ -176,7 +201,8 @@ pub extern "C" fn revroute_change(
     ensures unknown { ¬ AreKnown edits.now → result ≡ REVROUTE_REFUSED }
     ensures no_network { (result ≡ REVROUTE_NO_NETWORK) ↔ (AreKnown edits.now × (handle.old.session ≡ None)) }
     ensures kept { handle.new.at ≡ handle.old.at }
-    ensures status { (result ≡ REVROUTE_ANSWERED) ⊎ (result ≡ REVROUTE_NO_MEMORY) ⊎ (result ≡ REVROUTE_NO_NETWORK) ⊎ (result ≡ REVROUTE_REFUSED) }
+    ensures status { (result ≡ REVROUTE_ANSWERED) ⊎ (result ≡ REVROUTE_NO_MEMORY) ⊎ (result ≡ REVROUTE_NO_NETWORK)
+        ⊎ (result ≡ REVROUTE_REFUSED) }
 {
     if let Some(at) = first_unknown(edits) {
         *refusal = unknown_at(at);
@@ -188,8 +214,8 @@ pub extern "C" fn revroute_change(
     }
 }
 
-/// Moves the destination, and begins a round, as a line `["dest",..]` does. `REFUSED` says that it is no node; the rest is as for
-/// [`revroute_change`], and so is the cost.
+/// Moves the destination, and begins a round, as a line `["dest",..]` does. `REFUSED` says that it is no node. All
+/// else, and the cost, is as for [`revroute_change`].
 #[unsafe(no_mangle)]
 pub extern "C" fn revroute_move(
     alloc: Global,
@@ -202,7 +228,8 @@ pub extern "C" fn revroute_move(
         (held_by handle.old) (held_by handle.new) (round_outcome result round.old round.new refusal.old refusal.new) }
     ensures no_network { (result ≡ REVROUTE_NO_NETWORK) ↔ (handle.old.session ≡ None) }
     ensures kept { handle.new.at ≡ handle.old.at }
-    ensures status { (result ≡ REVROUTE_ANSWERED) ⊎ (result ≡ REVROUTE_NO_MEMORY) ⊎ (result ≡ REVROUTE_NO_NETWORK) ⊎ (result ≡ REVROUTE_REFUSED) }
+    ensures status { (result ≡ REVROUTE_ANSWERED) ⊎ (result ≡ REVROUTE_NO_MEMORY) ⊎ (result ≡ REVROUTE_NO_NETWORK)
+        ⊎ (result ≡ REVROUTE_REFUSED) }
 {
     match handle.engine_mut() {
         Some(engine) => move_in(engine, alloc, dest, round, refusal),
@@ -210,9 +237,10 @@ pub extern "C" fn revroute_move(
     }
 }
 
-/// Writes the closed walk for which [`revroute_change`] refuses these edits, its first node again at the end, into the front of the place, and
-/// how many nodes it has to `size`. `NO_WALK` says that none refuses them; `TOO_SHORT`, `NO_NETWORK` and `NO_MEMORY` are as for
-/// [`revroute_links`]. Nothing changes. `O(n + m)`, and what the edits cost.
+/// Writes the closed walk for which [`revroute_change`] refuses these edits into the front of the place, and its
+/// length to `size`. The first node comes again at the end. `NO_WALK` says that no closed walk refuses them.
+/// `TOO_SHORT`, `NO_NETWORK` and `NO_MEMORY` are as for [`revroute_links`]. Nothing changes. `O(n + m)`, and what the
+/// edits cost.
 #[unsafe(no_mangle)]
 pub extern "C" fn revroute_closed_walk(
     alloc: Global,
@@ -222,10 +250,12 @@ pub extern "C" fn revroute_closed_walk(
     size: &mut usize,
 ) -> u32
     ensures same { IsUnchanged handle.old handle.new }
-    ensures gives { GivesList (IsWalkOfChange handle.old.session edits.now) (outcome result nodes.old nodes.new size.new) }
+    ensures gives { GivesList (IsWalkOfChange handle.old.session edits.now)
+        (outcome result nodes.old nodes.new size.new) }
     ensures no_network { (result ≡ REVROUTE_NO_NETWORK) ↔ (handle.old.session ≡ None) }
     ensures no_walk { result ≡ REVROUTE_NO_WALK → HasNoWalkOfChange handle.old.session edits.now }
-    ensures status { (result ≡ REVROUTE_ANSWERED) ⊎ ((REVROUTE_TOO_SHORT ≤ result) × (result ≤ REVROUTE_NO_NETWORK)) ⊎ (result ≡ REVROUTE_NO_WALK) }
+    ensures status { (result ≡ REVROUTE_ANSWERED) ⊎ ((REVROUTE_TOO_SHORT ≤ result) × (result ≤ REVROUTE_NO_NETWORK))
+        ⊎ (result ≡ REVROUTE_NO_WALK) }
 {
     *size = 0;
     match handle.engine_mut() {
@@ -234,7 +264,8 @@ pub extern "C" fn revroute_closed_walk(
     }
 }
 
-/// The same for the links with which [`revroute_open`] refuses a network of so many nodes, with no session. `O(n + m)`.
+/// Does the same for the links with which [`revroute_open`] refuses a network of so many nodes. It needs no session.
+/// `O(n + m)`.
 #[unsafe(no_mangle)]
 pub extern "C" fn revroute_closed_walk_of(
     alloc: Global,
@@ -243,15 +274,17 @@ pub extern "C" fn revroute_closed_walk_of(
     walk: &mut [u32],
     size: &mut usize,
 ) -> u32
-    ensures gives { GivesList (IsWalkOfNetwork nodes (map link_of links.now)) (outcome result walk.old walk.new size.new) }
+    ensures gives { GivesList (IsWalkOfNetwork nodes (map link_of links.now))
+        (outcome result walk.old walk.new size.new) }
     ensures no_walk { result ≡ REVROUTE_NO_WALK → HasNoWalkOfNetwork nodes (map link_of links.now) }
-    ensures status { (result ≡ REVROUTE_ANSWERED) ⊎ (result ≡ REVROUTE_TOO_SHORT) ⊎ (result ≡ REVROUTE_NO_MEMORY) ⊎ (result ≡ REVROUTE_NO_WALK) }
+    ensures status { (result ≡ REVROUTE_ANSWERED) ⊎ (result ≡ REVROUTE_TOO_SHORT) ⊎ (result ≡ REVROUTE_NO_MEMORY)
+        ⊎ (result ≡ REVROUTE_NO_WALK) }
 {
     *size = 0;
     walk_of_network(alloc, nodes, links, walk, size)
 }
 
-/// Gives back all memory of the session behind the handle, which then is null again. `O(1)`.
+/// Gives back all memory of the session. The handle is null again. `O(1)`.
 #[unsafe(no_mangle)]
 pub extern "C" fn revroute_close(alloc: Global, handle: &mut Handle)
     ensures session { handle.new.session ≡ None }
@@ -262,8 +295,8 @@ pub extern "C" fn revroute_close(alloc: Global, handle: &mut Handle)
     drop(Handle::taken(handle, alloc));
 }
 
-/// Writes the version of the engine to the front of the buffer, and its length to `size`. `TOO_SHORT` says that the buffer is as
-/// it was, and has less room than that. `O(1)`.
+/// Writes the version of the engine to the front of the buffer, and its length to `size`. `TOO_SHORT` says that the
+/// buffer has less room than that, and is unchanged. `O(1)`.
 #[unsafe(no_mangle)]
 pub extern "C" fn revroute_version(text: &mut [u8], size: &mut usize) -> u32
     ensures written { result ≡ REVROUTE_ANSWERED → IsWritten VERSION.now text.old text.new }
@@ -274,7 +307,7 @@ pub extern "C" fn revroute_version(text: &mut [u8], size: &mut usize) -> u32
     hand_out(VERSION.as_bytes(), text, size)
 }
 
-/// Where a node sends on to: the node to which it does, or one of the named values, which are above all nodes. It answers for any number
+/// Where a node sends on to: a node, or one of the named values, which are above all nodes. It answers for any number
 /// and any session. `O(1)`.
 #[unsafe(no_mangle)]
 pub extern "C" fn revroute_next_hop(handle: &mut Handle, node: u32) -> u32
@@ -287,9 +320,9 @@ pub extern "C" fn revroute_next_hop(handle: &mut Handle, node: u32) -> u32
     }
 }
 
-/// Writes where each node sends on to, in the order of the nodes, into the front of the place, and how many there are to `size`. `TOO_SHORT`
-/// says that the place has less room, and `NO_NETWORK` that there is no network yet; `size` is then 0. After both the place is as it was.
-/// `O(n)`.
+/// Writes where each node sends on to, in the order of the nodes, into the front of the place, and how many hops
+/// these are to `size`. `TOO_SHORT` says that the place has less room. `NO_NETWORK` says that there is no network
+/// yet; `size` is then 0. After both the place is unchanged. `O(n)`.
 #[unsafe(no_mangle)]
 pub extern "C" fn revroute_next_hops(handle: &mut Handle, hops: &mut [u32], size: &mut usize) -> u32
     ensures same { IsUnchanged handle.old handle.new }
@@ -305,9 +338,10 @@ pub extern "C" fn revroute_next_hops(handle: &mut Handle, hops: &mut [u32], size
     }
 }
 
-/// Writes the nodes that the last accepted round rerouted, in push order, into the front of the place, and how many there are to `size`. A new
-/// network reroutes the nodes whose hop is another one than in the network before; a number that is no node of one of them counts as cut off
-/// there. `TOO_SHORT` says that the place is as it was, and has less room. `O(r)` for r nodes.
+/// Writes the nodes that the last accepted round rerouted into the front of the place, in push order, and how many
+/// these are to `size`. A new network reroutes the nodes whose hop is another one than in the network before. A
+/// number that is no node of one of the two networks counts as cut off there. `TOO_SHORT` says that the place has
+/// less room, and is unchanged. `O(r)` for r nodes.
 #[unsafe(no_mangle)]
 pub extern "C" fn revroute_rerouted(handle: &mut Handle, nodes: &mut [u32], size: &mut usize) -> u32
     ensures same { IsUnchanged handle.old handle.new }
@@ -320,10 +354,16 @@ pub extern "C" fn revroute_rerouted(handle: &mut Handle, nodes: &mut [u32], size
     }
 }
 
-/// Writes the nodes whose hop in a table of the caller's is another one than here, in push order, into the front of the place, and how many there
-/// are to `size`. The table has a hop for each node, as [`revroute_next_hops`] writes them; it may have loops. `TOO_SHORT` says that the place has
-/// less room, `NO_TABLE` that the table has not one hop for each node or names no node in one, `NO_NETWORK` that there is no network yet, and
-/// `NO_MEMORY` that an allocation was refused; `size` is 0 after these three. After each of the four the place is as it was. Nothing changes. `O(n)`.
+/// Writes the nodes whose hop differs from that in a table of the caller's into the front of the place, in push
+/// order, and how many these are to `size`. The table has a hop for each node, as [`revroute_next_hops`] writes them.
+/// It may have loops.
+///
+/// - `TOO_SHORT`: the place has less room.
+/// - `NO_TABLE`: the table has not one hop for each node, or one of its hops names no node.
+/// - `NO_NETWORK`: there is no network yet.
+/// - `NO_MEMORY`: an allocation was refused.
+///
+/// `size` is 0 after the last three. After each of the four the place is unchanged. Nothing else changes. `O(n)`.
 #[unsafe(no_mangle)]
 pub extern "C" fn revroute_pushes(
     alloc: Global,
@@ -336,7 +376,8 @@ pub extern "C" fn revroute_pushes(
     ensures gives { GivesList (ArePushesOf handle.old.session table.now) (outcome result nodes.old nodes.new size.new) }
     ensures no_network { (result ≡ REVROUTE_NO_NETWORK) ↔ (handle.old.session ≡ None) }
     ensures no_table { result ≡ REVROUTE_NO_TABLE → IsNoTable handle.old.session table.now }
-    ensures status { (result ≡ REVROUTE_ANSWERED) ⊎ ((REVROUTE_TOO_SHORT ≤ result) × (result ≤ REVROUTE_NO_NETWORK)) ⊎ (result ≡ REVROUTE_NO_TABLE) }
+    ensures status { (result ≡ REVROUTE_ANSWERED) ⊎ ((REVROUTE_TOO_SHORT ≤ result) × (result ≤ REVROUTE_NO_NETWORK))
+        ⊎ (result ≡ REVROUTE_NO_TABLE) }
 {
     *size = 0;
     match handle.engine_mut() {
@@ -345,7 +386,8 @@ pub extern "C" fn revroute_pushes(
     }
 }
 
-/// Writes how often each node turned in the last round, in the order of the nodes, as [`revroute_next_hops`] does the hops. `O(n)`.
+/// Writes how often each node turned in the last round, in the order of the nodes. All else is as for
+/// [`revroute_next_hops`]. `O(n)`.
 #[unsafe(no_mangle)]
 pub extern "C" fn revroute_counts(handle: &mut Handle, counts: &mut [u64], size: &mut usize) -> u32
     ensures same { IsUnchanged handle.old handle.new }
@@ -360,10 +402,15 @@ pub extern "C" fn revroute_counts(handle: &mut Handle, counts: &mut [u64], size:
     }
 }
 
-/// Writes the nodes of the way from a node to the destination, hop by hop and with both ends, into the front of the place, and how many
-/// there are to `size`. `TOO_SHORT` says that the place has less room, `NO_ROUTE` that the node is cut off, or is none, `NO_NETWORK` that there
-/// is no network yet, and `NO_MEMORY` that an allocation was refused; `size` is 0 after these three. After each of the four the place is as
-/// it was. `O(r)` for r nodes of the route.
+/// Writes the nodes of the route from a node to the destination, with both ends, into the front of the place, and how
+/// many these are to `size`.
+///
+/// - `TOO_SHORT`: the place has less room.
+/// - `NO_ROUTE`: the node is cut off, or the number is no node.
+/// - `NO_NETWORK`: there is no network yet.
+/// - `NO_MEMORY`: an allocation was refused.
+///
+/// `size` is 0 after the last three. After each of the four the place is unchanged. `O(r)` for r nodes of the route.
 #[unsafe(no_mangle)]
 pub extern "C" fn revroute_route(
     alloc: Global,
@@ -385,9 +432,14 @@ pub extern "C" fn revroute_route(
     }
 }
 
-/// Writes tail and head of each link, in rising order of tail, then head, one link after the other, into the front of the place, and how many
-/// numbers these are to `size`: two for each link. `TOO_SHORT` says that the place has less room, `NO_NETWORK` that there is no network yet, and
-/// `NO_MEMORY` that an allocation was refused; `size` is 0 after these two. After each of the three the place is as it was. `O(n + m)`.
+/// Writes tail and head of each link, one link after the other, into the front of the place, and how many numbers
+/// these are to `size`: two for each link. The links come in rising order of tail, then head.
+///
+/// - `TOO_SHORT`: the place has less room.
+/// - `NO_NETWORK`: there is no network yet.
+/// - `NO_MEMORY`: an allocation was refused.
+///
+/// `size` is 0 after the last two. After each of the three the place is unchanged. `O(n + m)`.
 #[unsafe(no_mangle)]
 pub extern "C" fn revroute_links(
     alloc: Global,
@@ -407,8 +459,8 @@ pub extern "C" fn revroute_links(
     }
 }
 
-/// What the last round reported: how many turns it took, to `turned`, and how many nodes are cut off, to `cut_off`. `NO_NETWORK` says that there
-/// is no network yet; both are then 0. `O(1)`.
+/// What the last round reported: the number of turns goes to `turned`, and the number of nodes that are cut off to
+/// `cut_off`. `NO_NETWORK` says that there is no network yet; both are then 0. `O(1)`.
 #[unsafe(no_mangle)]
 pub extern "C" fn revroute_report(handle: &mut Handle, turned: &mut u64, cut_off: &mut u64) -> u32
     ensures same { IsUnchanged handle.old handle.new }
@@ -425,11 +477,13 @@ pub extern "C" fn revroute_report(handle: &mut Handle, turned: &mut u64, cut_off
     }
 }
 
-/// How many nodes and links there are, to `nodes` and `links`. `NO_NETWORK` says that there is no network yet; both are then 0. `O(1)`.
+/// How many nodes and links there are, to `nodes` and `links`. `NO_NETWORK` says that there is no network yet; both are
+/// then 0. `O(1)`.
 #[unsafe(no_mangle)]
 pub extern "C" fn revroute_size(handle: &mut Handle, nodes: &mut u32, links: &mut usize) -> u32
     ensures same { IsUnchanged handle.old handle.new }
-    ensures size { result ≡ REVROUTE_ANSWERED → IfSome handle.old.session (λ s. (nodes.new ≡ s.nodes) × (links.new ≡ length s.links)) }
+    ensures size { result ≡ REVROUTE_ANSWERED
+        → IfSome handle.old.session (λ s. (nodes.new ≡ s.nodes) × (links.new ≡ length s.links)) }
     ensures no_network { (result ≡ REVROUTE_NO_NETWORK) ↔ (handle.old.session ≡ None) }
     ensures none { result ≡ REVROUTE_NO_NETWORK → (nodes.new ≡ 0) × (links.new ≡ 0) }
     ensures status { (result ≡ REVROUTE_ANSWERED) ⊎ (result ≡ REVROUTE_NO_NETWORK) }

@@ -34,8 +34,8 @@ impl Taken {
     }
 }
 
-/// Takes the front of a piece, up to its first byte 10 and with it, and answers the line that ends there; without one, all of the piece
-/// is kept behind what has begun. `size` has to be 0.
+/// Takes the front of a piece, up to its first byte 10 and with it, and answers the line that ends there; without
+/// one, all of the piece is kept behind what has begun. `size` has to be 0.
 pub(crate) fn take_front(
     engine: &mut Engine,
     alloc: Global,
@@ -45,7 +45,8 @@ pub(crate) fn take_front(
 ) -> Taken
     requires room { least_room ≤ length answer.old }
     requires size { size.old ≡ 0 }
-    ensures { TakesPiece piece.now engine.old engine.new result.count (outcome result.status answer.old answer.new size.new) }
+    ensures { TakesPiece piece.now engine.old engine.new result.count
+        (outcome result.status answer.old answer.new size.new) }
 {
     let kept = engine.begun.len();
     let end = front_size(piece);
@@ -92,7 +93,8 @@ pub(crate) fn take_anew(
     requires null { IsNull handle.old }
     requires room { least_room ≤ length answer.old }
     requires size { size.old ≡ 0 }
-    ensures takes { TakesPiece piece.now (held_by handle.old) (held_by handle.new) result.count (outcome result.status answer.old answer.new size.new) }
+    ensures takes { TakesPiece piece.now (held_by handle.old) (held_by handle.new) result.count
+        (outcome result.status answer.old answer.new size.new) }
     ensures same_handle { result.status ≢ ANSWERED → result.status ≢ BEGUN → handle.new.at ≡ handle.old.at }
 {
     let end = front_size(piece);
@@ -124,7 +126,8 @@ pub(crate) fn finish_line(
 ) -> u32
     requires room { least_room ≤ length answer.old }
     requires size { size.old ≡ 0 }
-    ensures answers { AnswersLine engine.old.begun engine.old engine.new (outcome result answer.old answer.new size.new) }
+    ensures answers { AnswersLine engine.old.begun engine.old engine.new
+        (outcome result answer.old answer.new size.new) }
     ensures ended { result ≤ BLANK → engine.new.begun ≡ [] }
     ensures still { BLANK < result → engine.new.begun ≡ engine.old.begun }
 {
@@ -142,7 +145,8 @@ pub(crate) fn finish_line(
 
 /// Whether what has begun and this end of it make a blank line, which is no longer than may be.
 fn is_blank_with(begun: &[u8], end: &[u8]) -> bool
-    ensures { (result ≡ true) ↔ ((is_blank_line (begun.now ++ end.now) ≡ true) × (length (begun.now ++ end.now) ≤ most_bytes)) }
+    ensures { (result ≡ true)
+        ↔ ((is_blank_line (begun.now ++ end.now) ≡ true) × (length (begun.now ++ end.now) ≤ most_bytes)) }
 {
     let fits = begun.len() <= MAX_BYTES && end.len() <= MAX_BYTES - begun.len();
     fits && is_blank(begun) && is_blank(end)

@@ -2,7 +2,8 @@
 
 ghost use Rattle.std.specs.Prelude.{◌≡◌, ◌<◌, ◌≤◌, ◌⊎◌, ◌↔◌, length, None, IfOk, IfSome};
 ghost use Rattle.fr_route.specs.States.{IsReport};
-ghost use Rattle.revroute_c.specs.Questions.{number_of, AreCounts, AreEnds, AreHopNumbers, AreHopsWritten, AreOnePerNode, HasNoRoute, IsHopNumber, IsRouteFrom, TellsHop, ends};
+ghost use Rattle.revroute_c.specs.Questions.{number_of, AreCounts, AreEnds, AreHopNumbers, AreHopsWritten};
+ghost use Rattle.revroute_c.specs.Questions.{AreOnePerNode, HasNoRoute, IsHopNumber, IsRouteFrom, TellsHop, ends};
 ghost use Rattle.revroute_c.specs.Replies.{outcome, GivesList};
 
 use crate::replies::hand_out;
@@ -53,7 +54,8 @@ fn fill_hops(router: &Router, place: &mut [u32])
 
 /// Writes where each node sends on to into the front of a place, if that has room.
 fn hand_out_hops(router: &Router, place: &mut [u32], size: &mut usize) -> u32
-    ensures gives { GivesList (λ numbers. length numbers ≡ router.now.nodes) (outcome result place.old place.new size.new) }
+    ensures gives { GivesList (λ numbers. length numbers ≡ router.now.nodes)
+        (outcome result place.old place.new size.new) }
     ensures hops { result ≡ ANSWERED → AreHopsWritten router.now place.old place.new }
     ensures status { (result ≡ ANSWERED) ⊎ (result ≡ TOO_SHORT) }
 {

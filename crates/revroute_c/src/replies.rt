@@ -11,8 +11,8 @@ use crate::statuses::{ANSWERED, BLANK, NO_MEMORY, TOO_SHORT};
 use fr_route::AnswerFault;
 use std::alloc::Global;
 
-/// The least room for an answer, in bytes: each answer that changes the session fits into it. So where a text is too long for a
-/// buffer of this room, it changes nothing.
+/// The least room for an answer, in bytes: each answer that changes the session fits into it. So where a text is too
+/// long for a buffer of this room, it changes nothing.
 pub(crate) const LEAST_ROOM: usize = 64;
 
 /// Writes items to the front of a buffer that has room for them, and tells how many they are in any case.
@@ -30,8 +30,8 @@ pub(crate) fn hand_out<T: Copy>(items: &[T], buffer: &mut [T], size: &mut usize)
     ANSWERED
 }
 
-/// Answers a line that is not blank, in a buffer of at least [`LEAST_ROOM`] bytes. `size` has to be 0, and stays so where there is
-/// no memory.
+/// Answers a line that is not blank, in a buffer of at least [`LEAST_ROOM`] bytes. `size` has to be 0, and stays so
+/// where there is no memory.
 pub(crate) fn reply(
     engine: &mut Engine,
     alloc: Global,
@@ -67,7 +67,8 @@ pub(crate) fn reply_anew(
     requires asks { is_blank line.now ≡ false }
     requires room { least_room ≤ length answer.old }
     requires size { size.old ≡ 0 }
-    ensures answers { AnswersApart line.now (held_by handle.old) (held_by handle.new) (outcome result answer.old answer.new size.new) }
+    ensures answers { AnswersApart line.now (held_by handle.old) (held_by handle.new)
+        (outcome result answer.old answer.new size.new) }
     ensures kept { ¬ (result ≡ ANSWERED) → handle.new ≡ handle.old }
 {
     let Ok(mut engine) = Box::new(alloc, Engine::new(alloc)) else {

@@ -10,7 +10,8 @@ ghost use Rattle.fr_graph.specs.declared.fault.NetFault.TheVariants.{Memory};
 ghost use Rattle.fr_route.specs.Answers.{IsAccepted};
 ghost use Rattle.revroute_c.specs.Lending.{held_by, IsNull};
 ghost use Rattle.revroute_c.specs.Records.{AreKnown, edit_of, link_of};
-ghost use Rattle.revroute_c.specs.Rounds.{round_outcome, BeginsRound, IsChangeRefused, IsEditRefused, IsMoveRefused, IsNewFault, IsNewRefused, first_step, nodes_named, nodes_of_edit, refusal_at};
+ghost use Rattle.revroute_c.specs.Rounds.{round_outcome, BeginsRound, IsChangeRefused, IsEditRefused, IsMoveRefused};
+ghost use Rattle.revroute_c.specs.Rounds.{IsNewFault, IsNewRefused, first_step, nodes_named, nodes_of_edit, refusal_at};
 
 use crate::engine::Engine;
 use crate::handle::Handle;
@@ -88,8 +89,10 @@ pub(crate) struct NewNetwork<'a> {
 impl<'a> NewNetwork<'a> {
     /// The router of the network; a destination that is no node is out of range.
     fn opened(&self, alloc: Global) -> Result<Router, NetFault>
-        ensures accepted { IfOk result (IsAccepted None (new_network self.now.nodes self.now.dest (map link_of self.now.links.now))) }
-        ensures refused { IfErr result (λ fault. fault ≢ Memory → IsNewFault self.now.nodes self.now.dest (map link_of self.now.links.now) fault) }
+        ensures accepted { IfOk result (IsAccepted None
+            (new_network self.now.nodes self.now.dest (map link_of self.now.links.now))) }
+        ensures refused { IfErr result (λ fault. fault ≢ Memory
+            → IsNewFault self.now.nodes self.now.dest (map link_of self.now.links.now) fault) }
     {
         let net = network_of(alloc, self.nodes, self.links)?;
         if self.dest >= self.nodes {
@@ -112,7 +115,8 @@ pub(crate) fn open_in(
     refusal: &mut Refusal,
 ) -> u32
     ensures begins { BeginsRound (new_network asked.now.nodes asked.now.dest (map link_of asked.now.links.now))
-        (IsNewRefused asked.now.nodes asked.now.dest (map link_of asked.now.links.now)) engine.old engine.new (round_outcome result round.old round.new refusal.old refusal.new) }
+        (IsNewRefused asked.now.nodes asked.now.dest (map link_of asked.now.links.now)) engine.old engine.new
+        (round_outcome result round.old round.new refusal.old refusal.new) }
     ensures status { (result ≡ ANSWERED) ⊎ (result ≡ NO_MEMORY) ⊎ (result ≡ REFUSED) }
 {
     let router = match asked.opened(alloc) {
@@ -142,7 +146,9 @@ pub(crate) fn open_anew(
 ) -> u32
     requires null { IsNull handle.old }
     ensures begins { BeginsRound (new_network asked.now.nodes asked.now.dest (map link_of asked.now.links.now))
-        (IsNewRefused asked.now.nodes asked.now.dest (map link_of asked.now.links.now)) (held_by handle.old) (held_by handle.new) (round_outcome result round.old round.new refusal.old refusal.new) }
+        (IsNewRefused asked.now.nodes asked.now.dest (map link_of asked.now.links.now))
+        (held_by handle.old) (held_by handle.new)
+        (round_outcome result round.old round.new refusal.old refusal.new) }
     ensures kept { ¬ (result ≡ ANSWERED) → handle.new ≡ handle.old }
     ensures status { (result ≡ ANSWERED) ⊎ (result ≡ NO_MEMORY) ⊎ (result ≡ REFUSED) }
 {
@@ -160,7 +166,8 @@ pub(crate) fn open_anew(
 pub(crate) fn edited(net: &Net, alloc: Global, edits: &[LinkEdit]) -> Result<Net, EditFault>
     ensures few { IfOk result (λ _. length edits.now ≤ most_edits) }
     ensures made { IfOk result (AreMade net.now (map edit_of edits.now)) }
-    ensures refused { IfErr result (λ refused. refused.fault ≢ Memory → IsBatchFault net.now (map edit_of edits.now) refused) }
+    ensures refused { IfErr result (λ refused. refused.fault ≢ Memory
+        → IsBatchFault net.now (map edit_of edits.now) refused) }
 {
     let made = edits_of(alloc, edits)?;
     net.with_edits(alloc, &made)
@@ -199,7 +206,8 @@ pub(crate) fn change_in(
 ) -> u32
     requires { AreKnown edits.now }
     ensures begins { BeginsRound (make_edits (map edit_of edits.now)) (IsChangeRefused engine.old.session edits.now)
-        engine.old engine.new (round_outcome result round.old round.new refusal.old refusal.new) }
+        engine.old engine.new
+        (round_outcome result round.old round.new refusal.old refusal.new) }
     ensures no_network { (result ≡ NO_NETWORK) ↔ (engine.old.session ≡ None) }
     ensures status { (result ≡ ANSWERED) ⊎ (result ≡ NO_MEMORY) ⊎ (result ≡ NO_NETWORK) ⊎ (result ≡ REFUSED) }
 {
@@ -232,7 +240,8 @@ pub(crate) fn move_in(
     round: &mut Round,
     refusal: &mut Refusal,
 ) -> u32
-    ensures begins { BeginsRound (move_dest dest) (IsMoveRefused engine.old.session dest) engine.old engine.new (round_outcome result round.old round.new refusal.old refusal.new) }
+    ensures begins { BeginsRound (move_dest dest) (IsMoveRefused engine.old.session dest) engine.old engine.new
+        (round_outcome result round.old round.new refusal.old refusal.new) }
     ensures no_network { (result ≡ NO_NETWORK) ↔ (engine.old.session ≡ None) }
     ensures status { (result ≡ ANSWERED) ⊎ (result ≡ NO_MEMORY) ⊎ (result ≡ NO_NETWORK) ⊎ (result ≡ REFUSED) }
 {
