@@ -43,7 +43,7 @@ IsTooLong begun piece =
     (most_bytes < length begun + length piece)
     × ((end : ℕ) → position (λ x. x == 10) piece ≡ Some end → most_bytes < length begun + end)
 
--- a line ends in the piece, behind this many bytes of it, and is answered
+-- a line ends with so many bytes of the piece, and is answered
 pub record AnswersEnd (piece : List ℕ) (old new : Held) (taken : ℕ) (o : Outcome) : Type 0 where
   pub line : List ℕ
   pub ends : EndsLine old.begun piece line taken
@@ -51,7 +51,8 @@ pub record AnswersEnd (piece : List ℕ) (old new : Held) (taken : ℕ) (o : Out
   -- the engine then has the nodes that the line reroutes
   pub told : IsLineTold old.session (reading line) new.session old.rerouted new.rerouted
 
--- a call takes so many bytes of the piece, and answers the line that ends there; the engine goes from `old` to `new`
+-- a call takes so many bytes of the piece, and answers the line that ends there
+-- the engine goes from `old` to `new`
 pub record TakesPiece (piece : List ℕ) (old new : Held) (taken : ℕ) (o : Outcome) : Type 0 where
   pub answered : o.status ≡ REVROUTE_ANSWERED → AnswersEnd piece old new taken o
   pub blank : o.status ≡ REVROUTE_BLANK → (line : List ℕ) × EndsLine old.begun piece line taken

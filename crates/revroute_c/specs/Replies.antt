@@ -64,7 +64,8 @@ IsWanted old line room size =
     ((room < least_room) × (size ≡ least_room))
     ⊎ ((least_room ≤ room) × IsAnswerLength old line size)
 
--- a call answers the line in the caller's place; the engine goes from `old` to `new`
+-- a call answers the line in the caller's place
+-- the engine goes from `old` to `new`
 pub record AnswersLine (line : List ℕ) (old new : Held) (o : Outcome) : Type 0 where
   pub answered : o.status ≡ REVROUTE_ANSWERED → IsAnswered old.session line new.session o
   -- the engine then has the nodes that the line reroutes
