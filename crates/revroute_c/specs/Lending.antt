@@ -1,7 +1,8 @@
 -- What a handle holds, and what it ends as, where its engine was lent.
-use Rattle.std.specs.Prelude.{Option}
+use Rattle.std.specs.Prelude.{◌≡◌, Option}
+use denote.RawPtr.{null_ptr}
 use Rattle.std.specs.Borrow.{Fml, MutBor, LendsIf}
-use Rattle.revroute_c.specs.Engines.{Held, held}
+use Rattle.revroute_c.specs.Engines.{Held, held, no_engine}
 use Rattle.revroute_c.specs.contracts.engine.Engine.{the_row as engine_row}
 use Rattle.revroute_c.specs.declared.handle.Handle.{Handle}
 use Rattle.revroute_c.specs.contracts.handle.Handle.{the_row}
@@ -9,6 +10,16 @@ use Rattle.revroute_c.specs.contracts.handle.Handle.{the_row}
 -- what stands behind a handle
 abbrev pub held_by : Handle → Held
 held_by h = held h.session h.rerouted h.begun
+
+-- the handle is null, and nothing stands behind it
+pub record IsNull (h : Handle) : Type 0 where
+  pub at : h.at ≡ null_ptr
+  pub held : held_by h ≡ no_engine
+
+-- the handle is as it was, and so is what stands behind it
+pub record IsUnchanged (old new : Handle) : Type 0 where
+  pub at : new.at ≡ old.at
+  pub held : held_by new ≡ held_by old
 
 -- the same handle, with this engine behind it
 abbrev pub with_engine : Handle → Held → Handle

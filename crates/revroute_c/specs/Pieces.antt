@@ -1,20 +1,23 @@
 -- Lines whose bytes come in pieces.
-use Rattle.std.specs.Prelude.{◌≡◌, ◌==◌, ℕ, ◌+◌, ◌<◌, ◌≤◌, ◌⊎◌, ◌++◌, List, length, take, position, Some, Option, true}
+use Rattle.std.specs.Prelude.{◌≡◌, ◌≢◌, ◌==◌, ℕ, ◌+◌, ◌<◌, ◌≤◌, ◌⊎◌, ◌++◌, [], List, length, take, position}
+use Rattle.std.specs.Prelude.{Some, None, Option, true}
+use Rattle.fr_bytes.specs.Bytes.{most_bytes}
+use Rattle.fr_lines.specs.Requests.{reading}
 use Rattle.fr_route.specs.Blank.{is_blank}
 use Rattle.fr_route.specs.States.{State}
-use Rattle.revroute_c.specs.Replies.{least_room, IsAnswerLength}
+use Rattle.fr_route.specs.Told.{IsLineTold}
+use Rattle.revroute_c.specs.Engines.{Held}
+use Rattle.revroute_c.specs.Replies.{least_room, IsAnswered, IsAnswerLength, Outcome}
+use Rattle.revroute_c.specs.Statuses.{REVROUTE_ANSWERED, REVROUTE_BLANK, REVROUTE_TOO_SHORT}
+use Rattle.revroute_c.specs.Statuses.{REVROUTE_NO_MEMORY, REVROUTE_BEGUN, REVROUTE_TOO_LONG}
 
--- the longest line that is taken in pieces, in bytes
-abbrev pub longest_line : ℕ
-longest_line = 16_777_216
-
--- the line that has begun ends in this piece, is this one then, no longer than may be, and so many bytes of the piece are in it, with the
--- byte 10 that ends it
+-- the line that has begun ends in this piece: it is then this line, no longer than may be, and so many bytes of the
+-- piece are in it, with the newline
 pub record EndsLine (begun piece line : List ℕ) (count : ℕ) : Type 0 where
   pub end : ℕ
   pub at : position (λ x. x == 10) piece ≡ Some end
   pub line_is : line ≡ begun ++ take end piece
-  pub short : length line ≤ longest_line
+  pub short : length line ≤ most_bytes
   pub count_is : count ≡ end + 1
 
 -- the line that has begun ends in this piece, and is blank then
@@ -30,8 +33,43 @@ pub record EndsWithAnswer (old : Option State) (begun piece : List ℕ) (size : 
 
 -- the room that is wanted in place of so much: the least room, or else that of the answer
 abbrev pub IsWantedAtEnd : Option State → List ℕ → List ℕ → ℕ → ℕ → Type 0
-IsWantedAtEnd old begun piece room size = ((room < least_room) × (size ≡ least_room)) ⊎ EndsWithAnswer old begun piece size
+IsWantedAtEnd old begun piece room size =
+    ((room < least_room) × (size ≡ least_room))
+    ⊎ EndsWithAnswer old begun piece size
 
 -- the line that has begun would be too long with what the piece has of it
 abbrev pub IsTooLong : List ℕ → List ℕ → Type 0
-IsTooLong begun piece = (longest_line < length begun + length piece) × ((end : ℕ) → position (λ x. x == 10) piece ≡ Some end → longest_line < length begun + end)
+IsTooLong begun piece =
+    (most_bytes < length begun + length piece)
+    × ((end : ℕ) → position (λ x. x == 10) piece ≡ Some end → most_bytes < length begun + end)
+
+-- a line ends with so many bytes of the piece, and is answered
+pub record AnswersEnd (piece : List ℕ) (old new : Held) (taken : ℕ) (o : Outcome) : Type 0 where
+  pub line : List ℕ
+  pub ends : EndsLine old.begun piece line taken
+  pub answered : IsAnswered old.session line new.session o
+  -- the engine then has the nodes that the line reroutes
+  pub told : IsLineTold old.session (reading line) new.session old.rerouted new.rerouted
+
+-- a call takes so many bytes of the piece, and answers the line that ends there
+-- the engine goes from `old` to `new`
+pub record TakesPiece (piece : List ℕ) (old new : Held) (taken : ℕ) (o : Outcome) : Type 0 where
+  pub answered : o.status ≡ REVROUTE_ANSWERED → AnswersEnd piece old new taken o
+  pub blank : o.status ≡ REVROUTE_BLANK → (line : List ℕ) × EndsLine old.begun piece line taken
+      × (is_blank line ≡ true) × (o.size ≡ 0)
+  -- whether there is memory or not
+  pub blank_line : EndsBlank old.begun piece → least_room ≤ length o.before → o.status ≡ REVROUTE_BLANK
+  pub ended : o.status ≤ REVROUTE_BLANK → new.begun ≡ []
+  -- no line ends in the piece, which is held behind what had begun
+  pub kept : o.status ≡ REVROUTE_BEGUN → (position (λ x. x == 10) piece ≡ None) × (new.begun ≡ old.begun ++ piece)
+      × (taken ≡ length piece) × (o.size ≡ 0)
+  pub within : o.status ≡ REVROUTE_BEGUN → length new.begun ≤ most_bytes
+  pub too_short : o.status ≡ REVROUTE_TOO_SHORT → (length o.before < o.size)
+      × IsWantedAtEnd old.session old.begun piece (length o.before) o.size
+  pub no_memory : o.status ≡ REVROUTE_NO_MEMORY → o.size ≡ 0
+  pub too_long : o.status ≡ REVROUTE_TOO_LONG → IsTooLong old.begun piece × (o.size ≡ 0)
+  pub unchanged : ¬ (o.status ≡ REVROUTE_ANSWERED) → (new.session ≡ old.session)
+      × (new.rerouted ≡ old.rerouted) × (o.after ≡ o.before)
+  pub untaken : REVROUTE_BLANK < o.status → o.status ≢ REVROUTE_BEGUN → (new.begun ≡ old.begun) × (taken ≡ 0)
+  pub room : length o.before < least_room → o.status ≡ REVROUTE_TOO_SHORT
+  pub status : (o.status ≤ REVROUTE_NO_MEMORY) ⊎ (o.status ≡ REVROUTE_BEGUN) ⊎ (o.status ≡ REVROUTE_TOO_LONG)

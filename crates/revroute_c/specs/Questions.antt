@@ -6,7 +6,8 @@ use Rattle.fr_tables.specs.declared.hop.Hop.{Hop}
 use Rattle.fr_tables.specs.declared.hop.Hop.TheVariants.{Here, To, CutOff}
 use Rattle.revroute_c.specs.Replies.{IsWritten}
 
--- the values that are no node, above all nodes: the node is the destination, it is cut off, it is none, and there is no network
+-- the values that are no node, above all nodes: the node is the destination, it is cut off, there is no such node, and
+-- there is no network
 abbrev pub here : ℕ
 here = 4294967295
 
@@ -43,22 +44,30 @@ pub record AreHopNumbers (s : State) (numbers : List ℕ) : Type 0 where
 abbrev pub AreHopsWritten : State → List ℕ → List ℕ → Type 0
 AreHopsWritten s before after = (numbers : List ℕ) × (AreHopNumbers s numbers × IsWritten numbers before after)
 
--- the nodes of the route from x stand at the front of the place, and this is their number
-pub record IsRouteWritten (s : State) (x : ℕ) (before after : List ℕ) (size : ℕ) : Type 0 where
-  pub node : x < s.nodes
-  pub rest : List ℕ
-  pub route : IsRoute s.links s.dest x rest
-  pub written : IsWritten (x ∷ rest) before after
-  pub size_is : size ≡ length (x ∷ rest)
+-- these numbers are one for each node
+abbrev pub AreOnePerNode : Option State → List ℕ → Type 0
+AreOnePerNode None numbers = ⊥
+AreOnePerNode (Some s) numbers = length numbers ≡ s.nodes
 
--- the route from x has so many nodes
-abbrev pub IsRouteLength : State → ℕ → ℕ → Type 0
-IsRouteLength s x size = (rest : List ℕ) × (IsRoute s.links s.dest x rest × (size ≡ length (x ∷ rest)))
+-- these numbers are how often each node turned in the last round
+abbrev pub AreCounts : Option State → List ℕ → Type 0
+AreCounts None numbers = ⊥
+AreCounts (Some s) numbers = numbers ≡ s.counts
+
+-- these nodes are the route from x, which is the first of them
+abbrev pub IsRouteFrom : Option State → ℕ → List ℕ → Type 0
+IsRouteFrom None x nodes = ⊥
+IsRouteFrom (Some s) x nodes = (x < s.nodes) × ((rest : List ℕ) × IsRoute s.links s.dest x rest × (nodes ≡ x ∷ rest))
 
 -- tail and head of each link, one link after the other
 abbrev pub ends : List (ℕ × ℕ) → List ℕ
 ends [] = []
 ends (l ∷ ls) = l.0 ∷ l.1 ∷ ends ls
+
+-- these numbers are the tail and the head of each link, one link after the other
+abbrev pub AreEnds : Option State → List ℕ → Type 0
+AreEnds None numbers = ⊥
+AreEnds (Some s) numbers = numbers ≡ ends s.links
 
 -- there is no route from x to the destination: x is no node, or it is cut off
 abbrev pub HasNoRoute : State → ℕ → Type 0

@@ -1,33 +1,55 @@
 -- What a call of the library answers.
-use Rattle.std.specs.Prelude.{◌≡◌, ℕ, ◌<◌, ◌≤◌, ◌⊎◌, ◌++◌, false, List, length, drop, Option}
+use Rattle.std.specs.Prelude.{◌≡◌, ℕ, ◌<◌, ◌≤◌, ◌⊎◌, ◌++◌, false, true, List, length, drop, Option}
 use Rattle.fr_lines.specs.Requests.{reading}
 use Rattle.fr_route.specs.Answers.{IsLineAnswer}
 use Rattle.fr_route.specs.Blank.{is_blank}
 use Rattle.fr_route.specs.States.{State}
+use Rattle.fr_route.specs.Told.{IsLineTold}
+use Rattle.revroute_c.specs.Engines.{Held}
+use Rattle.revroute_c.specs.Statuses.{REVROUTE_ANSWERED, REVROUTE_BLANK, REVROUTE_TOO_SHORT, REVROUTE_NO_MEMORY}
 
 -- the least room for an answer, in bytes
 abbrev pub least_room : ℕ
 least_room = 64
 
--- the items stand at the front of the buffer, and the rest of it is as it was
+-- what a call leaves: its status, the caller's place before and after it, and the length that it writes to `size`
+pub record Outcome : Type 0 where
+  pub status : ℕ
+  pub before : List ℕ
+  pub after : List ℕ
+  pub size : ℕ
+
+abbrev pub outcome : ℕ → List ℕ → List ℕ → ℕ → Outcome
+outcome status before after size = record { status = status; before = before; after = after; size = size }
+
+-- the items stand at the front of the place, and the rest of it is as it was
 abbrev pub IsWritten : {X : Type 0} → List X → List X → List X → Type 0
 IsWritten items before after = (length items ≤ length before) × (after ≡ items ++ drop (length items) before)
 
 -- such numbers are at the front of the place, and this is how many
-abbrev pub IsGiven : (List ℕ → Type 0) → List ℕ → List ℕ → ℕ → Type 0
-IsGiven Are before after size = (numbers : List ℕ) × Are numbers × IsWritten numbers before after × (size ≡ length numbers)
+abbrev pub IsGiven : (List ℕ → Type 0) → Outcome → Type 0
+IsGiven Are o = (numbers : List ℕ) × Are numbers × IsWritten numbers o.before o.after × (o.size ≡ length numbers)
 
 -- there are so many such numbers
 abbrev pub IsLength : (List ℕ → Type 0) → ℕ → Type 0
 IsLength Are size = (numbers : List ℕ) × Are numbers × (size ≡ length numbers)
 
--- the line is answered, the session is then in this state, the answer stands in the buffer, and this is its length
-pub record IsAnswered (old : Option State) (line : List ℕ) (new : Option State) (before after : List ℕ) (size : ℕ) : Type 0 where
+-- a call writes such numbers to the front of the place
+pub record GivesList (Are : List ℕ → Type 0) (o : Outcome) : Type 0 where
+  pub written : o.status ≡ REVROUTE_ANSWERED → IsGiven Are o
+  -- the place has less room than the numbers take, and `size` says how much that is
+  pub too_short : o.status ≡ REVROUTE_TOO_SHORT → (length o.before < o.size) × IsLength Are o.size
+  pub unchanged : ¬ (o.status ≡ REVROUTE_ANSWERED) → o.after ≡ o.before
+  -- the status says why there are no such numbers
+  pub none : REVROUTE_TOO_SHORT < o.status → o.size ≡ 0
+
+-- the line is answered, the session is then in this state, the answer stands in the place, and this is its length
+pub record IsAnswered (old : Option State) (line : List ℕ) (new : Option State) (o : Outcome) : Type 0 where
   pub asks : is_blank line ≡ false
   pub text : List ℕ
   pub answer : IsLineAnswer old (reading line) text new
-  pub written : IsWritten text before after
-  pub size_is : size ≡ length text
+  pub written : IsWritten text o.before o.after
+  pub size_is : o.size ≡ length text
 
 -- the line has an answer of this length, which leaves the session as it was
 pub record IsAnswerLength (old : Option State) (line : List ℕ) (size : ℕ) : Type 0 where
@@ -38,4 +60,28 @@ pub record IsAnswerLength (old : Option State) (line : List ℕ) (size : ℕ) : 
 
 -- the room that is wanted in place of so much: the least room, or else that of the answer
 abbrev pub IsWanted : Option State → List ℕ → ℕ → ℕ → Type 0
-IsWanted old line room size = ((room < least_room) × (size ≡ least_room)) ⊎ ((least_room ≤ room) × IsAnswerLength old line size)
+IsWanted old line room size =
+    ((room < least_room) × (size ≡ least_room))
+    ⊎ ((least_room ≤ room) × IsAnswerLength old line size)
+
+-- a call answers the line in the caller's place
+-- the engine goes from `old` to `new`
+pub record AnswersLine (line : List ℕ) (old new : Held) (o : Outcome) : Type 0 where
+  pub answered : o.status ≡ REVROUTE_ANSWERED → IsAnswered old.session line new.session o
+  -- the engine then has the nodes that the line reroutes
+  pub told : o.status ≡ REVROUTE_ANSWERED → IsLineTold old.session (reading line) new.session old.rerouted new.rerouted
+  pub blank : o.status ≡ REVROUTE_BLANK → (is_blank line ≡ true) × (o.size ≡ 0)
+  -- whether there is memory or not
+  pub blank_line : is_blank line ≡ true → least_room ≤ length o.before → o.status ≡ REVROUTE_BLANK
+  pub too_short : o.status ≡ REVROUTE_TOO_SHORT → (length o.before < o.size)
+      × IsWanted old.session line (length o.before) o.size
+  pub no_memory : o.status ≡ REVROUTE_NO_MEMORY → o.size ≡ 0
+  pub unchanged : ¬ (o.status ≡ REVROUTE_ANSWERED) → (new.session ≡ old.session)
+      × (new.rerouted ≡ old.rerouted) × (o.after ≡ o.before)
+  pub room : length o.before < least_room → o.status ≡ REVROUTE_TOO_SHORT
+  pub status : o.status ≤ REVROUTE_NO_MEMORY
+
+-- a call answers the line, and leaves the one that has begun
+pub record AnswersApart (line : List ℕ) (old new : Held) (o : Outcome) : Type 0 where
+  pub answers : AnswersLine line old new o
+  pub begun : new.begun ≡ old.begun

@@ -1,5 +1,6 @@
 -- What the calls answer that begin a round, and why they are refused. The requests are those of the lines.
-use Rattle.std.specs.Prelude.{◌≡◌, ℕ, ◌<◌, ◌≤◌, ◌⊎◌, List, [], ◌∷◌, length, map, position, slice_get, Option, Some, None}
+use Rattle.std.specs.Prelude.{◌≡◌, ℕ, ◌<◌, ◌≤◌, ◌⊎◌, List, [], ◌∷◌, length, map, position, slice_get}
+use Rattle.std.specs.Prelude.{Option, Some, None}
 use Rattle.fr_graph.specs.Batches.{IsRefusedAt}
 use Rattle.fr_graph.specs.Faults.{IsFaultless, IsFirstFault}
 use Rattle.fr_graph.specs.Limits.{most_edits}
@@ -10,18 +11,48 @@ use Rattle.fr_graph.specs.declared.fault.NetFault.TheVariants.{TooMany, Range, S
 use Rattle.fr_route.specs.Answers.{IsAccepted, fault_number}
 use Rattle.fr_route.specs.States.{State, IsReport, net_at}
 use Rattle.fr_route.specs.Told.{TellsOf}
+use Rattle.revroute_c.specs.Engines.{Held}
 use Rattle.revroute_c.specs.Records.{AreKnown, edit_of, is_unknown}
+use Rattle.revroute_c.specs.Statuses.{REVROUTE_ANSWERED, REVROUTE_REFUSED}
 use Rattle.revroute_c.specs.declared.records.LinkEdit.{LinkEdit}
 use Rattle.revroute_c.specs.declared.records.Refusal.{Refusal}
 use Rattle.revroute_c.specs.declared.records.Round.{Round}
 
--- the request is accepted: then come the state after it, the nodes that it tells of in place of those before, and what its round reports
-pub record IsNewRound (old : Option State) (request : PlainRequest) (new : Option State) (before told : List ℕ) (round : Round) : Type 0 where
+-- what a call leaves that may begin a round: its status, and the caller's round and refusal before and after it
+pub record RoundOutcome : Type 0 where
+  pub status : ℕ
+  pub round_before : Round
+  pub round_after : Round
+  pub refusal_before : Refusal
+  pub refusal_after : Refusal
+
+abbrev pub round_outcome : ℕ → Round → Round → Refusal → Refusal → RoundOutcome
+round_outcome status round round' refusal refusal' = record {
+  status = status;
+  round_before = round;
+  round_after = round';
+  refusal_before = refusal;
+  refusal_after = refusal';
+}
+
+-- the request is accepted; then the engine has the state after it, and the nodes that it tells of, and this is what its
+-- round reports
+pub record IsNewRound (request : PlainRequest) (old new : Held) (round : Round) : Type 0 where
   pub after : State
-  pub accepted : IsAccepted old request after
-  pub new_is : new ≡ Some after
-  pub tells : TellsOf old request after before told
+  pub accepted : IsAccepted old.session request after
+  pub new_is : new.session ≡ Some after
+  pub tells : TellsOf old.session request after old.rerouted new.rerouted
   pub report : IsReport after round.turned round.cut_off
+
+-- a call makes the request, with one round after it, or refuses it for such a reason
+-- the engine goes from `old` to `new`
+pub record BeginsRound
+    (request : PlainRequest) (IsRefused : Refusal → Type 0) (old new : Held) (o : RoundOutcome) : Type 0 where
+  pub answered : o.status ≡ REVROUTE_ANSWERED → IsNewRound request old new o.round_after
+  pub refused : o.status ≡ REVROUTE_REFUSED → IsRefused o.refusal_after
+  pub unchanged : ¬ (o.status ≡ REVROUTE_ANSWERED) → (new ≡ old) × (o.round_after ≡ o.round_before)
+  pub unrefused : ¬ (o.status ≡ REVROUTE_REFUSED) → o.refusal_after ≡ o.refusal_before
+  pub begun : new.begun ≡ old.begun
 
 -- the first step of a walk
 abbrev pub first_step : List ℕ → ℕ × ℕ
@@ -29,7 +60,8 @@ first_step [] = (0, 0)
 first_step (u ∷ []) = (0, 0)
 first_step (u ∷ v ∷ vs) = (u, v)
 
--- the nodes that a fault of links names: the node that is none, or that a link joins with itself, or the two nodes of a link
+-- the nodes that a fault of links names: the number that is no node, or the node of a link with itself, or the two
+-- nodes of a link
 abbrev pub nodes_named : NetFault → ℕ × ℕ
 nodes_named TooMany = (0, 0)
 nodes_named (Range x) = (x, x)
@@ -55,7 +87,8 @@ IsNewFault n d links fault = IsFirstFault n links fault ⊎ (IsFaultless n links
 
 -- a network is refused
 abbrev pub IsNewRefused : ℕ → ℕ → List (ℕ × ℕ) → Refusal → Type 0
-IsNewRefused n d links r = (fault : NetFault) × IsNewFault n d links fault × (r ≡ refusal_at 0 fault (nodes_named fault))
+IsNewRefused n d links r =
+    (fault : NetFault) × IsNewFault n d links fault × (r ≡ refusal_at 0 fault (nodes_named fault))
 
 -- an edit of a network is the first that is refused
 pub record IsEditRefused (net : Network) (edits : List LinkEdit) (r : Refusal) : Type 0 where
@@ -74,7 +107,8 @@ AreRefused net edits r =
 
 -- the first edit of an unknown kind is refused
 abbrev pub IsUnknownRefused : List LinkEdit → Refusal → Type 0
-IsUnknownRefused edits r = (at : ℕ) × (position is_unknown edits ≡ Some at) × (r ≡ record { number = 2; u = 0; v = 0; at = at })
+IsUnknownRefused edits r = (at : ℕ) × (position is_unknown edits ≡ Some at)
+    × (r ≡ record { number = 2; u = 0; v = 0; at = at })
 
 -- a change is refused: an edit is of an unknown kind, or else the network of the session refuses one
 abbrev pub IsChangeRefused : Option State → List LinkEdit → Refusal → Type 0

@@ -1,10 +1,11 @@
 //! The closed walk that refuses a change or a network, found again.
 
-ghost use Rattle.std.specs.Prelude.{◌≡◌, ◌≢◌, ◌≤◌, ◌<◌, ◌⊎◌, ◌↔◌, length, map, None};
+ghost use Rattle.std.specs.Prelude.{◌≡◌, ◌≢◌, ◌≤◌, ◌⊎◌, ◌↔◌, map, None};
 ghost use Rattle.fr_graph.specs.declared.fault.NetFault.TheVariants.{Memory};
-ghost use Rattle.revroute_c.specs.ClosedWalks.{HasNoWalkOfChange, HasNoWalkOfNetwork, IsNoWalk, IsWalkOf, IsWalkOfChange, IsWalkOfNetwork};
+ghost use Rattle.revroute_c.specs.ClosedWalks.{HasNoWalkOfChange, HasNoWalkOfNetwork, IsNoWalk};
+ghost use Rattle.revroute_c.specs.ClosedWalks.{IsWalkOf, IsWalkOfChange, IsWalkOfNetwork};
 ghost use Rattle.revroute_c.specs.Records.{link_of};
-ghost use Rattle.revroute_c.specs.Replies.{IsGiven, IsLength};
+ghost use Rattle.revroute_c.specs.Replies.{outcome, GivesList};
 
 use crate::records::{Link, LinkEdit, first_unknown};
 use crate::replies::hand_out;
@@ -23,12 +24,9 @@ pub(crate) fn walk_of_change(
     size: &mut usize,
 ) -> u32
     requires { size.old ≡ 0 }
-    ensures written { result ≡ ANSWERED → IsGiven (IsWalkOfChange session.now edits.now) nodes.old nodes.new size.new }
-    ensures too_short { result ≡ TOO_SHORT → (length nodes.old < size.new) × IsLength (IsWalkOfChange session.now edits.now) size.new }
+    ensures gives { GivesList (IsWalkOfChange session.now edits.now) (outcome result nodes.old nodes.new size.new) }
     ensures no_network { (result ≡ NO_NETWORK) ↔ (session.now ≡ None) }
     ensures no_walk { result ≡ NO_WALK → HasNoWalkOfChange session.now edits.now }
-    ensures unchanged { ¬ (result ≡ ANSWERED) → nodes.new ≡ nodes.old }
-    ensures none { TOO_SHORT < result → size.new ≡ 0 }
     ensures status { (result ≡ ANSWERED) ⊎ ((TOO_SHORT ≤ result) × (result ≤ NO_NETWORK)) ⊎ (result ≡ NO_WALK) }
 {
     let Some(router) = session.router() else {
@@ -52,11 +50,9 @@ pub(crate) fn walk_of_network(
     size: &mut usize,
 ) -> u32
     requires { size.old ≡ 0 }
-    ensures written { result ≡ ANSWERED → IsGiven (IsWalkOfNetwork count (map link_of links.now)) nodes.old nodes.new size.new }
-    ensures too_short { result ≡ TOO_SHORT → (length nodes.old < size.new) × IsLength (IsWalkOfNetwork count (map link_of links.now)) size.new }
+    ensures gives { GivesList (IsWalkOfNetwork count (map link_of links.now))
+        (outcome result nodes.old nodes.new size.new) }
     ensures no_walk { result ≡ NO_WALK → HasNoWalkOfNetwork count (map link_of links.now) }
-    ensures unchanged { ¬ (result ≡ ANSWERED) → nodes.new ≡ nodes.old }
-    ensures none { TOO_SHORT < result → size.new ≡ 0 }
     ensures status { (result ≡ ANSWERED) ⊎ (result ≡ TOO_SHORT) ⊎ (result ≡ NO_MEMORY) ⊎ (result ≡ NO_WALK) }
 {
     match network_of(alloc, count, links) {
@@ -68,12 +64,9 @@ pub(crate) fn walk_of_network(
 /// Writes the closed walk of a fault, if it is one. `size` has to be 0.
 fn hand_out_walk(fault: &NetFault, nodes: &mut [u32], size: &mut usize) -> u32
     requires { size.old ≡ 0 }
-    ensures written { result ≡ ANSWERED → IsGiven (IsWalkOf fault.now) nodes.old nodes.new size.new }
-    ensures too_short { result ≡ TOO_SHORT → (length nodes.old < size.new) × IsLength (IsWalkOf fault.now) size.new }
+    ensures gives { GivesList (IsWalkOf fault.now) (outcome result nodes.old nodes.new size.new) }
     ensures no_memory { result ≡ NO_MEMORY → fault.now ≡ Memory }
     ensures no_walk { result ≡ NO_WALK → IsNoWalk fault.now × (fault.now ≢ Memory) }
-    ensures unchanged { ¬ (result ≡ ANSWERED) → nodes.new ≡ nodes.old }
-    ensures none { TOO_SHORT < result → size.new ≡ 0 }
     ensures status { (result ≡ ANSWERED) ⊎ (result ≡ TOO_SHORT) ⊎ (result ≡ NO_MEMORY) ⊎ (result ≡ NO_WALK) }
 {
     match fault {

@@ -7,8 +7,8 @@ use fr_route::Session;
 use std::alloc::Global;
 use std::marker::Model;
 
-/// What stands behind a handle: the session, the nodes that its last accepted round rerouted, and the bytes of a line that has
-/// begun.
+/// What stands behind a handle: the session, the nodes that its last accepted round rerouted, and the bytes of a line
+/// that has begun.
 #[derive(Drop)]
 pub(crate) struct Engine {
     pub(crate) session: Session,

@@ -14,8 +14,8 @@ use std::marker::{Model, Send};
 use std::mem::replace;
 use std::ptr::null_mut;
 
-/// What C holds of a session: a pointer that only this library reads. Null stands for a session that holds no network, so
-/// that C makes a handle by writing null.
+/// What C holds of a session: a pointer that only this library reads. Null stands for a session that holds no
+/// network, so that C makes a handle by writing null.
 #[repr(C)]
 #[derive(Drop)]
 pub struct Handle {
@@ -70,7 +70,8 @@ impl Handle {
 
     /// Takes the engine out of a handle, which is then null; there is none if it was null before.
     pub(crate) fn taken(handle: &mut Handle, alloc: Global) -> Option<Box<Engine>>
-        ensures held { MatchOption result (held_by handle.old ≡ no_engine) (λ engine. held_by handle.old ≡ engine.value) }
+        ensures held { MatchOption result (held_by handle.old ≡ no_engine)
+            (λ engine. held_by handle.old ≡ engine.value) }
         ensures left { held_by handle.new ≡ no_engine }
         ensures null { handle.new.at ≡ null_ptr }
     {
@@ -84,7 +85,8 @@ impl Handle {
     /// The engine of a handle, where it stands; none where the handle is null.
     pub(crate) fn engine_mut(&mut self) -> Option<&mut Engine>
         ensures* writes_back { sem 𝓛 (LendsEngine self.entry result) }
-        ensures value { MatchOption result ((self.old.at ≡ null_ptr) × (held_by self.old ≡ no_engine)) (λ engine. engine.now ≡ held_by self.old) }
+        ensures value { MatchOption result ((self.old.at ≡ null_ptr) × (held_by self.old ≡ no_engine))
+            (λ engine. engine.now ≡ held_by self.old) }
     {
         if self.at.is_null() {
             return None;

@@ -1,23 +1,25 @@
 //! The engine for programs in C, and for whatever calls C: a session behind a handle, with no thread and no lock.
 //!
-//! `embed/c/revroute.h` declares what stands here, and says what a caller owes. A slice is a pointer and a length there, and the
+//! `embed/c/revroute.h` declares these calls, and says what a caller owes. A slice is a pointer and a length there. The
 //! allocator takes no bytes, so C passes nothing for it.
 #![tactic(auto)]
 
-ghost use Rattle.std.specs.Prelude.{◌≡◌, ◌≤◌, ◌<◌, ◌⊎◌, ◌↔◌, true, [], None, length, IfSome, ◌==◌, ◌≢◌, ◌++◌, ℕ, List, map, position};
+ghost use Rattle.std.specs.Prelude.{◌≡◌, ◌≢◌, ◌≤◌, ◌<◌, ◌⊎◌, ◌↔◌, [], None, length, map, IfSome};
 ghost use denote.RawPtr.{null_ptr};
-ghost use Rattle.fr_lines.specs.Requests.{make_edits, move_dest, new_network, reading};
-ghost use Rattle.fr_route.specs.Blank.{is_blank as is_blank_line};
+ghost use Rattle.fr_lines.specs.Requests.{make_edits, move_dest, new_network};
 ghost use Rattle.fr_route.specs.States.{IsReport};
-ghost use Rattle.fr_route.specs.Told.{IsLineTold};
-ghost use Rattle.revroute_c.specs.Replies.{least_room, IsAnswered, IsGiven, IsLength, IsWanted, IsWritten};
-ghost use Rattle.revroute_c.specs.Statuses.{REVROUTE_ANSWERED, REVROUTE_BLANK, REVROUTE_TOO_SHORT, REVROUTE_NO_MEMORY, REVROUTE_NO_NETWORK};
-ghost use Rattle.revroute_c.specs.Statuses.{REVROUTE_NO_ROUTE, REVROUTE_REFUSED, REVROUTE_NO_WALK, REVROUTE_BEGUN, REVROUTE_TOO_LONG, REVROUTE_NO_TABLE};
-ghost use Rattle.revroute_c.specs.Pieces.{longest_line, EndsBlank, EndsLine, IsTooLong, IsWantedAtEnd};
-ghost use Rattle.revroute_c.specs.ClosedWalks.{HasNoWalkOfChange, HasNoWalkOfNetwork, IsWalkOfChange, IsWalkOfNetwork};
+ghost use Rattle.revroute_c.specs.ClosedWalks.{HasNoWalkOfChange, HasNoWalkOfNetwork};
+ghost use Rattle.revroute_c.specs.ClosedWalks.{IsWalkOfChange, IsWalkOfNetwork};
+ghost use Rattle.revroute_c.specs.Lending.{held_by, IsUnchanged};
+ghost use Rattle.revroute_c.specs.Pieces.{TakesPiece};
+ghost use Rattle.revroute_c.specs.Questions.{AreCounts, AreEnds, AreHopsWritten, AreOnePerNode};
+ghost use Rattle.revroute_c.specs.Questions.{HasNoRoute, IsRouteFrom, TellsHop};
 ghost use Rattle.revroute_c.specs.Records.{AreKnown, edit_of, link_of};
-ghost use Rattle.revroute_c.specs.Rounds.{IsChangeRefused, IsMoveRefused, IsNewRefused, IsNewRound};
-ghost use Rattle.revroute_c.specs.Questions.{AreHopsWritten, HasNoRoute, IsRouteLength, IsRouteWritten, TellsHop, ends};
+ghost use Rattle.revroute_c.specs.Replies.{outcome, AnswersApart, AnswersLine, GivesList, IsWritten};
+ghost use Rattle.revroute_c.specs.Rounds.{round_outcome, BeginsRound, IsChangeRefused, IsMoveRefused, IsNewRefused};
+ghost use Rattle.revroute_c.specs.Statuses.{REVROUTE_ANSWERED, REVROUTE_BLANK, REVROUTE_TOO_SHORT};
+ghost use Rattle.revroute_c.specs.Statuses.{REVROUTE_NO_MEMORY, REVROUTE_NO_NETWORK, REVROUTE_NO_ROUTE};
+ghost use Rattle.revroute_c.specs.Statuses.{REVROUTE_REFUSED, REVROUTE_NO_WALK, REVROUTE_BEGUN, REVROUTE_NO_TABLE};
 ghost use Rattle.revroute_c.specs.Tables.{ArePushesOf, IsNoTable};
 
 mod closed_walks;
@@ -41,17 +43,21 @@ use questions::{
 };
 use records::{Link, LinkEdit, Refusal, Round, first_unknown, unknown_at};
 use replies::{LEAST_ROOM, hand_out, reply, reply_anew};
-use rounds::{change_in, move_in, open_anew, open_in};
+use rounds::{NewNetwork, change_in, move_in, open_anew, open_in};
 use statuses::{BLANK, NO_NETWORK, REFUSED, TOO_SHORT};
 use std::alloc::Global;
 use tables::pushes_in;
 
-/// Answers a line, without its line end, in the session behind the handle; a null handle is a session that holds no network yet.
-/// The answer goes to the front of the buffer, with no line end, and its length to `size`. `BLANK` says that the line is blank and
-/// has none, and takes no memory; `size` is then 0. `TOO_SHORT` says that `size` is the room that is wanted: the answer's length, or
-/// [`LEAST_ROOM`] for a buffer that has less, which is tested first. `NO_MEMORY` says that an allocation was refused. After each of
-/// these the session is as it was, and so are the handle's own bytes: null stays null, and owns nothing. It costs what
-/// [`Session::answer_line_telling_alone`](fr_route::Session::answer_line_telling_alone) does.
+/// Answers a line, given without its line end. A null handle stands for a session that holds no network yet. The
+/// answer goes to the front of the buffer, without a line end, and its length to `size`.
+///
+/// - `BLANK`: the line is blank and has no answer. `size` is 0. A blank line takes no memory.
+/// - `TOO_SHORT`: the buffer has too little room. `size` is the length of the answer. For a buffer of less than
+///   [`LEAST_ROOM`] bytes it is [`LEAST_ROOM`]; this is tested first.
+/// - `NO_MEMORY`: an allocation was refused.
+///
+/// After each of these the session is unchanged, and so are the handle's own bytes: null stays null, and owns
+/// nothing. It costs what [`Session::answer_line_telling_alone`](fr_route::Session::answer_line_telling_alone) does.
 #[unsafe(no_mangle)]
 pub extern "C" fn revroute_answer(
     alloc: Global,
@@ -60,18 +66,9 @@ pub extern "C" fn revroute_answer(
     answer: &mut [u8],
     size: &mut usize,
 ) -> u32
-    ensures answered { result ≡ REVROUTE_ANSWERED → IsAnswered handle.old.session line.now handle.new.session answer.old answer.new size.new }
-    ensures told { result ≡ REVROUTE_ANSWERED → IsLineTold handle.old.session (reading line.now) handle.new.session handle.old.rerouted handle.new.rerouted }
-    ensures blank { result ≡ REVROUTE_BLANK → (is_blank_line line.now ≡ true) × (size.new ≡ 0) }
-    ensures blank_line { is_blank_line line.now ≡ true → least_room ≤ length answer.old → result ≡ REVROUTE_BLANK }
-    ensures too_short { result ≡ REVROUTE_TOO_SHORT → (length answer.old < size.new) × IsWanted handle.old.session line.now (length answer.old) size.new }
-    ensures no_memory { result ≡ REVROUTE_NO_MEMORY → size.new ≡ 0 }
-    ensures unchanged { ¬ (result ≡ REVROUTE_ANSWERED) → (handle.new.session ≡ handle.old.session) × (answer.new ≡ answer.old) }
-    ensures untold { ¬ (result ≡ REVROUTE_ANSWERED) → handle.new.rerouted ≡ handle.old.rerouted }
-    ensures begun { handle.new.begun ≡ handle.old.begun }
+    ensures answers { AnswersApart line.now (held_by handle.old) (held_by handle.new)
+        (outcome result answer.old answer.new size.new) }
     ensures kept { ¬ (result ≡ REVROUTE_ANSWERED) → handle.new.at ≡ handle.old.at }
-    ensures room { length answer.old < least_room → result ≡ REVROUTE_TOO_SHORT }
-    ensures status { result ≤ REVROUTE_NO_MEMORY }
 {
     *size = 0;
     if answer.len() < LEAST_ROOM {
@@ -87,11 +84,15 @@ pub extern "C" fn revroute_answer(
     }
 }
 
-/// Takes the front of a piece, up to its first byte 10 and with it, and answers the line that ends there, of what had begun and this
-/// front; without one, all of the piece is kept behind what has begun, and `BEGUN` says so. How many bytes were taken goes to `taken`.
-/// The answer and its length are as [`revroute_answer`]'s, and a blank line that ends takes no memory. `TOO_LONG` says that the line has
-/// more than 16,777,216 bytes; none of more is answered or kept. After it, `TOO_SHORT` and `NO_MEMORY` nothing was taken, and all is as it
-/// was, the handle's own bytes too: the piece can be handed in again. `O(b)` for b bytes taken, and at a line end what
+/// Takes the front of a piece, up to and with its first newline, and answers the line that ends there. The line is
+/// what had begun and this front. How many bytes were taken goes to `taken`.
+///
+/// - `BEGUN`: the piece has no newline. All of it is kept behind what had begun.
+/// - `TOO_LONG`: the line has more than 16,777,216 bytes. No line of more is answered or kept.
+/// - All else is as for [`revroute_answer`]. A blank line that ends takes no memory.
+///
+/// After `TOO_LONG`, `TOO_SHORT` and `NO_MEMORY` nothing was taken, and everything is unchanged, the handle's own
+/// bytes too: the caller can hand in the piece again. `O(b)` for b bytes taken, and at a newline what
 /// [`revroute_answer`] costs.
 #[unsafe(no_mangle)]
 pub extern "C" fn revroute_take(
@@ -102,25 +103,9 @@ pub extern "C" fn revroute_take(
     size: &mut usize,
     taken: &mut usize,
 ) -> u32
-    ensures answered { result ≡ REVROUTE_ANSWERED → (line : List ℕ) × EndsLine handle.old.begun piece.now line taken.new
-        × IsAnswered handle.old.session line handle.new.session answer.old answer.new size.new
-        × IsLineTold handle.old.session (reading line) handle.new.session handle.old.rerouted handle.new.rerouted }
-    ensures blank { result ≡ REVROUTE_BLANK → (line : List ℕ) × EndsLine handle.old.begun piece.now line taken.new
-        × (is_blank_line line ≡ true) × (size.new ≡ 0) }
-    ensures blank_line { EndsBlank handle.old.begun piece.now → least_room ≤ length answer.old → result ≡ REVROUTE_BLANK }
-    ensures ended { result ≤ REVROUTE_BLANK → handle.new.begun ≡ [] }
-    ensures kept { result ≡ REVROUTE_BEGUN → (position (λ x. x == 10) piece.now ≡ None) × (handle.new.begun ≡ handle.old.begun ++ piece.now)
-        × (taken.new ≡ length piece.now) × (size.new ≡ 0) }
-    ensures too_short { result ≡ REVROUTE_TOO_SHORT → (length answer.old < size.new)
-        × IsWantedAtEnd handle.old.session handle.old.begun piece.now (length answer.old) size.new }
-    ensures within { result ≡ REVROUTE_BEGUN → length handle.new.begun ≤ longest_line }
-    ensures no_memory { result ≡ REVROUTE_NO_MEMORY → size.new ≡ 0 }
-    ensures too_long { result ≡ REVROUTE_TOO_LONG → IsTooLong handle.old.begun piece.now × (size.new ≡ 0) }
-    ensures unchanged { ¬ (result ≡ REVROUTE_ANSWERED) → (handle.new.session ≡ handle.old.session) × (handle.new.rerouted ≡ handle.old.rerouted) × (answer.new ≡ answer.old) }
-    ensures untaken { REVROUTE_BLANK < result → result ≢ REVROUTE_BEGUN → (handle.new.begun ≡ handle.old.begun) × (taken.new ≡ 0) }
+    ensures takes { TakesPiece piece.now (held_by handle.old) (held_by handle.new) taken.new
+        (outcome result answer.old answer.new size.new) }
     ensures same_handle { result ≢ REVROUTE_ANSWERED → result ≢ REVROUTE_BEGUN → handle.new.at ≡ handle.old.at }
-    ensures room { length answer.old < least_room → result ≡ REVROUTE_TOO_SHORT }
-    ensures status { (result ≤ REVROUTE_NO_MEMORY) ⊎ (result ≡ REVROUTE_BEGUN) ⊎ (result ≡ REVROUTE_TOO_LONG) }
 {
     *size = 0;
     *taken = 0;
@@ -129,8 +114,8 @@ pub extern "C" fn revroute_take(
         return TOO_SHORT;
     }
     match handle.engine_mut() {
-        Some(engine) => take_front(engine, alloc, piece, answer, size, taken),
-        None => take_anew(handle, alloc, piece, answer, size, taken),
+        Some(engine) => take_front(engine, alloc, piece, answer, size).tell(taken),
+        None => take_anew(handle, alloc, piece, answer, size).tell(taken),
     }
 }
 
@@ -142,18 +127,11 @@ pub extern "C" fn revroute_finish(
     answer: &mut [u8],
     size: &mut usize,
 ) -> u32
-    ensures answered { result ≡ REVROUTE_ANSWERED → IsAnswered handle.old.session handle.old.begun handle.new.session answer.old answer.new size.new
-        × IsLineTold handle.old.session (reading handle.old.begun) handle.new.session handle.old.rerouted handle.new.rerouted }
-    ensures blank { result ≡ REVROUTE_BLANK → (is_blank_line handle.old.begun ≡ true) × (size.new ≡ 0) }
-    ensures blank_line { is_blank_line handle.old.begun ≡ true → least_room ≤ length answer.old → result ≡ REVROUTE_BLANK }
+    ensures answers { AnswersLine handle.old.begun (held_by handle.old) (held_by handle.new)
+        (outcome result answer.old answer.new size.new) }
     ensures ended { result ≤ REVROUTE_BLANK → handle.new.begun ≡ [] }
-    ensures too_short { result ≡ REVROUTE_TOO_SHORT → (length answer.old < size.new) × IsWanted handle.old.session handle.old.begun (length answer.old) size.new }
-    ensures no_memory { result ≡ REVROUTE_NO_MEMORY → size.new ≡ 0 }
-    ensures unchanged { ¬ (result ≡ REVROUTE_ANSWERED) → (handle.new.session ≡ handle.old.session) × (handle.new.rerouted ≡ handle.old.rerouted) × (answer.new ≡ answer.old) }
     ensures still { REVROUTE_BLANK < result → handle.new.begun ≡ handle.old.begun }
     ensures same_handle { handle.new.at ≡ handle.old.at }
-    ensures room { length answer.old < least_room → result ≡ REVROUTE_TOO_SHORT }
-    ensures status { result ≤ REVROUTE_NO_MEMORY }
 {
     *size = 0;
     if answer.len() < LEAST_ROOM {
@@ -166,11 +144,15 @@ pub extern "C" fn revroute_finish(
     }
 }
 
-/// Takes the network with nodes 0 to `nodes - 1`, this destination and these links in place of the one that was there, as a line `["net",..]`
-/// does, and begins a round: `ANSWERED`, and `round` has how many turns it took and how many nodes are cut off. `REFUSED` says that there are
-/// too many nodes or links, or that they are no network, or else that the destination is no node: `refusal` has the number of the lines, and
-/// the nodes of the first fault. `NO_MEMORY` says that an allocation was refused. After these two the session, the handle's own bytes and
-/// `round` are as they were. `O(n + m)`, and what [`Router::open_alone`](fr_route::Router::open_alone) costs.
+/// Puts a network in place of the last one, as a line `["net",..]` does, and begins a round. Its nodes are 0 to
+/// `nodes - 1`. `round` gets the number of turns and the number of nodes that are cut off.
+///
+/// - `REFUSED`: there are too many nodes or links, or they are no network, or else the destination is no node.
+///   `refusal` gets the number that lines use for the reason, and the nodes of the first fault.
+/// - `NO_MEMORY`: an allocation was refused.
+///
+/// After both the session, the handle's own bytes and `round` are unchanged. `O(n + m)`, and what
+/// [`Router::open_alone`](fr_route::Router::open_alone) costs.
 #[unsafe(no_mangle)]
 pub extern "C" fn revroute_open(
     alloc: Global,
@@ -181,25 +163,30 @@ pub extern "C" fn revroute_open(
     round: &mut Round,
     refusal: &mut Refusal,
 ) -> u32
-    ensures answered { result ≡ REVROUTE_ANSWERED → IsNewRound handle.old.session (new_network nodes dest (map link_of links.now)) handle.new.session handle.old.rerouted handle.new.rerouted round.new }
-    ensures refused { result ≡ REVROUTE_REFUSED → IsNewRefused nodes dest (map link_of links.now) refusal.new }
-    ensures unchanged { ¬ (result ≡ REVROUTE_ANSWERED) → (handle.new.session ≡ handle.old.session) × (handle.new.rerouted ≡ handle.old.rerouted) × (round.new ≡ round.old) }
-    ensures unrefused { ¬ (result ≡ REVROUTE_REFUSED) → refusal.new ≡ refusal.old }
-    ensures begun { handle.new.begun ≡ handle.old.begun }
+    ensures begins { BeginsRound (new_network nodes dest (map link_of links.now))
+        (IsNewRefused nodes dest (map link_of links.now)) (held_by handle.old) (held_by handle.new)
+        (round_outcome result round.old round.new refusal.old refusal.new) }
     ensures kept { ¬ (result ≡ REVROUTE_ANSWERED) → handle.new.at ≡ handle.old.at }
     ensures status { (result ≡ REVROUTE_ANSWERED) ⊎ (result ≡ REVROUTE_NO_MEMORY) ⊎ (result ≡ REVROUTE_REFUSED) }
 {
+    let asked = NewNetwork { nodes, dest, links };
     match handle.engine_mut() {
-        Some(engine) => open_in(engine, alloc, nodes, dest, links, round, refusal),
-        None => open_anew(handle, alloc, nodes, dest, links, round, refusal),
+        Some(engine) => open_in(engine, alloc, &asked, round, refusal),
+        None => open_anew(handle, alloc, &asked, round, refusal),
     }
 }
 
-/// Makes edits one after the other, with one round behind the last, as a line `["batch",..]` does, and as that of a single change does for one
-/// edit. `REFUSED` says that an edit is of an unknown kind, which is tested first, or that there are more than 1,024, or else that one
-/// cannot be made: `refusal` has the number of the lines, which edit it is, and its nodes. `NO_NETWORK` says that there is no network yet,
-/// and the rest is as for [`revroute_open`]. It costs what [`Router::change_telling_alone`](fr_route::Router::change_telling_alone) does, and
-/// where an edit is refused `O(n + m)` more for the evidence.
+/// Makes edits one after the other, with one round after the last, as a line `["batch",..]` does. One edit has the
+/// same effect as a line with that change.
+///
+/// - `REFUSED`: an edit is of an unknown kind, which is tested first; or there are more than 1,024 edits; or else one
+///   of them cannot be made. `refusal` gets the number that lines use for the reason, the place of the edit and its
+///   nodes.
+/// - `NO_NETWORK`: there is no network yet.
+/// - All else is as for [`revroute_open`].
+///
+/// It costs what [`Router::change_telling_alone`](fr_route::Router::change_telling_alone) does. Where an edit is
+/// refused, the evidence costs `O(n + m)` more.
 #[unsafe(no_mangle)]
 pub extern "C" fn revroute_change(
     alloc: Global,
@@ -208,16 +195,14 @@ pub extern "C" fn revroute_change(
     round: &mut Round,
     refusal: &mut Refusal,
 ) -> u32
+    ensures begins { BeginsRound (make_edits (map edit_of edits.now)) (IsChangeRefused handle.old.session edits.now)
+        (held_by handle.old) (held_by handle.new) (round_outcome result round.old round.new refusal.old refusal.new) }
     ensures known { result ≡ REVROUTE_ANSWERED → AreKnown edits.now }
-    ensures answered { result ≡ REVROUTE_ANSWERED → IsNewRound handle.old.session (make_edits (map edit_of edits.now)) handle.new.session handle.old.rerouted handle.new.rerouted round.new }
-    ensures refused { result ≡ REVROUTE_REFUSED → IsChangeRefused handle.old.session edits.now refusal.new }
     ensures unknown { ¬ AreKnown edits.now → result ≡ REVROUTE_REFUSED }
     ensures no_network { (result ≡ REVROUTE_NO_NETWORK) ↔ (AreKnown edits.now × (handle.old.session ≡ None)) }
-    ensures unchanged { ¬ (result ≡ REVROUTE_ANSWERED) → (handle.new.session ≡ handle.old.session) × (handle.new.rerouted ≡ handle.old.rerouted) × (round.new ≡ round.old) }
-    ensures unrefused { ¬ (result ≡ REVROUTE_REFUSED) → refusal.new ≡ refusal.old }
-    ensures begun { handle.new.begun ≡ handle.old.begun }
     ensures kept { handle.new.at ≡ handle.old.at }
-    ensures status { (result ≡ REVROUTE_ANSWERED) ⊎ (result ≡ REVROUTE_NO_MEMORY) ⊎ (result ≡ REVROUTE_NO_NETWORK) ⊎ (result ≡ REVROUTE_REFUSED) }
+    ensures status { (result ≡ REVROUTE_ANSWERED) ⊎ (result ≡ REVROUTE_NO_MEMORY) ⊎ (result ≡ REVROUTE_NO_NETWORK)
+        ⊎ (result ≡ REVROUTE_REFUSED) }
 {
     if let Some(at) = first_unknown(edits) {
         *refusal = unknown_at(at);
@@ -229,8 +214,8 @@ pub extern "C" fn revroute_change(
     }
 }
 
-/// Moves the destination, and begins a round, as a line `["dest",..]` does. `REFUSED` says that it is no node; the rest is as for
-/// [`revroute_change`], and so is the cost.
+/// Moves the destination, and begins a round, as a line `["dest",..]` does. `REFUSED` says that it is no node. All
+/// else, and the cost, is as for [`revroute_change`].
 #[unsafe(no_mangle)]
 pub extern "C" fn revroute_move(
     alloc: Global,
@@ -239,14 +224,12 @@ pub extern "C" fn revroute_move(
     round: &mut Round,
     refusal: &mut Refusal,
 ) -> u32
-    ensures answered { result ≡ REVROUTE_ANSWERED → IsNewRound handle.old.session (move_dest dest) handle.new.session handle.old.rerouted handle.new.rerouted round.new }
-    ensures refused { result ≡ REVROUTE_REFUSED → IsMoveRefused handle.old.session dest refusal.new }
+    ensures begins { BeginsRound (move_dest dest) (IsMoveRefused handle.old.session dest)
+        (held_by handle.old) (held_by handle.new) (round_outcome result round.old round.new refusal.old refusal.new) }
     ensures no_network { (result ≡ REVROUTE_NO_NETWORK) ↔ (handle.old.session ≡ None) }
-    ensures unchanged { ¬ (result ≡ REVROUTE_ANSWERED) → (handle.new.session ≡ handle.old.session) × (handle.new.rerouted ≡ handle.old.rerouted) × (round.new ≡ round.old) }
-    ensures unrefused { ¬ (result ≡ REVROUTE_REFUSED) → refusal.new ≡ refusal.old }
-    ensures begun { handle.new.begun ≡ handle.old.begun }
     ensures kept { handle.new.at ≡ handle.old.at }
-    ensures status { (result ≡ REVROUTE_ANSWERED) ⊎ (result ≡ REVROUTE_NO_MEMORY) ⊎ (result ≡ REVROUTE_NO_NETWORK) ⊎ (result ≡ REVROUTE_REFUSED) }
+    ensures status { (result ≡ REVROUTE_ANSWERED) ⊎ (result ≡ REVROUTE_NO_MEMORY) ⊎ (result ≡ REVROUTE_NO_NETWORK)
+        ⊎ (result ≡ REVROUTE_REFUSED) }
 {
     match handle.engine_mut() {
         Some(engine) => move_in(engine, alloc, dest, round, refusal),
@@ -254,9 +237,10 @@ pub extern "C" fn revroute_move(
     }
 }
 
-/// Writes the closed walk for which [`revroute_change`] refuses these edits, its first node again at the end, into the front of the place, and
-/// how many nodes it has to `size`. `NO_WALK` says that none refuses them; `TOO_SHORT`, `NO_NETWORK` and `NO_MEMORY` are as for
-/// [`revroute_links`]. Nothing changes. `O(n + m)`, and what the edits cost.
+/// Writes the closed walk for which [`revroute_change`] refuses these edits into the front of the place, and its
+/// length to `size`. The first node comes again at the end. `NO_WALK` says that no closed walk refuses them.
+/// `TOO_SHORT`, `NO_NETWORK` and `NO_MEMORY` are as for [`revroute_links`]. Nothing changes. `O(n + m)`, and what the
+/// edits cost.
 #[unsafe(no_mangle)]
 pub extern "C" fn revroute_closed_walk(
     alloc: Global,
@@ -265,15 +249,13 @@ pub extern "C" fn revroute_closed_walk(
     nodes: &mut [u32],
     size: &mut usize,
 ) -> u32
-    ensures same { (handle.new.session ≡ handle.old.session) × (handle.new.rerouted ≡ handle.old.rerouted) × (handle.new.begun ≡ handle.old.begun) }
-    ensures kept { handle.new.at ≡ handle.old.at }
-    ensures written { result ≡ REVROUTE_ANSWERED → IsGiven (IsWalkOfChange handle.old.session edits.now) nodes.old nodes.new size.new }
-    ensures too_short { result ≡ REVROUTE_TOO_SHORT → (length nodes.old < size.new) × IsLength (IsWalkOfChange handle.old.session edits.now) size.new }
+    ensures same { IsUnchanged handle.old handle.new }
+    ensures gives { GivesList (IsWalkOfChange handle.old.session edits.now)
+        (outcome result nodes.old nodes.new size.new) }
     ensures no_network { (result ≡ REVROUTE_NO_NETWORK) ↔ (handle.old.session ≡ None) }
     ensures no_walk { result ≡ REVROUTE_NO_WALK → HasNoWalkOfChange handle.old.session edits.now }
-    ensures unchanged { ¬ (result ≡ REVROUTE_ANSWERED) → nodes.new ≡ nodes.old }
-    ensures none { REVROUTE_TOO_SHORT < result → size.new ≡ 0 }
-    ensures status { (result ≡ REVROUTE_ANSWERED) ⊎ ((REVROUTE_TOO_SHORT ≤ result) × (result ≤ REVROUTE_NO_NETWORK)) ⊎ (result ≡ REVROUTE_NO_WALK) }
+    ensures status { (result ≡ REVROUTE_ANSWERED) ⊎ ((REVROUTE_TOO_SHORT ≤ result) × (result ≤ REVROUTE_NO_NETWORK))
+        ⊎ (result ≡ REVROUTE_NO_WALK) }
 {
     *size = 0;
     match handle.engine_mut() {
@@ -282,7 +264,8 @@ pub extern "C" fn revroute_closed_walk(
     }
 }
 
-/// The same for the links with which [`revroute_open`] refuses a network of so many nodes, with no session. `O(n + m)`.
+/// Does the same for the links with which [`revroute_open`] refuses a network of so many nodes. It needs no session.
+/// `O(n + m)`.
 #[unsafe(no_mangle)]
 pub extern "C" fn revroute_closed_walk_of(
     alloc: Global,
@@ -291,18 +274,17 @@ pub extern "C" fn revroute_closed_walk_of(
     walk: &mut [u32],
     size: &mut usize,
 ) -> u32
-    ensures written { result ≡ REVROUTE_ANSWERED → IsGiven (IsWalkOfNetwork nodes (map link_of links.now)) walk.old walk.new size.new }
-    ensures too_short { result ≡ REVROUTE_TOO_SHORT → (length walk.old < size.new) × IsLength (IsWalkOfNetwork nodes (map link_of links.now)) size.new }
+    ensures gives { GivesList (IsWalkOfNetwork nodes (map link_of links.now))
+        (outcome result walk.old walk.new size.new) }
     ensures no_walk { result ≡ REVROUTE_NO_WALK → HasNoWalkOfNetwork nodes (map link_of links.now) }
-    ensures unchanged { ¬ (result ≡ REVROUTE_ANSWERED) → walk.new ≡ walk.old }
-    ensures none { REVROUTE_TOO_SHORT < result → size.new ≡ 0 }
-    ensures status { (result ≡ REVROUTE_ANSWERED) ⊎ (result ≡ REVROUTE_TOO_SHORT) ⊎ (result ≡ REVROUTE_NO_MEMORY) ⊎ (result ≡ REVROUTE_NO_WALK) }
+    ensures status { (result ≡ REVROUTE_ANSWERED) ⊎ (result ≡ REVROUTE_TOO_SHORT) ⊎ (result ≡ REVROUTE_NO_MEMORY)
+        ⊎ (result ≡ REVROUTE_NO_WALK) }
 {
     *size = 0;
     walk_of_network(alloc, nodes, links, walk, size)
 }
 
-/// Gives back all memory of the session behind the handle, which then is null again. `O(1)`.
+/// Gives back all memory of the session. The handle is null again. `O(1)`.
 #[unsafe(no_mangle)]
 pub extern "C" fn revroute_close(alloc: Global, handle: &mut Handle)
     ensures session { handle.new.session ≡ None }
@@ -313,8 +295,8 @@ pub extern "C" fn revroute_close(alloc: Global, handle: &mut Handle)
     drop(Handle::taken(handle, alloc));
 }
 
-/// Writes the version of the engine to the front of the buffer, and its length to `size`. `TOO_SHORT` says that the buffer is as
-/// it was, and has less room than that. `O(1)`.
+/// Writes the version of the engine to the front of the buffer, and its length to `size`. `TOO_SHORT` says that the
+/// buffer has less room than that, and is unchanged. `O(1)`.
 #[unsafe(no_mangle)]
 pub extern "C" fn revroute_version(text: &mut [u8], size: &mut usize) -> u32
     ensures written { result ≡ REVROUTE_ANSWERED → IsWritten VERSION.now text.old text.new }
@@ -325,13 +307,12 @@ pub extern "C" fn revroute_version(text: &mut [u8], size: &mut usize) -> u32
     hand_out(VERSION.as_bytes(), text, size)
 }
 
-/// Where a node sends on to: the node to which it does, or one of the named values, which are above all nodes. It answers for any number
+/// Where a node sends on to: a node, or one of the named values, which are above all nodes. It answers for any number
 /// and any session. `O(1)`.
 #[unsafe(no_mangle)]
 pub extern "C" fn revroute_next_hop(handle: &mut Handle, node: u32) -> u32
     ensures hop { TellsHop handle.old.session node result }
-    ensures same { (handle.new.session ≡ handle.old.session) × (handle.new.rerouted ≡ handle.old.rerouted) × (handle.new.begun ≡ handle.old.begun) }
-    ensures kept { handle.new.at ≡ handle.old.at }
+    ensures same { IsUnchanged handle.old handle.new }
 {
     match handle.engine_mut() {
         Some(engine) => hop_in(&engine.session, node),
@@ -339,19 +320,15 @@ pub extern "C" fn revroute_next_hop(handle: &mut Handle, node: u32) -> u32
     }
 }
 
-/// Writes where each node sends on to, in the order of the nodes, into the front of the place, and how many there are to `size`. `TOO_SHORT`
-/// says that the place has less room, and `NO_NETWORK` that there is no network yet; `size` is then 0. After both the place is as it was.
-/// `O(n)`.
+/// Writes where each node sends on to, in the order of the nodes, into the front of the place, and how many hops
+/// these are to `size`. `TOO_SHORT` says that the place has less room. `NO_NETWORK` says that there is no network
+/// yet; `size` is then 0. After both the place is unchanged. `O(n)`.
 #[unsafe(no_mangle)]
 pub extern "C" fn revroute_next_hops(handle: &mut Handle, hops: &mut [u32], size: &mut usize) -> u32
-    ensures same { (handle.new.session ≡ handle.old.session) × (handle.new.rerouted ≡ handle.old.rerouted) × (handle.new.begun ≡ handle.old.begun) }
-    ensures kept { handle.new.at ≡ handle.old.at }
-    ensures written { result ≡ REVROUTE_ANSWERED → IfSome handle.old.session (λ s. AreHopsWritten s hops.old hops.new) }
-    ensures too_short { result ≡ REVROUTE_TOO_SHORT → length hops.old < size.new }
-    ensures size { IfSome handle.old.session (λ s. size.new ≡ s.nodes) }
+    ensures same { IsUnchanged handle.old handle.new }
+    ensures gives { GivesList (AreOnePerNode handle.old.session) (outcome result hops.old hops.new size.new) }
+    ensures hops { result ≡ REVROUTE_ANSWERED → IfSome handle.old.session (λ s. AreHopsWritten s hops.old hops.new) }
     ensures no_network { (result ≡ REVROUTE_NO_NETWORK) ↔ (handle.old.session ≡ None) }
-    ensures unchanged { ¬ (result ≡ REVROUTE_ANSWERED) → hops.new ≡ hops.old }
-    ensures none { result ≡ REVROUTE_NO_NETWORK → size.new ≡ 0 }
     ensures status { (result ≡ REVROUTE_ANSWERED) ⊎ (result ≡ REVROUTE_TOO_SHORT) ⊎ (result ≡ REVROUTE_NO_NETWORK) }
 {
     *size = 0;
@@ -361,16 +338,14 @@ pub extern "C" fn revroute_next_hops(handle: &mut Handle, hops: &mut [u32], size
     }
 }
 
-/// Writes the nodes that the last accepted round rerouted, in push order, into the front of the place, and how many there are to `size`. A new
-/// network reroutes the nodes whose hop is another one than in the network before; a number that is no node of one of them counts as cut off
-/// there. `TOO_SHORT` says that the place is as it was, and has less room. `O(r)` for r nodes.
+/// Writes the nodes that the last accepted round rerouted into the front of the place, in push order, and how many
+/// these are to `size`. A new network reroutes the nodes whose hop is another one than in the network before. A
+/// number that is no node of one of the two networks counts as cut off there. `TOO_SHORT` says that the place has
+/// less room, and is unchanged. `O(r)` for r nodes.
 #[unsafe(no_mangle)]
 pub extern "C" fn revroute_rerouted(handle: &mut Handle, nodes: &mut [u32], size: &mut usize) -> u32
-    ensures same { (handle.new.session ≡ handle.old.session) × (handle.new.rerouted ≡ handle.old.rerouted) × (handle.new.begun ≡ handle.old.begun) }
-    ensures kept { handle.new.at ≡ handle.old.at }
-    ensures written { result ≡ REVROUTE_ANSWERED → IsWritten handle.old.rerouted nodes.old nodes.new }
-    ensures too_short { result ≡ REVROUTE_TOO_SHORT → (length nodes.old < size.new) × (nodes.new ≡ nodes.old) }
-    ensures size { size.new ≡ length handle.old.rerouted }
+    ensures same { IsUnchanged handle.old handle.new }
+    ensures gives { GivesList (λ listed. listed ≡ handle.old.rerouted) (outcome result nodes.old nodes.new size.new) }
     ensures status { (result ≡ REVROUTE_ANSWERED) ⊎ (result ≡ REVROUTE_TOO_SHORT) }
 {
     match handle.engine_mut() {
@@ -379,10 +354,16 @@ pub extern "C" fn revroute_rerouted(handle: &mut Handle, nodes: &mut [u32], size
     }
 }
 
-/// Writes the nodes whose hop in a table of the caller's is another one than here, in push order, into the front of the place, and how many there
-/// are to `size`. The table has a hop for each node, as [`revroute_next_hops`] writes them; it may have loops. `TOO_SHORT` says that the place has
-/// less room, `NO_TABLE` that the table has not one hop for each node or names no node in one, `NO_NETWORK` that there is no network yet, and
-/// `NO_MEMORY` that an allocation was refused; `size` is 0 after these three. After each of the four the place is as it was. Nothing changes. `O(n)`.
+/// Writes the nodes whose hop differs from that in a table of the caller's into the front of the place, in push
+/// order, and how many these are to `size`. The table has a hop for each node, as [`revroute_next_hops`] writes them.
+/// It may have loops.
+///
+/// - `TOO_SHORT`: the place has less room.
+/// - `NO_TABLE`: the table has not one hop for each node, or one of its hops names no node.
+/// - `NO_NETWORK`: there is no network yet.
+/// - `NO_MEMORY`: an allocation was refused.
+///
+/// `size` is 0 after the last three. After each of the four the place is unchanged. Nothing else changes. `O(n)`.
 #[unsafe(no_mangle)]
 pub extern "C" fn revroute_pushes(
     alloc: Global,
@@ -391,15 +372,12 @@ pub extern "C" fn revroute_pushes(
     nodes: &mut [u32],
     size: &mut usize,
 ) -> u32
-    ensures same { (handle.new.session ≡ handle.old.session) × (handle.new.rerouted ≡ handle.old.rerouted) × (handle.new.begun ≡ handle.old.begun) }
-    ensures kept { handle.new.at ≡ handle.old.at }
-    ensures written { result ≡ REVROUTE_ANSWERED → IsGiven (ArePushesOf handle.old.session table.now) nodes.old nodes.new size.new }
-    ensures too_short { result ≡ REVROUTE_TOO_SHORT → (length nodes.old < size.new) × IsLength (ArePushesOf handle.old.session table.now) size.new }
+    ensures same { IsUnchanged handle.old handle.new }
+    ensures gives { GivesList (ArePushesOf handle.old.session table.now) (outcome result nodes.old nodes.new size.new) }
     ensures no_network { (result ≡ REVROUTE_NO_NETWORK) ↔ (handle.old.session ≡ None) }
     ensures no_table { result ≡ REVROUTE_NO_TABLE → IsNoTable handle.old.session table.now }
-    ensures unchanged { ¬ (result ≡ REVROUTE_ANSWERED) → nodes.new ≡ nodes.old }
-    ensures none { REVROUTE_TOO_SHORT < result → size.new ≡ 0 }
-    ensures status { (result ≡ REVROUTE_ANSWERED) ⊎ ((REVROUTE_TOO_SHORT ≤ result) × (result ≤ REVROUTE_NO_NETWORK)) ⊎ (result ≡ REVROUTE_NO_TABLE) }
+    ensures status { (result ≡ REVROUTE_ANSWERED) ⊎ ((REVROUTE_TOO_SHORT ≤ result) × (result ≤ REVROUTE_NO_NETWORK))
+        ⊎ (result ≡ REVROUTE_NO_TABLE) }
 {
     *size = 0;
     match handle.engine_mut() {
@@ -408,17 +386,13 @@ pub extern "C" fn revroute_pushes(
     }
 }
 
-/// Writes how often each node turned in the last round, in the order of the nodes, as [`revroute_next_hops`] does the hops. `O(n)`.
+/// Writes how often each node turned in the last round, in the order of the nodes. All else is as for
+/// [`revroute_next_hops`]. `O(n)`.
 #[unsafe(no_mangle)]
 pub extern "C" fn revroute_counts(handle: &mut Handle, counts: &mut [u64], size: &mut usize) -> u32
-    ensures same { (handle.new.session ≡ handle.old.session) × (handle.new.rerouted ≡ handle.old.rerouted) × (handle.new.begun ≡ handle.old.begun) }
-    ensures kept { handle.new.at ≡ handle.old.at }
-    ensures written { result ≡ REVROUTE_ANSWERED → IfSome handle.old.session (λ s. IsWritten s.counts counts.old counts.new) }
-    ensures too_short { result ≡ REVROUTE_TOO_SHORT → length counts.old < size.new }
-    ensures size { IfSome handle.old.session (λ s. size.new ≡ length s.counts) }
+    ensures same { IsUnchanged handle.old handle.new }
+    ensures gives { GivesList (AreCounts handle.old.session) (outcome result counts.old counts.new size.new) }
     ensures no_network { (result ≡ REVROUTE_NO_NETWORK) ↔ (handle.old.session ≡ None) }
-    ensures unchanged { ¬ (result ≡ REVROUTE_ANSWERED) → counts.new ≡ counts.old }
-    ensures none { result ≡ REVROUTE_NO_NETWORK → size.new ≡ 0 }
     ensures status { (result ≡ REVROUTE_ANSWERED) ⊎ (result ≡ REVROUTE_TOO_SHORT) ⊎ (result ≡ REVROUTE_NO_NETWORK) }
 {
     *size = 0;
@@ -428,10 +402,15 @@ pub extern "C" fn revroute_counts(handle: &mut Handle, counts: &mut [u64], size:
     }
 }
 
-/// Writes the nodes of the way from a node to the destination, hop by hop and with both ends, into the front of the place, and how many
-/// there are to `size`. `TOO_SHORT` says that the place has less room, `NO_ROUTE` that the node is cut off, or is none, `NO_NETWORK` that there
-/// is no network yet, and `NO_MEMORY` that an allocation was refused; `size` is 0 after these three. After each of the four the place is as
-/// it was. `O(r)` for r nodes of the route.
+/// Writes the nodes of the route from a node to the destination, with both ends, into the front of the place, and how
+/// many these are to `size`.
+///
+/// - `TOO_SHORT`: the place has less room.
+/// - `NO_ROUTE`: the node is cut off, or the number is no node.
+/// - `NO_NETWORK`: there is no network yet.
+/// - `NO_MEMORY`: an allocation was refused.
+///
+/// `size` is 0 after the last three. After each of the four the place is unchanged. `O(r)` for r nodes of the route.
 #[unsafe(no_mangle)]
 pub extern "C" fn revroute_route(
     alloc: Global,
@@ -440,14 +419,10 @@ pub extern "C" fn revroute_route(
     nodes: &mut [u32],
     size: &mut usize,
 ) -> u32
-    ensures same { (handle.new.session ≡ handle.old.session) × (handle.new.rerouted ≡ handle.old.rerouted) × (handle.new.begun ≡ handle.old.begun) }
-    ensures kept { handle.new.at ≡ handle.old.at }
-    ensures written { result ≡ REVROUTE_ANSWERED → IfSome handle.old.session (λ s. IsRouteWritten s node nodes.old nodes.new size.new) }
-    ensures too_short { result ≡ REVROUTE_TOO_SHORT → (length nodes.old < size.new) × IfSome handle.old.session (λ s. IsRouteLength s node size.new) }
+    ensures same { IsUnchanged handle.old handle.new }
+    ensures gives { GivesList (IsRouteFrom handle.old.session node) (outcome result nodes.old nodes.new size.new) }
     ensures no_network { (result ≡ REVROUTE_NO_NETWORK) ↔ (handle.old.session ≡ None) }
     ensures no_route { result ≡ REVROUTE_NO_ROUTE → IfSome handle.old.session (λ s. HasNoRoute s node) }
-    ensures unchanged { ¬ (result ≡ REVROUTE_ANSWERED) → nodes.new ≡ nodes.old }
-    ensures none { REVROUTE_TOO_SHORT < result → size.new ≡ 0 }
     ensures status { (result ≡ REVROUTE_ANSWERED) ⊎ ((REVROUTE_TOO_SHORT ≤ result) × (result ≤ REVROUTE_NO_ROUTE)) }
 {
     *size = 0;
@@ -457,9 +432,14 @@ pub extern "C" fn revroute_route(
     }
 }
 
-/// Writes tail and head of each link, in rising order of tail, then head, one link after the other, into the front of the place, and how many
-/// numbers these are to `size`: two for each link. `TOO_SHORT` says that the place has less room, `NO_NETWORK` that there is no network yet, and
-/// `NO_MEMORY` that an allocation was refused; `size` is 0 after these two. After each of the three the place is as it was. `O(n + m)`.
+/// Writes tail and head of each link, one link after the other, into the front of the place, and how many numbers
+/// these are to `size`: two for each link. The links come in rising order of tail, then head.
+///
+/// - `TOO_SHORT`: the place has less room.
+/// - `NO_NETWORK`: there is no network yet.
+/// - `NO_MEMORY`: an allocation was refused.
+///
+/// `size` is 0 after the last two. After each of the three the place is unchanged. `O(n + m)`.
 #[unsafe(no_mangle)]
 pub extern "C" fn revroute_links(
     alloc: Global,
@@ -467,13 +447,9 @@ pub extern "C" fn revroute_links(
     place: &mut [u32],
     size: &mut usize,
 ) -> u32
-    ensures same { (handle.new.session ≡ handle.old.session) × (handle.new.rerouted ≡ handle.old.rerouted) × (handle.new.begun ≡ handle.old.begun) }
-    ensures kept { handle.new.at ≡ handle.old.at }
-    ensures written { result ≡ REVROUTE_ANSWERED → IfSome handle.old.session (λ s. IsWritten (ends s.links) place.old place.new × (size.new ≡ length (ends s.links))) }
-    ensures too_short { result ≡ REVROUTE_TOO_SHORT → (length place.old < size.new) × IfSome handle.old.session (λ s. size.new ≡ length (ends s.links)) }
+    ensures same { IsUnchanged handle.old handle.new }
+    ensures gives { GivesList (AreEnds handle.old.session) (outcome result place.old place.new size.new) }
     ensures no_network { (result ≡ REVROUTE_NO_NETWORK) ↔ (handle.old.session ≡ None) }
-    ensures unchanged { ¬ (result ≡ REVROUTE_ANSWERED) → place.new ≡ place.old }
-    ensures none { REVROUTE_TOO_SHORT < result → size.new ≡ 0 }
     ensures status { (result ≡ REVROUTE_ANSWERED) ⊎ ((REVROUTE_TOO_SHORT ≤ result) × (result ≤ REVROUTE_NO_NETWORK)) }
 {
     *size = 0;
@@ -483,12 +459,11 @@ pub extern "C" fn revroute_links(
     }
 }
 
-/// What the last round reported: how many turns it took, to `turned`, and how many nodes are cut off, to `cut_off`. `NO_NETWORK` says that there
-/// is no network yet; both are then 0. `O(1)`.
+/// What the last round reported: the number of turns goes to `turned`, and the number of nodes that are cut off to
+/// `cut_off`. `NO_NETWORK` says that there is no network yet; both are then 0. `O(1)`.
 #[unsafe(no_mangle)]
 pub extern "C" fn revroute_report(handle: &mut Handle, turned: &mut u64, cut_off: &mut u64) -> u32
-    ensures same { (handle.new.session ≡ handle.old.session) × (handle.new.rerouted ≡ handle.old.rerouted) × (handle.new.begun ≡ handle.old.begun) }
-    ensures kept { handle.new.at ≡ handle.old.at }
+    ensures same { IsUnchanged handle.old handle.new }
     ensures report { result ≡ REVROUTE_ANSWERED → IfSome handle.old.session (λ s. IsReport s turned.new cut_off.new) }
     ensures no_network { (result ≡ REVROUTE_NO_NETWORK) ↔ (handle.old.session ≡ None) }
     ensures none { result ≡ REVROUTE_NO_NETWORK → (turned.new ≡ 0) × (cut_off.new ≡ 0) }
@@ -502,12 +477,13 @@ pub extern "C" fn revroute_report(handle: &mut Handle, turned: &mut u64, cut_off
     }
 }
 
-/// How many nodes and links there are, to `nodes` and `links`. `NO_NETWORK` says that there is no network yet; both are then 0. `O(1)`.
+/// How many nodes and links there are, to `nodes` and `links`. `NO_NETWORK` says that there is no network yet; both are
+/// then 0. `O(1)`.
 #[unsafe(no_mangle)]
 pub extern "C" fn revroute_size(handle: &mut Handle, nodes: &mut u32, links: &mut usize) -> u32
-    ensures same { (handle.new.session ≡ handle.old.session) × (handle.new.rerouted ≡ handle.old.rerouted) × (handle.new.begun ≡ handle.old.begun) }
-    ensures kept { handle.new.at ≡ handle.old.at }
-    ensures size { result ≡ REVROUTE_ANSWERED → IfSome handle.old.session (λ s. (nodes.new ≡ s.nodes) × (links.new ≡ length s.links)) }
+    ensures same { IsUnchanged handle.old handle.new }
+    ensures size { result ≡ REVROUTE_ANSWERED
+        → IfSome handle.old.session (λ s. (nodes.new ≡ s.nodes) × (links.new ≡ length s.links)) }
     ensures no_network { (result ≡ REVROUTE_NO_NETWORK) ↔ (handle.old.session ≡ None) }
     ensures none { result ≡ REVROUTE_NO_NETWORK → (nodes.new ≡ 0) × (links.new ≡ 0) }
     ensures status { (result ≡ REVROUTE_ANSWERED) ⊎ (result ≡ REVROUTE_NO_NETWORK) }

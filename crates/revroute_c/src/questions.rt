@@ -2,8 +2,9 @@
 
 ghost use Rattle.std.specs.Prelude.{◌≡◌, ◌<◌, ◌≤◌, ◌⊎◌, ◌↔◌, length, None, IfOk, IfSome};
 ghost use Rattle.fr_route.specs.States.{IsReport};
-ghost use Rattle.revroute_c.specs.Questions.{number_of, AreHopNumbers, AreHopsWritten, HasNoRoute, IsHopNumber, IsRouteLength, IsRouteWritten, TellsHop, ends};
-ghost use Rattle.revroute_c.specs.Replies.{IsWritten};
+ghost use Rattle.revroute_c.specs.Questions.{number_of, AreCounts, AreEnds, AreHopNumbers, AreHopsWritten};
+ghost use Rattle.revroute_c.specs.Questions.{AreOnePerNode, HasNoRoute, IsHopNumber, IsRouteFrom, TellsHop, ends};
+ghost use Rattle.revroute_c.specs.Replies.{outcome, GivesList};
 
 use crate::replies::hand_out;
 use crate::statuses::{ANSWERED, NO_MEMORY, NO_NETWORK, NO_ROUTE, TOO_SHORT};
@@ -53,9 +54,9 @@ fn fill_hops(router: &Router, place: &mut [u32])
 
 /// Writes where each node sends on to into the front of a place, if that has room.
 fn hand_out_hops(router: &Router, place: &mut [u32], size: &mut usize) -> u32
-    ensures written { result ≡ ANSWERED → AreHopsWritten router.now place.old place.new }
-    ensures too_short { result ≡ TOO_SHORT → (length place.old < router.now.nodes) × (place.new ≡ place.old) }
-    ensures size { size.new ≡ router.now.nodes }
+    ensures gives { GivesList (λ numbers. length numbers ≡ router.now.nodes)
+        (outcome result place.old place.new size.new) }
+    ensures hops { result ≡ ANSWERED → AreHopsWritten router.now place.old place.new }
     ensures status { (result ≡ ANSWERED) ⊎ (result ≡ TOO_SHORT) }
 {
     let nodes = router.net().nodes() as usize;
@@ -83,12 +84,9 @@ pub(crate) fn hop_in(session: &Session, node: u32) -> u32
 /// Writes where each node sends on to, if there is a network. `size` has to be 0.
 pub(crate) fn hops_in(session: &Session, hops: &mut [u32], size: &mut usize) -> u32
     requires { size.old ≡ 0 }
-    ensures written { result ≡ ANSWERED → IfSome session.now (λ s. AreHopsWritten s hops.old hops.new) }
-    ensures too_short { result ≡ TOO_SHORT → length hops.old < size.new }
-    ensures size { IfSome session.now (λ s. size.new ≡ s.nodes) }
+    ensures gives { GivesList (AreOnePerNode session.now) (outcome result hops.old hops.new size.new) }
+    ensures hops { result ≡ ANSWERED → IfSome session.now (λ s. AreHopsWritten s hops.old hops.new) }
     ensures no_network { (result ≡ NO_NETWORK) ↔ (session.now ≡ None) }
-    ensures unchanged { ¬ (result ≡ ANSWERED) → hops.new ≡ hops.old }
-    ensures none { result ≡ NO_NETWORK → size.new ≡ 0 }
     ensures status { (result ≡ ANSWERED) ⊎ (result ≡ TOO_SHORT) ⊎ (result ≡ NO_NETWORK) }
 {
     match session.router() {
@@ -100,12 +98,8 @@ pub(crate) fn hops_in(session: &Session, hops: &mut [u32], size: &mut usize) -> 
 /// Writes how often each node turned in the last round, if there is a network. `size` has to be 0.
 pub(crate) fn counts_in(session: &Session, counts: &mut [u64], size: &mut usize) -> u32
     requires { size.old ≡ 0 }
-    ensures written { result ≡ ANSWERED → IfSome session.now (λ s. IsWritten s.counts counts.old counts.new) }
-    ensures too_short { result ≡ TOO_SHORT → length counts.old < size.new }
-    ensures size { IfSome session.now (λ s. size.new ≡ length s.counts) }
+    ensures gives { GivesList (AreCounts session.now) (outcome result counts.old counts.new size.new) }
     ensures no_network { (result ≡ NO_NETWORK) ↔ (session.now ≡ None) }
-    ensures unchanged { ¬ (result ≡ ANSWERED) → counts.new ≡ counts.old }
-    ensures none { result ≡ NO_NETWORK → size.new ≡ 0 }
     ensures status { (result ≡ ANSWERED) ⊎ (result ≡ TOO_SHORT) ⊎ (result ≡ NO_NETWORK) }
 {
     match session.router() {
@@ -123,12 +117,9 @@ pub(crate) fn route_in(
     size: &mut usize,
 ) -> u32
     requires { size.old ≡ 0 }
-    ensures written { result ≡ ANSWERED → IfSome session.now (λ s. IsRouteWritten s node nodes.old nodes.new size.new) }
-    ensures too_short { result ≡ TOO_SHORT → (length nodes.old < size.new) × IfSome session.now (λ s. IsRouteLength s node size.new) }
+    ensures gives { GivesList (IsRouteFrom session.now node) (outcome result nodes.old nodes.new size.new) }
     ensures no_network { (result ≡ NO_NETWORK) ↔ (session.now ≡ None) }
     ensures no_route { result ≡ NO_ROUTE → IfSome session.now (λ s. HasNoRoute s node) }
-    ensures unchanged { ¬ (result ≡ ANSWERED) → nodes.new ≡ nodes.old }
-    ensures none { TOO_SHORT < result → size.new ≡ 0 }
     ensures status { (result ≡ ANSWERED) ⊎ ((TOO_SHORT ≤ result) × (result ≤ NO_ROUTE)) }
 {
     let Some(router) = session.router() else {
@@ -180,11 +171,8 @@ pub(crate) fn size_in(session: &Session, nodes: &mut u32, links: &mut usize) -> 
 /// Writes tail and head of each link, if there is a network. `size` has to be 0.
 pub(crate) fn links_in(session: &Session, alloc: Global, place: &mut [u32], size: &mut usize) -> u32
     requires { size.old ≡ 0 }
-    ensures written { result ≡ ANSWERED → IfSome session.now (λ s. IsWritten (ends s.links) place.old place.new × (size.new ≡ length (ends s.links))) }
-    ensures too_short { result ≡ TOO_SHORT → (length place.old < size.new) × IfSome session.now (λ s. size.new ≡ length (ends s.links)) }
+    ensures gives { GivesList (AreEnds session.now) (outcome result place.old place.new size.new) }
     ensures no_network { (result ≡ NO_NETWORK) ↔ (session.now ≡ None) }
-    ensures unchanged { ¬ (result ≡ ANSWERED) → place.new ≡ place.old }
-    ensures none { TOO_SHORT < result → size.new ≡ 0 }
     ensures status { (result ≡ ANSWERED) ⊎ ((TOO_SHORT ≤ result) × (result ≤ NO_NETWORK)) }
 {
     let Some(router) = session.router() else {

@@ -1,13 +1,9 @@
 //! Answers in the buffer of a caller.
 
 ghost use Rattle.std.specs.Prelude.{◌≡◌, ◌≢◌, ◌≤◌, ◌<◌, ◌⊎◌, false, length};
-ghost use denote.RawPtr.{null_ptr};
-ghost use Rattle.fr_lines.specs.Requests.{reading};
 ghost use Rattle.fr_route.specs.Blank.{is_blank};
-ghost use Rattle.fr_route.specs.Told.{IsLineTold};
-ghost use Rattle.revroute_c.specs.Engines.{no_engine};
-ghost use Rattle.revroute_c.specs.Lending.{held_by};
-ghost use Rattle.revroute_c.specs.Replies.{least_room, IsAnswered, IsAnswerLength, IsWritten};
+ghost use Rattle.revroute_c.specs.Lending.{held_by, IsNull};
+ghost use Rattle.revroute_c.specs.Replies.{least_room, outcome, AnswersApart, IsWritten};
 
 use crate::engine::Engine;
 use crate::handle::Handle;
@@ -15,8 +11,8 @@ use crate::statuses::{ANSWERED, BLANK, NO_MEMORY, TOO_SHORT};
 use fr_route::AnswerFault;
 use std::alloc::Global;
 
-/// The least room for an answer, in bytes: each answer that changes the session fits into it. So where a text is too long for a
-/// buffer of this room, it changes nothing.
+/// The least room for an answer, in bytes: each answer that changes the session fits into it. So where a text is too
+/// long for a buffer of this room, it changes nothing.
 pub(crate) const LEAST_ROOM: usize = 64;
 
 /// Writes items to the front of a buffer that has room for them, and tells how many they are in any case.
@@ -34,8 +30,8 @@ pub(crate) fn hand_out<T: Copy>(items: &[T], buffer: &mut [T], size: &mut usize)
     ANSWERED
 }
 
-/// Answers a line that is not blank, in a buffer of at least [`LEAST_ROOM`] bytes. `size` has to be 0, and stays so where there is
-/// no memory.
+/// Answers a line that is not blank, in a buffer of at least [`LEAST_ROOM`] bytes. `size` has to be 0, and stays so
+/// where there is no memory.
 pub(crate) fn reply(
     engine: &mut Engine,
     alloc: Global,
@@ -46,13 +42,8 @@ pub(crate) fn reply(
     requires asks { is_blank line.now ≡ false }
     requires room { least_room ≤ length answer.old }
     requires size { size.old ≡ 0 }
-    ensures answered { result ≡ ANSWERED → IsAnswered engine.old.session line.now engine.new.session answer.old answer.new size.new }
-    ensures told { result ≡ ANSWERED → IsLineTold engine.old.session (reading line.now) engine.new.session engine.old.rerouted engine.new.rerouted }
-    ensures begun { engine.new.begun ≡ engine.old.begun }
-    ensures too_short { result ≡ TOO_SHORT → (length answer.old < size.new) × IsAnswerLength engine.old.session line.now size.new }
-    ensures no_memory { result ≡ NO_MEMORY → size.new ≡ 0 }
-    ensures unchanged { ¬ (result ≡ ANSWERED) → (engine.new ≡ engine.old) × (answer.new ≡ answer.old) }
-    ensures status { (result ≢ BLANK) × (result ≤ NO_MEMORY) }
+    ensures answers { AnswersApart line.now engine.old engine.new (outcome result answer.old answer.new size.new) }
+    ensures not_blank { result ≢ BLANK }
 {
     match engine
         .session
@@ -72,18 +63,13 @@ pub(crate) fn reply_anew(
     answer: &mut [u8],
     size: &mut usize,
 ) -> u32
-    requires null { handle.old.at ≡ null_ptr }
-    requires held { held_by handle.old ≡ no_engine }
+    requires null { IsNull handle.old }
     requires asks { is_blank line.now ≡ false }
     requires room { least_room ≤ length answer.old }
     requires size { size.old ≡ 0 }
-    ensures answered { result ≡ ANSWERED → IsAnswered handle.old.session line.now handle.new.session answer.old answer.new size.new }
-    ensures told { result ≡ ANSWERED → IsLineTold handle.old.session (reading line.now) handle.new.session handle.old.rerouted handle.new.rerouted }
-    ensures begun { handle.new.begun ≡ handle.old.begun }
-    ensures too_short { result ≡ TOO_SHORT → (length answer.old < size.new) × IsAnswerLength handle.old.session line.now size.new }
-    ensures no_memory { result ≡ NO_MEMORY → size.new ≡ 0 }
-    ensures unchanged { ¬ (result ≡ ANSWERED) → (handle.new ≡ handle.old) × (answer.new ≡ answer.old) }
-    ensures status { (result ≢ BLANK) × (result ≤ NO_MEMORY) }
+    ensures answers { AnswersApart line.now (held_by handle.old) (held_by handle.new)
+        (outcome result answer.old answer.new size.new) }
+    ensures kept { ¬ (result ≡ ANSWERED) → handle.new ≡ handle.old }
 {
     let Ok(mut engine) = Box::new(alloc, Engine::new(alloc)) else {
         return NO_MEMORY;

@@ -1,7 +1,6 @@
 //! Calls with numbers that begin a round: a network, edits, another destination.
 
-ghost use Rattle.std.specs.Prelude.{◌≡◌, ◌≢◌, ◌≤◌, ◌<◌, ◌⊎◌, ◌↔◌, length, map, None, Some, IfOk, IfErr, IfSome};
-ghost use denote.RawPtr.{null_ptr};
+ghost use Rattle.std.specs.Prelude.{◌≡◌, ◌≢◌, ◌≤◌, ◌⊎◌, ◌↔◌, length, map, None, IfOk, IfErr};
 ghost use Rattle.fr_graph.specs.Batches.{AreMade, IsBatchFault};
 ghost use Rattle.fr_graph.specs.Faults.{IsFirstFault, IsNetworkOf};
 ghost use Rattle.fr_graph.specs.Limits.{most_edits};
@@ -9,10 +8,10 @@ ghost use Rattle.fr_lines.specs.Requests.{make_edits, move_dest, new_network};
 ghost use Rattle.fr_graph.specs.declared.fault.EditFault.{EditFault};
 ghost use Rattle.fr_graph.specs.declared.fault.NetFault.TheVariants.{Memory};
 ghost use Rattle.fr_route.specs.Answers.{IsAccepted};
-ghost use Rattle.revroute_c.specs.Engines.{no_engine};
-ghost use Rattle.revroute_c.specs.Lending.{held_by};
+ghost use Rattle.revroute_c.specs.Lending.{held_by, IsNull};
 ghost use Rattle.revroute_c.specs.Records.{AreKnown, edit_of, link_of};
-ghost use Rattle.revroute_c.specs.Rounds.{IsChangeRefused, IsEditRefused, IsMoveRefused, IsNewFault, IsNewRefused, IsNewRound, first_step, nodes_named, nodes_of_edit, refusal_at};
+ghost use Rattle.revroute_c.specs.Rounds.{round_outcome, BeginsRound, IsChangeRefused, IsEditRefused, IsMoveRefused};
+ghost use Rattle.revroute_c.specs.Rounds.{IsNewFault, IsNewRefused, first_step, nodes_named, nodes_of_edit, refusal_at};
 
 use crate::engine::Engine;
 use crate::handle::Handle;
@@ -79,19 +78,31 @@ pub(crate) fn network_of(alloc: Global, nodes: u32, links: &[Link]) -> Result<Ne
     Net::new(alloc, nodes, &pairs)
 }
 
-/// The router of a network of these links; a destination that is no node is out of range.
-fn opened(alloc: Global, nodes: u32, dest: u32, links: &[Link]) -> Result<Router, NetFault>
-    ensures accepted { IfOk result (IsAccepted None (new_network nodes dest (map link_of links.now))) }
-    ensures refused { IfErr result (λ fault. fault ≢ Memory → IsNewFault nodes dest (map link_of links.now) fault) }
-{
-    let net = network_of(alloc, nodes, links)?;
-    if dest >= nodes {
-        return Err(NetFault::Range(dest));
-    }
-    match Router::open_alone(alloc, net, dest) {
-        Ok(router) => Ok(router),
-        Err(RouteFault::Memory) => Err(NetFault::Memory),
-        Err(RouteFault::Net(_) | RouteFault::Range | RouteFault::Start) => unreachable!(),
+/// A network that a caller asks for, with its destination.
+#[derive(Drop)]
+pub(crate) struct NewNetwork<'a> {
+    pub(crate) nodes: u32,
+    pub(crate) dest: u32,
+    pub(crate) links: &'a [Link],
+}
+
+impl<'a> NewNetwork<'a> {
+    /// The router of the network; a destination that is no node is out of range.
+    fn opened(&self, alloc: Global) -> Result<Router, NetFault>
+        ensures accepted { IfOk result (IsAccepted None
+            (new_network self.now.nodes self.now.dest (map link_of self.now.links.now))) }
+        ensures refused { IfErr result (λ fault. fault ≢ Memory
+            → IsNewFault self.now.nodes self.now.dest (map link_of self.now.links.now) fault) }
+    {
+        let net = network_of(alloc, self.nodes, self.links)?;
+        if self.dest >= self.nodes {
+            return Err(NetFault::Range(self.dest));
+        }
+        match Router::open_alone(alloc, net, self.dest) {
+            Ok(router) => Ok(router),
+            Err(RouteFault::Memory) => Err(NetFault::Memory),
+            Err(RouteFault::Net(_) | RouteFault::Range | RouteFault::Start) => unreachable!(),
+        }
     }
 }
 
@@ -99,20 +110,16 @@ fn opened(alloc: Global, nodes: u32, dest: u32, links: &[Link]) -> Result<Router
 pub(crate) fn open_in(
     engine: &mut Engine,
     alloc: Global,
-    nodes: u32,
-    dest: u32,
-    links: &[Link],
+    asked: &NewNetwork,
     round: &mut Round,
     refusal: &mut Refusal,
 ) -> u32
-    ensures answered { result ≡ ANSWERED → IsNewRound engine.old.session (new_network nodes dest (map link_of links.now)) engine.new.session engine.old.rerouted engine.new.rerouted round.new }
-    ensures refused { result ≡ REFUSED → IsNewRefused nodes dest (map link_of links.now) refusal.new }
-    ensures begun { engine.new.begun ≡ engine.old.begun }
-    ensures unchanged { ¬ (result ≡ ANSWERED) → (engine.new ≡ engine.old) × (round.new ≡ round.old) }
-    ensures unrefused { ¬ (result ≡ REFUSED) → refusal.new ≡ refusal.old }
+    ensures begins { BeginsRound (new_network asked.now.nodes asked.now.dest (map link_of asked.now.links.now))
+        (IsNewRefused asked.now.nodes asked.now.dest (map link_of asked.now.links.now)) engine.old engine.new
+        (round_outcome result round.old round.new refusal.old refusal.new) }
     ensures status { (result ≡ ANSWERED) ⊎ (result ≡ NO_MEMORY) ⊎ (result ≡ REFUSED) }
 {
-    let router = match opened(alloc, nodes, dest, links) {
+    let router = match asked.opened(alloc) {
         Ok(router) => router,
         Err(NetFault::Memory) => return NO_MEMORY,
         Err(fault) => {
@@ -133,25 +140,22 @@ pub(crate) fn open_in(
 pub(crate) fn open_anew(
     handle: &mut Handle,
     alloc: Global,
-    nodes: u32,
-    dest: u32,
-    links: &[Link],
+    asked: &NewNetwork,
     round: &mut Round,
     refusal: &mut Refusal,
 ) -> u32
-    requires null { handle.old.at ≡ null_ptr }
-    requires held { held_by handle.old ≡ no_engine }
-    ensures answered { result ≡ ANSWERED → IsNewRound handle.old.session (new_network nodes dest (map link_of links.now)) handle.new.session handle.old.rerouted handle.new.rerouted round.new }
-    ensures refused { result ≡ REFUSED → IsNewRefused nodes dest (map link_of links.now) refusal.new }
-    ensures begun { handle.new.begun ≡ handle.old.begun }
-    ensures unchanged { ¬ (result ≡ ANSWERED) → (handle.new ≡ handle.old) × (round.new ≡ round.old) }
-    ensures unrefused { ¬ (result ≡ REFUSED) → refusal.new ≡ refusal.old }
+    requires null { IsNull handle.old }
+    ensures begins { BeginsRound (new_network asked.now.nodes asked.now.dest (map link_of asked.now.links.now))
+        (IsNewRefused asked.now.nodes asked.now.dest (map link_of asked.now.links.now))
+        (held_by handle.old) (held_by handle.new)
+        (round_outcome result round.old round.new refusal.old refusal.new) }
+    ensures kept { ¬ (result ≡ ANSWERED) → handle.new ≡ handle.old }
     ensures status { (result ≡ ANSWERED) ⊎ (result ≡ NO_MEMORY) ⊎ (result ≡ REFUSED) }
 {
     let Ok(mut engine) = Box::new(alloc, Engine::new(alloc)) else {
         return NO_MEMORY;
     };
-    let status = open_in(&mut engine, alloc, nodes, dest, links, round, refusal);
+    let status = open_in(&mut engine, alloc, asked, round, refusal);
     if status == ANSWERED {
         Handle::put(handle, engine);
     }
@@ -162,7 +166,8 @@ pub(crate) fn open_anew(
 pub(crate) fn edited(net: &Net, alloc: Global, edits: &[LinkEdit]) -> Result<Net, EditFault>
     ensures few { IfOk result (λ _. length edits.now ≤ most_edits) }
     ensures made { IfOk result (AreMade net.now (map edit_of edits.now)) }
-    ensures refused { IfErr result (λ refused. refused.fault ≢ Memory → IsBatchFault net.now (map edit_of edits.now) refused) }
+    ensures refused { IfErr result (λ refused. refused.fault ≢ Memory
+        → IsBatchFault net.now (map edit_of edits.now) refused) }
 {
     let made = edits_of(alloc, edits)?;
     net.with_edits(alloc, &made)
@@ -200,12 +205,10 @@ pub(crate) fn change_in(
     refusal: &mut Refusal,
 ) -> u32
     requires { AreKnown edits.now }
-    ensures answered { result ≡ ANSWERED → IsNewRound engine.old.session (make_edits (map edit_of edits.now)) engine.new.session engine.old.rerouted engine.new.rerouted round.new }
-    ensures refused { result ≡ REFUSED → IsChangeRefused engine.old.session edits.now refusal.new }
+    ensures begins { BeginsRound (make_edits (map edit_of edits.now)) (IsChangeRefused engine.old.session edits.now)
+        engine.old engine.new
+        (round_outcome result round.old round.new refusal.old refusal.new) }
     ensures no_network { (result ≡ NO_NETWORK) ↔ (engine.old.session ≡ None) }
-    ensures begun { engine.new.begun ≡ engine.old.begun }
-    ensures unchanged { ¬ (result ≡ ANSWERED) → (engine.new ≡ engine.old) × (round.new ≡ round.old) }
-    ensures unrefused { ¬ (result ≡ REFUSED) → refusal.new ≡ refusal.old }
     ensures status { (result ≡ ANSWERED) ⊎ (result ≡ NO_MEMORY) ⊎ (result ≡ NO_NETWORK) ⊎ (result ≡ REFUSED) }
 {
     let Some(router) = engine.session.router_mut() else {
@@ -237,12 +240,9 @@ pub(crate) fn move_in(
     round: &mut Round,
     refusal: &mut Refusal,
 ) -> u32
-    ensures answered { result ≡ ANSWERED → IsNewRound engine.old.session (move_dest dest) engine.new.session engine.old.rerouted engine.new.rerouted round.new }
-    ensures refused { result ≡ REFUSED → IsMoveRefused engine.old.session dest refusal.new }
+    ensures begins { BeginsRound (move_dest dest) (IsMoveRefused engine.old.session dest) engine.old engine.new
+        (round_outcome result round.old round.new refusal.old refusal.new) }
     ensures no_network { (result ≡ NO_NETWORK) ↔ (engine.old.session ≡ None) }
-    ensures begun { engine.new.begun ≡ engine.old.begun }
-    ensures unchanged { ¬ (result ≡ ANSWERED) → (engine.new ≡ engine.old) × (round.new ≡ round.old) }
-    ensures unrefused { ¬ (result ≡ REFUSED) → refusal.new ≡ refusal.old }
     ensures status { (result ≡ ANSWERED) ⊎ (result ≡ NO_MEMORY) ⊎ (result ≡ NO_NETWORK) ⊎ (result ≡ REFUSED) }
 {
     let Some(router) = engine.session.router_mut() else {

@@ -1,7 +1,7 @@
 //! Where a table of a caller's differs from the settled hops.
 
-ghost use Rattle.std.specs.Prelude.{◌≡◌, ◌≤◌, ◌<◌, ◌⊎◌, ◌↔◌, length, map, None, IfOk};
-ghost use Rattle.revroute_c.specs.Replies.{IsGiven, IsLength};
+ghost use Rattle.std.specs.Prelude.{◌≡◌, ◌≤◌, ◌⊎◌, ◌↔◌, map, None, IfOk};
+ghost use Rattle.revroute_c.specs.Replies.{outcome, GivesList};
 ghost use Rattle.revroute_c.specs.Tables.{ArePushesOf, IsNoTable, hop_of as hop_named};
 
 use crate::questions::{CUT_OFF, HERE};
@@ -42,12 +42,9 @@ pub(crate) fn pushes_in(
     size: &mut usize,
 ) -> u32
     requires { size.old ≡ 0 }
-    ensures written { result ≡ ANSWERED → IsGiven (ArePushesOf session.now table.now) nodes.old nodes.new size.new }
-    ensures too_short { result ≡ TOO_SHORT → (length nodes.old < size.new) × IsLength (ArePushesOf session.now table.now) size.new }
+    ensures gives { GivesList (ArePushesOf session.now table.now) (outcome result nodes.old nodes.new size.new) }
     ensures no_network { (result ≡ NO_NETWORK) ↔ (session.now ≡ None) }
     ensures no_table { result ≡ NO_TABLE → IsNoTable session.now table.now }
-    ensures unchanged { ¬ (result ≡ ANSWERED) → nodes.new ≡ nodes.old }
-    ensures none { TOO_SHORT < result → size.new ≡ 0 }
     ensures status { (result ≡ ANSWERED) ⊎ ((TOO_SHORT ≤ result) × (result ≤ NO_NETWORK)) ⊎ (result ≡ NO_TABLE) }
 {
     let Some(router) = session.router() else {

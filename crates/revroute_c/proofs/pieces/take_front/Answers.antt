@@ -1,25 +1,41 @@
-use Rattle.std.proofs.Common.{rules, ◌≡◌, ◌∙◌, ◌+◌, ◌++◌, ℕ, List, ap, refl, sym, take}
+use Rattle.std.proofs.Common.{rules, ◌≡◌, ◌+◌, ℕ, List, ap, arith, inl, inr, refl, ⊎_elim, Option}
+use Rattle.std.proofs.lemmas.Grind.{common_steps}
+use Rattle.fr_route.specs.States.{State}
 use Rattle.revroute_c.specs.Engines.{Held}
+use Rattle.revroute_c.specs.Replies.{IsWanted}
+use Rattle.revroute_c.specs.Pieces.{EndsLine, IsWantedAtEnd}
 use Rattle.revroute_c.specs.declared.statuses.TheConstants.{BEGUN}
 use Rattle.revroute_c.proofs.pieces.take_front.Goals as goal
 
-pub returns-then-status-le-BLANK-clause-answered : goal.returns-then-status-le-BLANK-clause-answered
-returns-then-status-le-BLANK-clause-answered c is =
-    let held : c.hold-held.result ≡ BEGUN = search rules in
-    let line : List ℕ = c.hold-held.new.begun.items in
-    let answered = c.finish_line-status.ensures.answered is in
-    (line, record { end = c.in-Some.end; at = sym c.in-Some.ensures; line_is = c.hold-held.ensures.held held ∙ ap (λ (bytes : List ℕ). bytes ++ take c.in-Some.end c.args.piece.now) (ap (λ (e : Held). e.begun) c.engine.view_is); short = c.hold-held.ensures.within held; count_is = refl }, rw (ap (λ (e : Held). e.session) c.engine.view_is) at answered.0, rw (ap (λ (e : Held). e.rerouted) c.engine.view_is) at (rw (ap (λ (e : Held). e.session) c.engine.view_is) at answered.1))
+wanted_at_end : (s : Option State) (begun piece line : List ℕ) (room size count : ℕ) → EndsLine begun piece line count → IsWanted s line room size → IsWantedAtEnd s begun piece room size
+wanted_at_end s begun piece line room size count ends = ⊎_elim
+    (λ least. inl least)
+    (λ long. inr (record { line = line; count = count; ends = ends; answer = long.1 }))
 
-pub returns-then-status-le-BLANK-clause-blank : goal.returns-then-status-le-BLANK-clause-blank
-returns-then-status-le-BLANK-clause-blank c is =
+pub returns-then-status-gt-BLANK : goal.returns-then-status-gt-BLANK
+returns-then-status-gt-BLANK c =
     let held : c.hold-held.result ≡ BEGUN = search rules in
-    let line : List ℕ = c.hold-held.new.begun.items in
-    let blank = c.finish_line-status.ensures.blank is in
-    (line, record { end = c.in-Some.end; at = sym c.in-Some.ensures; line_is = c.hold-held.ensures.held held ∙ ap (λ (bytes : List ℕ). bytes ++ take c.in-Some.end c.args.piece.now) (ap (λ (e : Held). e.begun) c.engine.view_is); short = c.hold-held.ensures.within held; count_is = refl }, blank.0, blank.1)
-
-pub returns-else-status-le-BLANK-clause-too_short : goal.returns-else-status-le-BLANK-clause-too_short
-returns-else-status-le-BLANK-clause-too_short c is =
-    let held : c.hold-held.result ≡ BEGUN = search rules in
-    let line : List ℕ = c.hold-held.new.begun.items in
-    let short = c.finish_line-status.ensures.too_short is in
-    (short.0, record { line = line; count = c.in-Some.end + 1; ends = record { end = c.in-Some.end; at = sym c.in-Some.ensures; line_is = c.hold-held.ensures.held held ∙ ap (λ (bytes : List ℕ). bytes ++ take c.in-Some.end c.args.piece.now) (ap (λ (e : Held). e.begun) c.engine.view_is); short = c.hold-held.ensures.within held; count_is = refl }; answer = rw (ap (λ (e : Held). e.session) c.engine.view_is) at short.1 })
+    let ends : EndsLine c.args.engine.now.begun c.args.piece.now c.hold-held.new.begun.items (c.front_size-end.result + 1) = record {
+      end = c.front_size-end.result;
+      at = grind (arith, common_steps);
+      line_is = grind (arith, common_steps);
+      short = c.hold-held.ensures.within held;
+      count_is = refl;
+    } in
+    record {
+      answered = search rules;
+      blank = search rules;
+      blank_line = grind (arith, common_steps);
+      ended = search rules;
+      kept = search rules;
+      within = search rules;
+      too_short = λ is.
+          let short = c.finish_line-status.ensures.answers.too_short is in
+          (short.0, wanted_at_end _ _ _ _ _ _ _ ends (rw (ap (λ (e : Held). e.session) c.engine.view_is) at short.1));
+      no_memory = search rules;
+      too_long = search rules;
+      unchanged = search rules;
+      untaken = λ _ _. (grind (arith, common_steps), refl);
+      room = search rules;
+      status = search rules;
+    }
