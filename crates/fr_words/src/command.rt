@@ -139,21 +139,16 @@ fn answering<'a>(alloc: Global, name: &'a str, about: &'a str) -> Result<Command
 {
     let command = described(alloc, name, about, REQUESTS);
     let command = with_option(
-        alloc,
         command,
-        "workers",
-        "4",
-        worker_numbers(),
-        RUN_WORKERS,
+        option(alloc, "workers", "4", worker_numbers(), RUN_WORKERS),
     )?;
-    let command = with_option(alloc, command, "seed", "0", value_parser!(u64), RUN_SEED)?;
-    with_option(
-        alloc,
+    let command = with_option(
         command,
-        "budget",
-        "1000000",
-        budget_numbers(),
-        BUDGET,
+        option(alloc, "seed", "0", value_parser!(u64), RUN_SEED),
+    )?;
+    with_option(
+        command,
+        option(alloc, "budget", "1000000", budget_numbers(), BUDGET),
     )
 }
 
@@ -163,15 +158,17 @@ fn play_command<'a>(alloc: Global) -> Result<Command<'a>, AllocError>
 {
     let command = described(alloc, "play", PLAY_ABOUT, PLAY_EXAMPLE);
     let command = with_option(
-        alloc,
         command,
-        "workers",
-        "2",
-        worker_numbers(),
-        PLAY_WORKERS,
+        option(alloc, "workers", "2", worker_numbers(), PLAY_WORKERS),
     )?;
-    let command = with_option(alloc, command, "seed", "0", value_parser!(u64), PLAY_SEED)?;
-    with_option(alloc, command, "steps", "100", step_numbers(), STEPS)
+    let command = with_option(
+        command,
+        option(alloc, "seed", "0", value_parser!(u64), PLAY_SEED),
+    )?;
+    with_option(
+        command,
+        option(alloc, "steps", "100", step_numbers(), STEPS),
+    )
 }
 
 /// A command of this name, with what it is for and an example.
@@ -182,20 +179,14 @@ fn described<'a>(alloc: Global, name: &'a str, about: &'a str, example: &'a str)
     Command::new(alloc, name).about(about).after_help(example)
 }
 
-/// The command with one [`option`] more.
-fn with_option<'a>(
-    alloc: Global,
-    command: Command<'a>,
-    name: &'a str,
-    default: &'a str,
-    numbers: ValueParser<'a>,
-    help: &'a str,
-) -> Result<Command<'a>, AllocError>
-    requires { (out-Command command).has_globals ≡ false }
-    ensures { IfOk result (λ c. (app_of c ≡ with_rule (app_of command.entry) (option_of name.entry.now default.entry.now numbers.entry))
+/// The command with this option more.
+fn with_option<'a>(command: Command<'a>, option: Arg<'a>) -> Result<Command<'a>, AllocError>
+    requires command { (out-Command command).has_globals ≡ false }
+    requires local { option.global ≡ false }
+    ensures { IfOk result (λ c. (app_of c ≡ with_rule (app_of command.entry) (rule_of option.entry))
         × ((out-Command c).has_globals ≡ false)) }
 {
-    command.arg(option(alloc, name, default, numbers, help))
+    command.arg(option)
 }
 
 /// An option with a number, by its name, with the text that stands for it where it is not given.
