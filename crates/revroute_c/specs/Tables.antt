@@ -1,5 +1,5 @@
 -- Where a table of a caller's differs from the settled hops. Its hops are numbers, as those that questions answer.
-use Rattle.std.specs.Prelude.{◌≡◌, ◌≢◌, ℕ, ◌⊎◌, ◌==◌, if◌then◌else◌, List, length, map, Option, Some, None}
+use Rattle.std.specs.Prelude.{◌≢◌, ℕ, ◌⊎◌, ◌==◌, if◌then◌else◌, List, length, map, Option, Some, None}
 use Rattle.fr_route.specs.Reroutes.{ArePushes}
 use Rattle.fr_route.specs.States.{State}
 use Rattle.fr_tables.specs.Tables.{IsFirstOutside}

@@ -1,4 +1,4 @@
-use Rattle.std.proofs.Common.{rules, ◌≡◌, ◌+◌, ℕ, List, ap, arith, inl, inr, refl, ⊎_elim, Option}
+use Rattle.std.proofs.Common.{rules, ◌≡◌, ◌∙◌, ◌+◌, ◌++◌, take, ℕ, List, ap, arith, inl, inr, refl, ⊎_elim, Option}
 use Rattle.std.proofs.lemmas.Grind.{common_steps}
 use Rattle.fr_route.specs.States.{State}
 use Rattle.revroute_c.specs.Engines.{Held}
@@ -18,7 +18,7 @@ returns-then-status-gt-BLANK c =
     let ends : EndsLine c.args.engine.now.begun c.args.piece.now c.hold-held.new.begun.items (c.front_size-end.result + 1) = record {
       end = c.front_size-end.result;
       at = grind (arith, common_steps);
-      line_is = grind (arith, common_steps);
+      line_is = c.hold-held.ensures.held held ∙ ap (λ (e : Held). e.begun ++ take c.front_size-end.result c.args.piece.now) c.engine.view_is;
       short = c.hold-held.ensures.within held;
       count_is = refl;
     } in
