@@ -16,7 +16,8 @@ climbs_from_meets first c meets = record {
   against = λ u v h. ⊎_elim (λ e. omega arith) (λ e. omega arith) (kept_at first c meets v u h);
 }
 
-pub walk_climbs : (first : List (ℕ × ℕ)) (c : List ℕ) → Climbs first c → (u : ℕ) (vs : List ℕ) (away x : ℕ) → IsWalk first u vs away x → slice_index c x ≤ slice_index c u + away
+pub walk_climbs : (first : List (ℕ × ℕ)) (c : List ℕ) → Climbs first c → (u : ℕ) (vs : List ℕ) (away x : ℕ)
+    → IsWalk first u vs away x → slice_index c x ≤ slice_index c u + away
 walk_climbs first c climbs u [] away x h = omega (arith, ap (slice_index c) h.0)
 walk_climbs first c climbs u (v ∷ vs) away x (inl h) = omega (arith, climbs.along u v h.0, walk_climbs first c climbs v vs h.1.0 x h.1.2, h.1.1)
 walk_climbs first c climbs u (v ∷ vs) away x (inr h) = omega (arith, climbs.against u v h.0, walk_climbs first c climbs v vs away x h.1)

@@ -26,15 +26,18 @@ same_after m x Sink no_turn = refl
 
 module _ (n d : ℕ) (first : List (ℕ × ℕ)) where
   -- one more legal entry
-  pub one_more : (entries : List Entry) (i : ℕ) (none : Entry) (counts now : List ℕ) → IsNet n first → IsRunTo n d first (take i entries) counts → i < length entries
+  pub one_more : (entries : List Entry) (i : ℕ) (none : Entry) (counts now : List ℕ) → IsNet n first
+      → IsRunTo n d first (take i entries) counts → i < length entries
       → IsLegal n d (moment_of first counts) (slice_index_or entries i none) → now ≡ (after (moment_of first counts) (slice_index_or entries i none)).counts
       → IsRunTo n d first (take (i + 1) entries) now
   one_more entries i none counts now net old l legal same =
       let e : Entry = slice_index_or entries i none in
       let kept = run_keeps n d first net (moment_of first counts) (record { links = refl; lawful = old.lawful }) (e ∷ []) (legal, tt) in
-      let here : after (moment_of first counts) e ≡ moment_of first now = moment_path (after (moment_of first counts) e) (moment_of first now) (kept.links ∙ ap (links_at first) (sym same)) (sym same) in
+      let here : after (moment_of first counts) e ≡ moment_of first now = moment_path (after (moment_of first counts) e)
+      (moment_of first now) (kept.links ∙ ap (links_at first) (sym same)) (sym same) in
       subst (λ (es : List Entry). IsRunTo n d first es now) (sym (take_more entries i none l)) (run_to n d first net (take i entries ++ e ∷ []) now
-      (run_append n d (moment_of first (replicate n 0)) (take i entries) (e ∷ []) old.run (subst (λ (m : Moment). IsRun n d m (e ∷ [])) (sym old.ends) (legal, tt)))
+      (run_append n d (moment_of first (replicate n 0)) (take i entries) (e ∷ []) old.run
+      (subst (λ (m : Moment). IsRun n d m (e ∷ [])) (sym old.ends) (legal, tt)))
       (after_all-append (moment_of first (replicate n 0)) (take i entries) (e ∷ []) ∙ ap (λ (m : Moment). after m e) old.ends ∙ here)
       (subst (AreLawful n d first) (sym same) kept.lawful))
 

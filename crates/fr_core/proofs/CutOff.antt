@@ -35,7 +35,9 @@ module _ (first : List (ℕ × ℕ)) (cap : ℕ) (c : List ℕ) where
 
   -- a neighbour of a node that has not turned has not turned
   neighbour_still : AreApart first c → (x w : ℕ) → Joins first x w → slice_index c x ≡ 0 → slice_index c w ≡ 0
-  neighbour_still apart x w h none = ⊎_elim (λ e. e) (λ some. absurd (omega (arith, none, apart w x (⊎_elim (λ p. inr p) (λ p. inl p) h) (omega (arith, some))))) (cases_eq (slice_index c w) 0)
+  neighbour_still apart x w h none =
+      ⊎_elim (λ e. e) (λ some. absurd
+      (omega (arith, none, apart w x (⊎_elim (λ p. inr p) (λ p. inl p) h) (omega (arith, some))))) (cases_eq (slice_index c w) 0)
 
   kept_capped : All (IsKept c) first → AreApart first c → All (IsKept (map (set_to cap) c)) first
   kept_capped kept apart = All-from_Contains (IsKept (map (set_to cap) c)) first (λ l h.
@@ -69,7 +71,8 @@ module _ (n d : ℕ) (first : List (ℕ × ℕ)) (c : List ℕ) (lawful : AreLaw
   -- a node that can turn has not turned, and its links are as they were
   pub could_before : (x : ℕ) → CanTurn n d (moment_of first (map (set_to n) c)) x → CanTurn n d (moment_of first c) x
   could_before x now =
-      let rests : slice_index c x ≡ 0 = ⊎_elim (λ e. e) (λ some. absurd (omega (arith, now.below_cap, turned first n c x (omega (arith, some))))) (cases_eq (slice_index c x) 0) in
+      let rests : slice_index c x ≡ 0 =
+      ⊎_elim (λ e. e) (λ some. absurd (omega (arith, now.below_cap, turned first n c x (omega (arith, some))))) (cases_eq (slice_index c x) 0) in
       let b = sink_meets_bounds first (map (set_to n) c) (kept_capped first n c lawful.kept apart) x now.sink in
       let bounds : MeetsBounds first c x = record {
         linked = b.linked;
@@ -87,6 +90,7 @@ pub row_apart : (n : ℕ) (first : List (ℕ × ℕ)) (c : List ℕ) → AreApar
 row_apart n first c apart x some = All-from_get_or (HasTurned c) (row n first x) (0, Outward)
     (λ i l. apart x _ (entry_joins n first x _ (Contains-get_or (row n first x) i (0, Outward) l)) some)
 
-pub apart_by_rows : (n : ℕ) (first : List (ℕ × ℕ)) (c : List ℕ) → IsNet n first → ((x : ℕ) → 0 < slice_index c x → All (HasTurned c) (row n first x)) → AreApart first c
+pub apart_by_rows : (n : ℕ) (first : List (ℕ × ℕ)) (c : List ℕ) → IsNet n first
+    → ((x : ℕ) → 0 < slice_index c x → All (HasTurned c) (row n first x)) → AreApart first c
 apart_by_rows n first c net each x w (inl h) some = All-contains (HasTurned c) (row n first x) (w, Outward) (each x some) (row_of_out n first x w net h)
 apart_by_rows n first c net each x w (inr h) some = All-contains (HasTurned c) (row n first x) (w, Inward) (each x some) (row_of_in n first x w net h)

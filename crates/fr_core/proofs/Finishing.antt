@@ -1,6 +1,7 @@
 -- Each run can be carried on by turns alone until no node can turn.
 use Rattle.fr_core.proofs.Settling.{settled_from_none}
-use Rattle.std.proofs.Common.{List, [], ap, arith, cond, inl, inr, length, refl, replicate, slice_index, subst, suc, sum, sym, zero, ℕ, ⊎_elim, ◌*◌, ◌+◌, ◌<◌, ◌∙◌, ◌∷◌, ◌≡◌, ◌⊎◌}
+use Rattle.std.proofs.Common.{List, [], ap, arith, cond, inl, inr, length, refl, replicate, slice_index, subst, suc, sum, sym, zero, ℕ, ⊎_elim, ◌*◌}
+use Rattle.std.proofs.Common.{◌+◌, ◌<◌, ◌∙◌, ◌∷◌, ◌≡◌, ◌⊎◌}
 use Rattle.std.proofs.lemmas.Bool.{cases_eq, cases_lt}
 use Rattle.std.proofs.lemmas.List.{get_or-replicate, get_or_past, length-replicate}
 use Rattle.std.proofs.lemmas.List.Sums.{sum_by-cons}
@@ -41,7 +42,8 @@ cases_can_turn n d m x = ⊎_elim
     (cases_lt (count_at m x) n))
     (cases_eq x d)
 
-cases_none : (n d : ℕ) (first : List (ℕ × ℕ)) → IsNet n first → (m : Moment) → m.links ≡ links_at first m.counts → ((x : ℕ) × CanTurn n d m x) ⊎ NoneCanTurn n d m
+cases_none : (n d : ℕ) (first : List (ℕ × ℕ)) → IsNet n first → (m : Moment) → m.links ≡ links_at first m.counts
+    → ((x : ℕ) × CanTurn n d m x) ⊎ NoneCanTurn n d m
 cases_none n d first net m e = ⊎_elim
     (λ f. inl (f.0, f.2))
     (λ none. inr (λ x can. none x (can_turn_below n d first net m e x can) can))
@@ -60,7 +62,8 @@ no_turns n d m End ends = record { entries = []; run = tt; turns_alone = refl; e
 turn_entry : Moment → ℕ → Entry
 turn_entry m x = record { worker = 0; node = x; reply = Turned (count_at m x + 1) }
 
-pub turn_first : (n d : ℕ) (m : Moment) (End : Moment → Type 0) (x : ℕ) → CanTurn n d m x → x < n → TurnsTo n d (after_reply m x (Turned (count_at m x + 1))) End → TurnsTo n d m End
+pub turn_first : (n d : ℕ) (m : Moment) (End : Moment → Type 0) (x : ℕ) → CanTurn n d m x → x < n
+    → TurnsTo n d (after_reply m x (Turned (count_at m x + 1))) End → TurnsTo n d m End
 unfolding turn_entry
 turn_first n d m End x can below rest = record {
   entries = turn_entry m x ∷ rest.entries;
@@ -96,7 +99,8 @@ index-zeros n x = ⊎_elim (λ l. get_or-replicate n x 0 0 l) (λ h. get_or_past
 
 pub links_at-zeros : (n : ℕ) (first : List (ℕ × ℕ)) → links_at first (replicate n 0) ≡ first
 links_at-zeros n [] = refl
-links_at-zeros n (l ∷ ls) = rw (link_at-same (replicate n 0) l (index-zeros n l.1 ∙ sym (index-zeros n l.0))) (ap (λ (r : List (ℕ × ℕ)). l ∷ r) (links_at-zeros n ls))
+links_at-zeros n (l ∷ ls) = rw (link_at-same (replicate n 0) l (index-zeros n l.1 ∙ sym (index-zeros n l.0)))
+    (ap (λ (r : List (ℕ × ℕ)). l ∷ r) (links_at-zeros n ls))
 
 pub zeros_lawful : (n d : ℕ) (first : List (ℕ × ℕ)) → AreLawful n d first (replicate n 0)
 zeros_lawful n d first = record {
@@ -107,22 +111,32 @@ zeros_lawful n d first = record {
   kept = All-from_Contains (IsKept (replicate n 0)) first (λ l h. inl (index-zeros n l.1 ∙ sym (index-zeros n l.0)));
 }
 
-pub settled_at_end : (n d : ℕ) (first : List (ℕ × ℕ)) → IsNet n first → d < n → (m : Moment) → IsLawfulAt n d first m → NoneCanTurn n d m → AreSettled n d first m.counts
+pub settled_at_end : (n d : ℕ) (first : List (ℕ × ℕ)) → IsNet n first → d < n → (m : Moment) → IsLawfulAt n d first m
+    → NoneCanTurn n d m → AreSettled n d first m.counts
 settled_at_end n d first net below m at none_left = settled_from_none n d first net below m.counts at.lawful
-    (λ x can. none_left x (record { not_destination = can.not_destination; below_cap = can.below_cap; sink = subst (λ (ls : List (ℕ × ℕ)). IsSink ls x) (sym at.links) can.sink }))
+    (λ x can. none_left x (record {
+      not_destination = can.not_destination;
+      below_cap = can.below_cap;
+      sink =
+          subst (λ (ls : List (ℕ × ℕ)). IsSink ls x) (sym at.links) can.sink;
+    }))
 
 pub settled_exists : (n d : ℕ) (first : List (ℕ × ℕ)) → IsNet n first → d < n → (c : List ℕ) × AreSettled n d first c
 settled_exists n d first net below =
     let start : IsLawfulAt n d first (moment_of first (replicate n 0)) = record { links = refl; lawful = zeros_lawful n d first } in
     let f = finish n d first net (moment_of first (replicate n 0)) start in
-    let end = run_keeps n d first net (moment_of first (replicate n 0)) start f.entries f.run in
-    ((after_all (moment_of first (replicate n 0)) f.entries).counts, settled_at_end n d first net below (after_all (moment_of first (replicate n 0)) f.entries) end f.ends)
+    let end = run_keeps n d first net (moment_of first (replicate n 0)) start f.entries f.run in (
+      (after_all (moment_of first (replicate n 0)) f.entries).counts,
+      settled_at_end n d first net below
+          (after_all (moment_of first (replicate n 0)) f.entries) end f.ends,
+    )
 
 pub moment_path : (m k : Moment) → m.links ≡ k.links → m.counts ≡ k.counts → m ≡ k
 moment_path m k e f = λ i. record { links = e i; counts = f i }
 
 -- every run that ends none_left ends at one moment
-pub ends_alike : (n d : ℕ) (first : List (ℕ × ℕ)) → IsNet n first → d < n → (m k : Moment) → IsLawfulAt n d first m → IsLawfulAt n d first k → NoneCanTurn n d m → NoneCanTurn n d k → m ≡ k
+pub ends_alike : (n d : ℕ) (first : List (ℕ × ℕ)) → IsNet n first → d < n → (m k : Moment) → IsLawfulAt n d first m
+    → IsLawfulAt n d first k → NoneCanTurn n d m → NoneCanTurn n d k → m ≡ k
 ends_alike n d first net below m k at bt sm sk =
     let same = settled_unique n d first m.counts k.counts (settled_at_end n d first net below m at sm) (settled_at_end n d first net below k bt sk) in
     moment_path m k (at.links ∙ ap (links_at first) same ∙ sym bt.links) same

@@ -136,7 +136,8 @@ one_why n d m e why other (inr f) (inl g) = absurd (omega (arith, f.0, g.1))
 one_why n d m e why other (inr f) (inr g) = one_reply_why n d m e.node e.reply why other f.1 g.1
 
 -- and so does a history
-one_place : (n d : ℕ) (m : Moment) (p : List Entry) (a : Entry) (r : List Entry) (q : List Entry) (b : Entry) (s : List Entry) (why other : Why) → p ++ a ∷ r ≡ q ++ b ∷ s
+one_place : (n d : ℕ) (m : Moment) (p : List Entry) (a : Entry) (r : List Entry) (q : List Entry) (b : Entry)
+    (s : List Entry) (why other : Why) → p ++ a ∷ r ≡ q ++ b ∷ s
     → IsRun n d m p → IsRun n d m q → Fails n d (after_all m p) a why → Fails n d (after_all m q) b other → (length p ≡ length q) × (why ≡ other)
 one_place n d m [] a r [] b s why other e run_p run_q f g =
     let same : a ≡ b = cc in
@@ -150,10 +151,12 @@ one_place n d m (c ∷ p) a r [] b s why other e run_p run_q f g =
 one_place n d m (c ∷ p) a r (h ∷ q) b s why other e run_p run_q f g =
     let same : h ≡ c = cc in
     let rest : p ++ a ∷ r ≡ q ++ b ∷ s = cc in
-    let there = one_place n d (after m c) p a r q b s why other rest run_p.1 (subst (λ (z : Entry). IsRun n d (after m z) q) same run_q.1) f (subst (λ (z : Entry). Fails n d (after_all (after m z) q) b other) same g) in
+    let there = one_place n d (after m c) p a r q b s why other rest run_p.1
+    (subst (λ (z : Entry). IsRun n d (after m z) q) same run_q.1) f (subst (λ (z : Entry). Fails n d (after_all (after m z) q) b other) same g) in
     (ap suc there.0, there.1)
 
-pub one_bad : (n d : ℕ) (m : Moment) (entries : List Entry) (i j : ℕ) (why other : Why) → IsBadAt n d m entries i why → IsBadAt n d m entries j other → (i ≡ j) × (why ≡ other)
+pub one_bad : (n d : ℕ) (m : Moment) (entries : List Entry) (i j : ℕ) (why other : Why) → IsBadAt n d m entries i why
+    → IsBadAt n d m entries j other → (i ≡ j) × (why ≡ other)
 one_bad n d m entries i j why other a b =
     let one = one_place n d m a.front a.bad a.back b.front b.bad b.back why other (sym a.parted ∙ b.parted) a.run b.run a.fails b.fails in
     (sym a.place ∙ one.0 ∙ b.place, one.1)

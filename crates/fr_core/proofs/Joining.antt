@@ -11,13 +11,15 @@ use Rattle.fr_graph.specs.Links.{IsNet, Joins, Points}
 -- the end of a walk is its start, or it has a link
 pub walk_linked : (links : List (ℕ × ℕ)) (u : ℕ) (vs : List ℕ) (k x : ℕ) → IsWalk links u vs k x → (x ≡ u) ⊎ ((w : ℕ) × Joins links x w)
 walk_linked links u [] k x w = inl w.0
-walk_linked links u (v ∷ vs) k x (inl w) = ⊎_elim (λ e. inr (u, inr (subst (λ (z : ℕ). Points links u z) (sym e) w.0))) inr (walk_linked links v vs w.1.0 x w.1.2)
+walk_linked links u (v ∷ vs) k x (inl w) = ⊎_elim (λ e. inr (u, inr (subst (λ (z : ℕ). Points links u z) (sym e) w.0))) inr
+    (walk_linked links v vs w.1.0 x w.1.2)
 walk_linked links u (v ∷ vs) k x (inr w) = ⊎_elim (λ e. inr (u, inl (subst (λ (z : ℕ). Points links z u) (sym e) w.0))) inr (walk_linked links v vs k x w.1)
 
 module _ (n d : ℕ) (first : List (ℕ × ℕ)) (net : IsNet n first) (in_range : d < n) (c : List ℕ) (settled : AreSettled n d first c) where
   -- joined or not, by counts
   pub joined_by_counts : (x : ℕ) → IsJoined first d x → (x ≡ d) ⊎ (((w : ℕ) × Joins first x w) × (slice_index c x < n))
-  joined_by_counts x joined = ⊎_elim inl (λ h. inr (h, joined_count_below n d first net in_range c settled x joined)) (walk_linked first d joined.1.0 joined.0 x joined.1.1)
+  joined_by_counts x joined = ⊎_elim inl (λ h. inr (h, joined_count_below n d first net in_range c settled x joined))
+      (walk_linked first d joined.1.0 joined.0 x joined.1.1)
 
   pub joined_from_counts : (x : ℕ) → (x ≡ d) ⊎ (((w : ℕ) × Joins first x w) × (slice_index c x < n)) → IsJoined first d x
   joined_from_counts x (inl e) = (0, ([], (e, refl)))

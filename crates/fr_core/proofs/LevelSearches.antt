@@ -20,7 +20,8 @@ module _ (n d : ℕ) (first : List (ℕ × ℕ)) (c q : List ℕ) (closed opened
   positive = omega (arith, s.nodes 0 s.begun)
 
   -- some nodes more are reached
-  module _ (P : ℕ → Type 0) (e r : List ℕ) (g : ReachesOnly n P level c q e r) (leads : (x : ℕ) → P x → (x < n) × HasWalk first d x level) (one_each : length e ≡ n) where
+  module _ (P : ℕ → Type 0) (e r : List ℕ) (g : ReachesOnly n P level c q e r) (leads : (x : ℕ) → P x → (x < n)
+      × HasWalk first d x level) (one_each : length e ≡ n) where
     count_kept : (i : ℕ) → i < length q → slice_index e (slice_index r i) ≡ slice_index c (slice_index q i)
     count_kept i l = ap (slice_index e) (g.kept i l) ∙ g.same (slice_index q i) (λ z. omega (arith, z, s.reached i l))
 
@@ -44,11 +45,13 @@ module _ (n d : ℕ) (first : List (ℕ × ℕ)) (c q : List ℕ) (closed opened
       seen = λ x l. seen_more x (s.seen x l);
       nodes = λ i l. ⊎_elim (λ b. omega (arith, g.kept i b, s.nodes i b)) (λ a. (leads (slice_index r i) (g.added i a l).0).0) (cases_lt i (length q));
       walks = λ i l. ⊎_elim {C = HasWalk first d (slice_index r i) (slice_index e (slice_index r i))}
-          (λ b. subst (HasWalk first d (slice_index r i)) (sym (count_kept i b)) (subst (λ (z : ℕ). HasWalk first d z (slice_index c (slice_index q i))) (sym (g.kept i b)) (s.walks i b)))
+          (λ b. subst (HasWalk first d (slice_index r i)) (sym (count_kept i b))
+          (subst (λ (z : ℕ). HasWalk first d z (slice_index c (slice_index q i))) (sym (g.kept i b)) (s.walks i b)))
           (λ a. subst (HasWalk first d (slice_index r i)) (sym (g.added i a l).1) (leads (slice_index r i) (g.added i a l).0).1)
           (cases_lt i (length q));
       most = λ i l. ⊎_elim (λ b. omega (arith, count_kept i b, s.most i b)) (λ a. omega (arith, (g.added i a l).1)) (cases_lt i (length q));
-      reached = λ i l. ⊎_elim (λ b. omega (arith, count_kept i b, s.reached i b)) (λ a. omega (arith, (g.added i a l).1, (g.added i a l).2)) (cases_lt i (length q));
+      reached = λ i l. ⊎_elim (λ b. omega (arith, count_kept i b, s.reached i b))
+          (λ a. omega (arith, (g.added i a l).1, (g.added i a l).2)) (cases_lt i (length q));
       before = λ i l m. omega (arith, count_kept i (omega (arith, s.start_in)), s.before i l m);
       here = λ i l m. ⊎_elim (λ b. count_kept i b ∙ s.here i l b) (λ a. (g.added i a m).1) (cases_lt i (length q));
       against = λ i l w h.
@@ -106,7 +109,8 @@ module _ (n d : ℕ) (first : List (ℕ × ℕ)) (c q : List ℕ) (closed opened
           (λ above.
           let e : closed ≡ i = omega arith in
           let there : (v : ℕ) → Points first v (slice_index q i) → IsQueued q v × (slice_index c v ≤ slice_index c (slice_index q i)) =
-          subst (λ (z : ℕ). (v : ℕ) → Points first v (slice_index q z) → IsQueued q v × (slice_index c v ≤ slice_index c (slice_index q z))) e (closes l m all) in
+          subst (λ (z : ℕ). (v : ℕ) → Points first v (slice_index q z) → IsQueued q v
+          × (slice_index c v ≤ slice_index c (slice_index q z))) e (closes l m all) in
           there w h)
           (cases_lt i closed);
       closed_in = omega arith;
@@ -145,14 +149,16 @@ module _ (n d : ℕ) (first : List (ℕ × ℕ)) (c q : List ℕ) (closed opened
           (λ above.
           let e : opened ≡ i = omega arith in
           let there : (v : ℕ) → Points first (slice_index q i) v → IsQueued q v × (slice_index c v ≤ slice_index c (slice_index q i) + 1) =
-          subst (λ (z : ℕ). (v : ℕ) → Points first (slice_index q z) v → IsQueued q v × (slice_index c v ≤ slice_index c (slice_index q z) + 1)) e (opens l all) in
+          subst (λ (z : ℕ). (v : ℕ) → Points first (slice_index q z) v → IsQueued q v
+          × (slice_index c v ≤ slice_index c (slice_index q z) + 1)) e (opens l all) in
           there w h)
           (cases_lt i opened);
       opened_in = omega arith;
     }
 
 -- one node of the queue is followed
-module _ (n d : ℕ) (first : List (ℕ × ℕ)) (net : IsNet n first) (c q : List ℕ) (closed opened start level : ℕ) (s : IsLevelSearch n d first c q closed opened start level) (e r : List ℕ) (one_each : length e ≡ n) where
+module _ (n d : ℕ) (first : List (ℕ × ℕ)) (net : IsNet n first) (c q : List ℕ) (closed opened start level : ℕ)
+    (s : IsLevelSearch n d first c q closed opened start level) (e r : List ℕ) (one_each : length e ≡ n) where
   pub close_step : closed < length q → start ≤ closed → ReachesOnly n (IsNeighbour (row n first (slice_index q closed)) Inward) level c q e r
       → All (IsReached n e Inward) (row n first (slice_index q closed)) → IsLevelSearch n d first e r (closed + 1) opened start level
   close_step l m g all =
@@ -162,7 +168,8 @@ module _ (n d : ℕ) (first : List (ℕ × ℕ)) (net : IsNet n first) (c q : Li
       let w : HasWalk first d u level = subst (HasWalk first d u) (s.here closed m l) (s.walks closed l) in
       ((joined_below n first x u net (inl p)).0, (w.0 ++ x ∷ [], walk_against first d w.0 level u x w.1 p)) in
       let t = search_more n d first c q closed opened start level s (IsNeighbour (row n first u) Inward) e r g leads one_each in
-      close_one n d first e r closed opened start level t net (omega (arith, g.longer)) m (subst (λ (z : ℕ). All (IsReached n e Inward) (row n first z)) (sym (g.kept closed l)) all)
+      close_one n d first e r closed opened start level t net (omega (arith, g.longer)) m
+      (subst (λ (z : ℕ). All (IsReached n e Inward) (row n first z)) (sym (g.kept closed l)) all)
 
   pub open_step : opened < start → ReachesOnly n (IsNeighbour (row n first (slice_index q opened)) Outward) level c q e r
       → All (IsReached n e Outward) (row n first (slice_index q opened)) → IsLevelSearch n d first e r closed (opened + 1) start level
@@ -171,13 +178,17 @@ module _ (n d : ℕ) (first : List (ℕ × ℕ)) (net : IsNet n first) (c q : Li
       let queued : opened < length q = omega (arith, s.start_in) in
       let leads : (x : ℕ) → IsNeighbour (row n first u) Outward x → (x < n) × HasWalk first d x level = λ x h.
       let p : Points first u x = out_of_row n first u x h in
-      let w : HasWalk first d u (slice_index c u) = s.walks opened queued in
-      ((joined_below n first x u net (inr p)).0, subst (HasWalk first d x) (s.before opened (omega arith) l) (w.0 ++ x ∷ [], walk_along first d w.0 (slice_index c u) u x w.1 p)) in
+      let w : HasWalk first d u (slice_index c u) = s.walks opened queued in (
+        (joined_below n first x u net (inr p)).0,
+        subst (HasWalk first d x) (s.before opened (omega arith) l)
+            (w.0 ++ x ∷ [], walk_along first d w.0 (slice_index c u) u x w.1 p),
+      ) in
       let t = search_more n d first c q closed opened start level s (IsNeighbour (row n first u) Outward) e r g leads one_each in
       open_one n d first e r closed opened start level t net l (subst (λ (z : ℕ). All (IsReached n e Outward) (row n first z)) (sym (g.kept opened queued)) all)
 
 -- from a level that is closed the next one is opened
-pub next_level : (n d : ℕ) (first : List (ℕ × ℕ)) (c q : List ℕ) (start level : ℕ) → IsLevelSearch n d first c q (length q) start start level → start < length q → IsLevelSearch n d first c q (length q) start (length q) (level + 1)
+pub next_level : (n d : ℕ) (first : List (ℕ × ℕ)) (c q : List ℕ) (start level : ℕ)
+    → IsLevelSearch n d first c q (length q) start start level → start < length q → IsLevelSearch n d first c q (length q) start (length q) (level + 1)
 next_level n d first c q start level s l = record {
   one_each = s.one_each;
   begun = s.begun;
@@ -200,7 +211,8 @@ next_level n d first c q start level s l = record {
 }
 
 -- where no node is left to follow, the counts are the settled ones
-module _ (n d : ℕ) (first : List (ℕ × ℕ)) (c q : List ℕ) (start level : ℕ) (s : IsLevelSearch n d first c q start start start level) (done : length q ≤ start) where
+module _ (n d : ℕ) (first : List (ℕ × ℕ)) (c q : List ℕ) (start level : ℕ)
+    (s : IsLevelSearch n d first c q start start start level) (done : length q ≤ start) where
   climb : (u : ℕ) (vs : List ℕ) (away x : ℕ) → IsWalk first u vs away x → IsQueued q u → IsQueued q x × (slice_index c x ≤ slice_index c u + away)
   climb u [] away x w h = (subst (IsQueued q) (sym w.0) h, omega (arith, ap (slice_index c) w.0))
   climb u (v ∷ vs) away x (inl w) h =
@@ -225,7 +237,8 @@ module _ (n d : ℕ) (first : List (ℕ × ℕ)) (c q : List ℕ) (start level :
 
   settled_count : (x : ℕ) → IsSeen n first c q x → IsSettledCount n d first x (slice_index c x)
   settled_count x (inl h) = inl h
-  settled_count x (inr (inl h)) = inr (inr (h.0, λ joined. (let p = (from_start joined.1.0 joined.0 x joined.1.1).0 in omega (arith, s.reached p.0 p.1, ap (slice_index c) p.2, h.1)), h.1))
+  settled_count x (inr (inl h)) =
+      inr (inr (h.0, λ joined. (let p = (from_start joined.1.0 joined.0 x joined.1.1).0 in omega (arith, s.reached p.0 p.1, ap (slice_index c) p.2, h.1)), h.1))
   settled_count x (inr (inr h)) = ⊎_elim {C = IsSettledCount n d first x (slice_index c x)}
       (λ linked. inr (inl (
         (λ alone. alone linked.0 linked.1),

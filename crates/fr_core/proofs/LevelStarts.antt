@@ -1,5 +1,6 @@
 -- How the search by levels starts.
-use Rattle.std.proofs.Common.{List, [], ap, arith, cond, eq-eqb, inl, inr, length, ne_eqb, refl, slice_index, slice_set, subst, sym, ℕ, ⊎_elim, ◌+◌, ◌<◌, ◌==◌, ◌∙◌, ◌∷◌, ◌≡◌, ◌≤◌}
+use Rattle.std.proofs.Common.{List, [], ap, arith, cond, eq-eqb, inl, inr, length, ne_eqb, refl, slice_index, slice_set, subst, sym, ℕ, ⊎_elim, ◌+◌}
+use Rattle.std.proofs.Common.{◌<◌, ◌==◌, ◌∙◌, ◌∷◌, ◌≡◌, ◌≤◌}
 use Rattle.std.proofs.lemmas.Bool.{cases_eq, cond-false, cond-true}
 use Rattle.std.proofs.lemmas.List.{get_or-set_other, get_or-set_same, length-set}
 use Rattle.std.proofs.lemmas.List.Sums.{count_by-le-length, sum_by-set}
@@ -8,7 +9,8 @@ use Rattle.fr_core.specs.NodeCounts.{IsMostCount}
 use Rattle.fr_core.specs.Reaching.{unreached_count}
 use Rattle.fr_core.specs.Walks.{HasWalk}
 
-module _ (n d : ℕ) (first : List (ℕ × ℕ)) (c : List ℕ) (one_each : length c ≡ n) (in_range : d < n) (cleared : (x : ℕ) → x < n → IsMostCount n first x (slice_index c x)) where
+module _ (n d : ℕ) (first : List (ℕ × ℕ)) (c : List ℕ) (one_each : length c ≡ n) (in_range : d < n) (cleared : (x : ℕ)
+    → x < n → IsMostCount n first x (slice_index c x)) where
   abbrev counts : List ℕ
   counts = slice_set c d 0
 
@@ -69,6 +71,7 @@ module _ (n d : ℕ) (first : List (ℕ × ℕ)) (c : List ℕ) (one_each : leng
 pub most_counts_more : (n : ℕ) (first : List (ℕ × ℕ)) (c : List ℕ) (x v : ℕ) → x < length c → IsMostCount n first x v
     → ((y : ℕ) → y < x → IsMostCount n first y (slice_index c y)) → (y : ℕ) → y < x + 1 → IsMostCount n first y (slice_index (slice_set c x v) y)
 most_counts_more n first c x v l at below y m = ⊎_elim {C = IsMostCount n first y (slice_index (slice_set c x v) y)}
-    (λ e. subst (λ (z : ℕ). IsMostCount n first z (slice_index (slice_set c x v) z)) (sym e) (subst (IsMostCount n first x) (sym (get_or-set_same c x v 0 l)) at))
+    (λ e. subst (λ (z : ℕ). IsMostCount n first z (slice_index (slice_set c x v) z)) (sym e)
+    (subst (IsMostCount n first x) (sym (get_or-set_same c x v 0 l)) at))
     (λ ne. subst (IsMostCount n first y) (sym (get_or-set_other c x y v 0 ne)) (below y (omega arith)))
     (cases_eq y x)

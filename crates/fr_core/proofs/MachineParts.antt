@@ -1,5 +1,7 @@
 -- Each worker's part of what a machine decides.
-use Rattle.std.proofs.Common.{List, None, Option, Some, [], ap, eq-eqb, false, length, map, nat_lt, ne_eqb, option_to_list, refl, slice_index, slice_index_or, slice_set, subst, suc, sym, true, zero, Bool, ℕ, if◌then◌else◌, ⊎_elim, ◌+◌, ◌++◌, ◌<◌, ◌==◌, ◌∙◌, ◌∷◌, ◌≡◌, ◌≤◌}
+use Rattle.std.proofs.Common.{List, None, Option, Some, [], ap, eq-eqb, false, length, map, nat_lt, ne_eqb, option_to_list, refl, slice_index}
+use Rattle.std.proofs.Common.{slice_index_or, slice_set, subst, suc, sym, true, zero, Bool, ℕ, if◌then◌else◌, ⊎_elim, ◌+◌, ◌++◌, ◌<◌, ◌==◌, ◌∙◌, ◌∷◌}
+use Rattle.std.proofs.Common.{◌≡◌, ◌≤◌}
 use Rattle.std.proofs.lemmas.Bool.{cases_eq, cases_lt, cond-false, cond-true, cond_both}
 use Rattle.std.proofs.lemmas.List.{append_assoc, get_or-set_other, get_or-set_same, get_or_past, map-append, set_past}
 use Rattle.std.proofs.lemmas.List.Elements.{filter-append}
@@ -8,7 +10,9 @@ use Rattle.fr_graph.specs.Rows.{row}
 use Rattle.fr_graph.specs.declared.first.First.{First}
 use Rattle.fr_core.proofs.MachineRuns.{machine_runs}
 use Rattle.fr_core.specs.History.{part}
-use Rattle.fr_core.specs.Machine.{Outcome, MachineState, WorkerState, all_but_first, begin_call, bound_of, confirm, decided_by, decides, entries_of, entry_of, exchange, fresh, goes_on, load_neighbour, load_own, neighbour_at, outcome, outcome_of, phase_unheld, start, state_after, step, step_idle, worker_of}
+use Rattle.fr_core.specs.Machine.{Outcome, MachineState, WorkerState, all_but_first, begin_call, bound_of, confirm, decided_by, decides, entries_of}
+use Rattle.fr_core.specs.Machine.{entry_of, exchange, fresh, goes_on, load_neighbour, load_own, neighbour_at, outcome, outcome_of, phase_unheld}
+use Rattle.fr_core.specs.Machine.{start, state_after, step, step_idle, worker_of}
 use Rattle.fr_core.specs.Played.{HasPart, IsPlay, answer_of}
 use Rattle.fr_core.specs.Replies.{AreAnswersTo, IsAnswerTo}
 use Rattle.fr_core.specs.Runs.{IsRunTo}
@@ -36,7 +40,8 @@ part_answers j k (Some p) = one_entry answer_of (j == k) (record { worker = j; n
 part_append : {B : Type 0} (f : Entry → B) (k : ℕ) (a b : List Entry) → map f (part k (a ++ b)) ≡ map f (part k a) ++ map f (part k b)
 part_append f k a b = ap (map f) (filter-append (λ (e : Entry). e.worker == k) a b) ∙ map-append f (part k a) (part k b)
 
-replies : (n : ℕ) (first : List (ℕ × ℕ)) (m : MachineState) (k : ℕ) (schedule : List ℕ) → map answer_of (part k (entries_of n first m schedule)) ≡ decided_by n first m k schedule
+replies : (n : ℕ) (first : List (ℕ × ℕ)) (m : MachineState) (k : ℕ) (schedule : List ℕ)
+    → map answer_of (part k (entries_of n first m schedule)) ≡ decided_by n first m k schedule
 replies n first m k [] = refl
 replies n first m k (j ∷ ks) =
     part_append answer_of k (entry_of j (outcome_of n first m j).decided) (entries_of n first (step n first m j) ks)
@@ -58,13 +63,15 @@ record Answers (before left : List Target) (decided : List (ℕ × Reply)) : Typ
 no_answer : (left : List Target) → Answers left left []
 no_answer left = record { used = []; parted = refl; answered = tt }
 
-answers_append : (us : List Target) (some : List (ℕ × Reply)) (vs : List Target) (more : List (ℕ × Reply)) → AreAnswersTo us some → AreAnswersTo vs more → AreAnswersTo (us ++ vs) (some ++ more)
+answers_append : (us : List Target) (some : List (ℕ × Reply)) (vs : List Target) (more : List (ℕ × Reply))
+    → AreAnswersTo us some → AreAnswersTo vs more → AreAnswersTo (us ++ vs) (some ++ more)
 answers_append [] [] vs more h g = g
 answers_append [] (a ∷ some) vs more h g = absurd h
 answers_append (u ∷ us) [] vs more h g = absurd h
 answers_append (u ∷ us) (a ∷ some) vs more h g = (h.0, answers_append us some vs more h.1 g)
 
-more_answers : (before now left : List Target) (some more : List (ℕ × Reply)) → Answers before now some → Answers now left more → Answers before left (some ++ more)
+more_answers : (before now left : List Target) (some more : List (ℕ × Reply)) → Answers before now some
+    → Answers now left more → Answers before left (some ++ more)
 more_answers before now left some more h g = record {
   used = h.used ++ g.used;
   parted = append_assoc h.used g.used left ∙ (ap (λ (ts : List Target). h.used ++ ts) g.parted ∙ h.parted);
@@ -79,7 +86,8 @@ record UsesUp (left : List Target) (made : Outcome) : Type 0 where
 stays : (counts : List ℕ) (left : List Target) (phase : Phase) → IsOnFirst left phase → UsesUp left (goes_on counts left phase)
 stays counts left phase b = record { answers = no_answer left; on_first = b }
 
-decides_uses : (counts : List ℕ) (left : List Target) (t : Target) (reply : Reply) → IsAnswerTo t (node_of t, reply) → (ts : List Target) × (left ≡ t ∷ ts) → UsesUp left (decides counts left (node_of t) reply)
+decides_uses : (counts : List ℕ) (left : List Target) (t : Target) (reply : Reply) → IsAnswerTo t (node_of t, reply)
+    → (ts : List Target) × (left ≡ t ∷ ts) → UsesUp left (decides counts left (node_of t) reply)
 decides_uses counts left t reply answer (ts, e) = record {
   answers = record { used = t ∷ []; parted = subst (λ (l : List Target). t ∷ all_but_first l ≡ l) (sym e) refl; answered = (answer, tt) };
   on_first = tt;
@@ -106,7 +114,8 @@ unheld_on_first : (left : List Target) (t : Target) (c : ℕ) → (ts : List Tar
 unheld_on_first left (Turn x) c b = b
 unheld_on_first left (Look x) c b = b
 
-load_neighbour_uses : (r : List (ℕ × First)) (counts : List ℕ) (left : List Target) (t : Target) (c j : ℕ) → (ts : List Target) × (left ≡ t ∷ ts) → UsesUp left (load_neighbour r counts left t c j)
+load_neighbour_uses : (r : List (ℕ × First)) (counts : List ℕ) (left : List Target) (t : Target) (c j : ℕ)
+    → (ts : List Target) × (left ≡ t ∷ ts) → UsesUp left (load_neighbour r counts left t c j)
 load_neighbour_uses r counts left t c j b =
     cond_both (nat_lt (slice_index counts (neighbour_at r j).0) (bound_of (neighbour_at r j).1 c)) _ _ (UsesUp left)
     (λ h. decides_uses counts left t (Held (neighbour_at r j).0) (held_answers t (neighbour_at r j).0) b)
@@ -126,7 +135,8 @@ confirm_uses counts left x c b =
     (λ t. decides_uses counts left (Look x) Sink (refl, tt) b)
     (λ f. decides_uses counts left (Look x) (Moved c (slice_index counts x)) (refl, tt) b)
 
-outcome_uses : (n : ℕ) (first : List (ℕ × ℕ)) (counts : List ℕ) (left : List Target) (phase : Phase) → IsOnFirst left phase → UsesUp left (outcome n first counts left phase)
+outcome_uses : (n : ℕ) (first : List (ℕ × ℕ)) (counts : List ℕ) (left : List Target) (phase : Phase) → IsOnFirst left phase
+    → UsesUp left (outcome n first counts left phase)
 outcome_uses n first counts left Idle b = idle_uses n counts left
 outcome_uses n first counts left (Looking t c j) b = load_neighbour_uses (row n first (node_of t)) counts left t c j b
 outcome_uses n first counts left (Swapping x c) b = exchange_uses counts left x c b
@@ -136,7 +146,8 @@ abbrev AreOnFirst : MachineState → Type 0
 AreOnFirst m = (k : ℕ) → IsOnFirst (worker_of m k).left (worker_of m k).phase
 
 answers_is : {a b c d : List Target} {s t : List (ℕ × Reply)} → a ≡ b → c ≡ d → s ≡ t → Answers a c s → Answers b d t
-answers_is {a} {b} {c} {d} {s} {t} p q r h = subst (λ (z : List Target). Answers z d t) p (subst (λ (z : List Target). Answers a z t) q (subst (λ (z : List (ℕ × Reply)). Answers a c z) r h))
+answers_is {a} {b} {c} {d} {s} {t} p q r h = subst (λ (z : List Target). Answers z d t) p
+    (subst (λ (z : List Target). Answers a z t) q (subst (λ (z : List (ℕ × Reply)). Answers a c z) r h))
 
 module _ (n : ℕ) (first : List (ℕ × ℕ)) (m : MachineState) (j k : ℕ) where
   same_past : length m.workers ≤ j → worker_of (step n first m j) k ≡ worker_of m k
@@ -154,14 +165,16 @@ module _ (n : ℕ) (first : List (ℕ × ℕ)) (m : MachineState) (j k : ℕ) wh
   step_on_first : AreOnFirst m → IsOnFirst (worker_of (step n first m j) k).left (worker_of (step n first m j) k).phase
   step_on_first all = ⊎_elim
       (λ l. ⊎_elim
-      (λ e. subst (λ (w : WorkerState). IsOnFirst w.left w.phase) (sym (new_here l e)) (outcome_uses n first m.counts (worker_of m j).left (worker_of m j).phase (all j)).on_first)
+      (λ e. subst (λ (w : WorkerState). IsOnFirst w.left w.phase) (sym (new_here l e))
+      (outcome_uses n first m.counts (worker_of m j).left (worker_of m j).phase (all j)).on_first)
       (λ ne. subst (λ (w : WorkerState). IsOnFirst w.left w.phase) (sym (same_other ne)) (all k))
       (cases_eq k j))
       (λ past. subst (λ (w : WorkerState). IsOnFirst w.left w.phase) (sym (same_past past)) (all k))
       (cases_lt j (length m.workers))
 
   -- what worker k decides, if the step is its own, and what is then left to it
-  step_uses : AreOnFirst m → Answers (worker_of m k).left (worker_of (step n first m j) k).left (if j == k then option_to_list (outcome_of n first m j).decided else [])
+  step_uses : AreOnFirst m → Answers (worker_of m k).left (worker_of (step n first m j) k).left
+      (if j == k then option_to_list (outcome_of n first m j).decided else [])
   step_uses all = ⊎_elim
       (λ l. ⊎_elim
       (λ e. answers_is (ap (λ (z : ℕ). (worker_of m z).left) (sym e)) (ap (λ (w : WorkerState). w.left) (sym (new_here l e)))
@@ -205,11 +218,13 @@ parts_are_replies n first targets schedule k =
     }
 
 -- entries that the table decides are a play
-pub played : (n d : ℕ) (first : List (ℕ × ℕ)) (targets : List (List Target)) (schedule : List ℕ) (entries : List Entry) → IsNet n first → IsPlayable n d first targets schedule
+pub played : (n d : ℕ) (first : List (ℕ × ℕ)) (targets : List (List Target)) (schedule : List ℕ) (entries : List Entry)
+    → IsNet n first → IsPlayable n d first targets schedule
     → entries ≡ entries_of n first (start n targets) schedule → IsPlay n d first targets schedule entries
 played n d first targets schedule entries net playable decided = record {
   playable = playable;
   decided = decided;
-  run = subst (λ (es : List Entry). IsRunTo n d first es (state_after n first (start n targets) schedule).counts) (sym decided) (machine_runs n d first targets schedule net playable.accepted);
+  run = subst (λ (es : List Entry). IsRunTo n d first es (state_after n first (start n targets) schedule).counts)
+      (sym decided) (machine_runs n d first targets schedule net playable.accepted);
   parts = λ k. subst (λ (es : List Entry). HasPart n first targets schedule es k) (sym decided) (parts_are_replies n first targets schedule k);
 }

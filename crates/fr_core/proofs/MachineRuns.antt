@@ -1,5 +1,6 @@
 -- A machine makes a run, and keeps what its functions need.
-use Rattle.std.proofs.Common.{List, Option, [], ap, drop, inl, inr, length, map, refl, replicate, slice_index_or, slice_set, subst, sym, take, ℕ, ⊎_elim, ◌++◌, ◌<◌, ◌∙◌, ◌∷◌, ◌≡◌, ◌≤◌}
+use Rattle.std.proofs.Common.{List, Option, [], ap, drop, inl, inr, length, map, refl, replicate, slice_index_or, slice_set, subst, sym, take, ℕ}
+use Rattle.std.proofs.Common.{⊎_elim, ◌++◌, ◌<◌, ◌∙◌, ◌∷◌, ◌≡◌, ◌≤◌}
 use Rattle.std.proofs.lemmas.Bool.{cases_lt}
 use Rattle.std.proofs.lemmas.List.{append-nil, append_assoc, drop_all, get_or_default, get_or_past, take_all}
 use Rattle.std.proofs.lemmas.List.Elements.{All-get_or, All-map, All-nil, All-set, All-weaker}
@@ -26,8 +27,10 @@ sound_worker n d first m sound k = ⊎_elim
     (λ past. subst (IsSoundWorker n d first m.counts) (sym (get_or_past m.workers k (fresh []) past)) (record { fit = All-nil (IsFit n d first); phase = tt }))
     (cases_lt k (length m.workers))
 
-step_fine : (n d : ℕ) (first : List (ℕ × ℕ)) → IsNet n first → (m : MachineState) → IsSound n d first m → (k : ℕ) → IsFine n d first k m.counts (outcome_of n first m k)
-step_fine n d first net m sound k = let w = sound_worker n d first m sound k in outcome_fine n d first net k m.counts sound.lawful (worker_of m k).left w.fit (worker_of m k).phase w.phase
+step_fine : (n d : ℕ) (first : List (ℕ × ℕ)) → IsNet n first → (m : MachineState) → IsSound n d first m → (k : ℕ)
+    → IsFine n d first k m.counts (outcome_of n first m k)
+step_fine n d first net m sound k = let w = sound_worker n d first m sound k in
+    outcome_fine n d first net k m.counts sound.lawful (worker_of m k).left w.fit (worker_of m k).phase w.phase
 
 step_sound : (n d : ℕ) (first : List (ℕ × ℕ)) → IsNet n first → (m : MachineState) → IsSound n d first m → (k : ℕ) → IsSound n d first (step n first m k)
 step_sound n d first net m sound k =
@@ -36,7 +39,8 @@ step_sound n d first net m sound k =
     record {
       lawful = fine.lawful;
       workers = All-set (IsSoundWorker n d first after) m.workers k (outcome_of n first m k).worker (record { fit = fine.fit; phase = fine.phase })
-          (All-weaker (IsSoundWorker n d first m.counts) (IsSoundWorker n d first after) (λ (w : WorkerState) o. record { fit = o.fit; phase = phase_rises n d first m.counts after fine.rises w.phase o.phase }) m.workers sound.workers);
+          (All-weaker (IsSoundWorker n d first m.counts) (IsSoundWorker n d first after)
+          (λ (w : WorkerState) o. record { fit = o.fit; phase = phase_rises n d first m.counts after fine.rises w.phase o.phase }) m.workers sound.workers);
     }
 
 -- what a sound machine makes of a schedule
@@ -45,7 +49,8 @@ record IsSoundRun (n d : ℕ) (first : List (ℕ × ℕ)) (m : MachineState) (en
   moment : after_all (moment_of first m.counts) entries ≡ moment_of first end.counts
   sound : IsSound n d first end
 
-sound_run : (n d : ℕ) (first : List (ℕ × ℕ)) → IsNet n first → (m : MachineState) → IsSound n d first m → (schedule : List ℕ) → IsSoundRun n d first m (entries_of n first m schedule) (state_after n first m schedule)
+sound_run : (n d : ℕ) (first : List (ℕ × ℕ)) → IsNet n first → (m : MachineState) → IsSound n d first m
+    → (schedule : List ℕ) → IsSoundRun n d first m (entries_of n first m schedule) (state_after n first m schedule)
 sound_run n d first net m sound [] = record { run = tt; moment = refl; sound = sound }
 sound_run n d first net m sound (k ∷ ks) =
     let fine = step_fine n d first net m sound k in
@@ -80,7 +85,11 @@ start_sound n d first targets good = record {
   lawful = zeros_lawful n d first;
   workers = All-map (IsSoundWorker n d first (replicate n 0)) fresh targets
       (All-weaker (AreAccepted n d first) (λ (list : List Target). IsSoundWorker n d first (replicate n 0) (fresh list))
-      (λ list accepted. record { fit = All-weaker (λ (t : Target). ¬ IsTargetRefused n d first t) (IsFit n d first) (fit_from n d first) list accepted; phase = tt }) targets good);
+      (λ list accepted. record {
+        fit = All-weaker (λ (t : Target). ¬ IsTargetRefused n d first t) (IsFit n d first)
+            (fit_from n d first) list accepted;
+        phase = tt;
+      }) targets good);
 }
 
 pub machine_runs : (n d : ℕ) (first : List (ℕ × ℕ)) (targets : List (List Target)) (schedule : List ℕ) → IsNet n first → AreAllAccepted n d first targets
@@ -90,30 +99,38 @@ machine_runs n d first targets schedule net good =
     run_to n d first net (entries_of n first (start n targets) schedule) (state_after n first (start n targets) schedule).counts r.run r.moment r.sound.lawful
 
 -- a worker more is outcome_with of the next list of targets
-pub one_more : (before now : List WorkerState) (w : WorkerState) (rest left whole : List WorkerState) → now ≡ before ++ w ∷ [] → left ≡ w ∷ rest → before ++ left ≡ whole → now ++ rest ≡ whole
-one_more before now w rest left whole e f g = ap (λ (z : List WorkerState). z ++ rest) e ∙ (append_assoc before (w ∷ []) rest ∙ (ap (λ (z : List WorkerState). before ++ z) (sym f) ∙ g))
+pub one_more : (before now : List WorkerState) (w : WorkerState) (rest left whole : List WorkerState)
+    → now ≡ before ++ w ∷ [] → left ≡ w ∷ rest → before ++ left ≡ whole → now ++ rest ≡ whole
+one_more before now w rest left whole e f g = ap (λ (z : List WorkerState). z ++ rest) e
+    ∙ (append_assoc before (w ∷ []) rest ∙ (ap (λ (z : List WorkerState). before ++ z) (sym f) ∙ g))
 
-pub begun_sound : (n d : ℕ) (first : List (ℕ × ℕ)) (targets : List (List Target)) (counts : List ℕ) (workers : List WorkerState) → IsNet n first → AreAllAccepted n d first targets → counts ≡ replicate n 0 → workers ≡ map fresh targets
+pub begun_sound : (n d : ℕ) (first : List (ℕ × ℕ)) (targets : List (List Target)) (counts : List ℕ)
+    (workers : List WorkerState) → IsNet n first → AreAllAccepted n d first targets → counts ≡ replicate n 0 → workers ≡ map fresh targets
     → IsSoundMachine (view_of n d first counts workers)
 begun_sound n d first targets counts workers net good e f = record {
   net = net;
   sound = subst (λ (m : MachineState). IsSound n d first m) (λ i. record { counts = sym e i; workers = sym f i }) (start_sound n d first targets good);
 }
 
-module _ (n d : ℕ) (first : List (ℕ × ℕ)) (counts : List ℕ) (workers : List WorkerState) (is : IsSoundMachine (view_of n d first counts workers)) (k : ℕ) (inside : k < length workers) (old : WorkerState) (at : old ≡ slice_index_or workers k old) where
+module _ (n d : ℕ) (first : List (ℕ × ℕ)) (counts : List ℕ) (workers : List WorkerState)
+    (is : IsSoundMachine (view_of n d first counts workers)) (k : ℕ) (inside : k < length workers) (old : WorkerState)
+    (at : old ≡ slice_index_or workers k old) where
   -- a step keeps a machine sound
-  pub keeps_sound : (new : WorkerState) (decided : Option (ℕ × Reply)) (shown now : List ℕ) → outcome_with now new decided ≡ outcome n first counts old.left old.phase → shown ≡ now
+  pub keeps_sound : (new : WorkerState) (decided : Option (ℕ × Reply)) (shown now : List ℕ)
+      → outcome_with now new decided ≡ outcome n first counts old.left old.phase → shown ≡ now
       → IsSoundMachine (view_of n d first shown (slice_set workers k new))
   keeps_sound new decided shown now step_made same =
       let m : MachineState = record { counts = counts; workers = workers } in
       let here : worker_of m k ≡ old = get_or_default workers k (fresh []) old inside ∙ sym at in
-      let by : outcome n first counts old.left old.phase ≡ outcome_of n first m k = ap (λ (w : WorkerState). outcome n first counts w.left w.phase) (sym here) in
+      let by : outcome n first counts old.left old.phase ≡ outcome_of n first m k =
+      ap (λ (w : WorkerState). outcome n first counts w.left w.phase) (sym here) in
       let all : Outcome = outcome_of n first m k in
       let c : all.counts ≡ shown = sym (same ∙ ap (λ (o : Outcome). o.counts) (step_made ∙ by)) in
       let w : all.worker ≡ new = sym (ap (λ (o : Outcome). o.worker) (step_made ∙ by)) in
       record {
         net = is.net;
-        sound = subst (λ (z : MachineState). IsSound n d first z) (λ i. record { counts = c i; workers = slice_set workers k (w i) }) (step_sound n d first is.net m is.sound k);
+        sound = subst (λ (z : MachineState). IsSound n d first z)
+            (λ i. record { counts = c i; workers = slice_set workers k (w i) }) (step_sound n d first is.net m is.sound k);
       }
 
 -- a list that was written over as a slice

@@ -5,7 +5,8 @@ use Rattle.fr_core.specs.Settled.{IsSettledCount}
 use Rattle.fr_core.specs.Walks.{HasWalk, IsWalk}
 use Rattle.fr_graph.specs.Links.{HasPath, IsAlone, IsPath, Points, end_of}
 
-path_more : (links : List (ℕ × ℕ)) (x : ℕ) (ws : List ℕ) (u v : ℕ) → IsPath links x ws → end_of x ws ≡ v → Points links v u → IsPath links x (ws ++ u ∷ []) × (end_of x (ws ++ u ∷ []) ≡ u)
+path_more : (links : List (ℕ × ℕ)) (x : ℕ) (ws : List ℕ) (u v : ℕ) → IsPath links x ws → end_of x ws ≡ v → Points links v u
+    → IsPath links x (ws ++ u ∷ []) × (end_of x (ws ++ u ∷ []) ≡ u)
 path_more links x [] u v path e h = ((subst (λ (z : ℕ). Points links z u) (sym e) h, tt), refl)
 path_more links x (w ∷ ws) u v path e h = let rest = path_more links w ws u v path.1 e h in ((path.0, rest.0), rest.1)
 

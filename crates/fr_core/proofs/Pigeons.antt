@@ -1,5 +1,6 @@
 -- Pigeonhole: a list of different numbers below n, and counts that take each value up to n.
-use Rattle.std.proofs.Common.{Contains, List, [], ap, arith, eqb, eqb-true, false, length, ne_eqb, refl, subst, suc, sym, true, zero, ℕ, ⊎_elim, ◌<◌, ◌∷◌, ◌≡◌, ◌≤◌}
+use Rattle.std.proofs.Common.{Contains, List, [], ap, arith, eqb, eqb-true, false, length, ne_eqb, refl, subst, suc, sym, true, zero, ℕ, ⊎_elim, ◌<◌}
+use Rattle.std.proofs.Common.{◌∷◌, ◌≡◌, ◌≤◌}
 use Rattle.std.proofs.lemmas.Bool.{false≢true, or_cases}
 use Rattle.std.proofs.lemmas.Map.Keys.{IsDistinct-cons}
 use Rattle.std.proofs.lemmas.Map.Steps.{length-le_from_distinct_below}
@@ -8,7 +9,8 @@ use Rattle.fr_graph.proofs.Members.{Contains-cases, Contains-head, Contains-none
 
 any-Contains : (q : ℕ) (xs : List ℕ) → list_any (eqb q) xs ≡ true → Contains xs q
 any-Contains q [] e = absurd (false≢true e)
-any-Contains q (x ∷ xs) e = ⊎_elim (λ h. subst (λ (z : ℕ). Contains (x ∷ xs) z) (sym (eqb-true q x h)) (Contains-head x xs)) (λ h. Contains-tail q x xs (any-Contains q xs h)) (or_cases (eqb q x) (list_any (eqb q) xs) e)
+any-Contains q (x ∷ xs) e = ⊎_elim (λ h. subst (λ (z : ℕ). Contains (x ∷ xs) z) (sym (eqb-true q x h)) (Contains-head x xs))
+    (λ h. Contains-tail q x xs (any-Contains q xs h)) (or_cases (eqb q x) (list_any (eqb q) xs) e)
 
 pub distinct_length : (n : ℕ) (xs : List ℕ) → IsDistinct eqb xs → ((q : ℕ) → Contains xs q → q < n) → length xs ≤ n
 distinct_length n xs distinct below = length-le_from_distinct_below xs n distinct (λ q h. below q (any-Contains q xs h))
@@ -40,7 +42,8 @@ levels n c top taken (suc k) l =
       nodes = y.0 ∷ lower.nodes;
       long = ap suc lower.long;
       distinct = IsDistinct-more y.0 lower.nodes (λ z h e. omega (arith, (lower.each z h).1, ap c e, y.2)) lower.distinct;
-      each = λ q h. ⊎_elim (λ e. (omega (arith, y.1, e), omega (arith, y.2, ap c e))) (λ r. ((lower.each q r).0, omega (arith, (lower.each q r).1))) (Contains-cases q y.0 lower.nodes h);
+      each = λ q h. ⊎_elim (λ e. (omega (arith, y.1, e), omega (arith, y.2, ap c e)))
+          (λ r. ((lower.each q r).0, omega (arith, (lower.each q r).1))) (Contains-cases q y.0 lower.nodes h);
     }
 
 -- n nodes do not take the n + 1 counts up to n

@@ -35,7 +35,8 @@ module _ (n : ℕ) (links : List (ℕ × ℕ)) (c : List ℕ) (x w : ℕ) where
         rw (one_entry f r.0 h r.1) r.2,
   )
 
-  pub points_at : IsNet n links → (entries : List (ℕ × First)) → entries ≡ row n links x → (k : ℕ) (d : ℕ × First) → k < length entries → (get_or entries k d).0 ≡ w
+  pub points_at : IsNet n links → (entries : List (ℕ × First)) → entries ≡ row n links x → (k : ℕ) (d : ℕ × First)
+      → k < length entries → (get_or entries k d).0 ≡ w
       → (sense_of (get_or entries k d).1 (slice_index c x) (slice_index c w) ≡ Some Outward) ↔ Points (links_at links c) x w
   points_at net entries same k d inside at =
       let e : ℕ × First = get_or entries k d in

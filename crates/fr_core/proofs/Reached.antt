@@ -1,5 +1,6 @@
 -- From lawful counts turns alone lead to all lawful counts that are nowhere below them.
-use Rattle.std.proofs.Common.{List, [], ap, arith, inl, inr, length, refl, slice_index, subst, suc, sum, sym, zero, ℕ, ⊎_elim, ◌*◌, ◌+◌, ◌<◌, ◌∙◌, ◌∷◌, ◌≡◌, ◌≤◌, ◌⊎◌}
+use Rattle.std.proofs.Common.{List, [], ap, arith, inl, inr, length, refl, slice_index, subst, suc, sum, sym, zero, ℕ, ⊎_elim, ◌*◌, ◌+◌, ◌<◌, ◌∙◌}
+use Rattle.std.proofs.Common.{◌∷◌, ◌≡◌, ◌≤◌, ◌⊎◌}
 use Rattle.std.proofs.lemmas.Bool.{cases_eq, cases_lt}
 use Rattle.std.proofs.lemmas.List.{ext_get_or}
 use Rattle.fr_core.proofs.Finishing.{TurnsTo, moment_path, no_turns, turn_first}
@@ -44,10 +45,12 @@ module _ (n d : ℕ) (first : List (ℕ × ℕ)) (net : IsNet n first) (c : List
       sink = sink_from_none_out first b lawful.kept x l.0 l.1 none;
     }
 
-    follow : (k x : ℕ) → IsBehind b x → ((y : ℕ) × IsBehind b y × CanTurn n d (moment_of first b) y) ⊎ ((vs : List ℕ) × (length vs ≡ k) × IsPath (links_at first b) x vs)
+    follow : (k x : ℕ) → IsBehind b x → ((y : ℕ) × IsBehind b y × CanTurn n d (moment_of first b) y)
+        ⊎ ((vs : List ℕ) × (length vs ≡ k) × IsPath (links_at first b) x vs)
     follow zero x behind = inr ([], refl, tt)
     follow (suc k) x behind = ⊎_elim
-        (λ o. ⊎_elim (λ r. inl r) (λ p. inr (o.0 ∷ p.0, ap suc p.1, (o.1, p.2))) (follow k o.0 (behind_out x o.0 (Points-links_at_from first b x o.0 o.1) behind)))
+        (λ o. ⊎_elim (λ r. inl r) (λ p. inr (o.0 ∷ p.0, ap suc p.1, (o.1, p.2)))
+        (follow k o.0 (behind_out x o.0 (Points-links_at_from first b x o.0 o.1) behind)))
         (λ none. inl (x, behind, behind_turns x behind none))
         (cases_out (links_at first b) x)
 
@@ -58,20 +61,31 @@ module _ (n d : ℕ) (first : List (ℕ × ℕ)) (net : IsNet n first) (c : List
     -- so one of those can turn
     some_turns : (x : ℕ) → IsBehind b x → (y : ℕ) × IsBehind b y × CanTurn n d (moment_of first b) y
     some_turns x behind = ⊎_elim (λ r. r)
-        (λ p. absurd (omega (arith, p.1, path_short (links_at first b) n (links_at_acyclic first b net.acyclic) (λ u v h. head_below u v (Points-links_at_from first b u v h)) x p.0 (behind_below b x behind) p.2)))
+        (λ p. absurd (omega (
+          arith,
+          p.1,
+          path_short (links_at first b) n (links_at_acyclic first b net.acyclic)
+              (λ u v h. head_below u v (Points-links_at_from first b u v h)) x p.0 (behind_below b x behind) p.2,
+        )))
         (follow n x behind)
 
   abbrev IsThere : Moment → Type 0
   IsThere m = m.counts ≡ c
 
-  lead_by : (fuel : ℕ) (m : Moment) → IsLawfulAt n d first m → ((x : ℕ) → slice_index m.counts x ≤ slice_index c x) → n * n < sum m.counts + fuel → TurnsTo n d m IsThere
+  lead_by : (fuel : ℕ) (m : Moment) → IsLawfulAt n d first m → ((x : ℕ) → slice_index m.counts x ≤ slice_index c x)
+      → n * n < sum m.counts + fuel → TurnsTo n d m IsThere
   lead_by zero m at low l = absurd (omega (arith, lawful_sum n d first m.counts at.lawful))
   lead_by (suc fuel) m at low l = ⊎_elim {C = TurnsTo n d m IsThere}
       (λ f.
       let t = some_turns m.counts at.lawful f.0 f.2 in
       let x : ℕ = t.0 in
       let k : ℕ = count_at m x + 1 in
-      let can : CanTurn n d m x = record { not_destination = t.2.not_destination; below_cap = t.2.below_cap; sink = subst (λ (ls : List (ℕ × ℕ)). IsSink ls x) (sym at.links) t.2.sink } in
+      let can : CanTurn n d m x = record {
+        not_destination = t.2.not_destination;
+        below_cap = t.2.below_cap;
+        sink =
+            subst (λ (ls : List (ℕ × ℕ)). IsSink ls x) (sym at.links) t.2.sink;
+      } in
       let below : x < n = behind_below m.counts x t.1 in
       let inside : x < length m.counts = omega (arith, below, at.lawful.one_each) in
       let adds = sum_after_reply m x (Turned k) inside in
@@ -84,7 +98,8 @@ module _ (n d : ℕ) (first : List (ℕ × ℕ)) (net : IsNet n first) (c : List
       (λ behind. absurd (none x (behind_below m.counts x behind) behind))
       (λ high. omega (arith, low x, high))
       (cases_lt (slice_index m.counts x) (slice_index c x)))))
-      (cases_below (IsBehind m.counts) (λ x. ⊎_elim (λ l. inl l) (λ high. inr (λ l. omega (arith, high, l))) (cases_lt (slice_index m.counts x) (slice_index c x))) n)
+      (cases_below (IsBehind m.counts)
+      (λ x. ⊎_elim (λ l. inl l) (λ high. inr (λ l. omega (arith, high, l))) (cases_lt (slice_index m.counts x) (slice_index c x))) n)
 
 pub lawful_reached : LawfulIsReached
 lawful_reached = λ n d first before counts net lawful goal low.

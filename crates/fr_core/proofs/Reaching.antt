@@ -1,5 +1,6 @@
 -- How a search reaches nodes: some, one more, and those of a row.
-use Rattle.std.proofs.Common.{All, Contains, List, [], ap, arith, cond, eq-eqb, get_or, inl, inr, length, ne_eqb, refl, slice_index, slice_set, subst, sym, take, ℕ, ⊎_elim, ◌++◌, ◌+◌, ◌<◌, ◌==◌, ◌∙◌, ◌∷◌, ◌≡◌, ◌≤◌, ◌⊎◌}
+use Rattle.std.proofs.Common.{All, Contains, List, [], ap, arith, cond, eq-eqb, get_or, inl, inr, length, ne_eqb, refl, slice_index, slice_set, subst}
+use Rattle.std.proofs.Common.{sym, take, ℕ, ⊎_elim, ◌++◌, ◌+◌, ◌<◌, ◌==◌, ◌∙◌, ◌∷◌, ◌≡◌, ◌≤◌, ◌⊎◌}
 use Rattle.std.proofs.lemmas.Bool.{cases_eq, cases_lt, cond-false, cond-true}
 use Rattle.std.proofs.lemmas.List.{get_or-set_other, get_or-set_same, get_or_append_left, get_or_push, length_push}
 use Rattle.std.proofs.lemmas.List.Elements.{All-more, Contains-get_or}
@@ -29,12 +30,18 @@ reaches_more n P Q level c q d r e s g h within = record {
 }
 
 -- one node is reached
-module _ (n level : ℕ) (c q : List ℕ) (x : ℕ) (one_each : length c ≡ n) (in_range : x < n) (few : length q + unreached_count n c ≤ n) (low : level ≤ length q) (at : slice_index c x ≡ n) (P : ℕ → Type 0) (has : P x) where
+module _ (n level : ℕ) (c q : List ℕ) (x : ℕ) (one_each : length c ≡ n) (in_range : x < n)
+    (few : length q + unreached_count n c ≤ n) (low : level ≤ length q) (at : slice_index c x ≡ n) (P : ℕ → Type 0) (has : P x) where
   one_at : ◌≡◌ {A = ℕ} (cond (slice_index c x == n) 1 0) 1
   one_at = cond-true {A = ℕ} (slice_index c x == n) 1 0 (eq-eqb (slice_index c x) n at)
 
   one_less : (k : ℕ) → ¬ (k ≡ n) → unreached_count n (slice_set c x k) + 1 ≡ unreached_count n c
-  one_less k ne = omega (arith, sum_by-set (λ (y : ℕ). cond (y == n) 1 0) c x k 0 (omega (arith, one_each)), one_at, cond-false {A = ℕ} (k == n) 1 0 (ne_eqb k n ne))
+  one_less k ne = omega (
+    arith,
+    sum_by-set (λ (y : ℕ). cond (y == n) 1 0) c x k 0 (omega (arith, one_each)),
+    one_at,
+    cond-false {A = ℕ} (k == n) 1 0 (ne_eqb k n ne),
+  )
 
   pub has_room : length q < n
   has_room = omega (arith, one_less 0 (λ e. omega (arith, in_range, e)))

@@ -1,5 +1,6 @@
 -- What the turns of a run add up to.
-use Rattle.std.proofs.Common.{List, [], ap, arith, cond, eq-eqb, length, ne_eqb, refl, replicate, slice_index, slice_set, subst, sum, sym, ℕ, ⊎_elim, ◌&&◌, ◌*◌, ◌+◌, ◌<◌, ◌==◌, ◌∙◌, ◌∷◌, ◌≡◌, ◌≤◌}
+use Rattle.std.proofs.Common.{List, [], ap, arith, cond, eq-eqb, length, ne_eqb, refl, replicate, slice_index, slice_set, subst, sum, sym, ℕ, ⊎_elim}
+use Rattle.std.proofs.Common.{◌&&◌, ◌*◌, ◌+◌, ◌<◌, ◌==◌, ◌∙◌, ◌∷◌, ◌≡◌, ◌≤◌}
 use Rattle.std.proofs.lemmas.Bool.{cases_eq, cond-false, cond-true}
 use Rattle.std.proofs.lemmas.List.{get_or-set_other, get_or-set_same, length-replicate, length-set}
 use Rattle.std.proofs.lemmas.List.Elements.{All-from_get_or}
@@ -37,9 +38,16 @@ run_sum n d m (e ∷ es) long run = omega (
   sum_by-cons (λ (f : Entry). cond (is_turned f.reply) 1 0) e es,
 )
 
-count_after_reply : (m : Moment) (x : ℕ) (r : Reply) (y : ℕ) → x < length m.counts → slice_index (after_reply m x r).counts y ≡ slice_index m.counts y + cond (is_turned r && (x == y)) 1 0
+count_after_reply : (m : Moment) (x : ℕ) (r : Reply) (y : ℕ) → x < length m.counts
+    → slice_index (after_reply m x r).counts y ≡ slice_index m.counts y + cond (is_turned r && (x == y)) 1 0
 count_after_reply m x (Turned k) y l = ⊎_elim
-    (λ e. omega (arith, ap (slice_index (slice_set m.counts x (count_at m x + 1))) e, get_or-set_same m.counts x (count_at m x + 1) 0 l, ap (slice_index m.counts) e, cond-true {A = ℕ} (x == y) 1 0 (eq-eqb x y e)))
+    (λ e. omega (
+      arith,
+      ap (slice_index (slice_set m.counts x (count_at m x + 1))) e,
+      get_or-set_same m.counts x (count_at m x + 1) 0 l,
+      ap (slice_index m.counts) e,
+      cond-true {A = ℕ} (x == y) 1 0 (eq-eqb x y e),
+    ))
     (λ ne. omega (arith, get_or-set_other m.counts x y (count_at m x + 1) 0 (λ e. ne (sym e)), cond-false {A = ℕ} (x == y) 1 0 (ne_eqb x y ne)))
     (cases_eq x y)
 count_after_reply m x (Held by) y l = omega arith
@@ -47,7 +55,8 @@ count_after_reply m x (Moved had k) y l = omega arith
 count_after_reply m x Cut y l = omega arith
 count_after_reply m x Sink y l = omega arith
 
-pub run_count : (n d : ℕ) (m : Moment) (es : List Entry) → length m.counts ≡ n → IsRun n d m es → (y : ℕ) → slice_index (after_all m es).counts y ≡ slice_index m.counts y + turn_count_of y es
+pub run_count : (n d : ℕ) (m : Moment) (es : List Entry) → length m.counts ≡ n → IsRun n d m es → (y : ℕ)
+    → slice_index (after_all m es).counts y ≡ slice_index m.counts y + turn_count_of y es
 run_count n d m [] long run y = omega arith
 run_count n d m (e ∷ es) long run y = omega (
   arith,
@@ -57,7 +66,8 @@ run_count n d m (e ∷ es) long run y = omega (
 )
 
 pub lawful_sum : (n d : ℕ) (first : List (ℕ × ℕ)) (c : List ℕ) → AreLawful n d first c → sum c ≤ n * n
-lawful_sum n d first c lawful = subst (λ (k : ℕ). sum c ≤ k * n) lawful.one_each (sum_by-le (λ (y : ℕ). y) n c (All-from_get_or (λ (y : ℕ). y ≤ n) c 0 (λ i l. lawful.capped i)))
+lawful_sum n d first c lawful = subst (λ (k : ℕ). sum c ≤ k * n) lawful.one_each
+    (sum_by-le (λ (y : ℕ). y) n c (All-from_get_or (λ (y : ℕ). y ≤ n) c 0 (λ i l. lawful.capped i)))
 
 -- a run from the counts 0 of a network leads to the counts at its end
 pub run_to : (n d : ℕ) (first : List (ℕ × ℕ)) → IsNet n first → (entries : List Entry) (counts : List ℕ) → IsRun n d (moment_of first (replicate n 0)) entries

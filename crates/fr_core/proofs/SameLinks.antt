@@ -40,12 +40,17 @@ pub same_joined : (a b : List (ℕ × ℕ)) → HaveSameLinks a b → (d x : ℕ
 same_joined a b same d x j = (j.0, same_has_walk a b same d x j.0 j.1)
 
 same_least : (a b : List (ℕ × ℕ)) → HaveSameLinks a b → (d x k : ℕ) → IsLeastAway a d x k → IsLeastAway b d x k
-same_least a b same d x k h = record { reached = same_has_walk a b same d x k h.reached; least = λ away w. h.least away (same_has_walk b a (same_sym a b same) d x away w) }
+same_least a b same d x k h = record {
+  reached = same_has_walk a b same d x k h.reached;
+  least =
+      λ away w. h.least away (same_has_walk b a (same_sym a b same) d x away w);
+}
 
 same_count : (a b : List (ℕ × ℕ)) → HaveSameLinks a b → (n d x k : ℕ) → IsSettledCount n d a x k → IsSettledCount n d b x k
 same_count a b same n d x k (inl h) = inl (same_alone a b same x h.0, h.1)
 same_count a b same n d x k (inr (inl h)) = inr (inl (λ alone. h.0 (same_alone b a (same_sym a b same) x alone), same_least a b same d x k h.1))
-same_count a b same n d x k (inr (inr h)) = inr (inr (λ alone. h.0 (same_alone b a (same_sym a b same) x alone), (λ j. h.1 (same_joined b a (same_sym a b same) d x j)), h.2))
+same_count a b same n d x k (inr (inr h)) =
+    inr (inr (λ alone. h.0 (same_alone b a (same_sym a b same) x alone), (λ j. h.1 (same_joined b a (same_sym a b same) d x j)), h.2))
 
 pub same_settled : (a b : List (ℕ × ℕ)) → HaveSameLinks a b → (n d : ℕ) (c : List ℕ) → AreSettled n d a c → AreSettled n d b c
 same_settled a b same n d c h = record { one_each = h.one_each; settled = λ x l. same_count a b same n d x (slice_index c x) (h.settled x l) }

@@ -1,5 +1,6 @@
 -- Where the links of a node point now, by its row.
-use Rattle.std.proofs.Common.{All, Bool, Contains, List, None, Option, Some, ap, arith, cond, eq-eqb, eqb, false, get_or, inl, inr, length, ne_eqb, refl, slice_index, subst, sym, true, ℕ, ⊎_elim, ◌+◌, ◌<◌, ◌∙◌, ◌≡◌, ◌⊎◌}
+use Rattle.std.proofs.Common.{All, Bool, Contains, List, None, Option, Some, ap, arith, cond, eq-eqb, eqb, false, get_or, inl, inr, length, ne_eqb}
+use Rattle.std.proofs.Common.{refl, slice_index, subst, sym, true, ℕ, ⊎_elim, ◌+◌, ◌<◌, ◌∙◌, ◌≡◌, ◌⊎◌}
 use Rattle.std.proofs.lemmas.Bool.{cond-false, cond-true, false≢true}
 use Rattle.std.proofs.lemmas.List.Elements.{All-contains, Contains-get_or}
 use Rattle.std.specs.Option.{is_some, option_map}
@@ -17,16 +18,19 @@ use Rattle.fr_graph.specs.declared.first.First.{First}
 use Rattle.fr_graph.specs.declared.first.First.TheVariants as first
 
 -- the link that the counts give, and the sense of the link
-pub link_at-first_link : (c : List ℕ) (x w : ℕ) (f : First) → link_at c (first_link x w f) ≡ option_map (link_by x w) (sense_of f (slice_index c x) (slice_index c w))
+pub link_at-first_link : (c : List ℕ) (x w : ℕ) (f : First)
+    → link_at c (first_link x w f) ≡ option_map (link_by x w) (sense_of f (slice_index c x) (slice_index c w))
 link_at-first_link c x w first.Outward = go (eqb (slice_index c w) (slice_index c x)) (eqb (slice_index c w) (slice_index c x + 1))
   where
-    go : (same more : Bool) → cond same (Some (x, w)) (cond more (Some (w, x)) None) ≡ option_map (link_by x w) (cond same (Some sense.Outward) (cond more (Some sense.Inward) None))
+    go : (same more : Bool) → cond same (Some (x, w)) (cond more (Some (w, x)) None) ≡ option_map (link_by x w)
+        (cond same (Some sense.Outward) (cond more (Some sense.Inward) None))
     go true more = refl
     go false true = refl
     go false false = refl
 link_at-first_link c x w first.Inward = go (eqb (slice_index c x) (slice_index c w)) (eqb (slice_index c x) (slice_index c w + 1))
   where
-    go : (same more : Bool) → cond same (Some (w, x)) (cond more (Some (x, w)) None) ≡ option_map (link_by x w) (cond same (Some sense.Inward) (cond more (Some sense.Outward) None))
+    go : (same more : Bool) → cond same (Some (w, x)) (cond more (Some (x, w)) None) ≡ option_map (link_by x w)
+        (cond same (Some sense.Inward) (cond more (Some sense.Outward) None))
     go true more = refl
     go false true = refl
     go false false = refl
@@ -85,7 +89,8 @@ module _ (n : ℕ) (links : List (ℕ × ℕ)) (c : List ℕ) (x : ℕ) where
   points_from_row w f s h e = filter_map-Contains (link_at c) links (first_link x w f) (link_by x w s) (link_of_row n links x w f h)
       (link_at-first_link c x w f ∙ ap (option_map (link_by x w)) e)
 
-  pub row_from_points : IsNet n links → (w : ℕ) (s : Sense) → Contains (links_at links c) (link_by x w s) → (f : First) × Contains (row n links x) (w, f) × PointsBy c x s (w, f)
+  pub row_from_points : IsNet n links → (w : ℕ) (s : Sense) → Contains (links_at links c) (link_by x w s) → (f : First)
+      × Contains (row n links x) (w, f) × PointsBy c x s (w, f)
   row_from_points net w sense.Outward h = ⊎_elim
       (λ p. (first.Outward, row_of_out n links x w net p.0, sense_of-out_same (slice_index c x) (slice_index c w) p.1))
       (λ p. (first.Inward, row_of_in n links x w net p.0, sense_of-in_more (slice_index c x) (slice_index c w) p.1))
@@ -102,7 +107,8 @@ module _ (n : ℕ) (links : List (ℕ × ℕ)) (c : List ℕ) (x : ℕ) where
 
   -- each link of a sink points to it, and it has one
   pub row_points_in : All (IsKept c) links → IsSink (links_at links c) x → All (PointsBy c x sense.Inward) (row n links x)
-  row_points_in kept sink = λ k d l. inward_entry kept sink (get_or (row n links x) k d).0 (get_or (row n links x) k d).1 (Contains-get_or (row n links x) k d l)
+  row_points_in kept sink = λ k d l. inward_entry kept sink (get_or (row n links x) k d).0 (get_or (row n links x) k d).1
+      (Contains-get_or (row n links x) k d l)
 
   pub row_of_sink : IsNet n links → IsSink (links_at links c) x → 0 < length (row n links x)
   row_of_sink net sink = let r = row_from_points net sink.0.0 sense.Inward sink.0.1 in omega (arith, r.1.1)

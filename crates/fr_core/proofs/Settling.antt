@@ -1,5 +1,6 @@
 -- Where no node can turn, lawful counts are settled.
-use Rattle.std.proofs.Common.{List, [], ap, arith, inl, inr, length, refl, slice_index, subst, suc, sym, zero, ℕ, ⊎_elim, ◌++◌, ◌+◌, ◌<◌, ◌∙◌, ◌∷◌, ◌≡◌, ◌≤◌, ◌⊎◌}
+use Rattle.std.proofs.Common.{List, [], ap, arith, inl, inr, length, refl, slice_index, subst, suc, sym, zero, ℕ, ⊎_elim, ◌++◌, ◌+◌, ◌<◌, ◌∙◌, ◌∷◌}
+use Rattle.std.proofs.Common.{◌≡◌, ◌≤◌, ◌⊎◌}
 use Rattle.std.proofs.lemmas.Bool.{cases_eq, cases_lt}
 use Rattle.fr_core.proofs.Away.{Climbs, climbs_from_meets, lawful_at_most}
 use Rattle.fr_core.proofs.Following.{path_short}
@@ -18,9 +19,11 @@ use Rattle.fr_graph.specs.Links.{IsAlone, IsNet, IsPath, Joins, Points}
 
 pub cases_linked : (links : List (ℕ × ℕ)) (x : ℕ) → ((w : ℕ) × Joins links x w) ⊎ IsAlone links x
 cases_linked links x = ⊎_elim
-    (λ f. inl (⊎_elim (λ e. (f.0.1, inl (subst (λ (z : ℕ). Points links z f.0.1) e f.1))) (λ e. (f.0.0, inr (subst (λ (z : ℕ). Points links f.0.0 z) e f.1))) f.2))
+    (λ f. inl (⊎_elim (λ e. (f.0.1, inl (subst (λ (z : ℕ). Points links z f.0.1) e f.1)))
+    (λ e. (f.0.0, inr (subst (λ (z : ℕ). Points links f.0.0 z) e f.1))) f.2))
     (λ none. inr (λ w. ⊎_elim (λ h. none (x, w) h (inl refl)) (λ h. none (w, x) h (inr refl))))
-    (cases_some (λ (l : ℕ × ℕ). (l.0 ≡ x) ⊎ (l.1 ≡ x)) (λ l. ⊎_elim (λ e. inl (inl e)) (λ n. ⊎_elim (λ e. inl (inr e)) (λ m. inr (⊎_elim n m)) (cases_eq l.1 x)) (cases_eq l.0 x)) links)
+    (cases_some (λ (l : ℕ × ℕ). (l.0 ≡ x) ⊎ (l.1 ≡ x))
+    (λ l. ⊎_elim (λ e. inl (inl e)) (λ n. ⊎_elim (λ e. inl (inr e)) (λ m. inr (⊎_elim n m)) (cases_eq l.1 x)) (cases_eq l.0 x)) links)
 
 pub cases_out : (links : List (ℕ × ℕ)) (x : ℕ) → ((y : ℕ) × Points links x y) ⊎ ((y : ℕ) → ¬ Points links x y)
 cases_out links x = ⊎_elim
@@ -39,7 +42,8 @@ walk_against links u (v ∷ vs) k y x (inl w) h = inl (w.0, (w.1.0, w.1.1, walk_
 walk_against links u (v ∷ vs) k y x (inr w) h = inr (w.0, walk_against links v vs k y x w.1 h)
 
 -- on a walk that climbs by at most one a step each count between its ends is taken
-pub walk_takes : (n : ℕ) (links : List (ℕ × ℕ)) → ((u w : ℕ) → Joins links u w → u < n) → (c : List ℕ) → Climbs links c → (u : ℕ) → u < n → (vs : List ℕ) (k x : ℕ) → IsWalk links u vs k x
+pub walk_takes : (n : ℕ) (links : List (ℕ × ℕ)) → ((u w : ℕ) → Joins links u w → u < n) → (c : List ℕ) → Climbs links c
+    → (u : ℕ) → u < n → (vs : List ℕ) (k x : ℕ) → IsWalk links u vs k x
     → (m : ℕ) → slice_index c u ≤ m → m ≤ slice_index c x → (y : ℕ) × (y < n) × (slice_index c y ≡ m)
 walk_takes n links below c climbs u in_range [] k x w m low high = (u, in_range, omega (arith, ap (slice_index c) w.0))
 walk_takes n links below c climbs u in_range (v ∷ vs) k x (inl w) m low high = ⊎_elim
@@ -50,7 +54,8 @@ walk_takes n links below c climbs u in_range (v ∷ vs) k x (inr w) m low high =
     walk_takes n links below c climbs v (below v u (inl w.0)) vs k x w.1 m (omega (arith, climbs.against u v w.0)) high
 
 -- so no walk climbs from 0 to n
-pub no_walk_to_n : (n : ℕ) (links : List (ℕ × ℕ)) → ((u w : ℕ) → Joins links u w → u < n) → (c : List ℕ) → Climbs links c → (d : ℕ) → d < n → slice_index c d ≡ 0 → (x : ℕ) → IsJoined links d x → slice_index c x < n
+pub no_walk_to_n : (n : ℕ) (links : List (ℕ × ℕ)) → ((u w : ℕ) → Joins links u w → u < n) → (c : List ℕ) → Climbs links c
+    → (d : ℕ) → d < n → slice_index c d ≡ 0 → (x : ℕ) → IsJoined links d x → slice_index c x < n
 no_walk_to_n n links below c climbs d in_range start x (k, (vs, w)) = ⊎_elim (λ l. l)
     (λ high. absurd (too_many_counts n (slice_index c) (λ m l. walk_takes n links below c climbs d in_range vs k x w m (omega arith) (omega arith))))
     (cases_lt (slice_index c x) n)
@@ -68,7 +73,8 @@ module _ (n d : ℕ) (first : List (ℕ × ℕ)) (net : IsNet n first) (in_range
 
     reach_further : (x y : ℕ) → ComesFrom first c x y → HasWalk first d y (slice_index c y) → HasWalk first d x (slice_index c x)
     reach_further x y (inl h) (vs, w) = (vs ++ x ∷ [], walk_against first d vs (slice_index c x) y x (subst (λ (k : ℕ). IsWalk first d vs k y) h.1 w) h.0)
-    reach_further x y (inr h) (vs, w) = (vs ++ x ∷ [], subst (λ (k : ℕ). IsWalk first d (vs ++ x ∷ []) k x) (sym h.1) (walk_along first d vs (slice_index c y) y x w h.0))
+    reach_further x y (inr h) (vs, w) =
+        (vs ++ x ∷ [], subst (λ (k : ℕ). IsWalk first d (vs ++ x ∷ []) k x) (sym h.1) (walk_along first d vs (slice_index c y) y x w h.0))
 
     falls : (x y : ℕ) → ComesFrom first c x y → slice_index c y ≤ slice_index c x
     falls x y (inl h) = omega (arith, h.1)
@@ -78,7 +84,8 @@ module _ (n d : ℕ) (first : List (ℕ × ℕ)) (net : IsNet n first) (in_range
     linked_back x y (inl h) = inr h.0
     linked_back x y (inr h) = inl h.0
 
-    follow : (k x w : ℕ) → Joins first x w → slice_index c x < n → HasWalk first d x (slice_index c x) ⊎ ((vs : List ℕ) × (length vs ≡ k) × IsPath (links_at first c) x vs)
+    follow : (k x w : ℕ) → Joins first x w → slice_index c x < n → HasWalk first d x (slice_index c x)
+        ⊎ ((vs : List ℕ) × (length vs ≡ k) × IsPath (links_at first c) x vs)
     follow zero x w linked below = inr ([], refl, tt)
     follow (suc k) x w linked below = ⊎_elim
         (λ e. inl ([], (e, ap (slice_index c) e ∙ lawful.destination)))
@@ -91,16 +98,29 @@ module _ (n d : ℕ) (first : List (ℕ × ℕ)) (net : IsNet n first) (in_range
 
     reached : (x w : ℕ) → Joins first x w → slice_index c x < n → HasWalk first d x (slice_index c x)
     reached x w linked below = ⊎_elim (λ r. r)
-        (λ p. absurd (omega (arith, p.1, path_short (links_at first c) n (links_at_acyclic first c net.acyclic) (λ u v h. (joined_below n first v u net (linked_back u v (Points-links_at_from first c u v h))).0) x p.0 (joined_below n first x w net linked).0 p.2)))
+        (λ p. absurd (omega (
+          arith,
+          p.1,
+          path_short (links_at first c) n (links_at_acyclic first c net.acyclic)
+              (λ u v h. (joined_below n first v u net (linked_back u v (Points-links_at_from first c u v h))).0) x p.0
+              (joined_below n first x w net linked).0 p.2,
+        )))
         (follow n x w linked below)
 
     settled_count : (x : ℕ) → x < n → IsSettledCount n d first x (slice_index c x)
     settled_count x l = ⊎_elim
         (λ linked. ⊎_elim
-        (λ below. inr (inl (λ alone. alone linked.0 linked.1, record { reached = reached x linked.0 linked.1 below; least = lawful_at_most n d first c lawful x })))
+        (λ below. inr (inl (
+          λ alone. alone linked.0 linked.1,
+          record { reached = reached x linked.0 linked.1 below; least = lawful_at_most n d first c lawful x },
+        )))
         (λ high. inr (inr (
           λ alone. alone linked.0 linked.1,
-          (λ joined. omega (arith, no_walk_to_n n first (λ x w h. (joined_below n first x w net h).0) c (climbs_from_meets first c lawful.kept) d in_range lawful.destination x joined)),
+          (λ joined. omega (
+            arith,
+            no_walk_to_n n first (λ x w h. (joined_below n first x w net h).0) c
+                (climbs_from_meets first c lawful.kept) d in_range lawful.destination x joined,
+          )),
           omega (arith, lawful.capped x),
         )))
         (cases_lt (slice_index c x) n))

@@ -7,15 +7,18 @@ use Rattle.fr_graph.specs.Counts.{IsKept, links_at}
 use Rattle.fr_graph.specs.Links.{Joins, Points}
 use Rattle.fr_graph.specs.Turn.{IsSink}
 
-pub kept_at : (first : List (ℕ × ℕ)) (c : List ℕ) → All (IsKept c) first → (u v : ℕ) → Points first u v → (slice_index c v ≡ slice_index c u) ⊎ (slice_index c v ≡ slice_index c u + 1)
+pub kept_at : (first : List (ℕ × ℕ)) (c : List ℕ) → All (IsKept c) first → (u v : ℕ) → Points first u v
+    → (slice_index c v ≡ slice_index c u) ⊎ (slice_index c v ≡ slice_index c u + 1)
 kept_at first c meets u v h = All-contains (IsKept c) first (u, v) meets h
 
 -- each first link of lawful counts is kept, in one direction
 pub links_at_keeps : (first : List (ℕ × ℕ)) (c : List ℕ) → All (IsKept c) first → (u v : ℕ) → Points first u v → Joins (links_at first c) u v
-links_at_keeps first c meets u v h = ⊎_elim (λ e. inl (Points-links_at_same first c u v h e)) (λ e. inr (Points-links_at_turned first c v u h e)) (kept_at first c meets u v h)
+links_at_keeps first c meets u v h = ⊎_elim (λ e. inl (Points-links_at_same first c u v h e))
+    (λ e. inr (Points-links_at_turned first c v u h e)) (kept_at first c meets u v h)
 
 -- a linked node is a sink where no link points away from it
-pub sink_from_none_out : (first : List (ℕ × ℕ)) (c : List ℕ) → All (IsKept c) first → (x w : ℕ) → Joins first x w → ((y : ℕ) → ¬ Points (links_at first c) x y) → IsSink (links_at first c) x
+pub sink_from_none_out : (first : List (ℕ × ℕ)) (c : List ℕ) → All (IsKept c) first → (x w : ℕ) → Joins first x w
+    → ((y : ℕ) → ¬ Points (links_at first c) x y) → IsSink (links_at first c) x
 sink_from_none_out first c meets x w linked none = (
   ⊎_elim
       (λ h. ⊎_elim (λ o. absurd (none w o)) (λ i. (w, i)) (links_at_keeps first c meets x w h))

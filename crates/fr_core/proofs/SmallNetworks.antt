@@ -83,5 +83,6 @@ sink_of_chain x sink = here (Contains-cases (sink.0.0, x) (0, 1) ((1, 2) ∷ [])
     here : (◌≡◌ {A = ℕ × ℕ} (0, 1) (sink.0.0, x)) ⊎ Contains {X = ℕ × ℕ} ((1, 2) ∷ []) (sink.0.0, x) → x ≡ 2
     here (inl e) =
         let f : ◌≡◌ {A = ℕ} 1 x = λ i. (e i).1 in
-        absurd (sink.1 2 (subst (λ (y : ℕ). Contains {X = ℕ × ℕ} ((0, 1) ∷ (1, 2) ∷ []) (y, 2)) f (Contains-tail (1, 2) (0, 1) ((1, 2) ∷ []) (Contains-head (1, 2) []))))
+        absurd (sink.1 2 (subst (λ (y : ℕ). Contains {X = ℕ × ℕ} ((0, 1) ∷ (1, 2) ∷ []) (y, 2)) f
+        (Contains-tail (1, 2) (0, 1) ((1, 2) ∷ []) (Contains-head (1, 2) []))))
     here (inr h) = last (Contains-cases (sink.0.0, x) (1, 2) [] h)

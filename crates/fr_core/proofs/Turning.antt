@@ -1,5 +1,6 @@
 -- The links stay those that the counts give, turn by turn, and the counts stay lawful.
-use Rattle.std.proofs.Common.{All, Contains, List, Option, Some, [], ap, arith, eq-eqb, inl, inr, length, map, ne_eqb, refl, slice_index, slice_set, subst, sym, ℕ, ⊎_elim, ◌+◌, ◌<◌, ◌∙◌, ◌∷◌, ◌≡◌, ◌⊎◌}
+use Rattle.std.proofs.Common.{All, Contains, List, Option, Some, [], ap, arith, eq-eqb, inl, inr, length, map, ne_eqb, refl, slice_index, slice_set}
+use Rattle.std.proofs.Common.{subst, sym, ℕ, ⊎_elim, ◌+◌, ◌<◌, ◌∙◌, ◌∷◌, ◌≡◌, ◌⊎◌}
 use Rattle.std.proofs.lemmas.Bool.{cases_eq, cond-false, cond-true}
 use Rattle.std.proofs.lemmas.List.{get_or-set_other, get_or-set_same, length-set}
 use Rattle.std.proofs.lemmas.List.Elements.{All-contains, All-from_get_or, Contains-get_or}
@@ -87,12 +88,14 @@ sink_linked first c x sink = (sink.0.0, ⊎_elim (λ h. inr h.0) (λ h. inl h.0)
 pub All-from_Contains : (P : ℕ × ℕ → Type 0) (xs : List (ℕ × ℕ)) → ((l : ℕ × ℕ) → Contains xs l → P l) → All P xs
 All-from_Contains P xs each = All-from_get_or P xs (0, 0) (λ i l. each _ (Contains-get_or xs i (0, 0) l))
 
-module _ (n d : ℕ) (first : List (ℕ × ℕ)) (net : IsNet n first) (c : List ℕ) (lawful : AreLawful n d first c) (x : ℕ) (can : CanTurn n d (record { links = links_at first c; counts = c }) x) where
+module _ (n d : ℕ) (first : List (ℕ × ℕ)) (net : IsNet n first) (c : List ℕ) (lawful : AreLawful n d first c) (x : ℕ)
+    (can : CanTurn n d (record { links = links_at first c; counts = c }) x) where
   here : x < length c
   here = let s = sink_linked first c x can.sink in omega (arith, (joined_below n first x s.0 net s.1).0, lawful.one_each)
 
   each_turns : (l : ℕ × ℕ) → Contains first l → TurnsAlike c x l
-  each_turns l h = turns_alike c x l.0 l.1 here (All-contains (λ (l : ℕ × ℕ). ¬ (l.0 ≡ l.1)) first l net.no_self h) (All-contains (IsKept c) first l lawful.kept h)
+  each_turns l h = turns_alike c x l.0 l.1 here (All-contains (λ (l : ℕ × ℕ). ¬ (l.0 ≡ l.1)) first l net.no_self h)
+      (All-contains (IsKept c) first l lawful.kept h)
       (λ w e. can.sink.1 w (filter_map-Contains (link_at c) first l (x, w) h e))
 
   pub turn-links_at : turn x (links_at first c) ≡ links_at first (raised c x)
@@ -102,30 +105,46 @@ module _ (n d : ℕ) (first : List (ℕ × ℕ)) (net : IsNet n first) (c : List
   turn_lawful = record {
     one_each = length-set c x (slice_index c x + 1) ∙ lawful.one_each;
     destination = raised-other c x d (λ e. can.not_destination (sym e)) ∙ lawful.destination;
-    alone = λ y alone. raised-other c x y (λ e. let s = sink_linked first c x can.sink in alone s.0 (subst (λ (z : ℕ). Joins first z s.0) (sym e) s.1)) ∙ lawful.alone y alone;
-    capped = λ y. ⊎_elim (λ e. omega (arith, raised-here c x y here e, can.below_cap, ap (slice_index c) e)) (λ ne. omega (arith, raised-other c x y ne, lawful.capped y)) (cases_eq y x);
+    alone = λ y alone. raised-other c x y (λ e. let s = sink_linked first c x can.sink in
+        alone s.0 (subst (λ (z : ℕ). Joins first z s.0) (sym e) s.1)) ∙ lawful.alone y alone;
+    capped = λ y. ⊎_elim (λ e. omega (arith, raised-here c x y here e, can.below_cap, ap (slice_index c) e))
+        (λ ne. omega (arith, raised-other c x y ne, lawful.capped y)) (cases_eq y x);
     kept = All-from_Contains (IsKept (raised c x)) first (λ l h. let t = each_turns l h in link_at-kept (raised c x) l (turned_link x t.0) t.2);
   }
 
-pub can_turn-links_at : (n d : ℕ) (first : List (ℕ × ℕ)) (m : Moment) (x : ℕ) → m.links ≡ links_at first m.counts → CanTurn n d m x → CanTurn n d (record { links = links_at first m.counts; counts = m.counts }) x
-can_turn-links_at n d first m x e can = record { not_destination = can.not_destination; below_cap = can.below_cap; sink = subst (λ (ls : List (ℕ × ℕ)). IsSink ls x) e can.sink }
+pub can_turn-links_at : (n d : ℕ) (first : List (ℕ × ℕ)) (m : Moment) (x : ℕ) → m.links ≡ links_at first m.counts
+    → CanTurn n d m x → CanTurn n d (record { links = links_at first m.counts; counts = m.counts }) x
+can_turn-links_at n d first m x e can = record {
+  not_destination = can.not_destination;
+  below_cap = can.below_cap;
+  sink =
+      subst (λ (ls : List (ℕ × ℕ)). IsSink ls x) e can.sink;
+}
 
 -- a node that can turn is a node
 pub can_turn_below : (n d : ℕ) (first : List (ℕ × ℕ)) → IsNet n first → (m : Moment) → m.links ≡ links_at first m.counts → (x : ℕ) → CanTurn n d m x → x < n
-can_turn_below n d first net m e x can = let s = sink_linked first m.counts x (can_turn-links_at n d first m x e can).sink in (joined_below n first x s.0 net s.1).0
+can_turn_below n d first net m e x can = let s =
+    sink_linked first m.counts x (can_turn-links_at n d first m x e can).sink in (joined_below n first x s.0 net s.1).0
 
-pub turn_keeps : (n d : ℕ) (first : List (ℕ × ℕ)) → IsNet n first → (m : Moment) → IsLawfulAt n d first m → (x k : ℕ) → CanTurn n d m x → IsLawfulAt n d first (after_reply m x (Turned k))
+pub turn_keeps : (n d : ℕ) (first : List (ℕ × ℕ)) → IsNet n first → (m : Moment) → IsLawfulAt n d first m → (x k : ℕ)
+    → CanTurn n d m x → IsLawfulAt n d first (after_reply m x (Turned k))
 turn_keeps n d first net m at x k can =
     let can' = can_turn-links_at n d first m x at.links can in
-    record { links = ap (turn x) at.links ∙ turn-links_at n d first net m.counts at.lawful x can'; lawful = turn_lawful n d first net m.counts at.lawful x can' }
+    record {
+      links = ap (turn x) at.links ∙ turn-links_at n d first net m.counts at.lawful x can';
+      lawful =
+          turn_lawful n d first net m.counts at.lawful x can';
+    }
 
-reply_keeps : (n d : ℕ) (first : List (ℕ × ℕ)) → IsNet n first → (m : Moment) → IsLawfulAt n d first m → (x : ℕ) (r : Reply) → IsLegalReply n d m x r → IsLawfulAt n d first (after_reply m x r)
+reply_keeps : (n d : ℕ) (first : List (ℕ × ℕ)) → IsNet n first → (m : Moment) → IsLawfulAt n d first m → (x : ℕ) (r : Reply)
+    → IsLegalReply n d m x r → IsLawfulAt n d first (after_reply m x r)
 reply_keeps n d first net m at x (Turned k) legal = turn_keeps n d first net m at x k legal.0
 reply_keeps n d first net m at x (Held by) legal = at
 reply_keeps n d first net m at x (Moved had k) legal = at
 reply_keeps n d first net m at x Cut legal = at
 reply_keeps n d first net m at x Sink legal = at
 
-pub run_keeps : (n d : ℕ) (first : List (ℕ × ℕ)) → IsNet n first → (m : Moment) → IsLawfulAt n d first m → (es : List Entry) → IsRun n d m es → IsLawfulAt n d first (after_all m es)
+pub run_keeps : (n d : ℕ) (first : List (ℕ × ℕ)) → IsNet n first → (m : Moment) → IsLawfulAt n d first m → (es : List Entry)
+    → IsRun n d m es → IsLawfulAt n d first (after_all m es)
 run_keeps n d first net m at [] run = at
 run_keeps n d first net m at (e ∷ es) run = run_keeps n d first net (after m e) (reply_keeps n d first net m at e.node e.reply run.0.1) es run.1

@@ -38,10 +38,12 @@ count_unique n d links x k l (inr (inr h)) g = linked_unique n d links x k l (in
 
 pub settled_unique : (n d : ℕ) (links : List (ℕ × ℕ)) (b c : List ℕ) → AreSettled n d links b → AreSettled n d links c → b ≡ c
 settled_unique n d links b c hb hc = ext_get_or 0 b c (hb.one_each ∙ sym hc.one_each)
-    (λ i l. let below : i < n = omega (arith, hb.one_each) in count_unique n d links i (slice_index b i) (slice_index c i) (hb.settled i below) (hc.settled i below))
+    (λ i l. let below : i < n = omega (arith, hb.one_each) in count_unique n d links i (slice_index b i) (slice_index c i)
+    (hb.settled i below) (hc.settled i below))
 
 -- lawful counts are at most the settled ones
-pub lawful_le_settled : (n d : ℕ) (links : List (ℕ × ℕ)) (b c : List ℕ) → AreLawful n d links b → AreSettled n d links c → (x : ℕ) → x < n → slice_index b x ≤ slice_index c x
+pub lawful_le_settled : (n d : ℕ) (links : List (ℕ × ℕ)) (b c : List ℕ) → AreLawful n d links b → AreSettled n d links c
+    → (x : ℕ) → x < n → slice_index b x ≤ slice_index c x
 lawful_le_settled n d links b c lawful settled x l = go (settled.settled x l)
   where
     go : IsSettledCount n d links x (slice_index c x) → slice_index b x ≤ slice_index c x
@@ -59,13 +61,15 @@ module _ (n d : ℕ) (first : List (ℕ × ℕ)) (net : IsNet n first) (in_range
   pub joined_against : (u v : ℕ) → Points first v u → IsJoined first d u → IsJoined first d v
   joined_against u v h (k, (vs, w)) = (k, (vs ++ v ∷ [], walk_against first d vs k u v w h))
 
-  climbs_along : (u v : ℕ) → Points first u v → IsLinkedCount n d first u (slice_index c u) → IsLinkedCount n d first v (slice_index c v) → slice_index c v ≤ slice_index c u + 1
+  climbs_along : (u v : ℕ) → Points first u v → IsLinkedCount n d first u (slice_index c u)
+      → IsLinkedCount n d first v (slice_index c v) → slice_index c v ≤ slice_index c u + 1
   climbs_along u v h (inl f) (inl g) = g.least (slice_index c u + 1) (f.reached.0 ++ v ∷ [], walk_along first d f.reached.0 (slice_index c u) u v f.reached.1 h)
   climbs_along u v h (inl f) (inr g) = absurd (g.0 (joined_along u v h (slice_index c u, f.reached)))
   climbs_along u v h (inr f) (inl g) = absurd (f.0 (joined_against v u h (slice_index c v, g.reached)))
   climbs_along u v h (inr f) (inr g) = omega (arith, f.1, g.1)
 
-  climbs_against : (u v : ℕ) → Points first v u → IsLinkedCount n d first u (slice_index c u) → IsLinkedCount n d first v (slice_index c v) → slice_index c v ≤ slice_index c u
+  climbs_against : (u v : ℕ) → Points first v u → IsLinkedCount n d first u (slice_index c u)
+      → IsLinkedCount n d first v (slice_index c v) → slice_index c v ≤ slice_index c u
   climbs_against u v h (inl f) (inl g) = g.least (slice_index c u) (f.reached.0 ++ v ∷ [], walk_against first d f.reached.0 (slice_index c u) u v f.reached.1 h)
   climbs_against u v h (inl f) (inr g) = absurd (g.0 (joined_against u v h (slice_index c u, f.reached)))
   climbs_against u v h (inr f) (inl g) = absurd (f.0 (joined_along v u h (slice_index c v, g.reached)))
@@ -105,7 +109,8 @@ module _ (n d : ℕ) (first : List (ℕ × ℕ)) (net : IsNet n first) (in_range
       go (inr (inr h)) = absurd (h.0 alone)
 
   settled_meets : (u v : ℕ) → Points first u v → IsKept c (u, v)
-  settled_meets u v h = ⊎_elim inl (λ ne. inr (omega (arith, settled_climbs.along u v h, settled_climbs.against v u h))) (cases_eq (slice_index c v) (slice_index c u))
+  settled_meets u v h = ⊎_elim inl (λ ne. inr (omega (arith, settled_climbs.along u v h, settled_climbs.against v u h)))
+      (cases_eq (slice_index c v) (slice_index c u))
 
   pub settled_lawful : AreLawful n d first c
   settled_lawful = record {
@@ -117,14 +122,23 @@ module _ (n d : ℕ) (first : List (ℕ × ℕ)) (net : IsNet n first) (in_range
   }
 
   -- the last step of a walk with the least away number is against a link that the counts give
-  last_step : (u : ℕ) (vs : List ℕ) (k x : ℕ) → IsWalk first u vs k x → slice_index c u + k ≤ slice_index c x → ¬ (u ≡ x) → (y : ℕ) × Points (links_at first c) x y
+  last_step : (u : ℕ) (vs : List ℕ) (k x : ℕ) → IsWalk first u vs k x → slice_index c u + k ≤ slice_index c x → ¬ (u ≡ x)
+      → (y : ℕ) × Points (links_at first c) x y
   last_step u [] k x w l apart = absurd (apart (sym w.0))
   last_step u (v ∷ vs) k x (inl w) l apart = ⊎_elim
-      (λ e. (u, Points-links_at_turned first c x u (subst (λ (z : ℕ). Points first u z) e w.0) (omega (arith, w.1.1, settled_climbs.along u v w.0, ap (slice_index c) e))))
+      (λ e. (
+        u,
+        Points-links_at_turned first c x u (subst (λ (z : ℕ). Points first u z) e w.0)
+            (omega (arith, w.1.1, settled_climbs.along u v w.0, ap (slice_index c) e)),
+      ))
       (λ ne. last_step v vs w.1.0 x w.1.2 (omega (arith, w.1.1, settled_climbs.along u v w.0)) ne)
       (cases_eq v x)
   last_step u (v ∷ vs) k x (inr w) l apart = ⊎_elim
-      (λ e. (u, Points-links_at_same first c x u (subst (λ (z : ℕ). Points first z u) e w.0) (omega (arith, settled_climbs.against u v w.0, ap (slice_index c) e))))
+      (λ e. (
+        u,
+        Points-links_at_same first c x u (subst (λ (z : ℕ). Points first z u) e w.0)
+            (omega (arith, settled_climbs.against u v w.0, ap (slice_index c) e)),
+      ))
       (λ ne. last_step v vs k x w.1 (omega (arith, settled_climbs.against u v w.0)) ne)
       (cases_eq v x)
 
@@ -139,7 +153,8 @@ module _ (n d : ℕ) (first : List (ℕ × ℕ)) (net : IsNet n first) (in_range
       go (inr h) = omega (arith, h.1, can.below_cap)
 
   pub cap_from_not_joined : (x : ℕ) → x < n → ¬ IsAlone first x → ¬ IsJoined first d x → slice_index c x ≡ n
-  cap_from_not_joined x l linked apart = ⊎_elim (λ least. absurd (apart (slice_index c x, least.reached))) (λ h. h.1) (linked_count n d first x (slice_index c x) (settled.settled x l) linked)
+  cap_from_not_joined x l linked apart = ⊎_elim (λ least. absurd (apart (slice_index c x, least.reached))) (λ h. h.1)
+      (linked_count n d first x (slice_index c x) (settled.settled x l) linked)
 
   pub not_joined_from_cap : (x : ℕ) → slice_index c x ≡ n → ¬ IsJoined first d x
   not_joined_from_cap x e joined = omega (arith, joined_count_below x joined)

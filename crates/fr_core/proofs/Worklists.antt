@@ -2,7 +2,8 @@
 use Rattle.std.proofs.Common.{List, [], arith, ap, drop, inl, inr, length, map, refl, slice_index, subst, sym, ℕ, ◌++◌, ◌+◌, ◌-◌, ◌<◌, ◌∙◌, ◌∷◌, ◌≡◌, ◌≤◌}
 use Rattle.std.specs.List.{Contains}
 use Rattle.std.proofs.lemmas.Bool.{cases_eq, cases_lt}
-use Rattle.std.proofs.lemmas.List.{get_or-append-add, get_or-drop, get_or-map, get_or_append_left, get_or_push, length-append, length-drop, length-map, length_push}
+use Rattle.std.proofs.lemmas.List.{get_or-append-add, get_or-drop, get_or-map, get_or_append_left, get_or_push, length-append, length-drop}
+use Rattle.std.proofs.lemmas.List.{length-map, length_push}
 use Rattle.std.proofs.lemmas.List.Elements.{All-contains, All-from_get_or, Contains-get_or}
 use Rattle.fr_core.proofs.Reaching.{queued_more}
 use Rattle.fr_core.proofs.RowLinks.{row_below}
@@ -45,20 +46,35 @@ nodes_neighbours n first x work all i m =
       | inr ge ↦
           let k : ℕ = i - length work in
           let e : i ≡ length work + k = omega (arith, ge) in
-          let inside : k < length (row n first x) = omega (arith, m, e, length-append work (neighbours n first x), length-map (row n first x) (λ (e : ℕ × First). e.0)) in
-          rw (e, get_or-append-add work (neighbours n first x) k 0, get_or-map (λ (e : ℕ × First). e.0) (row n first x) k (0, Outward) 0 inside) (row_below n first x k (0, Outward) inside)
+          let inside : k < length (row n first x) =
+          omega (arith, m, e, length-append work (neighbours n first x), length-map (row n first x) (λ (e : ℕ × First). e.0)) in
+          rw (
+            e,
+            get_or-append-add work (neighbours n first x) k 0,
+            get_or-map (λ (e : ℕ × First). e.0) (row n first x) k
+                (0, Outward) 0 inside,
+          ) (row_below n first x k (0, Outward) inside)
     ]
 
 in_row : (n : ℕ) (first : List (ℕ × ℕ)) (x y : ℕ) → IsNet n first → Joins first x y → IsQueued (neighbours n first x) y
 in_row n first x y net (inl h) =
-    let r = row_of_out n first x y net h in
-    (r.0, omega (arith, r.1, length-map (row n first x) (λ (e : ℕ × First). e.0)), get_or-map (λ (e : ℕ × First). e.0) (row n first x) r.0 (y, Outward) 0 r.1 ∙ ap (λ (e : ℕ × First). e.0) r.2)
+    let r = row_of_out n first x y net h in (
+      r.0,
+      omega (arith, r.1, length-map (row n first x) (λ (e : ℕ × First). e.0)),
+      get_or-map (λ (e : ℕ × First). e.0)
+          (row n first x) r.0 (y, Outward) 0 r.1 ∙ ap (λ (e : ℕ × First). e.0) r.2,
+    )
 in_row n first x y net (inr h) =
-    let r = row_of_in n first x y net h in
-    (r.0, omega (arith, r.1, length-map (row n first x) (λ (e : ℕ × First). e.0)), get_or-map (λ (e : ℕ × First). e.0) (row n first x) r.0 _ 0 r.1 ∙ ap (λ (e : ℕ × First). e.0) r.2)
+    let r = row_of_in n first x y net h in (
+      r.0,
+      omega (arith, r.1, length-map (row n first x) (λ (e : ℕ × First). e.0)),
+      get_or-map (λ (e : ℕ × First). e.0)
+          (row n first x) r.0 _ 0 r.1 ∙ ap (λ (e : ℕ × First). e.0) r.2,
+    )
 
 -- node x turns
-module _ (n d : ℕ) (first : List (ℕ × ℕ)) (net : IsNet n first) (c : List ℕ) (lawful : AreLawful n d first c) (x : ℕ) (can : CanTurn n d (moment_of first c) x) where
+module _ (n d : ℕ) (first : List (ℕ × ℕ)) (net : IsNet n first) (c : List ℕ) (lawful : AreLawful n d first c) (x : ℕ)
+    (can : CanTurn n d (moment_of first c) x) where
   abbrev at_net : Network
   at_net = record { nodes = n; links = first }
 
@@ -115,7 +131,8 @@ module _ (n d : ℕ) (first : List (ℕ × ℕ)) (net : IsNet n first) (c : List
         sink = sink_from_bounds first c lawful.kept y bounds;
       }
 
-  turned_holds : (work : List ℕ) (at : ℕ) → slice_index work at ≡ x → HoldsAll at_net d c work at → at < length work → HoldsAll at_net d (raised c x) (work ++ neighbours n first x) (at + 1)
+  turned_holds : (work : List ℕ) (at : ℕ) → slice_index work at ≡ x → HoldsAll at_net d c work at → at < length work
+      → HoldsAll at_net d (raised c x) (work ++ neighbours n first x) (at + 1)
   turned_holds work at here holds l y now =
       let more : List ℕ = neighbours n first x in
       let whole = length-append work more in
@@ -149,7 +166,8 @@ passed_over net d c work x cannot at l here before = record {
 }
 
 -- the nodes of a worklist from a place on hold all that can turn, if the worklist holds all from there on
-pub held_among : (net : Network) (d : ℕ) (c work : List ℕ) (at : ℕ) → at ≤ length work → IsWorklist net d c work at → HoldsAllThatCanTurn net.nodes d net.links c (drop at work)
+pub held_among : (net : Network) (d : ℕ) (c work : List ℕ) (at : ℕ) → at ≤ length work
+    → IsWorklist net d c work at → HoldsAllThatCanTurn net.nodes d net.links c (drop at work)
 held_among net d c work at within is = record {
   nodes = All-from_get_or (λ (y : ℕ). y < net.nodes) (drop at work) 0 (λ i below.
       let here : at + i < length work = omega (arith, below, length-drop at work) in

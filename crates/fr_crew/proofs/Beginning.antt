@@ -19,7 +19,8 @@ zeros_hold net d from holds = record {
 }
 
 -- where nobody can turn, there are no other lawful counts
-pub still_settled : (n d : ℕ) (first : List (ℕ × ℕ)) (counts : List ℕ) → AreSettled n d first (replicate n 0) → AreLawful n d first counts → AreSettled n d first counts
+pub still_settled : (n d : ℕ) (first : List (ℕ × ℕ)) (counts : List ℕ) → AreSettled n d first (replicate n 0)
+    → AreLawful n d first counts → AreSettled n d first counts
 still_settled n d first counts settled lawful =
     subst (AreSettled n d first)
     (ext_get_or 0 (replicate n 0) counts (settled.one_each ∙ sym lawful.one_each)

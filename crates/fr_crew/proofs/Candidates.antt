@@ -1,5 +1,6 @@
 -- What leaves a deque is a candidate, and so are the neighbours of a node that is tried.
-use Rattle.std.proofs.Common.{◌≡◌, ℕ, ◌<◌, All, Bool, Contains, IfSome, List, None, Option, Some, [], ◌∷◌, ◌++◌, arith, false, if◌then◌else◌, inl, inr, length, subst, suc, sym, true, zero}
+use Rattle.std.proofs.Common.{◌≡◌, ℕ, ◌<◌, All, Bool, Contains, IfSome, List, None, Option, Some, [], ◌∷◌, ◌++◌, arith, false, if◌then◌else◌, inl}
+use Rattle.std.proofs.Common.{inr, length, subst, suc, sym, true, zero}
 use Rattle.std.specs.Option.{option_to_list}
 use lib.Seq.{take-append_seam, drop-append_seam}
 use Rattle.std.proofs.lemmas.List.Elements.{All-append, All-take, All-drop, Contains-get_or}

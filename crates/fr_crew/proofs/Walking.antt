@@ -40,13 +40,15 @@ stands_after-push x [] e = refl
 stands_after-push x (f ∷ es) e = stands_after-push (node_after x f.reply) es e
 
 -- one look more, where none so far found a sink
-looks_more : (d x : ℕ) (es : List Entry) (e : Entry) → AreLooksFrom d x es → Each FindsNoSink es → e.node ≡ stands_after x es → stands_after x es ≢ d → IsReplyToLook e.reply → AreLooksFrom d x (es ++ e ∷ [])
+looks_more : (d x : ℕ) (es : List Entry) (e : Entry) → AreLooksFrom d x es → Each FindsNoSink es
+    → e.node ≡ stands_after x es → stands_after x es ≢ d → IsReplyToLook e.reply → AreLooksFrom d x (es ++ e ∷ [])
 looks_more d x [] e along none at other kind = (at, other, kind, (λ _. refl), tt)
 looks_more d x (f ∷ es) e along none at other kind =
     (along.0, along.1, along.2, (λ sink. absurd (none.0 sink)), looks_more d (node_after x f.reply) es e along.4 none.1 at other kind)
 
 trail-push : (x : ℕ) (es : List Entry) (e : Entry) → trail x (es ++ e ∷ []) ≡ trail x es ++ hop_of e.reply
-trail-push x es e = ap (λ (l : List ℕ). x ∷ l) (flat_map-append (λ (f : Entry). hop_of f.reply) es (e ∷ []) ∙ ap (λ (l : List ℕ). flat_map (λ (f : Entry). hop_of f.reply) es ++ l) (append-nil (hop_of e.reply)))
+trail-push x es e = ap (λ (l : List ℕ). x ∷ l) (flat_map-append (λ (f : Entry). hop_of f.reply) es (e ∷ [])
+    ∙ ap (λ (l : List ℕ). flat_map (λ (f : Entry). hop_of f.reply) es ++ l) (append-nil (hop_of e.reply)))
 
 -- a walk from x after so many looks: it stands at the last of its nodes
 pub record IsWalking (old now : Knowledge) (d x made : ℕ) (nodes : List ℕ) (here : ℕ) : Type 0 where
@@ -85,7 +87,8 @@ pub record HasLooked (now next : Knowledge) (here : ℕ) (reply : Reply) : Type 
   pub learns : LearnsReply now here reply next
   pub kind : IsReplyToLook reply
 
-module _ (old now next : Knowledge) (d x made : ℕ) (nodes : List ℕ) (here : ℕ) (w : IsWalking old now d x made nodes here) (reply : Reply) (looked : HasLooked now next here reply) where
+module _ (old now next : Knowledge) (d x made : ℕ) (nodes : List ℕ) (here : ℕ) (w : IsWalking old now d x made nodes here)
+    (reply : Reply) (looked : HasLooked now next here reply) where
   begins_on : StartsWith next.known old.known
   begins_on =
       let e = entry now.number here reply in
@@ -118,7 +121,8 @@ module _ (old now next : Knowledge) (d x made : ℕ) (nodes : List ℕ) (here : 
   along_more other = looks_more d x w.looks (entry now.number here reply) w.along w.no_sink (sym w.stands) (λ e. other (sym w.stands ∙ e)) looked.kind
 
   -- the walk goes on, after a look that found no sink
-  pub walks_on : (more : List ℕ) (front : List ℕ) → here ≢ d → reply ≢ Sink → more ≡ nodes ++ hop_of reply → more ≡ front ++ node_after here reply ∷ [] → IsWalking old next d x (made + 1) more (node_after here reply)
+  pub walks_on : (more : List ℕ) (front : List ℕ) → here ≢ d → reply ≢ Sink → more ≡ nodes ++ hop_of reply
+      → more ≡ front ++ node_after here reply ∷ [] → IsWalking old next d x (made + 1) more (node_after here reply)
   walks_on more front other none is parted = record {
     keeps = keeps_after;
     looks = w.looks ++ entry now.number here reply ∷ [];
@@ -135,22 +139,27 @@ module _ (old now next : Knowledge) (d x made : ℕ) (nodes : List ℕ) (here : 
   }
 
 -- it hops, or it stays
-pub walks_held : (old now next : Knowledge) (d x made : ℕ) (nodes : List ℕ) (here : ℕ) → IsWalking old now d x made nodes here → (by : ℕ) → HasLooked now next here (Held by) → here ≢ d
+pub walks_held : (old now next : Knowledge) (d x made : ℕ) (nodes : List ℕ) (here : ℕ)
+    → IsWalking old now d x made nodes here → (by : ℕ) → HasLooked now next here (Held by) → here ≢ d
     → (more : List ℕ) → more ≡ nodes ++ by ∷ [] → IsWalking old next d x (made + 1) more by
-walks_held old now next d x made nodes here w by looked other more is = walks_on old now next d x made nodes here w (Held by) looked more nodes other (held_is_no_sink by) is is
+walks_held old now next d x made nodes here w by looked other more is = walks_on old now next d x made nodes here w
+    (Held by) looked more nodes other (held_is_no_sink by) is is
   where
     held_is_no_sink : (k : ℕ) → ◌≢◌ {A = Reply} (Held k) Sink
     held_is_no_sink k e = cc
 
-pub walks_moved : (old now next : Knowledge) (d x made : ℕ) (nodes : List ℕ) (here : ℕ) → IsWalking old now d x made nodes here → (had k : ℕ) → HasLooked now next here (Moved had k) → here ≢ d
+pub walks_moved : (old now next : Knowledge) (d x made : ℕ) (nodes : List ℕ) (here : ℕ)
+    → IsWalking old now d x made nodes here → (had k : ℕ) → HasLooked now next here (Moved had k) → here ≢ d
     → IsWalking old next d x (made + 1) nodes here
-walks_moved old now next d x made nodes here w had k looked other = walks_on old now next d x made nodes here w (Moved had k) looked nodes w.front other (moved_is_no_sink had k) (sym (append-nil nodes)) w.parted
+walks_moved old now next d x made nodes here w had k looked other = walks_on old now next d x made nodes here w
+    (Moved had k) looked nodes w.front other (moved_is_no_sink had k) (sym (append-nil nodes)) w.parted
   where
     moved_is_no_sink : (h j : ℕ) → ◌≢◌ {A = Reply} (Moved h j) Sink
     moved_is_no_sink h j e = cc
 
 -- a walk that ends at a sink
-pub ends_at_sink : (old now next : Knowledge) (d x made limit : ℕ) (nodes : List ℕ) (here : ℕ) → IsWalking old now d x made nodes here → HasLooked now next here Sink → here ≢ d → made < limit → HasWalked old next d x limit nodes AtSink
+pub ends_at_sink : (old now next : Knowledge) (d x made limit : ℕ) (nodes : List ℕ) (here : ℕ)
+    → IsWalking old now d x made nodes here → HasLooked now next here Sink → here ≢ d → made < limit → HasWalked old next d x limit nodes AtSink
 ends_at_sink old now next d x made limit nodes here w looked other few = record {
   looks = w.looks ++ entry now.number here Sink ∷ [];
   begins = begins_on old now next d x made nodes here w Sink looked;
@@ -166,7 +175,8 @@ ends_at_sink old now next d x made limit nodes here w looked other few = record 
 }
 
 -- the neighbour that holds a node has a link, and can be looked at
-pub held_lookable : (b : Setup) (k x w : ℕ) (known known' : List Entry) → IsNet b.nodes b.links → Extends b k known (entry k x (Held w)) known' → IsLookable b.nodes b.links w
+pub held_lookable : (b : Setup) (k x w : ℕ) (known known' : List Entry) → IsNet b.nodes b.links
+    → Extends b k known (entry k x (Held w)) known' → IsLookable b.nodes b.links w
 held_lookable b k x w known known' net h =
     let before : List Entry = known ++ h.between in
     let parts = run_parts b.nodes b.dest (start b) before (entry k x (Held w) ∷ []) (subst (IsHistory b) h.begins h.run) in
@@ -184,7 +194,8 @@ look_not_refused b x Destination is refused = refused
 look_not_refused b x Alone is refused = refused.1 is.linked.0 is.linked.1
 
 -- a node of the round's network that has a degree can be looked at
-pub lookable_in : (b : Setup) (n : ℕ) (links : List (ℕ × ℕ)) (x degree : ℕ) → n ≡ b.nodes → links ≡ b.links → x < n → degree ≡ length (row n links x) → ¬ (degree ≡ 0) → IsLookable b.nodes b.links x
+pub lookable_in : (b : Setup) (n : ℕ) (links : List (ℕ × ℕ)) (x degree : ℕ) → n ≡ b.nodes → links ≡ b.links → x < n
+    → degree ≡ length (row n links x) → ¬ (degree ≡ 0) → IsLookable b.nodes b.links x
 lookable_in b n links x degree nodes same inside is some =
     subst (λ (p : ℕ × List (ℕ × ℕ)). IsLookable p.0 p.1 x) (λ k. (nodes k, same k))
     (record { inside = inside; linked = row_linked n links x (omega (arith, some, is)) })

@@ -9,7 +9,9 @@ step_falls first c u v (inl h) = omega (arith, h.1)
 step_falls first c u v (inr h) = omega (arith, h.1)
 
 -- where no link rises, no path does
-pub path_falls : (links : List (ℕ × ℕ)) (heights : List ℕ) → ((u v : ℕ) → Points links u v → slice_index heights v ≤ slice_index heights u) → (u : ℕ) (vs : List ℕ) → IsPath links u vs → slice_index heights (end_of u vs) ≤ slice_index heights u
+pub path_falls : (links : List (ℕ × ℕ)) (heights : List ℕ)
+    → ((u v : ℕ) → Points links u v → slice_index heights v ≤ slice_index heights u) → (u : ℕ) (vs : List ℕ)
+    → IsPath links u vs → slice_index heights (end_of u vs) ≤ slice_index heights u
 path_falls links heights falls u [] path = omega arith
 path_falls links heights falls u (v ∷ vs) path = omega (arith, path_falls links heights falls v vs path.1, falls u v path.0)
 
@@ -18,7 +20,8 @@ step_level first c u v (inl h) l = h.0
 step_level first c u v (inr h) l = absurd (omega (arith, h.1))
 
 -- a path that comes back to its first count is one of the first links
-path_level : (first : List (ℕ × ℕ)) (c : List ℕ) (u : ℕ) (vs : List ℕ) → IsPath (links_at first c) u vs → slice_index c u ≤ slice_index c (end_of u vs) → IsPath first u vs
+path_level : (first : List (ℕ × ℕ)) (c : List ℕ) (u : ℕ) (vs : List ℕ) → IsPath (links_at first c) u vs
+    → slice_index c u ≤ slice_index c (end_of u vs) → IsPath first u vs
 path_level first c u [] h l = tt
 path_level first c u (v ∷ vs) h l =
     let from = Points-links_at_from first c u v h.0 in

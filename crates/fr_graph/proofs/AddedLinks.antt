@@ -1,5 +1,6 @@
 -- The links of a network with one added.
-use Rattle.std.proofs.Common.{List, [], ap, arith, count_by, get_or, inl, inr, length, refl, subst, sym, true, ℕ, ⊎_elim, ◌++◌, ◌+◌, ◌<◌, ◌∙◌, ◌∷◌, ◌≡◌, ◌≢◌, ◌≤◌, ◌⊎◌}
+use Rattle.std.proofs.Common.{List, [], ap, arith, count_by, get_or, inl, inr, length, refl, subst, sym, true, ℕ, ⊎_elim, ◌++◌, ◌+◌, ◌<◌, ◌∙◌, ◌∷◌}
+use Rattle.std.proofs.Common.{◌≡◌, ◌≢◌, ◌≤◌, ◌⊎◌}
 use Rattle.std.proofs.lemmas.Bool.{cases_Bool, cases_lt}
 use Rattle.std.proofs.lemmas.List.{get_or_push, length_push}
 use Rattle.std.proofs.lemmas.List.Elements.{All-push, Contains-push_cases}
@@ -38,7 +39,8 @@ in_range n links u v below a b = record {
 pub no_self : (links : List (ℕ × ℕ)) (u v : ℕ) → HasNoSelfLink links → u ≢ v → HasNoSelfLink (added links u v)
 no_self links u v clear apart = All-push (λ (l : ℕ × ℕ). ¬ (l.0 ≡ l.1)) links (u, v) clear apart
 
-count_added : (links : List (ℕ × ℕ)) (u v a b : ℕ) → count_by (is_between a b) (added links u v) ≡ count_by (is_between a b) links + weigh (is_between a b (u, v))
+count_added : (links : List (ℕ × ℕ)) (u v a b : ℕ)
+    → count_by (is_between a b) (added links u v) ≡ count_by (is_between a b) links + weigh (is_between a b (u, v))
 count_added links u v a b = let weight : ℕ × ℕ → ℕ = λ l. weigh (is_between a b l) in sum_by_push weight links (u, v)
 
 between_joins : (links : List (ℕ × ℕ)) (a b : ℕ) → 1 ≤ count_by (is_between a b) links → Joins links a b
@@ -80,7 +82,8 @@ pub path_joins : (links : List (ℕ × ℕ)) (a : ℕ) (vs : List ℕ) (b c : �
 path_joins links a [] b c path e rest = subst (λ (y : ℕ). HasPath links y c) (sym e) rest
 path_joins links a (w ∷ ws) b c path e rest = let r = path_joins links w ws b c path.1 e rest in (w ∷ r.0, ((path.0, r.1.0), r.1.1))
 
-path_splits : (links : List (ℕ × ℕ)) (u v a : ℕ) (vs : List ℕ) → IsPath (added links u v) a vs → IsPath links a vs ⊎ (HasPath links a u × HasPath links v (end_of a vs))
+path_splits : (links : List (ℕ × ℕ)) (u v a : ℕ) (vs : List ℕ) → IsPath (added links u v) a vs → IsPath links a vs
+    ⊎ (HasPath links a u × HasPath links v (end_of a vs))
 path_splits links u v a [] path = inl tt
 path_splits links u v a (w ∷ ws) path =
     let rest = path_splits links u v w ws path.1 in
@@ -109,7 +112,8 @@ closed_back links u v a (w ∷ ws) acyclic h =
     ]
 
 -- no fault stands
-pub faultless_added : (n : ℕ) (links : List (ℕ × ℕ)) (u v : ℕ) → IsFaultless n links → CanPut (record { nodes = n; links = links }) u v → IsFaultless n (added links u v)
+pub faultless_added : (n : ℕ) (links : List (ℕ × ℕ)) (u v : ℕ) → IsFaultless n links
+    → CanPut (record { nodes = n; links = links }) u v → IsFaultless n (added links u v)
 faultless_added n links u v clear can = record {
   limits = within_limits n links u v clear.limits can.few;
   some = clear.some;

@@ -1,5 +1,6 @@
 -- The rows of a network with one link added.
-use Rattle.std.proofs.Common.{Bool, Contains, List, None, Option, Some, [], ap, arith, cond, drop, eq-eqb, eqb, false, get_or, inl, inr, length, ne_eqb, option_to_list, refl, suc, sym, take, true, zero, ℕ, ◌++◌, ◌+◌, ◌<◌, ◌∙◌, ◌∷◌, ◌≡◌, ◌≢◌, ◌≤◌, ◌⊎◌}
+use Rattle.std.proofs.Common.{Bool, Contains, List, None, Option, Some, [], ap, arith, cond, drop, eq-eqb, eqb, false, get_or, inl, inr, length}
+use Rattle.std.proofs.Common.{ne_eqb, option_to_list, refl, suc, sym, take, true, zero, ℕ, ◌++◌, ◌+◌, ◌<◌, ◌∙◌, ◌∷◌, ◌≡◌, ◌≢◌, ◌≤◌, ◌⊎◌}
 use Rattle.std.specs.Prelude.{nat_le}
 use Rattle.std.proofs.lemmas.Bool.{cases_eq, cond-false, cond-true, le-leb, lt-leb}
 use Rattle.std.proofs.lemmas.List.{append-nil}
@@ -24,14 +25,21 @@ with_entry new (entry ∷ rest) = cond (nat_le new.0 entry.0) (new ∷ (entry �
 abbrev pub added_row : ℕ → ℕ → ℕ → List (ℕ × First) → List (ℕ × First)
 added_row u v x entries = cond (eqb x u) (with_entry (v, Outward) entries) (cond (eqb x v) (with_entry (u, Inward) entries) entries)
 
-pub put_in_row : (e : ℕ × First) (es : List (ℕ × First)) (k : ℕ) → k ≤ length es → ((i : ℕ) (d : ℕ × First) → i < k → (get_or es i d).0 < e.0) → ((d : ℕ × First) → k < length es → e.0 ≤ (get_or es k d).0) → with_entry e es ≡ take k es ++ e ∷ drop k es
+pub put_in_row : (e : ℕ × First) (es : List (ℕ × First)) (k : ℕ) → k ≤ length es
+    → ((i : ℕ) (d : ℕ × First) → i < k → (get_or es i d).0 < e.0)
+    → ((d : ℕ × First) → k < length es → e.0 ≤ (get_or es k d).0) → with_entry e es ≡ take k es ++ e ∷ drop k es
 put_in_row e [] zero le before stops = refl
 put_in_row e [] (suc k) le before stops = absurd (omega arith)
 put_in_row e (f ∷ fs) zero le before stops = rw (le-leb e.0 f.0 (stops f (omega arith))) refl
 put_in_row e (f ∷ fs) (suc k) le before stops =
-    rw (lt-leb e.0 f.0 (before 0 f (omega arith)), put_in_row e fs k (omega arith) (λ i d lt. before (suc i) d (omega arith)) (λ d lt. stops d (omega arith))) refl
+    rw (
+      lt-leb e.0 f.0 (before 0 f (omega arith)),
+      put_in_row e fs k (omega arith)
+          (λ i d lt. before (suc i) d (omega arith)) (λ d lt. stops d (omega arith)),
+    ) refl
 
-length-with_entry_by : (b : Bool) (e f : ℕ × First) (fs : List (ℕ × First)) → length (with_entry e fs) ≡ length fs + 1 → length (cond b (e ∷ (f ∷ fs)) (f ∷ with_entry e fs)) ≡ length (f ∷ fs) + 1
+length-with_entry_by : (b : Bool) (e f : ℕ × First) (fs : List (ℕ × First)) → length (with_entry e fs) ≡ length fs + 1
+    → length (cond b (e ∷ (f ∷ fs)) (f ∷ with_entry e fs)) ≡ length (f ∷ fs) + 1
 length-with_entry_by true e f fs rest = omega arith
 length-with_entry_by false e f fs rest = omega (arith, rest)
 
@@ -45,7 +53,9 @@ put_last e [] above = refl
 put_last e (f ∷ fs) above = rw (lt-leb e.0 f.0 (above f (Contains-head f fs)), put_last e fs (λ g h. above g (Contains-tail g f fs h))) refl
 
 -- an entry below what follows stays among what stands before
-put_before_by : (b : Bool) (e f : ℕ × First) (fs more : List (ℕ × First)) → with_entry e (fs ++ more) ≡ with_entry e fs ++ more → cond b (e ∷ (f ∷ (fs ++ more))) (f ∷ with_entry e (fs ++ more)) ≡ cond b (e ∷ (f ∷ fs)) (f ∷ with_entry e fs) ++ more
+put_before_by : (b : Bool) (e f : ℕ × First) (fs more : List (ℕ × First))
+    → with_entry e (fs ++ more) ≡ with_entry e fs ++ more
+    → cond b (e ∷ (f ∷ (fs ++ more))) (f ∷ with_entry e (fs ++ more)) ≡ cond b (e ∷ (f ∷ fs)) (f ∷ with_entry e fs) ++ more
 put_before_by true e f fs more rest = refl
 put_before_by false e f fs more rest = rw rest refl
 
@@ -70,13 +80,18 @@ entry_stays links u v x w out back =
     kept links u v a b other (inl h) = h
     kept links u v a b other (inr e) = absurd (other (sym (ap (λ (l : ℕ × ℕ). l.0) e), sym (ap (λ (l : ℕ × ℕ). l.1) e)))
 
-row_stays_by : (k : ℕ) (links : List (ℕ × ℕ)) (u v x : ℕ) → ((w : ℕ) → w < k → ¬ ((x ≡ u) × (w ≡ v))) → ((w : ℕ) → w < k → ¬ ((w ≡ u) × (x ≡ v))) → row k (added links u v) x ≡ row k links x
+row_stays_by : (k : ℕ) (links : List (ℕ × ℕ)) (u v x : ℕ) → ((w : ℕ) → w < k → ¬ ((x ≡ u) × (w ≡ v)))
+    → ((w : ℕ) → w < k → ¬ ((w ≡ u) × (x ≡ v))) → row k (added links u v) x ≡ row k links x
 row_stays_by zero links u v x out back = refl
 row_stays_by (suc w) links u v x out back =
-    rw (row_stays_by w links u v x (λ z l. out z (omega arith)) (λ z l. back z (omega arith)), entry_stays links u v x w (out w (omega arith)) (back w (omega arith))) refl
+    rw (
+      row_stays_by w links u v x (λ z l. out z (omega arith)) (λ z l. back z (omega arith)),
+      entry_stays links u v x w (out w (omega arith)) (back w (omega arith)),
+    ) refl
 
 -- the row of an end gains the other end
-row_gains : (k : ℕ) (links : List (ℕ × ℕ)) (u v x other : ℕ) (f : First) → other < k → row_entry links x other ≡ None → row_entry (added links u v) x other ≡ Some (other, f)
+row_gains : (k : ℕ) (links : List (ℕ × ℕ)) (u v x other : ℕ) (f : First) → other < k → row_entry links x other ≡ None
+    → row_entry (added links u v) x other ≡ Some (other, f)
     → ((w : ℕ) → w ≢ other → row_entry (added links u v) x w ≡ row_entry links x w) → row k (added links u v) x ≡ with_entry (other, f) (row k links x)
 row_gains zero links u v x other f lt none some same = absurd (omega arith)
 row_gains (suc w) links u v x other f lt none some same =
@@ -88,15 +103,18 @@ row_gains (suc w) links u v x other f lt none some same =
           )
       | inr ne ↦
           rw (row_gains w links u v x other f (omega (arith, ne)) none some same, same w ne)
-          (sym (put_before (other, f) (row w links x) (option_to_list (row_entry links x w)) (put_first (other, f) (row_entry links x w) (λ g is. omega (arith, row_entry_node links x w g is, lt)))))
+          (sym (put_before (other, f) (row w links x) (option_to_list (row_entry links x w))
+          (put_first (other, f) (row_entry links x w) (λ g is. omega (arith, row_entry_node links x w g is, lt)))))
     ]
   where
-    row_alike : (k : ℕ) (links : List (ℕ × ℕ)) (u v x : ℕ) → ((w : ℕ) → w < k → row_entry (added links u v) x w ≡ row_entry links x w) → row k (added links u v) x ≡ row k links x
+    row_alike : (k : ℕ) (links : List (ℕ × ℕ)) (u v x : ℕ)
+        → ((w : ℕ) → w < k → row_entry (added links u v) x w ≡ row_entry links x w) → row k (added links u v) x ≡ row k links x
     row_alike zero links u v x same = refl
     row_alike (suc w) links u v x same = rw (row_alike w links u v x (λ z l. same z (omega arith)), same w (omega arith)) refl
 
 -- the row of a node once the link from u to v is added
-pub row_added : (n : ℕ) (links : List (ℕ × ℕ)) (u v x : ℕ) → u < n → v < n → u ≢ v → ¬ Joins links u v → row n (added links u v) x ≡ added_row u v x (row n links x)
+pub row_added : (n : ℕ) (links : List (ℕ × ℕ)) (u v x : ℕ) → u < n → v < n → u ≢ v → ¬ Joins links u v
+    → row n (added links u v) x ≡ added_row u v x (row n links x)
 row_added n links u v x a b apart free =
     elim (cases_eq x u) [
       | inl e ↦
@@ -125,9 +143,12 @@ row_added n links u v x a b apart free =
     no_back links u v apart free (inr e) = apart (ap (λ (l : ℕ × ℕ). l.0) e)
 
 -- with the link each of its ends has an entry more
-pub ends_more : (n : ℕ) (links : List (ℕ × ℕ)) (u v : ℕ) → AreUnjoined n links u v → (length (row n (added links u v) u) ≡ length (row n links u) + 1) × (length (row n (added links u v) v) ≡ length (row n links v) + 1)
+pub ends_more : (n : ℕ) (links : List (ℕ × ℕ)) (u v : ℕ) → AreUnjoined n links u v
+    → (length (row n (added links u v) u) ≡ length (row n links u) + 1) × (length (row n (added links u v) v) ≡ length (row n links v) + 1)
 ends_more n links u v free = (
-  ap length (row_added n links u v u free.tail free.head free.apart free.free ∙ cond-true _ _ _ (eq-eqb u u refl)) ∙ length-with_entry (v, Outward) (row n links u),
-  ap length (row_added n links u v v free.tail free.head free.apart free.free ∙ cond-false _ _ _ (ne_eqb v u (λ e. free.apart (sym e))) ∙ cond-true _ _ _ (eq-eqb v v refl))
+  ap length (row_added n links u v u free.tail free.head free.apart free.free ∙ cond-true _ _ _ (eq-eqb u u refl))
+      ∙ length-with_entry (v, Outward) (row n links u),
+  ap length (row_added n links u v v free.tail free.head free.apart free.free
+      ∙ cond-false _ _ _ (ne_eqb v u (λ e. free.apart (sym e))) ∙ cond-true _ _ _ (eq-eqb v v refl))
       ∙ length-with_entry (u, Inward) (row n links v),
 )

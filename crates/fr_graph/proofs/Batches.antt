@@ -14,7 +14,8 @@ use Rattle.fr_graph.specs.declared.edit.Edit.{Edit}
 use Rattle.fr_graph.specs.declared.edit.Edit.TheVariants.{Add, Cut, Join}
 
 -- one edit more
-pub made_next : (net : Network) (edits : List Edit) (k : ℕ) (mid next : Network) (d : Edit) → k < length edits → AreMade net (take k edits) mid → IsMade mid (get_or edits k d) next → AreMade net (take (suc k) edits) next
+pub made_next : (net : Network) (edits : List Edit) (k : ℕ) (mid next : Network) (d : Edit) → k < length edits
+    → AreMade net (take k edits) mid → IsMade mid (get_or edits k d) next → AreMade net (take (suc k) edits) next
 made_next net [] k mid next d l made h = absurd (omega (arith, l))
 made_next net (e ∷ es) zero mid next d l made h = (next, (subst (λ (m : Network). IsMade m e next) made h, refl))
 made_next net (e ∷ es) (suc k) mid next d l made h = (made.0, (made.1.0, made_next made.0 es k mid next d (omega (arith, l)) made.1.1 h))
@@ -56,30 +57,37 @@ at_first : (net mid : Network) (e : Edit) (f : NetFault) → mid ≡ net → IsE
 at_first net mid e f same h = subst (λ (m : Network). IsEditFault m e f) same h
 
 -- where one edit is refused the edits are not all made
-refused_not_made : (net : Network) (edits : List Edit) (i : ℕ) (mid : Network) (f : NetFault) (after : Network) → i < length edits → AreMade net (take i edits) mid → ((d : Edit) → IsEditFault mid (get_or edits i d) f) → ¬ AreMade net edits after
+refused_not_made : (net : Network) (edits : List Edit) (i : ℕ) (mid : Network) (f : NetFault) (after : Network)
+    → i < length edits → AreMade net (take i edits) mid → ((d : Edit) → IsEditFault mid (get_or edits i d) f) → ¬ AreMade net edits after
 refused_not_made net [] i mid f after l made refused all = omega (arith, l)
 refused_not_made net (e ∷ es) zero mid f after l made refused all = not_refused net e f all.0 (at_first net mid e f made (refused e)) all.1.0
 refused_not_made net (e ∷ es) (suc i) mid f after l made refused all =
-    refused_not_made all.0 es i mid f after (omega (arith, l)) (subst (λ (m : Network). AreMade m (take i es) mid) (made_one net e made.0 all.0 made.1.0 all.1.0) made.1.1) refused all.1.1
+    refused_not_made all.0 es i mid f after (omega (arith, l))
+    (subst (λ (m : Network). AreMade m (take i es) mid) (made_one net e made.0 all.0 made.1.0 all.1.0) made.1.1) refused all.1.1
 
 -- the faults of the first edit that is refused are of one kind
-first_refused : (net : Network) (edits : List Edit) (i j : ℕ) (a b : Network) (f g : NetFault) → i < length edits → j < length edits → AreMade net (take i edits) a → AreMade net (take j edits) b
+first_refused : (net : Network) (edits : List Edit) (i j : ℕ) (a b : Network) (f g : NetFault) → i < length edits
+    → j < length edits → AreMade net (take i edits) a → AreMade net (take j edits) b
     → ((d : Edit) → IsEditFault a (get_or edits i d) f) → ((d : Edit) → IsEditFault b (get_or edits j d) g) → fault_place f ≡ fault_place g
 first_refused net [] i j a b f g li lj ma mb hf hg = absurd (omega (arith, li))
 first_refused net (e ∷ es) zero zero a b f g li lj ma mb hf hg = edit_fault_place net e f g (at_first net a e f ma (hf e)) (at_first net b e g mb (hg e))
 first_refused net (e ∷ es) zero (suc j) a b f g li lj ma mb hf hg = absurd (not_refused net e f mb.0 (at_first net a e f ma (hf e)) mb.1.0)
 first_refused net (e ∷ es) (suc i) zero a b f g li lj ma mb hf hg = absurd (not_refused net e g ma.0 (at_first net b e g mb (hg e)) ma.1.0)
 first_refused net (e ∷ es) (suc i) (suc j) a b f g li lj ma mb hf hg =
-    first_refused mb.0 es i j a b f g (omega (arith, li)) (omega (arith, lj)) (subst (λ (m : Network). AreMade m (take i es) a) (made_one net e ma.0 mb.0 ma.1.0 mb.1.0) ma.1.1) mb.1.1 hf hg
+    first_refused mb.0 es i j a b f g (omega (arith, li)) (omega (arith, lj))
+    (subst (λ (m : Network). AreMade m (take i es) a) (made_one net e ma.0 mb.0 ma.1.0 mb.1.0) ma.1.1) mb.1.1 hf hg
 
-pub batch_fault_place : (net : Network) (edits : List Edit) (f g : EditFault) → IsBatchFault net edits f → IsBatchFault net edits g → fault_place f.fault ≡ fault_place g.fault
+pub batch_fault_place : (net : Network) (edits : List Edit) (f g : EditFault) → IsBatchFault net edits f
+    → IsBatchFault net edits g → fault_place f.fault ≡ fault_place g.fault
 batch_fault_place net edits f g (inl a) (inl b) =
     subst (λ (x : NetFault). fault_place x ≡ fault_place g.fault) (sym a.2) (subst (λ (x : NetFault). fault_place TooMany ≡ fault_place x) (sym b.2) refl)
 batch_fault_place net edits f g (inl a) (inr b) = absurd (omega (arith, a.0, b.0))
 batch_fault_place net edits f g (inr a) (inl b) = absurd (omega (arith, a.0, b.0))
-batch_fault_place net edits f g (inr a) (inr b) = first_refused net edits f.at g.at a.1.before b.1.before f.fault g.fault a.1.inside b.1.inside a.1.made b.1.made a.1.refused b.1.refused
+batch_fault_place net edits f g (inr a) (inr b) =
+    first_refused net edits f.at g.at a.1.before b.1.before f.fault g.fault a.1.inside b.1.inside a.1.made b.1.made a.1.refused b.1.refused
 
 -- a batch that is refused is not made
-pub batch_not_made : (net : Network) (edits : List Edit) (f : EditFault) (after : Network) → IsBatchFault net edits f → length edits ≤ most_edits → ¬ AreMade net edits after
+pub batch_not_made : (net : Network) (edits : List Edit) (f : EditFault) (after : Network) → IsBatchFault net edits f
+    → length edits ≤ most_edits → ¬ AreMade net edits after
 batch_not_made net edits f after (inl a) few all = omega (arith, a.0, few)
 batch_not_made net edits f after (inr a) few all = refused_not_made net edits f.at a.1.before f.fault after a.1.inside a.1.made a.1.refused all

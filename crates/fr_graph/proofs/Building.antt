@@ -1,5 +1,6 @@
 -- From the sorted halves of links to the network that they make, or to the fault that stands.
-use Rattle.std.proofs.Common.{Bool, IsPermutation, List, [], ap, arith, count_by, eqb, eqb-true, false, get_or, inl, inr, map, refl, suc, sym, true, ℕ, ◌&&◌, ◌+◌, ◌<◌, ◌||◌, ◌∙◌, ◌∷◌, ◌≡◌, ◌≤◌}
+use Rattle.std.proofs.Common.{Bool, IsPermutation, List, [], ap, arith, count_by, eqb, eqb-true, false, get_or, inl, inr, map, refl, suc, sym, true}
+use Rattle.std.proofs.Common.{ℕ, ◌&&◌, ◌+◌, ◌<◌, ◌||◌, ◌∙◌, ◌∷◌, ◌≡◌, ◌≤◌}
 use Rattle.std.proofs.lemmas.Bool.{and_parts}
 use Rattle.std.proofs.lemmas.List.Sorted.{All-permutation, Contains-permutation, IsPermutation-sym, length_permutation, sum_by-IsPermutation}
 use Rattle.std.proofs.lemmas.List.Sums.{sum_by-cons}
@@ -56,7 +57,8 @@ rising_once halves u v rising = at_most_one (is_at u v) halves (λ i j d lt l e 
     let q = at_place u v (get_or halves j d) f in
     not_below_itself (rising_pair halves rising i j d lt l) (p.0 ∙ sym q.0) (p.1 ∙ sym q.1))
 
-count_same : (listed : List (ℕ × ℕ)) (halves : List HalfLink) (u v : ℕ) → IsPermutation (halves_of listed) halves → HasNoSelfLink listed → count_by (is_at u v) halves ≡ count_by (is_between u v) listed
+count_same : (listed : List (ℕ × ℕ)) (halves : List HalfLink) (u v : ℕ) → IsPermutation (halves_of listed) halves
+    → HasNoSelfLink listed → count_by (is_at u v) halves ≡ count_by (is_between u v) listed
 count_same listed halves u v both bar =
     let f : HalfLink → ℕ = λ h. weigh (is_at u v h) in
     sum_by-IsPermutation f (halves_of listed) halves both ∙ count_halves listed u v bar
@@ -65,10 +67,12 @@ no_self_sorted : (listed sorted : List (ℕ × ℕ)) → IsPermutation listed so
 no_self_sorted listed sorted same bar = All-permutation (λ (l : ℕ × ℕ). ¬ (l.0 ≡ l.1)) listed sorted same bar
 
 -- what the halves in order say of the listed links
-pub twice_stands : (listed : List (ℕ × ℕ)) (halves : List HalfLink) (u v : ℕ) → IsPermutation (halves_of listed) halves → HasNoSelfLink listed → 2 ≤ count_by (is_at u v) halves → 2 ≤ count_by (is_between u v) listed
+pub twice_stands : (listed : List (ℕ × ℕ)) (halves : List HalfLink) (u v : ℕ) → IsPermutation (halves_of listed) halves
+    → HasNoSelfLink listed → 2 ≤ count_by (is_at u v) halves → 2 ≤ count_by (is_between u v) listed
 twice_stands listed halves u v both bar h = omega (arith, count_same listed halves u v both bar, h)
 
-pub single_from_rising : (listed : List (ℕ × ℕ)) (halves : List HalfLink) → IsPermutation (halves_of listed) halves → HasNoSelfLink listed → AreHalvesRising halves → AreSingle listed
+pub single_from_rising : (listed : List (ℕ × ℕ)) (halves : List HalfLink) → IsPermutation (halves_of listed) halves
+    → HasNoSelfLink listed → AreHalvesRising halves → AreSingle listed
 single_from_rising listed halves both bar rising k d l =
     let link = get_or listed k d in
     omega (
@@ -108,7 +112,8 @@ net_sorted n listed sorted same a net = record {
 }
 
 -- links in range and no self link among them have no fault where their halves rise and no closed walk follows them
-pub faultless_listed : (n : ℕ) (listed : List (ℕ × ℕ)) (halves : List HalfLink) → IsWithinLimits n listed → IsInRange n listed → HasNoSelfLink listed → IsPermutation (halves_of listed) halves → AreHalvesRising halves → IsAcyclic listed → IsFaultless n listed
+pub faultless_listed : (n : ℕ) (listed : List (ℕ × ℕ)) (halves : List HalfLink) → IsWithinLimits n listed
+    → IsInRange n listed → HasNoSelfLink listed → IsPermutation (halves_of listed) halves → AreHalvesRising halves → IsAcyclic listed → IsFaultless n listed
 faultless_listed n listed halves limits range bar both rising a = record {
   limits = limits;
   some = range.some;
@@ -127,7 +132,8 @@ faultless_sorted n listed sorted same a f = record {
   is_net = net_sorted n listed sorted same a f.is_net;
 }
 
-pub rows_shown : (n : ℕ) (listed : List (ℕ × ℕ)) (halves : List HalfLink) (starts : List ℕ) → AreHalvesOf n listed halves starts → (x : ℕ) → x < n → ShowsRow n listed starts (map entry_of halves) x
+pub rows_shown : (n : ℕ) (listed : List (ℕ × ℕ)) (halves : List HalfLink) (starts : List ℕ)
+    → AreHalvesOf n listed halves starts → (x : ℕ) → x < n → ShowsRow n listed starts (map entry_of halves) x
 rows_shown n listed halves starts of x lt =
     shows_row n listed halves starts x lt (one_way listed of.no_self (single_from_rising listed halves of.same of.no_self of.rising))
     (λ u v p.

@@ -1,5 +1,6 @@
 -- How many elements of a list pass a test.
-use Rattle.std.proofs.Common.{add-one, Bool, List, None, Option, Some, [], ap, arith, cond, count_by, false, get_or, inl, inr, length, map, refl, suc, true, zero, zero-add, ℕ, ◌+◌, ◌<◌, ◌∷◌, ◌≡◌, ◌≤◌, ◌⊎◌}
+use Rattle.std.proofs.Common.{add-one, Bool, List, None, Option, Some, [], ap, arith, cond, count_by, false, get_or, inl, inr, length, map, refl, suc}
+use Rattle.std.proofs.Common.{true, zero, zero-add, ℕ, ◌+◌, ◌<◌, ◌∷◌, ◌≡◌, ◌≤◌, ◌⊎◌}
 use Rattle.std.specs.List.{cons_option, filter_map, range_with_len}
 use Rattle.std.proofs.lemmas.Bool.{cases_Bool, cases_lt}
 use Rattle.std.proofs.lemmas.List.FromFn.{length-range_with_len}
@@ -16,7 +17,8 @@ one_passes {X} p xs i d l e =
     let z : weight (get_or xs i d) ≡ 1 = rw e refl in
     omega (arith, get_or-le-sum_by weight xs i d l, z)
 
-pub two_pass : {X : Type 0} (p : X → Bool) (xs : List X) (i j : ℕ) (d : X) → i < j → j < length xs → p (get_or xs i d) ≡ true → p (get_or xs j d) ≡ true → 2 ≤ count_by p xs
+pub two_pass : {X : Type 0} (p : X → Bool) (xs : List X) (i j : ℕ) (d : X) → i < j → j < length xs
+    → p (get_or xs i d) ≡ true → p (get_or xs j d) ≡ true → 2 ≤ count_by p xs
 two_pass p [] i j d lt l e f = absurd (omega arith)
 two_pass p (x ∷ xs) zero zero d lt l e f = absurd (omega arith)
 two_pass {X} p (x ∷ xs) zero (suc j) d lt l e f =
@@ -37,7 +39,8 @@ none_pass {X} p (x ∷ xs) bar =
     let z : weight x ≡ 0 = rw fails refl in
     omega (arith, sum_by-cons weight x xs, z, none_pass p xs (λ j d l. bar (suc j) d (omega arith)))
 
-pub at_most_one : {X : Type 0} (p : X → Bool) (xs : List X) → ((i j : ℕ) (d : X) → i < j → j < length xs → p (get_or xs i d) ≡ true → ¬ (p (get_or xs j d) ≡ true)) → count_by p xs ≤ 1
+pub at_most_one : {X : Type 0} (p : X → Bool) (xs : List X)
+    → ((i j : ℕ) (d : X) → i < j → j < length xs → p (get_or xs i d) ≡ true → ¬ (p (get_or xs j d) ≡ true)) → count_by p xs ≤ 1
 at_most_one p [] bar = omega arith
 at_most_one {X} p (x ∷ xs) bar =
     let weight : X → ℕ = λ y. cond (p y) 1 0 in
@@ -84,7 +87,13 @@ count-range_agree p q a (suc n) same =
     let f : ℕ → ℕ = λ x. cond (p x) 1 0 in
     let g : ℕ → ℕ = λ x. cond (q x) 1 0 in
     let here : f a ≡ g a = ap (λ (b : Bool). cond b 1 0) (same a (omega arith)) in
-    omega (arith, sum_by-cons f a (range_with_len (a + 1) n), sum_by-cons g a (range_with_len (a + 1) n), here, count-range_agree p q (a + 1) n (λ x l. same x (omega arith)))
+    omega (
+      arith,
+      sum_by-cons f a (range_with_len (a + 1) n),
+      sum_by-cons g a (range_with_len (a + 1) n),
+      here,
+      count-range_agree p q (a + 1) n (λ x l. same x (omega arith)),
+    )
 
 count-range_next : (p : ℕ → Bool) (a n k : ℕ) → a + n ≡ k → count_by p (range_with_len a (suc n)) ≡ count_by p (range_with_len a n) + cond (p k) 1 0
 count-range_next p a zero k is =

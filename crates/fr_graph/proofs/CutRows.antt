@@ -30,7 +30,8 @@ sorted_from_order (l ∷ ls) order = (λ x h. least_first l ls x order h, sorted
 pub order_from_sorted : (links : List (ℕ × ℕ)) → IsSorted IsNotAfter links → AreInOrder links
 order_from_sorted links s k d l = sorted_at IsNotAfter links s k (k + 1) d (omega arith) l
 
-sorted_filter_by : (b : Bool) (p : ℕ × ℕ → Bool) (l : ℕ × ℕ) (ls : List (ℕ × ℕ)) → ((x : ℕ × ℕ) → Contains ls x → IsNotAfter l x) → IsSorted IsNotAfter (filter p ls) → IsSorted IsNotAfter (cond b (l ∷ filter p ls) (filter p ls))
+sorted_filter_by : (b : Bool) (p : ℕ × ℕ → Bool) (l : ℕ × ℕ) (ls : List (ℕ × ℕ))
+    → ((x : ℕ × ℕ) → Contains ls x → IsNotAfter l x) → IsSorted IsNotAfter (filter p ls) → IsSorted IsNotAfter (cond b (l ∷ filter p ls) (filter p ls))
 sorted_filter_by true p l ls first rest = (λ x h. first x (from_filter p ls x h), rest)
 sorted_filter_by false p l ls first rest = rest
 
@@ -49,7 +50,8 @@ no_link_between links u v a b e h = let kept = filter_passes (λ (l : ℕ × ℕ
 still_linked : (links : List (ℕ × ℕ)) (u v a b : ℕ) → is_between u v (a, b) ≡ false → Points links a b → Points (without u v links) a b
 still_linked links u v a b e h = into_filter (λ (l : ℕ × ℕ). not (is_between u v l)) links (a, b) h (rw e refl)
 
-entry_cut_by : (c : Bool) (links : List (ℕ × ℕ)) (u v x w : ℕ) → is_between u v (x, w) ≡ c → option_to_list (row_entry (without u v links) x w) ≡ filter (stays u v x) (option_to_list (row_entry links x w))
+entry_cut_by : (c : Bool) (links : List (ℕ × ℕ)) (u v x w : ℕ) → is_between u v (x, w) ≡ c
+    → option_to_list (row_entry (without u v links) x w) ≡ filter (stays u v x) (option_to_list (row_entry links x w))
 entry_cut_by true links u v x w e =
     rw (
       row_entry_none (without u v links) x w (no_link_between links u v x w e) (no_link_between links u v w x (is_between_turned u v w x ∙ e)),

@@ -1,7 +1,9 @@
 -- The steps of the search for a closed walk keep its state.
-use Rattle.std.proofs.Common.{Bool, List, [], add-one, add-zero, add_assoc, ap, arith, cond, drop, get_or, inl, inr, length, length-drop, refl, set, subst, sym, take, ℕ, ◌++◌, ◌+◌, ◌<◌, ◌∙◌, ◌∷◌, ◌≡◌, ◌≢◌, ◌≤◌, ◌⊎◌}
+use Rattle.std.proofs.Common.{Bool, List, [], add-one, add-zero, add_assoc, ap, arith, cond, drop, get_or, inl, inr, length, length-drop, refl, set}
+use Rattle.std.proofs.Common.{subst, sym, take, ℕ, ◌++◌, ◌+◌, ◌<◌, ◌∙◌, ◌∷◌, ◌≡◌, ◌≢◌, ◌≤◌, ◌⊎◌}
 use Rattle.std.proofs.lemmas.Bool.{cases_eq, cases_lt}
-use Rattle.std.proofs.lemmas.List.{get_or-drop, get_or-set_other, get_or-set_same, get_or-take, get_or_append_left, get_or_default, get_or_push, length-set, length-take-le, length_push}
+use Rattle.std.proofs.lemmas.List.{get_or-drop, get_or-set_other, get_or-set_same, get_or-take, get_or_append_left, get_or_default, get_or_push}
+use Rattle.std.proofs.lemmas.List.{length-set, length-take-le, length_push}
 use Rattle.std.proofs.lemmas.List.Elements.{Contains-append_left, Contains-push}
 use Rattle.std.proofs.lemmas.List.Sums.{sum_by-set}
 use Rattle.std.specs.List.{count_by}
@@ -13,7 +15,8 @@ use Rattle.fr_graph.specs.declared.cycle.Mark.TheVariants.{Done, Fresh, Open}
 use Rattle.fr_graph.proofs.Lists.{push_cases}
 
 -- a mark after one mark was set
-pub mark_set : (marks : List Mark) (x y : ℕ) (m : Mark) → x < length marks → ((y ≡ x) × (mark_of (set marks x m) y ≡ m)) ⊎ ((y ≢ x) × (mark_of (set marks x m) y ≡ mark_of marks y))
+pub mark_set : (marks : List Mark) (x y : ℕ) (m : Mark) → x < length marks → ((y ≡ x) × (mark_of (set marks x m) y ≡ m))
+    ⊎ ((y ≢ x) × (mark_of (set marks x m) y ≡ mark_of marks y))
 mark_set marks x y m l =
     elim (cases_eq y x) as (λ _. ((y ≡ x) × (mark_of (set marks x m) y ≡ m)) ⊎ ((y ≢ x) × (mark_of (set marks x m) y ≡ mark_of marks y)))
     [ inl e ↦ inl (e, rw e (get_or-set_same marks x m Fresh l)) | inr ne ↦ inr (ne, get_or-set_other marks x y m Fresh ne) ]
@@ -31,7 +34,8 @@ kept_set marks x m other l = record {
   one_each = length-set marks x m;
 }
 
-pub opened : (n : ℕ) (links : List (ℕ × ℕ)) (marks : List Mark) (path : List ℕ) (x : ℕ) → IsCycleSearch n links marks path → x < n → mark_of marks x ≡ Fresh → LeadsTo links path x → IsCycleSearch n links (set marks x Open) (path ++ x ∷ [])
+pub opened : (n : ℕ) (links : List (ℕ × ℕ)) (marks : List Mark) (path : List ℕ) (x : ℕ) → IsCycleSearch n links marks path
+    → x < n → mark_of marks x ≡ Fresh → LeadsTo links path x → IsCycleSearch n links (set marks x Open) (path ++ x ∷ [])
 opened n links marks path x s below fresh leads =
     let lm : x < length marks = omega (arith, s.marks_length) in
     let len = length_push path x in
@@ -68,18 +72,23 @@ opened n links marks path x s below fresh leads =
     }
 
 -- where links from nodes with P lead to nodes with P, a path from one of these ends at one
-pub path_keeps : (links : List (ℕ × ℕ)) (P : ℕ → Type 0) → ((u v : ℕ) → P u → Points links u v → P v) → (u : ℕ) (vs : List ℕ) → P u → IsPath links u vs → P (end_of u vs)
+pub path_keeps : (links : List (ℕ × ℕ)) (P : ℕ → Type 0) → ((u v : ℕ) → P u → Points links u v → P v)
+    → (u : ℕ) (vs : List ℕ) → P u → IsPath links u vs → P (end_of u vs)
 path_keeps links P closed u [] here path = here
 path_keeps links P closed u (v ∷ vs) here path = path_keeps links P closed v vs (closed u v here path.0) path.1
 
 -- no closed walk leaves a node that is not done and leads to done nodes only
-no_closed_walk : (links : List (ℕ × ℕ)) (marks : List Mark) → ((u v : ℕ) → mark_of marks u ≡ Done → Points links u v → mark_of marks v ≡ Done) → (x : ℕ) (vs : List ℕ) → ¬ (mark_of marks x ≡ Done) → LeadsToDone links marks x → ¬ IsClosedWalk links x vs
+no_closed_walk : (links : List (ℕ × ℕ)) (marks : List Mark)
+    → ((u v : ℕ) → mark_of marks u ≡ Done → Points links u v → mark_of marks v ≡ Done) → (x : ℕ) (vs : List ℕ)
+    → ¬ (mark_of marks x ≡ Done) → LeadsToDone links marks x → ¬ IsClosedWalk links x vs
 no_closed_walk links marks closed x [] not_done leads walk = walk
 no_closed_walk links marks closed x (v ∷ vs) not_done leads walk =
     let first : mark_of marks v ≡ Done = leads v walk.0.0 in
     not_done (subst (λ (y : ℕ). mark_of marks y ≡ Done) walk.1 (path_keeps links (λ (y : ℕ). mark_of marks y ≡ Done) closed v vs first walk.0.1))
 
-pub left : (n : ℕ) (links : List (ℕ × ℕ)) (marks : List Mark) (path : List ℕ) (x last : ℕ) → IsCycleSearch n links marks path → last + 1 ≡ length path → x ≡ get_or path last 0 → LeadsToDone links marks x → IsCycleSearch n links (set marks x Done) (take last path)
+pub left : (n : ℕ) (links : List (ℕ × ℕ)) (marks : List Mark) (path : List ℕ) (x last : ℕ)
+    → IsCycleSearch n links marks path → last + 1 ≡ length path → x ≡ get_or path last 0 → LeadsToDone links marks x
+    → IsCycleSearch n links (set marks x Done) (take last path)
 left n links marks path x last s full top leads =
     let below : x < n = rw top (s.path_below last (omega arith)) in
     let lm : x < length marks = omega (arith, s.marks_length) in
@@ -90,13 +99,20 @@ left n links marks path x last s full top leads =
     record {
       marks_length = length-set marks x Done ∙ s.marks_length;
       path_below = λ k h. rw (get_or-take last path k 0 (omega (arith, len))) (s.path_below k (omega (arith, len)));
-      path_follows = λ k h. rw (get_or-take last path k 0 (omega (arith, len)), get_or-take last path (k + 1) 0 (omega (arith, len))) (s.path_follows k (omega (arith, len)));
+      path_follows = λ k h. rw (
+        get_or-take last path k 0 (omega (arith, len)),
+        get_or-take last path (k + 1) 0
+            (omega (arith, len)),
+      ) (s.path_follows k (omega (arith, len)));
       path_open = λ k h. rw (get_or-take last path k 0 (omega (arith, len)))
           (elim (mark_set marks x (get_or path k 0) Done lm) [
             | inl w ↦ absurd (s.path_once k last (omega (arith, len)) (omega arith) (w.0 ∙ top))
             | inr w ↦ w.1 ∙ s.path_open k (omega (arith, len))
           ]);
-      path_once = λ i j lt h. rw (get_or-take last path i 0 (omega (arith, len)), get_or-take last path j 0 (omega (arith, len))) (s.path_once i j lt (omega (arith, len)));
+      path_once = λ i j lt h. rw (
+        get_or-take last path i 0 (omega (arith, len)),
+        get_or-take last path j 0 (omega (arith, len)),
+      ) (s.path_once i j lt (omega (arith, len)));
       open_on_path = λ y o. elim (mark_set marks x y Done lm) [
         | inl w ↦ cc (w.1, o)
         | inr w ↦ let was = s.open_on_path y (sym w.1 ∙ o) in
@@ -117,7 +133,8 @@ left n links marks path x last s full top leads =
     }
 
 -- how many marks pass a test once x has another mark
-pub count_by-set : (p : Mark → Bool) (marks : List Mark) (x : ℕ) (m : Mark) → x < length marks → count_by p (set marks x m) + count_by p (mark_of marks x ∷ []) ≡ count_by p marks + count_by p (m ∷ [])
+pub count_by-set : (p : Mark → Bool) (marks : List Mark) (x : ℕ) (m : Mark) → x < length marks
+    → count_by p (set marks x m) + count_by p (mark_of marks x ∷ []) ≡ count_by p marks + count_by p (m ∷ [])
 count_by-set p marks x m l =
     let h = sum_by-set (λ (k : Mark). cond (p k) 1 0) marks x m Fresh l in
     omega (arith, h)
@@ -134,7 +151,8 @@ shifted : (u : ℕ) (xs : List ℕ) (k : ℕ) → get_or (u ∷ xs) (k + 1) 0 �
 shifted u xs k = rw add-one refl
 
 -- a list whose steps follow the links is a path from its first node
-pub path_from_steps : (links : List (ℕ × ℕ)) (u : ℕ) (vs : List ℕ) → ((k : ℕ) → k + 1 < length (u ∷ vs) → Points links (get_or (u ∷ vs) k 0) (get_or (u ∷ vs) (k + 1) 0)) → IsPath links u vs
+pub path_from_steps : (links : List (ℕ × ℕ)) (u : ℕ) (vs : List ℕ)
+    → ((k : ℕ) → k + 1 < length (u ∷ vs) → Points links (get_or (u ∷ vs) k 0) (get_or (u ∷ vs) (k + 1) 0)) → IsPath links u vs
 path_from_steps links u [] steps = tt
 path_from_steps links u (v ∷ vs) steps =
     (steps 0 (omega arith), path_from_steps links v vs (λ k h. rw (← shifted u (v ∷ vs) k, ← shifted u (v ∷ vs) (k + 1)) (steps (k + 1) (omega arith))))
@@ -144,7 +162,8 @@ end_from_last u [] = refl
 end_from_last u (v ∷ vs) = end_from_last v vs
 
 -- a list that begins and ends at one node, and whose steps follow the links
-cycle_from_steps : (links : List (ℕ × ℕ)) (walk : List ℕ) (last : ℕ) → last + 1 ≡ length walk → 0 < last → get_or walk last 0 ≡ get_or walk 0 0 → ((k : ℕ) → k + 1 < length walk → Points links (get_or walk k 0) (get_or walk (k + 1) 0)) → IsCycle links walk
+cycle_from_steps : (links : List (ℕ × ℕ)) (walk : List ℕ) (last : ℕ) → last + 1 ≡ length walk → 0 < last
+    → get_or walk last 0 ≡ get_or walk 0 0 → ((k : ℕ) → k + 1 < length walk → Points links (get_or walk k 0) (get_or walk (k + 1) 0)) → IsCycle links walk
 cycle_from_steps links [] last len some same steps = omega arith
 cycle_from_steps links (u ∷ []) last len some same steps = omega arith
 cycle_from_steps links (u ∷ (v ∷ vs)) last len some same steps =
@@ -152,12 +171,15 @@ cycle_from_steps links (u ∷ (v ∷ vs)) last len some same steps =
     (path_from_steps links u (v ∷ vs) steps, end_from_last u (v ∷ vs) ∙ ap (λ (k : ℕ). get_or (u ∷ (v ∷ vs)) k 0) (sym l) ∙ same)
 
 -- the path from a node of it that its last node leads to, and that node again
-pub closes : (links : List (ℕ × ℕ)) (path walk : List ℕ) (last k x : ℕ) → ((k : ℕ) → k + 1 < length path → Points links (get_or path k 0) (get_or path (k + 1) 0)) → last + 1 ≡ length path → Points links (get_or path last 0) x → k < length path → get_or path k 0 ≡ x → walk ≡ drop k path ++ x ∷ [] → IsCycle links walk
+pub closes : (links : List (ℕ × ℕ)) (path walk : List ℕ) (last k x : ℕ)
+    → ((k : ℕ) → k + 1 < length path → Points links (get_or path k 0) (get_or path (k + 1) 0)) → last + 1 ≡ length path
+    → Points links (get_or path last 0) x → k < length path → get_or path k 0 ≡ x → walk ≡ drop k path ++ x ∷ [] → IsCycle links walk
 closes links path walk last k x follows len has_link inside at is =
     let dropped = length-drop k path in
     let whole = length_push (drop k path) x in
     rw is (cycle_from_steps links (drop k path ++ x ∷ []) (length (drop k path)) (sym whole) (omega (arith, dropped))
-    (get_or_push (drop k path) x 0 _ refl ∙ sym (get_or_append_left (drop k path) (x ∷ []) 0 0 (omega (arith, dropped)) ∙ get_or-drop k path 0 0 ∙ rw add-zero at))
+    (get_or_push (drop k path) x 0 _ refl ∙ sym (get_or_append_left (drop k path) (x ∷ []) 0 0 (omega (arith, dropped))
+    ∙ get_or-drop k path 0 0 ∙ rw add-zero at))
     (λ j h.
     let l : j < length (drop k path) = omega (arith, whole) in
     rw (get_or_append_left (drop k path) (x ∷ []) 0 j l, get_or-drop k path j 0)

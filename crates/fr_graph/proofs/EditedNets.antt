@@ -28,7 +28,8 @@ use Rattle.fr_graph.specs.declared.first.First.TheVariants.{Inward, Outward}
 not_other : (x w y : ℕ) → y ≢ w → x ≢ w → is_between x w (x, y) ≡ false
 not_other x w y a b = rw (eq-eqb x x refl, ne_eqb y w a, ne_eqb x w b) refl
 
-cut_entry : (n : ℕ) (links : List (ℕ × ℕ)) (x w j : ℕ) (f : First) → x ≢ w → j < length (row n links x) → get_or (row n links x) j (w, f) ≡ (w, f) → row n (without x w links) x ≡ remove (row n links x) j
+cut_entry : (n : ℕ) (links : List (ℕ × ℕ)) (x w j : ℕ) (f : First) → x ≢ w → j < length (row n links x)
+    → get_or (row n links x) j (w, f) ≡ (w, f) → row n (without x w links) x ≡ remove (row n links x) j
 cut_entry n links x w j f apart l is =
     let es = row n links x in
     let there : (d : ℕ × First) → (get_or es j d).0 ≡ w = λ d. ap (λ (e : ℕ × First). e.0) (get_or_default es j d (w, f) l ∙ is) in
@@ -39,7 +40,8 @@ cut_entry n links x w j f apart l is =
       | inr ge ↦ omega (arith, same, there e, row_rises n links x j i e (omega (arith, ge, ne)) m)
     ]) apart))
 
-pub cut_end : (n : ℕ) (links : List (ℕ × ℕ)) (x w j : ℕ) → IsNet n links → x ≢ w → Joins links x w → IsPlaceIn (row n links x) w j → (j < length (row n links x)) × (row n (without x w links) x ≡ remove (row n links x) j)
+pub cut_end : (n : ℕ) (links : List (ℕ × ℕ)) (x w j : ℕ) → IsNet n links → x ≢ w → Joins links x w
+    → IsPlaceIn (row n links x) w j → (j < length (row n links x)) × (row n (without x w links) x ≡ remove (row n links x) j)
 cut_end n links x w j net apart (inl p) place =
     let t = neighbour_at (row n links x) w j Outward (row_rises n links x) (row_of_out n links x w net p) place.before place.stops in
     (t.0, cut_entry n links x w j Outward apart t.0 t.1)
@@ -60,18 +62,22 @@ pub end_listed : (n : ℕ) (links : List (ℕ × ℕ)) (x w : ℕ) → IsNet n l
 end_listed n links x w net (inl p) = neighbour_listed (row n links x) w Outward (row_of_out n links x w net p)
 end_listed n links x w net (inr p) = neighbour_listed (row n links x) w Inward (row_of_in n links x w net p)
 
-pub row_rising : (n : ℕ) (links : List (ℕ × ℕ)) (table : Table) (x : ℕ) → AreRows n links table → x < n → IsStrictlyIncreasing (map (λ (e : ℕ × First). e.0) (row_of table x))
+pub row_rising : (n : ℕ) (links : List (ℕ × ℕ)) (table : Table) (x : ℕ) → AreRows n links table → x < n
+    → IsStrictlyIncreasing (map (λ (e : ℕ × First). e.0) (row_of table x))
 row_rising n links table x rows less = rw (rows.shown x less) (neighbours_rise n links x)
 
-pub row_beside : (n : ℕ) (links : List (ℕ × ℕ)) (table one : Table) (u v : ℕ) (entries : List (ℕ × First)) → AreRows n links table → v < n → u ≢ v → one ≡ with_row table u entries → row_of one v ≡ row n links v
+pub row_beside : (n : ℕ) (links : List (ℕ × ℕ)) (table one : Table) (u v : ℕ) (entries : List (ℕ × First))
+    → AreRows n links table → v < n → u ≢ v → one ≡ with_row table u entries → row_of one v ≡ row n links v
 row_beside n links table one u v entries rows less apart once =
     ap (λ (t : Table). row_of t v) once ∙ row_of_with_row_beside table u v entries (λ e. apart (sym e)) ∙ rows.shown v less
 
-pub length_beside : (n : ℕ) (links : List (ℕ × ℕ)) (table one : Table) (u : ℕ) (entries : List (ℕ × First)) → AreRows n links table → one ≡ with_row table u entries → length one.rows ≡ n
+pub length_beside : (n : ℕ) (links : List (ℕ × ℕ)) (table one : Table) (u : ℕ) (entries : List (ℕ × First))
+    → AreRows n links table → one ≡ with_row table u entries → length one.rows ≡ n
 length_beside n links table one u entries rows once = ap (λ (t : Table). length t.rows) once ∙ length-rows table u entries ∙ rows.one_each
 
 -- the row of each end without the entry of the other
-pub rows_cut : (net : Network) (u v j k : ℕ) (table one two : Table) → ShowsLink net u v table → IsPlaceIn (row_of table u) v j → one ≡ with_row table u (remove (row_of table u) j)
+pub rows_cut : (net : Network) (u v j k : ℕ) (table one two : Table) → ShowsLink net u v table
+    → IsPlaceIn (row_of table u) v j → one ≡ with_row table u (remove (row_of table u) j)
     → IsPlaceIn (row_of one v) u k → two ≡ with_row one v (remove (row_of one v) k) → AreRows net.nodes (without u v net.links) two
 rows_cut net u v j k table one two shown at_u once at_v twice =
     let n = net.nodes in
@@ -95,24 +101,29 @@ rows_cut net u v j k table one two shown at_u once at_v twice =
               row_of_with_row_at table u (remove (row_of table u) j) (omega (arith, shown.rows.one_each, below.0))
               ∙ ap (λ (es : List (ℕ × First)). remove es j) row_u ∙ sym cut_u
               )
-          | inr nu ↦ row_of_with_row_beside table u z (remove (row_of table u) j) nu ∙ shown.rows.shown z less ∙ sym (row_cut n links u v z ∙ row_stays u v z (row n links z) nu nv)
+          | inr nu ↦ row_of_with_row_beside table u z (remove (row_of table u) j) nu ∙ shown.rows.shown z less
+              ∙ sym (row_cut n links u v z ∙ row_stays u v z (row n links z) nu nv)
         ]
       ];
     }
 
 -- the row of an end of the link that is added
-put_tail : (n : ℕ) (links : List (ℕ × ℕ)) (u v j : ℕ) → AreUnjoined n links u v → IsPlaceIn (row n links u) v j → row n (added links u v) u ≡ insert (row n links u) j (v, Outward)
+put_tail : (n : ℕ) (links : List (ℕ × ℕ)) (u v j : ℕ) → AreUnjoined n links u v → IsPlaceIn (row n links u) v j
+    → row n (added links u v) u ≡ insert (row n links u) j (v, Outward)
 put_tail n links u v j nodes place =
     row_added n links u v u nodes.tail nodes.head nodes.apart nodes.free ∙ cond-true _ _ _ (eq-eqb u u refl)
     ∙ put_in_row (v, Outward) (row n links u) j place.inside place.before (λ d l. place.stops j d (omega arith) l)
 
-put_head : (n : ℕ) (links : List (ℕ × ℕ)) (u v j : ℕ) → AreUnjoined n links u v → IsPlaceIn (row n links v) u j → row n (added links u v) v ≡ insert (row n links v) j (u, Inward)
+put_head : (n : ℕ) (links : List (ℕ × ℕ)) (u v j : ℕ) → AreUnjoined n links u v → IsPlaceIn (row n links v) u j
+    → row n (added links u v) v ≡ insert (row n links v) j (u, Inward)
 put_head n links u v j nodes place =
-    row_added n links u v v nodes.tail nodes.head nodes.apart nodes.free ∙ cond-false _ _ _ (ne_eqb v u (λ e. nodes.apart (sym e))) ∙ cond-true _ _ _ (eq-eqb v v refl)
+    row_added n links u v v nodes.tail nodes.head nodes.apart nodes.free
+    ∙ cond-false _ _ _ (ne_eqb v u (λ e. nodes.apart (sym e))) ∙ cond-true _ _ _ (eq-eqb v v refl)
     ∙ put_in_row (u, Inward) (row n links v) j place.inside place.before (λ d l. place.stops j d (omega arith) l)
 
 -- the row of each end with an entry of the other
-pub rows_added : (net : Network) (u v j k : ℕ) (table one two : Table) → ShowsNoLink net u v table → IsPlaceIn (row_of table u) v j → one ≡ with_row table u (insert (row_of table u) j (v, Outward))
+pub rows_added : (net : Network) (u v j k : ℕ) (table one two : Table) → ShowsNoLink net u v table
+    → IsPlaceIn (row_of table u) v j → one ≡ with_row table u (insert (row_of table u) j (v, Outward))
     → IsPlaceIn (row_of one v) u k → two ≡ with_row one v (insert (row_of one v) k (u, Inward)) → AreRows net.nodes (added net.links u v) two
 rows_added net u v j k table one two shown at_u once at_v twice =
     let n = net.nodes in

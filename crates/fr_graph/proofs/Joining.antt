@@ -1,5 +1,6 @@
 -- Two nodes that are joined by a link, which points the way that closes no closed walk.
-use Rattle.std.proofs.Common.{All, Bool, List, [], ap, arith, cond, count_by, false, get_or, inl, inr, length, refl, subst, sym, true, ℕ, ⊎_elim, ◌++◌, ◌<◌, ◌∙◌, ◌∷◌, ◌≡◌, ◌≢◌}
+use Rattle.std.proofs.Common.{All, Bool, List, [], ap, arith, cond, count_by, false, get_or, inl, inr, length, refl, subst, sym, true, ℕ, ⊎_elim}
+use Rattle.std.proofs.Common.{◌++◌, ◌<◌, ◌∙◌, ◌∷◌, ◌≡◌, ◌≢◌}
 use Rattle.std.specs.Prelude.{not}
 use Rattle.std.specs.declared.alloc.Global.{Global}
 use Rattle.std.specs.declared.vec.Vec.{Vec}
@@ -26,7 +27,8 @@ use Rattle.fr_graph.specs.declared.fault.NetFault.TheVariants.{Cycle, Memory, No
 
 -- a link closes a walk exactly where a path leads from its head to its tail
 pub path_walks : (links : List (ℕ × ℕ)) (u v : ℕ) (vs : List ℕ) → IsPath links v vs → end_of v vs ≡ u → IsClosedWalk (added links u v) u (v ∷ vs)
-path_walks links u v vs path ends = ((Contains-push links (u, v), path_carries links (added links u v) (λ x y p. Contains-append_left links ((u, v) ∷ []) (x, y) p) v vs path), ends)
+path_walks links u v vs path ends =
+    ((Contains-push links (u, v), path_carries links (added links u v) (λ x y p. Contains-append_left links ((u, v) ∷ []) (x, y) p) v vs path), ends)
 
 pub path_closes : (links : List (ℕ × ℕ)) (u v : ℕ) → HasPath links v u → ¬ IsAcyclic (added links u v)
 path_closes links u v path acyclic = acyclic u (v ∷ path.0) (path_walks links u v path.0 path.1.0 path.1.1)
@@ -91,7 +93,9 @@ single_turned links u v single k d lt =
     )
 
 -- the other way round no fault stands
-pub faultless_turned : (n : ℕ) (links : List (ℕ × ℕ)) (u v : ℕ) → IsAcyclic links → IsWithinLimits n (added links u v) → IsInRange n (added links u v) → HasNoSelfLink (added links u v) → AreSingle (added links u v) → ¬ IsAcyclic (added links u v) → IsFaultless n (added links v u)
+pub faultless_turned : (n : ℕ) (links : List (ℕ × ℕ)) (u v : ℕ) → IsAcyclic links → IsWithinLimits n (added links u v)
+    → IsInRange n (added links u v) → HasNoSelfLink (added links u v) → AreSingle (added links u v)
+    → ¬ IsAcyclic (added links u v) → IsFaultless n (added links v u)
 faultless_turned n links u v acyclic limits range bar single closes =
     let apart : u ≢ v = All-contains (λ (l : ℕ × ℕ). ¬ (l.0 ≡ l.1)) (added links u v) (u, v) bar (Contains-push links (u, v)) in
     record {
@@ -106,7 +110,8 @@ faultless_turned n links u v acyclic limits range bar single closes =
     }
 
 -- the link can be refused for the closed walk alone
-pub cycle_fault : (n : ℕ) (links : List (ℕ × ℕ)) (u v : ℕ) (walk : Vec ℕ Global) → IsFaultless n links → length links < most_links → AreUnjoined n links u v → IsCycle (added links u v) walk.items → IsFirstFault n (added links u v) (Cycle walk)
+pub cycle_fault : (n : ℕ) (links : List (ℕ × ℕ)) (u v : ℕ) (walk : Vec ℕ Global) → IsFaultless n links
+    → length links < most_links → AreUnjoined n links u v → IsCycle (added links u v) walk.items → IsFirstFault n (added links u v) (Cycle walk)
 cycle_fault n links u v walk clear few free cycle = (
   within_limits n links u v clear.limits few,
   in_range n links u v clear.is_net.in_range free.tail free.head,
@@ -125,7 +130,8 @@ as_first n links u v (Cycle walk) h = absurd h
 as_first n links u v NoLink h = h
 as_first n links u v Memory h = h
 
-pub join_fault_place : (n : ℕ) (links : List (ℕ × ℕ)) (u v : ℕ) (f g : NetFault) → IsJoinFault n links u v f → IsJoinFault n links u v g → fault_place f ≡ fault_place g
+pub join_fault_place : (n : ℕ) (links : List (ℕ × ℕ)) (u v : ℕ) (f g : NetFault) → IsJoinFault n links u v f
+    → IsJoinFault n links u v g → fault_place f ≡ fault_place g
 join_fault_place n links u v f g hf hg = first_fault_place n (added links u v) f g (as_first n links u v f hf) (as_first n links u v g hg)
 
 -- the two ways of a join exclude each other
@@ -163,7 +169,8 @@ not_among links u v free k d lt =
 pub without_none : (links : List (ℕ × ℕ)) (u v : ℕ) → ¬ Joins links u v → without u v links ≡ links
 without_none links u v free = filter_kept (λ (l : ℕ × ℕ). not (is_between u v l)) links (λ k d lt. rw (not_among links u v free k d lt) refl)
 
-cut_put_by : (b : Bool) (u v : ℕ) (q : ℕ × ℕ) (qs put : List (ℕ × ℕ)) → without u v (q ∷ qs) ≡ q ∷ qs → is_between u v q ≡ false → without u v put ≡ qs → without u v (cond b ((u, v) ∷ (q ∷ qs)) (q ∷ put)) ≡ q ∷ qs
+cut_put_by : (b : Bool) (u v : ℕ) (q : ℕ × ℕ) (qs put : List (ℕ × ℕ)) → without u v (q ∷ qs) ≡ q ∷ qs
+    → is_between u v q ≡ false → without u v put ≡ qs → without u v (cond b ((u, v) ∷ (q ∷ qs)) (q ∷ put)) ≡ q ∷ qs
 cut_put_by true u v q qs put none apart rest = rw (is_between_itself (u, v)) none
 cut_put_by false u v q qs put none apart rest = rw (apart, rest) refl
 
@@ -171,4 +178,5 @@ pub cut_put : (links : List (ℕ × ℕ)) (u v : ℕ) → ¬ Joins links u v →
 cut_put [] u v free = rw (is_between_itself (u, v)) refl
 cut_put (q ∷ qs) u v free =
     let later : ¬ Joins qs u v = λ h. free (⊎_elim (λ p. inl (Contains-tail (u, v) q qs p)) (λ p. inr (Contains-tail (v, u) q qs p)) h) in
-    cut_put_by (is_not_after (u, v) q) u v q qs (with_in_order (u, v) qs) (without_none (q ∷ qs) u v free) (not_among (q ∷ qs) u v free 0 q (omega arith)) (cut_put qs u v later)
+    cut_put_by (is_not_after (u, v) q) u v q qs (with_in_order (u, v) qs) (without_none (q ∷ qs) u v free)
+    (not_among (q ∷ qs) u v free 0 q (omega arith)) (cut_put qs u v later)

@@ -21,7 +21,8 @@ pub length-rows : (table : Table) (x : ℕ) (entries : List (ℕ × First)) → 
 length-rows table x entries = length-set table.rows x entries
 
 -- the rows are those that are wanted once the one that is not yet is written
-pub rows_with_row : (n k : ℕ) (wanted : ℕ → List (ℕ × First)) (table : Table) → k < length table.rows → ((y : ℕ) → y < n → y ≢ k → row_of table y ≡ wanted y) → (y : ℕ) → y < n → row_of (with_row table k (wanted k)) y ≡ wanted y
+pub rows_with_row : (n k : ℕ) (wanted : ℕ → List (ℕ × First)) (table : Table) → k < length table.rows
+    → ((y : ℕ) → y < n → y ≢ k → row_of table y ≡ wanted y) → (y : ℕ) → y < n → row_of (with_row table k (wanted k)) y ≡ wanted y
 rows_with_row n k wanted table inside others y less =
     elim (cases_eq y k) [
       | inl e ↦ rw e (row_of_with_row_at table k (wanted k) inside)

@@ -1,13 +1,16 @@
 -- Rows laid one behind the other, each with room behind it.
-use Rattle.std.proofs.Common.{Bool, IsTrue, List, [], ap, arith, cond, count_by, get_or, inl, inr, length, length-append, map, refl, set, sym, take, ℕ, ◌++◌, ◌+◌, ◌<◌, ◌∙◌, ◌∷◌, ◌≡◌, ◌≤◌}
+use Rattle.std.proofs.Common.{Bool, IsTrue, List, [], ap, arith, cond, count_by, get_or, inl, inr, length, length-append, map, refl, set, sym, take}
+use Rattle.std.proofs.Common.{ℕ, ◌++◌, ◌+◌, ◌<◌, ◌∙◌, ◌∷◌, ◌≡◌, ◌≤◌}
 use Rattle.std.specs.List.{range_with_len}
 use Rattle.std.proofs.lemmas.Bool.{cases_eq, cases_lt}
-use Rattle.std.proofs.lemmas.List.{get_or-set_other, get_or-set_same, get_or_append_left, get_or_past, get_or_push, length-set, length-take-le, length_push, take_all, take_more}
+use Rattle.std.proofs.lemmas.List.{get_or-set_other, get_or-set_same, get_or_append_left, get_or_past, get_or_push, length-set, length-take-le}
+use Rattle.std.proofs.lemmas.List.{length_push, take_all, take_more}
 use Rattle.std.proofs.lemmas.List.FromFn.{length-map-range_with_len, map-range_with_len_more}
 use Rattle.std.proofs.lemmas.List.Sums.{sum_by-append}
 use Rattle.fr_graph.proofs.Lists.{alike_below, part_before, part_behind}
 use Rattle.fr_graph.proofs.RowTables.{length_rows, nowhere, starts_rise}
-use Rattle.fr_graph.specs.Tables.{HasRoomIn, IsTable, KeepsRooms, Table, end_of, has_none, room_between, room_of, row_between, row_of, rows_in, start_of, table_of}
+use Rattle.fr_graph.specs.Tables.{HasRoomIn, IsTable, KeepsRooms, Table, end_of, has_none, room_between, room_of, row_between, row_of, rows_in}
+use Rattle.fr_graph.specs.Tables.{start_of, table_of}
 use Rattle.fr_graph.specs.declared.row_table.Place.{Place}
 use Rattle.fr_graph.specs.declared.row_table.RowTable.TheInside.{Inside}
 use Rattle.fr_graph.specs.declared.first.First.{First}
@@ -19,7 +22,8 @@ start_behind t = start_of t (rows_in t)
 -- the fields once a row is laid behind the others, with this room
 pub record IsBehind (t u : Inside) (row rest : List (ℕ × First)) (room : ℕ) : Type 0 where
   pub within : length row + length rest ≡ room
-  pub places : u.places.items ≡ set t.places.items (rows_in t) (record { start = start_behind t; end = start_behind t + length row }) ++ record { start = start_behind t + room; end = start_behind t + room } ∷ []
+  pub places : u.places.items ≡ set t.places.items (rows_in t)
+      (record { start = start_behind t; end = start_behind t + length row }) ++ record { start = start_behind t + room; end = start_behind t + room } ∷ []
   pub entries : u.entries.items ≡ take (start_behind t) t.entries.items ++ (row ++ rest)
   pub empty : u.empty ≡ t.empty + count_by has_none (row ∷ [])
 
@@ -31,13 +35,16 @@ module _ (t u : Inside) (row rest : List (ℕ × First)) (room : ℕ) (is : IsTa
   behind_place = record { start = start_behind t + room; end = start_behind t + room }
 
   one_more : length u.places.items ≡ length t.places.items + 1
-  one_more = ap length to.places ∙ length_push (set t.places.items (rows_in t) last_place) behind_place ∙ ap (λ n. n + 1) (length-set t.places.items (rows_in t) last_place)
+  one_more = ap length to.places ∙ length_push (set t.places.items (rows_in t) last_place) behind_place
+      ∙ ap (λ n. n + 1) (length-set t.places.items (rows_in t) last_place)
 
   pub rows_more : rows_in u ≡ rows_in t + 1
   rows_more = omega (arith, one_more, is.some)
 
   set_place : (x : ℕ) → x ≤ rows_in t → get_or u.places.items x nowhere ≡ get_or (set t.places.items (rows_in t) last_place) x nowhere
-  set_place x le = ap (λ (ps : List Place). get_or ps x nowhere) to.places ∙ get_or_append_left (set t.places.items (rows_in t) last_place) (behind_place ∷ []) nowhere x (omega (arith, le, is.some, length-set t.places.items (rows_in t) last_place))
+  set_place x le = ap (λ (ps : List Place). get_or ps x nowhere) to.places
+      ∙ get_or_append_left (set t.places.items (rows_in t) last_place) (behind_place ∷ []) nowhere x
+      (omega (arith, le, is.some, length-set t.places.items (rows_in t) last_place))
 
   last_is : get_or u.places.items (rows_in t) nowhere ≡ last_place
   last_is = set_place (rows_in t) (omega arith) ∙ get_or-set_same t.places.items (rows_in t) last_place nowhere (omega (arith, is.some))
@@ -57,7 +64,8 @@ module _ (t u : Inside) (row rest : List (ℕ × First)) (room : ℕ) (is : IsTa
   start_more : start_of u (rows_in t + 1) ≡ start_behind t + room
   start_more =
       ap (λ (ps : List Place). (get_or ps (rows_in t + 1) nowhere).start) to.places
-      ∙ ap (λ (p : Place). p.start) (get_or_push (set t.places.items (rows_in t) last_place) behind_place nowhere (rows_in t + 1) (omega (arith, is.some, length-set t.places.items (rows_in t) last_place)))
+      ∙ ap (λ (p : Place). p.start) (get_or_push (set t.places.items (rows_in t) last_place) behind_place nowhere
+      (rows_in t + 1) (omega (arith, is.some, length-set t.places.items (rows_in t) last_place)))
 
   end_more : end_of u (rows_in t) ≡ start_behind t + length row
   end_more = ap (λ (p : Place). p.end) last_is
@@ -146,7 +154,8 @@ pub record AreLaidOut (before : Table) (keeps_room : Bool) (x : ℕ) (after : Ta
   pub room : (y : ℕ) → y < x → length (row_of before y) < room_of after y
   pub kept : IsTrue keeps_room → (y : ℕ) → y < x → room_of before y ≤ room_of after y
 
-pub one_more_laid_out : (before : Table) (keeps_room : Bool) (x : ℕ) (after next : Table) (room : ℕ) → AreLaidOut before keeps_room x after → x < length before.rows → next.rows ≡ after.rows ++ row_of before x ∷ [] → next.rooms ≡ after.rooms ++ room ∷ []
+pub one_more_laid_out : (before : Table) (keeps_room : Bool) (x : ℕ) (after next : Table) (room : ℕ)
+    → AreLaidOut before keeps_room x after → x < length before.rows → next.rows ≡ after.rows ++ row_of before x ∷ [] → next.rooms ≡ after.rooms ++ room ∷ []
     → length (row_of before x) < room → (IsTrue keeps_room → room_of before x ≤ room) → AreLaidOut before keeps_room (x + 1) next
 one_more_laid_out before keeps_room x after next room to lt rows rooms wide no_less =
     let here : room_of next x ≡ room = ap (λ rs. get_or rs x 0) rooms ∙ get_or_push after.rooms room 0 x to.one_each in
@@ -169,10 +178,12 @@ one_more_laid_out before keeps_room x after next room to lt rows rooms wide no_l
 pub same_rows : (before : Table) (keeps_room : Bool) (after : Table) → AreLaidOut before keeps_room (length before.rows) after → after.rows ≡ before.rows
 same_rows before keeps_room after to = to.rows ∙ take_all (length before.rows) before.rows (omega arith)
 
-pub all_have_room : (before : Table) (keeps_room : Bool) (after : Table) → AreLaidOut before keeps_room (length before.rows) after → (x : ℕ) → x < length before.rows → HasRoomIn after x
+pub all_have_room : (before : Table) (keeps_room : Bool) (after : Table)
+    → AreLaidOut before keeps_room (length before.rows) after → (x : ℕ) → x < length before.rows → HasRoomIn after x
 all_have_room before keeps_room after to x lt = omega (arith, to.room x lt, ap (λ rows. length (get_or rows x [])) (same_rows before keeps_room after to))
 
-pub room_kept : (before : Table) (keeps_room : Bool) (after : Table) → length before.rooms ≡ length before.rows → AreLaidOut before keeps_room (length before.rows) after → IsTrue keeps_room → KeepsRooms before after
+pub room_kept : (before : Table) (keeps_room : Bool) (after : Table) → length before.rooms ≡ length before.rows
+    → AreLaidOut before keeps_room (length before.rows) after → IsTrue keeps_room → KeepsRooms before after
 room_kept before keeps_room after same to keeps x =
     elim (cases_lt x (length before.rows)) [
       | inl lt ↦ to.kept keeps x lt

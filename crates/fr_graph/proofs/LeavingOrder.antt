@@ -61,7 +61,8 @@ unmet_order links n = record {
   heads = λ i j l. absurd (omega (arith, l));
 }
 
-pub nothing_met : (n : ℕ) (rows : Table) (search : Search) → search.marks.items ≡ replicate n Fresh → search.path.items ≡ [] → search.order.items ≡ [] → length rows.rows ≡ n → AreEntriesBelow n rows → IsSearch rows search
+pub nothing_met : (n : ℕ) (rows : Table) (search : Search) → search.marks.items ≡ replicate n Fresh → search.path.items ≡ []
+    → search.order.items ≡ [] → length rows.rows ≡ n → AreEntriesBelow n rows → IsSearch rows search
 nothing_met n rows search fresh path order each below =
     let links = (net_in rows).links in
     record {
@@ -73,22 +74,27 @@ nothing_met n rows search fresh path order each below =
     }
 
 -- a node that is opened is not left
-pub opened_order : (links : List (ℕ × ℕ)) (marks : List Mark) (order : List ℕ) (x : ℕ) → IsOrder links marks order → x < length marks → mark_of marks x ≢ Done → IsOrder links (set marks x Open) order
+pub opened_order : (links : List (ℕ × ℕ)) (marks : List Mark) (order : List ℕ) (x : ℕ) → IsOrder links marks order
+    → x < length marks → mark_of marks x ≢ Done → IsOrder links (set marks x Open) order
 opened_order links marks order x o l not_done = record {
   counted = omega (arith, o.counted, count_by-set is_done marks x Open l, count_not_done _ not_done);
-  listed = All-weaker (IsDone marks) (IsDone (set marks x Open)) (λ y done. elim (mark_set marks x y Open l) [ inl w ↦ absurd (not_done (rw (← w.0) done)) | inr w ↦ w.1 ∙ done ]) order o.listed;
+  listed = All-weaker (IsDone marks) (IsDone (set marks x Open))
+      (λ y done. elim (mark_set marks x y Open l) [ inl w ↦ absurd (not_done (rw (← w.0) done)) | inr w ↦ w.1 ∙ done ]) order o.listed;
   all = λ y done. elim (mark_set marks x y Open l) [ inl w ↦ cc (w.1, done) | inr w ↦ o.all y (sym w.1 ∙ done) ];
   heads = o.heads;
 }
 
 -- a node is left once its links lead to nodes that are left already
-pub left_order : (n : ℕ) (links : List (ℕ × ℕ)) (marks : List Mark) (path order : List ℕ) (x : ℕ) → IsCycleSearch n links marks path → IsOrder links marks order → x < length marks → mark_of marks x ≢ Done → LeadsToDone links marks x → IsOrder links (set marks x Done) (order ++ x ∷ [])
+pub left_order : (n : ℕ) (links : List (ℕ × ℕ)) (marks : List Mark) (path order : List ℕ) (x : ℕ)
+    → IsCycleSearch n links marks path → IsOrder links marks order → x < length marks → mark_of marks x ≢ Done
+    → LeadsToDone links marks x → IsOrder links (set marks x Done) (order ++ x ∷ [])
 left_order n links marks path order x s o l not_done leads =
     let listed : (i : ℕ) → i < length order → mark_of marks (get_or order i 0) ≡ Done = λ i h. All-get_or (IsDone marks) order i 0 h o.listed in
     record {
       counted = omega (arith, o.counted, count_by-set is_done marks x Done l, count_not_done _ not_done, length_push order x);
       listed = All-push (IsDone (set marks x Done)) order x
-          (All-weaker (IsDone marks) (IsDone (set marks x Done)) (λ y done. elim (mark_set marks x y Done l) [ inl w ↦ w.1 | inr w ↦ w.1 ∙ done ]) order o.listed)
+          (All-weaker (IsDone marks) (IsDone (set marks x Done))
+          (λ y done. elim (mark_set marks x y Done l) [ inl w ↦ w.1 | inr w ↦ w.1 ∙ done ]) order o.listed)
           (elim (mark_set marks x x Done l) [ inl w ↦ w.1 | inr w ↦ absurd (w.0 refl) ]);
       all = λ y done. elim (mark_set marks x y Done l) [
         | inl w ↦ rw w.0 (Contains-push order x)
@@ -107,7 +113,8 @@ left_order n links marks path order x s o l not_done leads =
     }
 
 -- what stands once the search has met each node
-all_left : (n : ℕ) (links : List (ℕ × ℕ)) (marks : List Mark) (order : List ℕ) → ((u v : ℕ) → Points links u v → u < n) → IsCycleSearch n links marks [] → IsOrder links marks order → ((x : ℕ) → x < n → mark_of marks x ≢ Fresh) → IsAcyclic links × HasHeadsFirst n links order
+all_left : (n : ℕ) (links : List (ℕ × ℕ)) (marks : List Mark) (order : List ℕ) → ((u v : ℕ) → Points links u v → u < n)
+    → IsCycleSearch n links marks [] → IsOrder links marks order → ((x : ℕ) → x < n → mark_of marks x ≢ Fresh) → IsAcyclic links × HasHeadsFirst n links order
 all_left n links marks order tails s o met =
     let done : (x : ℕ) → x < n → mark_of marks x ≡ Done = λ x l. elim (mark_cases (mark_of marks x)) [
       | inl f ↦ absurd (met x l f)
@@ -126,16 +133,19 @@ all_left n links marks order tails s o met =
       },
     )
   where
-    none_closed : ((u v : ℕ) → Points links u v → mark_of marks u ≡ Done) → ((u : ℕ) (vs : List ℕ) → mark_of marks u ≡ Done → ¬ IsClosedWalk links u vs) → IsAcyclic links
+    none_closed : ((u v : ℕ) → Points links u v → mark_of marks u ≡ Done)
+        → ((u : ℕ) (vs : List ℕ) → mark_of marks u ≡ Done → ¬ IsClosedWalk links u vs) → IsAcyclic links
     none_closed done safe u [] walk = walk
     none_closed done safe u (v ∷ vs) walk = safe u (v ∷ vs) (done u v walk.0.0) walk
 
-pub search_ends : (n : ℕ) (rows : Table) (search : Search) → IsAtRest rows search → length search.marks.items ≡ n → ((x : ℕ) → x < n → mark_of search.marks.items x ≢ Fresh) → IsAcyclic (net_in rows).links × HasHeadsFirst n (net_in rows).links search.order.items
+pub search_ends : (n : ℕ) (rows : Table) (search : Search) → IsAtRest rows search → length search.marks.items ≡ n
+    → ((x : ℕ) → x < n → mark_of search.marks.items x ≢ Fresh) → IsAcyclic (net_in rows).links × HasHeadsFirst n (net_in rows).links search.order.items
 search_ends n rows search rest one_each met =
     let is = rest.search in
     let marks = search.marks.items in
     let links = (net_in rows).links in
-    let steps : IsCycleSearch (length marks) links marks [] = subst (λ (path : List Step). IsCycleSearch (length marks) links marks (nodes_of path)) rest.empty is.steps in
+    let steps : IsCycleSearch (length marks) links marks [] =
+    subst (λ (path : List Step). IsCycleSearch (length marks) links marks (nodes_of path)) rest.empty is.steps in
     let tails : (u v : ℕ) → Points links u v → u < length marks = λ u v p. omega (arith, (row_of_points rows u v p).0, is.one_each) in
     subst (λ (k : ℕ). IsAcyclic links × HasHeadsFirst k links search.order.items) one_each
     (all_left (length marks) links marks search.order.items tails steps is.order (λ x l. met x (subst (λ (k : ℕ). x < k) one_each l)))

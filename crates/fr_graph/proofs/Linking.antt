@@ -1,5 +1,6 @@
 -- Which nodes a link joins, and walks along some links that are walks along others.
-use Rattle.std.proofs.Common.{List, [], ap, arith, count_by, eq-eqb, eqb, eqb-true, get_or, inl, inr, length, refl, subst, suc, sym, true, ℕ, ◌&&◌, ◌<◌, ◌∙◌, ◌∷◌, ◌≡◌, ◌≤◌, ◌⊎◌}
+use Rattle.std.proofs.Common.{List, [], ap, arith, count_by, eq-eqb, eqb, eqb-true, get_or, inl, inr, length, refl, subst, suc, sym, true, ℕ, ◌&&◌}
+use Rattle.std.proofs.Common.{◌<◌, ◌∙◌, ◌∷◌, ◌≡◌, ◌≤◌, ◌⊎◌}
 use Rattle.std.proofs.Math.Bool.{or-true}
 use Rattle.std.proofs.lemmas.Bool.{cases_Bool, cases_eq, cases_lt}
 use Rattle.std.proofs.lemmas.List.{get_or_default}
@@ -41,7 +42,8 @@ is_between_alike u v l e x =
       | inr t ↦ rw (t.0, t.1) (or_comm ((eqb x.0 v) && (eqb x.1 u)) ((eqb x.0 u) && (eqb x.1 v)))
     ]
 
-pub some_joined : (links : List (ℕ × ℕ)) (u v : ℕ) → 1 ≤ count_by (is_between u v) links → (k : ℕ) × (k < length links) × (is_between u v (get_or links k (u, v)) ≡ true)
+pub some_joined : (links : List (ℕ × ℕ)) (u v : ℕ) → 1 ≤ count_by (is_between u v) links → (k : ℕ) × (k < length links)
+    × (is_between u v (get_or links k (u, v)) ≡ true)
 some_joined [] u v l = absurd (omega arith)
 some_joined (x ∷ xs) u v l =
     let weight : ℕ × ℕ → ℕ = λ y. weigh (is_between u v y) in
@@ -61,7 +63,8 @@ not_twice links u v single =
       | inr many ↦
           let some = some_joined links u v (omega arith) in
           let link = get_or links some.0 (u, v) in
-          let same : count_by (is_between link.0 link.1) links ≡ count_by (is_between u v) links = count_agrees (is_between link.0 link.1) (is_between u v) links (is_between_alike u v link some.2) in
+          let same : count_by (is_between link.0 link.1) links ≡ count_by (is_between u v) links =
+          count_agrees (is_between link.0 link.1) (is_between u v) links (is_between_alike u v link some.2) in
           omega (arith, single some.0 (u, v) some.1, same)
     ]
 

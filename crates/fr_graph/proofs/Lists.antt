@@ -1,7 +1,11 @@
 -- What lists come to that are filtered, mapped, cut and put together, whatever stands in them.
-use Rattle.std.proofs.Common.{Bool, List, [], ap, arith, cond, drop, get_or, inl, inr, length, length-drop, refl, set, subst, sym, take, ℕ, ◌++◌, ◌+◌, ◌<◌, ◌∙◌, ◌∷◌, ◌≡◌, ◌≢◌, ◌≤◌, ◌⊎◌, length-append, suc, zero, Contains, None, Option, Some, false, map, option_map, option_to_list, true, ⊎_elim, slice_range, ◌-◌}
+use Rattle.std.proofs.Common.{Bool, List, [], ap, arith, cond, drop, get_or, inl, inr, length, length-drop, refl, set, subst, sym, take, ℕ, ◌++◌, ◌+◌}
+use Rattle.std.proofs.Common.{◌<◌, ◌∙◌, ◌∷◌, ◌≡◌, ◌≢◌, ◌≤◌, ◌⊎◌, length-append, suc, zero, Contains, None, Option, Some, false, map, option_map}
+use Rattle.std.proofs.Common.{option_to_list, true, ⊎_elim, slice_range, ◌-◌}
 use Rattle.std.proofs.lemmas.Bool.{cases_lt}
-use Rattle.std.proofs.lemmas.List.{get_or-drop, get_or_append_left, get_or_push, length-take-le, length_push, append_assoc, drop-append-le, drop-drop, drop-take, drop_more, get_or-append_right, same_lists, set_at, take-append-le, take-take, take_all, take_more, length-append, drop_at, take_at}
+use Rattle.std.proofs.lemmas.List.{get_or-drop, get_or_append_left, get_or_push, length-take-le, length_push, append_assoc, drop-append-le, drop-drop}
+use Rattle.std.proofs.lemmas.List.{drop-take, drop_more, get_or-append_right, same_lists, set_at, take-append-le, take-take, take_all, take_more}
+use Rattle.std.proofs.lemmas.List.{length-append, drop_at, take_at}
 use Rattle.std.proofs.lemmas.List.Elements.{Contains-get_or}
 use Rattle.std.specs.List.{filter, remove, insert, range_with_len}
 use Rattle.fr_graph.specs.Rows.{row}
@@ -13,7 +17,8 @@ use Rattle.std.proofs.lemmas.List.FromFn.{get_or-map-range_with_len, length-map-
 use Rattle.std.proofs.lemmas.Slice.{between_is}
 
 -- an element of a list with one more: one of the list, or the new one
-pub push_cases : (xs : List ℕ) (x k : ℕ) → k < length (xs ++ x ∷ []) → ((k < length xs) × (get_or (xs ++ x ∷ []) k 0 ≡ get_or xs k 0)) ⊎ ((k ≡ length xs) × (get_or (xs ++ x ∷ []) k 0 ≡ x))
+pub push_cases : (xs : List ℕ) (x k : ℕ) → k < length (xs ++ x ∷ [])
+    → ((k < length xs) × (get_or (xs ++ x ∷ []) k 0 ≡ get_or xs k 0)) ⊎ ((k ≡ length xs) × (get_or (xs ++ x ∷ []) k 0 ≡ x))
 push_cases xs x k h =
     let e = length_push xs x in
     elim (cases_lt k (length xs)) [
@@ -39,7 +44,8 @@ map-option_to_list f None = refl
 map-option_to_list f (Some x) = refl
 
 -- which elements a test keeps
-into_filter_by : {X : Type 0} (b : Bool) (p : X → Bool) (y : X) (ys : List X) (x : X) → p y ≡ b → p x ≡ true → (y ≡ x) ⊎ Contains (filter p ys) x → Contains (cond b (y ∷ filter p ys) (filter p ys)) x
+into_filter_by : {X : Type 0} (b : Bool) (p : X → Bool) (y : X) (ys : List X) (x : X) → p y ≡ b → p x ≡ true → (y ≡ x)
+    ⊎ Contains (filter p ys) x → Contains (cond b (y ∷ filter p ys) (filter p ys)) x
 into_filter_by true p y ys x is passes (inl e) = subst (λ z. Contains (y ∷ filter p ys) z) e (Contains-head y (filter p ys))
 into_filter_by true p y ys x is passes (inr h) = Contains-tail x y (filter p ys) h
 into_filter_by false p y ys x is passes (inl e) = cc (is, passes, e)
@@ -50,7 +56,8 @@ into_filter p [] x h passes = h
 into_filter p (y ∷ ys) x h passes =
     into_filter_by (p y) p y ys x refl passes (⊎_elim (λ e. inl e) (λ g. inr (into_filter p ys x g passes)) (Contains-cases x y ys h))
 
-filter_passes_by : (b : Bool) (p : ℕ × ℕ → Bool) (y : ℕ × ℕ) (ys : List (ℕ × ℕ)) (x : ℕ × ℕ) → p y ≡ b → (Contains (filter p ys) x → p x ≡ true) → Contains (cond b (y ∷ filter p ys) (filter p ys)) x → p x ≡ true
+filter_passes_by : (b : Bool) (p : ℕ × ℕ → Bool) (y : ℕ × ℕ) (ys : List (ℕ × ℕ)) (x : ℕ × ℕ) → p y ≡ b
+    → (Contains (filter p ys) x → p x ≡ true) → Contains (cond b (y ∷ filter p ys) (filter p ys)) x → p x ≡ true
 filter_passes_by true p y ys x is rest h = ⊎_elim (λ e. ap p (sym e) ∙ is) rest (Contains-cases x y (filter p ys) h)
 filter_passes_by false p y ys x is rest h = rest h
 
@@ -62,7 +69,8 @@ filter_passes p (y ∷ ys) x h = filter_passes_by (p y) p y ys x refl (filter_pa
 filter_option_by : {X : Type 0} (b : Bool) (p : X → Bool) (x : X) → p x ≡ b → filter p (x ∷ []) ≡ cond b (x ∷ []) []
 filter_option_by b p x e = rw e refl
 
-pub filter-option : {X : Type 0} (b : Bool) (p : X → Bool) (o : Option X) → ((x : X) → o ≡ Some x → p x ≡ b) → filter p (option_to_list o) ≡ cond b (option_to_list o) []
+pub filter-option : {X : Type 0} (b : Bool) (p : X → Bool) (o : Option X) → ((x : X) → o ≡ Some x → p x ≡ b)
+    → filter p (option_to_list o) ≡ cond b (option_to_list o) []
 filter-option true p None is = refl
 filter-option false p None is = refl
 filter-option b p (Some x) is = filter_option_by b p x (is x refl)
@@ -72,11 +80,16 @@ filter_kept t [] kept = refl
 filter_kept t (x ∷ xs) kept = rw (kept 0 x (omega arith), filter_kept t xs (λ i d l. kept (suc i) d (omega (arith, l)))) refl
 
 -- a test that all elements pass but one
-pub filter_one : {X : Type 0} (t : X → Bool) (xs : List X) (k : ℕ) (d : X) → k < length xs → t (get_or xs k d) ≡ false → ((i : ℕ) (e : X) → i < length xs → i ≢ k → t (get_or xs i e) ≡ true) → filter t xs ≡ remove xs k
+pub filter_one : {X : Type 0} (t : X → Bool) (xs : List X) (k : ℕ) (d : X) → k < length xs → t (get_or xs k d) ≡ false
+    → ((i : ℕ) (e : X) → i < length xs → i ≢ k → t (get_or xs i e) ≡ true) → filter t xs ≡ remove xs k
 filter_one t [] k d l out kept = absurd (omega (arith, l))
 filter_one t (x ∷ xs) zero d l out kept = rw (out, filter_kept t xs (λ i e m. kept (suc i) e (omega (arith, m)) (λ z. omega (arith, z)))) refl
 filter_one t (x ∷ xs) (suc k) d l out kept =
-    rw (kept 0 x (omega arith) (λ z. omega (arith, z)), filter_one t xs k d (omega (arith, l)) out (λ i e m ne. kept (suc i) e (omega (arith, m)) (λ z. ne (omega (arith, z))))) refl
+    rw (
+      kept 0 x (omega arith) (λ z. omega (arith, z)),
+      filter_one t xs k d (omega (arith, l)) out
+          (λ i e m ne. kept (suc i) e (omega (arith, m)) (λ z. ne (omega (arith, z)))),
+    ) refl
 
 -- a link by either of its names
 pub filter_alike : {X : Type 0} (p q : X → Bool) (xs : List X) → ((x : X) → p x ≡ q x) → filter p xs ≡ filter q xs
@@ -91,14 +104,20 @@ map_stays : {X : Type 0} (f : X → X) (xs : List X) → ((i : ℕ) (d : X) → 
 map_stays f [] kept = refl
 map_stays f (x ∷ xs) kept = rw (kept 0 x (omega arith), map_stays f xs (λ i d l. kept (suc i) d (omega (arith, l)))) refl
 
-pub set_is_map : {X : Type 0} (f : X → X) (xs : List X) (k : ℕ) (y d : X) → k < length xs → y ≡ f (get_or xs k d) → ((i : ℕ) (e : X) → i < length xs → i ≢ k → f (get_or xs i e) ≡ get_or xs i e) → set xs k y ≡ map f xs
+pub set_is_map : {X : Type 0} (f : X → X) (xs : List X) (k : ℕ) (y d : X) → k < length xs → y ≡ f (get_or xs k d)
+    → ((i : ℕ) (e : X) → i < length xs → i ≢ k → f (get_or xs i e) ≡ get_or xs i e) → set xs k y ≡ map f xs
 set_is_map f [] k y d l is kept = absurd (omega (arith, l))
 set_is_map f (x ∷ xs) zero y d l is kept = rw (is, map_stays f xs (λ i e m. kept (suc i) e (omega (arith, m)) (λ q. omega (arith, q)))) refl
 set_is_map f (x ∷ xs) (suc k) y d l is kept =
-    rw (kept 0 x (omega arith) (λ q. omega (arith, q)), set_is_map f xs k y d (omega (arith, l)) is (λ i e m ne. kept (suc i) e (omega (arith, m)) (λ q. ne (omega (arith, q))))) refl
+    rw (
+      kept 0 x (omega arith) (λ q. omega (arith, q)),
+      set_is_map f xs k y d (omega (arith, l)) is
+          (λ i e m ne. kept (suc i) e (omega (arith, m)) (λ q. ne (omega (arith, q)))),
+    ) refl
 
 -- one more node that is not there yet leaves each once
-pub once_more : (nodes : List ℕ) (y : ℕ) → ((i j : ℕ) → i < j → j < length nodes → ¬ (get_or nodes i 0 ≡ get_or nodes j 0)) → ¬ Contains nodes y → (i j : ℕ) → i < j → j < length (nodes ++ y ∷ []) → ¬ (get_or (nodes ++ y ∷ []) i 0 ≡ get_or (nodes ++ y ∷ []) j 0)
+pub once_more : (nodes : List ℕ) (y : ℕ) → ((i j : ℕ) → i < j → j < length nodes → ¬ (get_or nodes i 0 ≡ get_or nodes j 0))
+    → ¬ Contains nodes y → (i j : ℕ) → i < j → j < length (nodes ++ y ∷ []) → ¬ (get_or (nodes ++ y ∷ []) i 0 ≡ get_or (nodes ++ y ∷ []) j 0)
 once_more nodes y once new i j lt l same =
     let long = length_push nodes y in
     let inside : i < length nodes = omega (arith, lt, l, long) in
@@ -112,7 +131,8 @@ once_more nodes y once new i j lt l same =
     ]
 
 -- entries written over one by one, one more of them
-pub shifted_more : {X : Type 0} (xs ys : List X) (i : ℕ) (d : X) → i < length xs → i < length ys → set (take i ys ++ drop i xs) i (get_or ys i d) ≡ take (i + 1) ys ++ drop (i + 1) xs
+pub shifted_more : {X : Type 0} (xs ys : List X) (i : ℕ) (d : X) → i < length xs → i < length ys
+    → set (take i ys ++ drop i xs) i (get_or ys i d) ≡ take (i + 1) ys ++ drop (i + 1) xs
 shifted_more xs ys i d lx ly =
     let y = get_or ys i d in
     let rest = drop (i + 1) xs in
@@ -135,7 +155,8 @@ alike_below f g n same =
     get_or-map-range_with_len f 0 n k k d lt (omega arith) ∙ same k lt ∙ sym (get_or-map-range_with_len g 0 n k k d lt (omega arith)))
 
 -- a part of a list whose end was written over
-range_written : {X : Type 0} (xs ys : List X) (s p e : ℕ) → s + p ≤ length xs → s + p ≤ e → e ≤ s + p + length ys → slice_range (put_mid (s + p) (length ys) xs ys) s e ≡ take p (drop s xs) ++ take (e - (s + p)) ys
+range_written : {X : Type 0} (xs ys : List X) (s p e : ℕ) → s + p ≤ length xs → s + p ≤ e → e ≤ s + p + length ys
+    → slice_range (put_mid (s + p) (length ys) xs ys) s e ≡ take p (drop s xs) ++ take (e - (s + p)) ys
 range_written xs ys s p e inside low high =
     let rest = drop (length ys) (drop (s + p) xs) in
     let front = take p (drop s xs) in
@@ -153,25 +174,30 @@ range_rest xs s p e low =
     ap (λ k. drop p (take k (drop s xs))) wide ∙ drop-take p (e - (s + p)) (drop s xs) ∙ ap (take (e - (s + p))) (drop-drop p s xs)
 
 -- an entry put into a part that has room behind it
-pub range_inserted : {X : Type 0} (xs ys : List X) (s p e : ℕ) (x : X) → s + p ≤ e → e < length xs → length ys ≡ e + 1 - (s + p) → ys ≡ take (e + 1 - (s + p)) (x ∷ slice_range xs (s + p) (e + 1))
+pub range_inserted : {X : Type 0} (xs ys : List X) (s p e : ℕ) (x : X) → s + p ≤ e → e < length xs
+    → length ys ≡ e + 1 - (s + p) → ys ≡ take (e + 1 - (s + p)) (x ∷ slice_range xs (s + p) (e + 1))
     → slice_range (put_mid (s + p) (length ys) xs ys) s (e + 1) ≡ insert (slice_range xs s e) p x
 range_inserted xs ys s p e x low inside long is =
     let more : e + 1 - (s + p) ≡ suc (e - (s + p)) = omega (arith, low) in
     let back : ys ≡ x ∷ slice_range xs (s + p) e =
-    is ∙ ap (λ k. take k (x ∷ slice_range xs (s + p) (e + 1))) more ∙ ap (λ zs. x ∷ zs) (take-take (e - (s + p)) (e + 1 - (s + p)) (drop (s + p) xs) (omega (arith, low))) in
+    is ∙ ap (λ k. take k (x ∷ slice_range xs (s + p) (e + 1))) more
+    ∙ ap (λ zs. x ∷ zs) (take-take (e - (s + p)) (e + 1 - (s + p)) (drop (s + p) xs) (omega (arith, low))) in
     range_written xs ys s p (e + 1) (omega (arith, low, inside)) (omega (arith, low)) (omega (arith, long, low))
     ∙ ap (λ zs. take p (drop s xs) ++ zs) (take_all (e + 1 - (s + p)) ys (omega (arith, long)) ∙ back)
-    ∙ sym (ap (λ zs. zs ++ x ∷ drop p (slice_range xs s e)) (take-take p (e - s) (drop s xs) (omega (arith, low))) ∙ ap (λ zs. take p (drop s xs) ++ x ∷ zs) (range_rest xs s p e low))
+    ∙ sym (ap (λ zs. zs ++ x ∷ drop p (slice_range xs s e)) (take-take p (e - s) (drop s xs) (omega (arith, low)))
+    ∙ ap (λ zs. take p (drop s xs) ++ x ∷ zs) (range_rest xs s p e low))
 
 -- an entry taken out of a part
-pub range_removed : {X : Type 0} (xs ys : List X) (s p e : ℕ) → s + p < e → e ≤ length xs → length ys ≡ e - (s + p) → take (e - (s + p) - 1) ys ≡ drop 1 (slice_range xs (s + p) e)
+pub range_removed : {X : Type 0} (xs ys : List X) (s p e : ℕ) → s + p < e → e ≤ length xs → length ys ≡ e - (s + p)
+    → take (e - (s + p) - 1) ys ≡ drop 1 (slice_range xs (s + p) e)
     → slice_range (put_mid (s + p) (length ys) xs ys) s (e - 1) ≡ remove (slice_range xs s e) p
 range_removed xs ys s p e low inside long is =
     let row = slice_range xs s e in
     let count : e - 1 - (s + p) ≡ e - (s + p) - 1 = omega (arith, low) in
     let next : p + 1 ≡ suc p = omega arith in
     range_written xs ys s p (e - 1) (omega (arith, low, inside)) (omega (arith, low)) (omega (arith, long, low))
-    ∙ ap (λ zs. take p (drop s xs) ++ zs) (ap (λ k. take k ys) count ∙ is ∙ ap (drop 1) (sym (range_rest xs s p e (omega (arith, low)))) ∙ drop-drop 1 p row ∙ ap (λ k. drop k row) next)
+    ∙ ap (λ zs. take p (drop s xs) ++ zs) (ap (λ k. take k ys) count ∙ is
+    ∙ ap (drop 1) (sym (range_rest xs s p e (omega (arith, low)))) ∙ drop-drop 1 p row ∙ ap (λ k. drop k row) next)
     ∙ ap (λ zs. zs ++ drop (suc p) row) (sym (take-take p (e - s) (drop s xs) (omega (arith, low))))
 
 pub in_option : {X : Type 0} (o : Option X) (e : X) → Contains (option_to_list o) e → o ≡ Some e

@@ -63,7 +63,8 @@ none_more m = record {
 }
 
 -- a side whose edge came nearer, or stayed
-pub with_edge_nearer : {side : Side} {f : First} {edge : ℕ} → side.first ≡ f → ((height : ℕ) → IsPast f side.edge height → IsPast f edge height) → HasMovedEdge side (record side { edge = edge })
+pub with_edge_nearer : {side : Side} {f : First} {edge : ℕ} → side.first ≡ f
+    → ((height : ℕ) → IsPast f side.edge height → IsPast f edge height) → HasMovedEdge side (record side { edge = edge })
 with_edge_nearer first_is nearer = record {
   same_first = refl;
   same_limit = refl;
@@ -75,10 +76,19 @@ with_edge_nearer first_is nearer = record {
 
 -- a side that met nothing, and whose edge stayed
 pub same_more : (side : Side) (met : List Met) → HasMetMore side side met met
-same_more side met = none_more {before = side} {after = side} {met = met} record { same_first = refl; same_limit = refl; nearer = λ height past. past; same_nodes = refl; same_origins = refl; same_read = refl }
+same_more side met = none_more {before = side} {after = side} {met = met} record {
+  same_first = refl;
+  same_limit = refl;
+  nearer = λ height past. past;
+  same_nodes = refl;
+  same_origins = refl;
+  same_read = refl;
+}
 
 -- a side that met more nodes still did so, whichever edges are put in place of theirs, as long as they come nearer
-pub more_by_edges : {before after : Side} {f : First} {old new : List Met} {edge nearer_edge : ℕ} → before.first ≡ f → ((height : ℕ) → IsPast f edge height → IsPast f nearer_edge height) → HasMetMore before after old new → HasMetMore (record before { edge = edge }) (record after { edge = nearer_edge }) old new
+pub more_by_edges : {before after : Side} {f : First} {old new : List Met} {edge nearer_edge : ℕ} → before.first ≡ f
+    → ((height : ℕ) → IsPast f edge height → IsPast f nearer_edge height) → HasMetMore before after old new
+    → HasMetMore (record before { edge = edge }) (record after { edge = nearer_edge }) old new
 more_by_edges first_is nearer m = record {
   same_first = m.same_first;
   same_limit = m.same_limit;
@@ -107,21 +117,26 @@ more_after {first} {mid} {last} {a} {b} {c} h g =
       counted = g.counted ∙ h.counted;
     }
 
-pub met_stays : (f : First) {before after : Side} {old new : List Met} (x : ℕ) → before.first ≡ f → HasMetMore before after old new → HasMet f old x → HasMet f new x
+pub met_stays : (f : First) {before after : Side} {old new : List Met} (x : ℕ) → before.first ≡ f
+    → HasMetMore before after old new → HasMet f old x → HasMet f new x
 met_stays f x first_is more h = elim (more.met x) [ inl e ↦ e ∙ h | inr w ↦ rw first_is at w.1 ]
 
-pub settled_stays : (f : First) {before after : Side} {old new : List Met} (x height : ℕ) → before.first ≡ f → HasMetMore before after old new → IsMetOrAside f before old x height → IsMetOrAside f after new x height
+pub settled_stays : (f : First) {before after : Side} {old new : List Met} (x height : ℕ) → before.first ≡ f
+    → HasMetMore before after old new → IsMetOrAside f before old x height → IsMetOrAside f after new x height
 settled_stays f x height first_is more (inl met) = inl (met_stays f x first_is more met)
 settled_stays f {before} {after} x height first_is more (inr aside) = inr record {
   beyond = rw (more.same_first, more.same_limit) aside.beyond;
   past = rw more.same_first (more.nearer height aside.past);
 }
 
-pub other_was : (f : First) {before after : Side} {old new : List Met} (x : ℕ) → before.first ≡ f → HasMetMore before after old new → HasMet (opposite f) new x → HasMet (opposite f) old x
+pub other_was : (f : First) {before after : Side} {old new : List Met} (x : ℕ) → before.first ≡ f
+    → HasMetMore before after old new → HasMet (opposite f) new x → HasMet (opposite f) old x
 other_was f x first_is more h = elim (more.met x) [ inl e ↦ sym e ∙ h | inr w ↦ absurd (sides_apart f (sym (rw first_is at w.1) ∙ h)) ]
 
 -- the side has read a row more, and its edge may have come nearer
-pub more_read : {before after : Side} {old new : List Met} {edge read : ℕ} → ((height : ℕ) → IsPast before.first after.edge height → IsPast before.first edge height) → HasMetMore before after old new → HasMetMore before (record after { edge = edge; read = read }) old new
+pub more_read : {before after : Side} {old new : List Met} {edge read : ℕ}
+    → ((height : ℕ) → IsPast before.first after.edge height → IsPast before.first edge height)
+    → HasMetMore before after old new → HasMetMore before (record after { edge = edge; read = read }) old new
 more_read nearer more = record {
   same_first = more.same_first;
   same_limit = more.same_limit;

@@ -1,5 +1,6 @@
 -- What the row of a node says of the links.
-use Rattle.std.proofs.Common.{Bool, Contains, List, None, Option, Some, [], ap, arith, cond, eq-eqb, eqb, eqb-true, false, get_or, inl, inr, length, map, option_to_list, refl, subst, suc, sym, true, zero, ℕ, ⊎_elim, ◌&&◌, ◌++◌, ◌+◌, ◌<◌, ◌∙◌, ◌∷◌, ◌≡◌, ◌≤◌, ◌⊎◌}
+use Rattle.std.proofs.Common.{Bool, Contains, List, None, Option, Some, [], ap, arith, cond, eq-eqb, eqb, eqb-true, false, get_or, inl, inr, length}
+use Rattle.std.proofs.Common.{map, option_to_list, refl, subst, suc, sym, true, zero, ℕ, ⊎_elim, ◌&&◌, ◌++◌, ◌+◌, ◌<◌, ◌∙◌, ◌∷◌, ◌≡◌, ◌≤◌, ◌⊎◌}
 use Rattle.std.proofs.lemmas.Bool.{and_parts, cases_Bool, cases_lt}
 use Rattle.std.specs.List.Sorted.{IsStrictlyIncreasing}
 use Rattle.std.proofs.lemmas.List.{append-nil, get_or_append_left, get_or_default, get_or_push, get_or-map, length-append, length-map, length_push}
@@ -24,7 +25,8 @@ pub rises_head : (x : ℕ × First) (xs : List (ℕ × First)) (e : ℕ × First
 rises_head x xs e r h = let t = r 0 (suc h.0) e (omega arith) (omega (arith, h.1)) in rw h.2 at t
 
 -- two rising lists of the same entries are equal
-pub rising_same : (xs ys : List (ℕ × First)) → Rises xs → Rises ys → ((e : ℕ × First) → Contains xs e → Contains ys e) → ((e : ℕ × First) → Contains ys e → Contains xs e) → xs ≡ ys
+pub rising_same : (xs ys : List (ℕ × First)) → Rises xs → Rises ys → ((e : ℕ × First) → Contains xs e → Contains ys e)
+    → ((e : ℕ × First) → Contains ys e → Contains xs e) → xs ≡ ys
 rising_same [] [] r s to from = refl
 rising_same [] (y ∷ ys) r s to from = let h = from y (Contains-head y ys) in absurd (omega (arith, h.1))
 rising_same (x ∷ xs) [] r s to from = let h = to x (Contains-head x xs) in absurd (omega (arith, h.1))
@@ -66,7 +68,8 @@ Points-has_link links u v e =
     link_found links h.0 h.1 u v h.2 h.3 (eqb-true _ _ t.0) (eqb-true _ _ t.1)
 
 -- w as a neighbour: what the entry says
-pub row_entry_known : (a b : Bool) (w : ℕ) (e : ℕ × First) → cond a (Some (w, Outward)) (cond b (Some (w, Inward)) None) ≡ Some e → ((a ≡ true) × (e ≡ (w, Outward))) ⊎ ((a ≡ false) × (b ≡ true) × (e ≡ (w, Inward)))
+pub row_entry_known : (a b : Bool) (w : ℕ) (e : ℕ × First)
+    → cond a (Some (w, Outward)) (cond b (Some (w, Inward)) None) ≡ Some e → ((a ≡ true) × (e ≡ (w, Outward))) ⊎ ((a ≡ false) × (b ≡ true) × (e ≡ (w, Inward)))
 row_entry_known true b w e q = inl (refl, cc)
 row_entry_known false true w e q = inr (refl, refl, cc)
 row_entry_known false false w e q = cc
@@ -100,7 +103,8 @@ to_row (suc w) links x e l q =
           Contains-append_right (row w links x) (option_to_list (row_entry links x w)) e (rw here (Contains-head e []))
     ]
 
-rises_more : (xs : List (ℕ × First)) (w : ℕ) (o : Option (ℕ × First)) → Rises xs → ((e : ℕ × First) → Contains xs e → e.0 < w) → ((e : ℕ × First) → o ≡ Some e → e.0 ≡ w) → Rises (xs ++ option_to_list o)
+rises_more : (xs : List (ℕ × First)) (w : ℕ) (o : Option (ℕ × First)) → Rises xs
+    → ((e : ℕ × First) → Contains xs e → e.0 < w) → ((e : ℕ × First) → o ≡ Some e → e.0 ≡ w) → Rises (xs ++ option_to_list o)
 rises_more xs w None r below here = rw (append-nil xs) r
 rises_more xs w (Some e) r below here = λ i j d lt l.
     let len = length_push xs e in
@@ -122,7 +126,8 @@ row_entry_out links x w p = rw (has_link_true links x w p) refl
 
 pub row_entry_in : (links : List (ℕ × ℕ)) (x w : ℕ) → IsOneWay links → Points links w x → row_entry links x w ≡ Some (w, Inward)
 row_entry_in links x w one p =
-    let no : has_link links x w ≡ false = elim (cases_Bool (has_link links x w)) [ inl e ↦ absurd (one.no_return w x p (Points-has_link links x w e)) | inr e ↦ e ] in
+    let no : has_link links x w ≡ false =
+    elim (cases_Bool (has_link links x w)) [ inl e ↦ absurd (one.no_return w x p (Points-has_link links x w e)) | inr e ↦ e ] in
     rw (no, has_link_true links w x p) refl
 
 pub length-row-le : (n : ℕ) (links : List (ℕ × ℕ)) (x : ℕ) → length (row n links x) ≤ n
@@ -179,7 +184,8 @@ neighbours_rise n links x k l =
     let node : ℕ × First → ℕ = λ e. e.0 in
     let long : length (map node xs) ≡ length xs = length-map xs node in
     let d : ℕ × First = (0, Outward) in
-    rw (get_or-map node xs k d 0 (omega (arith, l, long)), get_or-map node xs (k + 1) d 0 (omega (arith, l, long))) (row_rises n links x k (k + 1) d (omega arith) (omega (arith, l, long)))
+    rw (get_or-map node xs k d 0 (omega (arith, l, long)), get_or-map node xs (k + 1) d 0 (omega (arith, l, long)))
+    (row_rises n links x k (k + 1) d (omega arith) (omega (arith, l, long)))
 
 -- the node of an entry of a row, whose link has this direction
 pub entry_is : (e : ℕ × First) (f : First) → e.1 ≡ f → e ≡ (e.0, f)

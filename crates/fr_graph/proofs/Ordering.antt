@@ -1,7 +1,9 @@
 -- A list of links in rising order is determined by how often it has each link.
-use Rattle.std.proofs.Common.{Bool, Contains, IsPermutation, List, [], add-one, ap, arith, cond, count_by, eq-eqb, eqb, eqb-true, false, get_or, inl, inr, leb, ltb, refl, subst, suc, sym, true, zero, ℕ, ◌&&◌, ◌+◌, ◌∙◌, ◌∷◌, ◌≡◌, ◌≤◌}
+use Rattle.std.proofs.Common.{Bool, Contains, IsPermutation, List, [], add-one, ap, arith, cond, count_by, eq-eqb, eqb, eqb-true, false, get_or, inl}
+use Rattle.std.proofs.Common.{inr, leb, ltb, refl, subst, suc, sym, true, zero, ℕ, ◌&&◌, ◌+◌, ◌∙◌, ◌∷◌, ◌≡◌, ◌≤◌}
 use Rattle.std.proofs.lemmas.Bool.{and_parts, cases_Bool, cases_eq, leb-false, leb-true, ltb-false, ltb-true, or_cases, or_parts}
-use Rattle.std.proofs.lemmas.List.Sorted.{IsPermutation-cons, IsPermutation-middle, IsPermutation-refl, IsPermutation-sym, IsPermutation-trans, sum_by-IsPermutation}
+use Rattle.std.proofs.lemmas.List.Sorted.{IsPermutation-cons, IsPermutation-middle, IsPermutation-refl, IsPermutation-sym, IsPermutation-trans}
+use Rattle.std.proofs.lemmas.List.Sorted.{sum_by-IsPermutation}
 use Rattle.std.proofs.lemmas.List.Sums.{sum_by-cons}
 use Rattle.fr_graph.proofs.Booleans.{and_false}
 use Rattle.fr_graph.proofs.Counting.{weigh}
@@ -122,16 +124,20 @@ up_from_not_first p q e =
 head_is : (p r : ℕ × ℕ) (qs rs : List (ℕ × ℕ)) → p ∷ qs ≡ r ∷ rs → p ≡ r
 head_is p r qs rs e = cc
 
-insert_head_by : (b : Bool) (p q s : ℕ × ℕ) (ss : List (ℕ × ℕ)) → IsNotAfter q p → IsNotAfter q s → (r : ℕ × ℕ) (rs : List (ℕ × ℕ)) → cond b (p ∷ (s ∷ ss)) (s ∷ with_in_order p ss) ≡ r ∷ rs → IsNotAfter q r
+insert_head_by : (b : Bool) (p q s : ℕ × ℕ) (ss : List (ℕ × ℕ)) → IsNotAfter q p → IsNotAfter q s
+    → (r : ℕ × ℕ) (rs : List (ℕ × ℕ)) → cond b (p ∷ (s ∷ ss)) (s ∷ with_in_order p ss) ≡ r ∷ rs → IsNotAfter q r
 insert_head_by true p q s ss up next r rs e = subst (λ (y : ℕ × ℕ). IsNotAfter q y) (head_is p r (s ∷ ss) rs e) up
 insert_head_by false p q s ss up next r rs e = subst (λ (y : ℕ × ℕ). IsNotAfter q y) (head_is s r (with_in_order p ss) rs e) next
 
-insert_head : (p q : ℕ × ℕ) (qs : List (ℕ × ℕ)) → IsNotAfter q p → AreInOrder (q ∷ qs) → (r : ℕ × ℕ) (rs : List (ℕ × ℕ)) → with_in_order p qs ≡ r ∷ rs → IsNotAfter q r
+insert_head : (p q : ℕ × ℕ) (qs : List (ℕ × ℕ)) → IsNotAfter q p → AreInOrder (q ∷ qs) → (r : ℕ × ℕ) (rs : List (ℕ × ℕ))
+    → with_in_order p qs ≡ r ∷ rs → IsNotAfter q r
 insert_head p q [] up order r rs e = subst (λ (y : ℕ × ℕ). IsNotAfter q y) (head_is p r [] rs e) up
 insert_head p q (s ∷ ss) up order r rs e = insert_head_by (is_not_after p s) p q s ss up (order_head q s ss order) r rs e
 
-insert_order_by : (b : Bool) (p q : ℕ × ℕ) (qs : List (ℕ × ℕ)) → is_not_after p q ≡ b → AreInOrder (q ∷ qs) → AreInOrder (with_in_order p qs) → AreInOrder (cond b (p ∷ (q ∷ qs)) (q ∷ with_in_order p qs))
-insert_order_by true p q qs e order rest = order_cons p (q ∷ qs) (λ r rs f. subst (λ (y : ℕ × ℕ). IsNotAfter p y) (head_is q r qs rs f) (up_from_first p q e)) order
+insert_order_by : (b : Bool) (p q : ℕ × ℕ) (qs : List (ℕ × ℕ)) → is_not_after p q ≡ b → AreInOrder (q ∷ qs)
+    → AreInOrder (with_in_order p qs) → AreInOrder (cond b (p ∷ (q ∷ qs)) (q ∷ with_in_order p qs))
+insert_order_by true p q qs e order rest =
+    order_cons p (q ∷ qs) (λ r rs f. subst (λ (y : ℕ × ℕ). IsNotAfter p y) (head_is q r qs rs f) (up_from_first p q e)) order
 insert_order_by false p q qs e order rest = order_cons q (with_in_order p qs) (insert_head p q qs (up_from_not_first p q e) order) rest
 
 pub insert_order : (p : ℕ × ℕ) (qs : List (ℕ × ℕ)) → AreInOrder qs → AreInOrder (with_in_order p qs)
@@ -142,7 +148,9 @@ pub in_order_order : (links : List (ℕ × ℕ)) → AreInOrder (in_order links)
 in_order_order [] = λ k d l. absurd (omega arith)
 in_order_order (l ∷ ls) = insert_order l (in_order ls) (in_order_order ls)
 
-times_insert_by : (b : Bool) (p q : ℕ × ℕ) (qs : List (ℕ × ℕ)) (x : ℕ × ℕ) → times (with_in_order p qs) x ≡ weigh (is_pair x.0 x.1 p) + times qs x → times (cond b (p ∷ (q ∷ qs)) (q ∷ with_in_order p qs)) x ≡ weigh (is_pair x.0 x.1 p) + times (q ∷ qs) x
+times_insert_by : (b : Bool) (p q : ℕ × ℕ) (qs : List (ℕ × ℕ)) (x : ℕ × ℕ)
+    → times (with_in_order p qs) x ≡ weigh (is_pair x.0 x.1 p) + times qs x
+    → times (cond b (p ∷ (q ∷ qs)) (q ∷ with_in_order p qs)) x ≡ weigh (is_pair x.0 x.1 p) + times (q ∷ qs) x
 times_insert_by true p q qs x h = times-cons p (q ∷ qs) x
 times_insert_by false p q qs x h = omega (arith, times-cons q (with_in_order p qs) x, times-cons q qs x, h)
 
@@ -177,7 +185,8 @@ pub out_of_order : (links : List (ℕ × ℕ)) (x : ℕ × ℕ) → Contains (in
 out_of_order links x h = contains_counted links x (omega (arith, times-in_order links x, one_counted (in_order links) x h))
 
 -- the same links in order are those links in another order
-with_in_order_permutes_by : (b : Bool) (p q : ℕ × ℕ) (qs : List (ℕ × ℕ)) → IsPermutation (p ∷ qs) (with_in_order p qs) → IsPermutation (p ∷ (q ∷ qs)) (cond b (p ∷ (q ∷ qs)) (q ∷ with_in_order p qs))
+with_in_order_permutes_by : (b : Bool) (p q : ℕ × ℕ) (qs : List (ℕ × ℕ)) → IsPermutation (p ∷ qs) (with_in_order p qs)
+    → IsPermutation (p ∷ (q ∷ qs)) (cond b (p ∷ (q ∷ qs)) (q ∷ with_in_order p qs))
 with_in_order_permutes_by true p q qs rest = IsPermutation-refl (p ∷ (q ∷ qs))
 with_in_order_permutes_by false p q qs rest =
     IsPermutation-trans (p ∷ (q ∷ qs)) (q ∷ (p ∷ qs)) (q ∷ with_in_order p qs)

@@ -1,5 +1,6 @@
 -- The steps by which the rows of a network turn where they stand.
-use Rattle.std.proofs.Common.{All, Bool, Contains, List, ap, arith, cond, eq-eqb, eqb, false, get_or, inl, inr, length, ltb, map, ne_eqb, refl, set, suc, sym, true, zero, ℕ, ◌&&◌, ◌+◌, ◌<◌, ◌||◌, ◌∙◌, ◌≡◌, ◌≢◌, ◌≤◌}
+use Rattle.std.proofs.Common.{All, Bool, Contains, List, ap, arith, cond, eq-eqb, eqb, false, get_or, inl, inr, length, ltb, map, ne_eqb, refl, set}
+use Rattle.std.proofs.Common.{suc, sym, true, zero, ℕ, ◌&&◌, ◌+◌, ◌<◌, ◌||◌, ◌∙◌, ◌≡◌, ◌≢◌, ◌≤◌}
 use Rattle.std.proofs.lemmas.Bool.{cases_Bool, cases_eq, cases_lt, cond-false, cond-true}
 use Rattle.std.proofs.lemmas.Bool.Decides.{nat_tests}
 use Rattle.std.proofs.lemmas.List.{get_or-map, get_or_default, length-map, map-id}
@@ -31,7 +32,8 @@ abbrev IsAlike : Network → List ℕ → (ℕ → ℕ → Bool) → (ℕ → �
 IsAlike net counts done later y = (e : ℕ × First) → Contains (row net.nodes net.links y) e → entry_done done counts y e ≡ entry_done later counts y e
 
 -- no entry is written where it is the same whether it is done with or not
-pub none_written : (net : Network) (counts : List ℕ) (done later : ℕ → ℕ → Bool) (table : Table) → ArePartTurned net counts done table → ((y : ℕ) → y < net.nodes → IsAlike net counts done later y) → ArePartTurned net counts later table
+pub none_written : (net : Network) (counts : List ℕ) (done later : ℕ → ℕ → Bool) (table : Table)
+    → ArePartTurned net counts done table → ((y : ℕ) → y < net.nodes → IsAlike net counts done later y) → ArePartTurned net counts later table
 none_written net counts done later table at same = record {
   is_net = at.is_net;
   counted = at.counted;
@@ -39,7 +41,9 @@ none_written net counts done later table at same = record {
   shown = λ y l. at.shown y l ∙ map_alike (entry_done done counts y) (entry_done later counts y) (row net.nodes net.links y) (same y l);
 }
 
-pub one_written : (net : Network) (counts : List ℕ) (done later : ℕ → ℕ → Bool) (k : ℕ) (table : Table) → ArePartTurned net counts done table → k < net.nodes → ((y : ℕ) → y < net.nodes → y ≢ k → IsAlike net counts done later y) → ArePartTurned net counts later (with_row table k (rows_done net counts later k))
+pub one_written : (net : Network) (counts : List ℕ) (done later : ℕ → ℕ → Bool) (k : ℕ) (table : Table)
+    → ArePartTurned net counts done table → k < net.nodes
+    → ((y : ℕ) → y < net.nodes → y ≢ k → IsAlike net counts done later y) → ArePartTurned net counts later (with_row table k (rows_done net counts later k))
 one_written net counts done later k table at lt same = record {
   is_net = at.is_net;
   counted = at.counted;
@@ -49,7 +53,8 @@ one_written net counts done later k table at lt same = record {
 }
 
 -- tests that agree on an entry, and entries that stay as they are
-tests_agree : (counts : List ℕ) (done later : ℕ → ℕ → Bool) (y : ℕ) (e : ℕ × First) → done y e.0 ≡ later y e.0 → entry_done done counts y e ≡ entry_done later counts y e
+tests_agree : (counts : List ℕ) (done later : ℕ → ℕ → Bool) (y : ℕ) (e : ℕ × First) → done y e.0 ≡ later y e.0
+    → entry_done done counts y e ≡ entry_done later counts y e
 tests_agree counts done later y e same = ap (λ (b : Bool). cond b (turned_entry counts y e) e) same
 
 entry_stays : (counts : List ℕ) (done : ℕ → ℕ → Bool) (y : ℕ) (e : ℕ × First) → get_or counts e.0 0 ≡ get_or counts y 0 → entry_done done counts y e ≡ e
@@ -87,14 +92,16 @@ stands_somewhere nodes (suc i) j y l here = elim (cases_eq y (get_or nodes i 0))
 ]
 
 -- before the first node of the list, and behind the last
-pub none_seen : (net : Network) (counts : List ℕ) (table : Table) → ArePartTurned net counts none_done table → ArePartTurned net counts (is_done counts (λ y. false)) table
+pub none_seen : (net : Network) (counts : List ℕ) (table : Table) → ArePartTurned net counts none_done table
+    → ArePartTurned net counts (is_done counts (λ y. false)) table
 none_seen net counts table at =
     none_written net counts none_done (is_done counts (λ y. false)) table at
     (λ y l e h. tests_agree counts none_done (is_done counts (λ y. false)) y e
     (elim (cases_Bool (eqb (get_or counts y 0) 0)) [ inl t ↦ rw t refl | inr f ↦ rw f refl ]))
 
 -- nodes that have not turned have nothing to do
-pub all_seen : (net : Network) (counts : List ℕ) (seen : ℕ → Bool) (table : Table) → ((y : ℕ) → 0 < get_or counts y 0 → seen y ≡ true) → ArePartTurned net counts (is_done counts seen) table → ArePartTurned net counts all_done table
+pub all_seen : (net : Network) (counts : List ℕ) (seen : ℕ → Bool) (table : Table)
+    → ((y : ℕ) → 0 < get_or counts y 0 → seen y ≡ true) → ArePartTurned net counts (is_done counts seen) table → ArePartTurned net counts all_done table
 all_seen net counts seen table each at =
     none_written net counts (is_done counts seen) all_done table at
     (λ y l e h.
@@ -114,7 +121,9 @@ abbrev pub is_halfway : List ℕ → (ℕ → Bool) → ℕ → ℕ → ℕ → 
 is_halfway counts seen x bound y w = cond (eqb (get_or counts y 0) 0) ((eqb w x && ltb y bound) || seen w) (seen_too x seen y)
 
 -- the row of x was turned
-pub own_row_turned : (net : Network) (counts : List ℕ) (seen : ℕ → Bool) (x : ℕ) (table : Table) → seen x ≡ false → 0 < get_or counts x 0 → x < net.nodes → ArePartTurned net counts (is_done counts seen) table → ArePartTurned net counts (is_halfway counts seen x 0) (with_row table x (map (turned_entry counts x) (row_of table x)))
+pub own_row_turned : (net : Network) (counts : List ℕ) (seen : ℕ → Bool) (x : ℕ) (table : Table) → seen x ≡ false
+    → 0 < get_or counts x 0 → x < net.nodes → ArePartTurned net counts (is_done counts seen) table
+    → ArePartTurned net counts (is_halfway counts seen x 0) (with_row table x (map (turned_entry counts x) (row_of table x)))
 own_row_turned net counts seen x table unseen turned lt at =
     let entries = row net.nodes net.links x in
     let here : map (turned_entry counts x) (row_of table x) ≡ rows_done net counts (is_halfway counts seen x 0) x =
@@ -130,17 +139,23 @@ own_row_turned net counts seen x table unseen turned lt at =
     (elim (cases_eq (get_or counts y 0) 0) [ inl none ↦ grind (arith, nat_tests) | inr some ↦ grind (arith, nat_tests) ])))
 
 -- a node is a neighbour of its neighbours
-pub neighbour_back : (net : Network) (x : ℕ) (e : ℕ × First) → IsNet net.nodes net.links → Contains (row net.nodes net.links x) e → Contains (row net.nodes net.links e.0) (x, opposite e.1)
+pub neighbour_back : (net : Network) (x : ℕ) (e : ℕ × First) → IsNet net.nodes net.links
+    → Contains (row net.nodes net.links x) e → Contains (row net.nodes net.links e.0) (x, opposite e.1)
 neighbour_back net x (w, Outward) is_net h = row_of_in net.nodes net.links w x is_net (out_of_row net.nodes net.links x w h)
 neighbour_back net x (w, Inward) is_net h = row_of_out net.nodes net.links w x is_net (in_of_row net.nodes net.links x w h)
 
 -- a neighbour of x is below the bound or not as its place tells
-neighbour_from : (net : Network) (x y : ℕ) (e : ℕ × First) (bound j : ℕ) → IsNet net.nodes net.links → IsPlaceIn (row net.nodes net.links x) bound j → Contains (row net.nodes net.links y) e → e.0 ≡ x → (k : ℕ) × (k < length (row net.nodes net.links x)) × ((get_or (row net.nodes net.links x) k (y, opposite e.1)).0 ≡ y)
+neighbour_from : (net : Network) (x y : ℕ) (e : ℕ × First) (bound j : ℕ) → IsNet net.nodes net.links
+    → IsPlaceIn (row net.nodes net.links x) bound j → Contains (row net.nodes net.links y) e → e.0 ≡ x → (k : ℕ)
+    × (k < length (row net.nodes net.links x)) × ((get_or (row net.nodes net.links x) k (y, opposite e.1)).0 ≡ y)
 neighbour_from net x y e bound j is_net at h is =
     let back : Contains (row net.nodes net.links x) (y, opposite e.1) = rw is at (neighbour_back net y e is_net h) in
     (back.0, back.1, ap (λ (p : ℕ × First). p.0) back.2)
 
-bounds_alike : (net : Network) (counts : List ℕ) (seen : ℕ → Bool) (x bound j w : ℕ) → IsNet net.nodes net.links → IsPlaceIn (row net.nodes net.links x) bound j → j < length (row net.nodes net.links x) → ((d : ℕ × First) → (get_or (row net.nodes net.links x) j d).0 ≡ w) → (y : ℕ) → (y ≡ w → get_or counts y 0 ≢ 0) → IsAlike net counts (is_halfway counts seen x bound) (is_halfway counts seen x (w + 1)) y
+bounds_alike : (net : Network) (counts : List ℕ) (seen : ℕ → Bool) (x bound j w : ℕ) → IsNet net.nodes net.links
+    → IsPlaceIn (row net.nodes net.links x) bound j → j < length (row net.nodes net.links x)
+    → ((d : ℕ × First) → (get_or (row net.nodes net.links x) j d).0 ≡ w) → (y : ℕ) → (y ≡ w → get_or counts y 0 ≢ 0)
+    → IsAlike net counts (is_halfway counts seen x bound) (is_halfway counts seen x (w + 1)) y
 bounds_alike net counts seen x bound j w is_net at inside here y other e h =
     let entries = row net.nodes net.links x in
     let agree = tests_agree counts (is_halfway counts seen x bound) (is_halfway counts seen x (w + 1)) y e in
@@ -168,14 +183,20 @@ bounds_alike net counts seen x bound j w is_net at inside here y other e h =
     ]
 
 -- the next neighbour has turned, and sees to its own row
-pub neighbour_passed : (net : Network) (counts : List ℕ) (seen : ℕ → Bool) (x bound j w : ℕ) (table : Table) → IsPlaceIn (row net.nodes net.links x) bound j → j < length (row net.nodes net.links x) → ((d : ℕ × First) → (get_or (row net.nodes net.links x) j d).0 ≡ w) → get_or counts w 0 ≢ 0 → ArePartTurned net counts (is_halfway counts seen x bound) table → ArePartTurned net counts (is_halfway counts seen x (w + 1)) table
+pub neighbour_passed : (net : Network) (counts : List ℕ) (seen : ℕ → Bool) (x bound j w : ℕ) (table : Table)
+    → IsPlaceIn (row net.nodes net.links x) bound j → j < length (row net.nodes net.links x)
+    → ((d : ℕ × First) → (get_or (row net.nodes net.links x) j d).0 ≡ w) → get_or counts w 0 ≢ 0
+    → ArePartTurned net counts (is_halfway counts seen x bound) table → ArePartTurned net counts (is_halfway counts seen x (w + 1)) table
 neighbour_passed net counts seen x bound j w table at inside here turned now =
     none_written net counts (is_halfway counts seen x bound) (is_halfway counts seen x (w + 1)) table now
     (λ y l. bounds_alike net counts seen x bound j w now.is_net at inside here y (λ q. rw q turned))
 
 -- the next neighbour has not turned, and its entry of x was reversed
-pub neighbour_turned : (net : Network) (counts : List ℕ) (seen : ℕ → Bool) (x bound j w : ℕ) (table : Table) → seen x ≡ false → 0 < get_or counts x 0 → IsPlaceIn (row net.nodes net.links x) bound j → j < length (row net.nodes net.links x) → ((d : ℕ × First) → (get_or (row net.nodes net.links x) j d).0 ≡ w) → get_or counts w 0 ≡ 0 → w < net.nodes
-    → ArePartTurned net counts (is_halfway counts seen x bound) table → ArePartTurned net counts (is_halfway counts seen x (w + 1)) (with_row table w (map (reversed_at x) (row_of table w)))
+pub neighbour_turned : (net : Network) (counts : List ℕ) (seen : ℕ → Bool) (x bound j w : ℕ) (table : Table)
+    → seen x ≡ false → 0 < get_or counts x 0 → IsPlaceIn (row net.nodes net.links x) bound j
+    → j < length (row net.nodes net.links x) → ((d : ℕ × First) → (get_or (row net.nodes net.links x) j d).0 ≡ w) → get_or counts w 0 ≡ 0 → w < net.nodes
+    → ArePartTurned net counts (is_halfway counts seen x bound) table
+    → ArePartTurned net counts (is_halfway counts seen x (w + 1)) (with_row table w (map (reversed_at x) (row_of table w)))
 neighbour_turned net counts seen x bound j w table unseen turned at inside here none below part =
     let entries = row net.nodes net.links w in
     let d : ℕ × First = (0, Outward) in
@@ -200,7 +221,9 @@ neighbour_turned net counts seen x bound j w table unseen turned at inside here 
     (λ y l ne. bounds_alike net counts seen x bound j w part.is_net at inside here y (λ q. absurd (ne q))))
 
 -- the place after a neighbour
-pub place_after : (net : Network) (x bound j w : ℕ) → IsPlaceIn (row net.nodes net.links x) bound j → j < length (row net.nodes net.links x) → ((d : ℕ × First) → (get_or (row net.nodes net.links x) j d).0 ≡ w) → IsPlaceIn (row net.nodes net.links x) (w + 1) (j + 1)
+pub place_after : (net : Network) (x bound j w : ℕ) → IsPlaceIn (row net.nodes net.links x) bound j
+    → j < length (row net.nodes net.links x) → ((d : ℕ × First) → (get_or (row net.nodes net.links x) j d).0 ≡ w)
+    → IsPlaceIn (row net.nodes net.links x) (w + 1) (j + 1)
 place_after net x bound j w at inside here = record {
   inside = omega arith;
   before = λ k d l. elim (cases_lt k j) [
@@ -211,7 +234,9 @@ place_after net x bound j w at inside here = record {
 }
 
 -- x has seen to all its entries
-pub node_done : (net : Network) (counts : List ℕ) (seen : ℕ → Bool) (x bound : ℕ) (table : Table) → IsPlaceIn (row net.nodes net.links x) bound (length (row net.nodes net.links x)) → ArePartTurned net counts (is_halfway counts seen x bound) table → ArePartTurned net counts (is_done counts (seen_too x seen)) table
+pub node_done : (net : Network) (counts : List ℕ) (seen : ℕ → Bool) (x bound : ℕ) (table : Table)
+    → IsPlaceIn (row net.nodes net.links x) bound (length (row net.nodes net.links x))
+    → ArePartTurned net counts (is_halfway counts seen x bound) table → ArePartTurned net counts (is_done counts (seen_too x seen)) table
 node_done net counts seen x bound table at part =
     none_written net counts (is_halfway counts seen x bound) (is_done counts (seen_too x seen)) table part
     (λ y l e h.
@@ -228,7 +253,8 @@ node_done net counts seen x bound table at part =
     ])
 
 -- before the first node, and after the last
-pub rows_begin : (net : Network) (counts : List ℕ) (table : Table) → IsNet net.nodes net.links → length counts ≡ net.nodes → AreRows net.nodes net.links table → ArePartTurned net counts none_done table
+pub rows_begin : (net : Network) (counts : List ℕ) (table : Table) → IsNet net.nodes net.links → length counts ≡ net.nodes
+    → AreRows net.nodes net.links table → ArePartTurned net counts none_done table
 rows_begin net counts table is_net counted rows = record {
   is_net = is_net;
   counted = counted;
@@ -236,14 +262,16 @@ rows_begin net counts table is_net counted rows = record {
   shown = λ y l. rows.shown y l ∙ sym (map-id (row net.nodes net.links y));
 }
 
-pub rows_end : (net : Network) (counts : List ℕ) (table : Table) → All (IsKept counts) net.links → ArePartTurned net counts all_done table → AreRows net.nodes (links_at net.links counts) table
+pub rows_end : (net : Network) (counts : List ℕ) (table : Table) → All (IsKept counts) net.links
+    → ArePartTurned net counts all_done table → AreRows net.nodes (links_at net.links counts) table
 rows_end net counts table kept part = record {
   one_each = part.one_each;
   shown = λ y l. part.shown y l ∙ sym (row_turned net.nodes net.links counts y kept part.is_net);
 }
 
 -- the neighbours of a row as it turns, and the entry of one of them reversed
-pub nodes_done : (net : Network) (counts : List ℕ) (done : ℕ → ℕ → Bool) (y : ℕ) → map (λ (e : ℕ × First). e.0) (rows_done net counts done y) ≡ map (λ (e : ℕ × First). e.0) (row net.nodes net.links y)
+pub nodes_done : (net : Network) (counts : List ℕ) (done : ℕ → ℕ → Bool) (y : ℕ)
+    → map (λ (e : ℕ × First). e.0) (rows_done net counts done y) ≡ map (λ (e : ℕ × First). e.0) (row net.nodes net.links y)
 nodes_done net counts done y =
     let node : ℕ × First → ℕ = λ e. e.0 in
     map-map node (entry_done done counts y) (row net.nodes net.links y)
@@ -273,7 +301,8 @@ neighbour_listed es w f h =
     let node : ℕ × First → ℕ = λ e. e.0 in
     (h.0, omega (arith, h.1, length-map es node), get_or-map node es h.0 (w, f) w h.1 ∙ ap node h.2)
 
-pub entry_reversed : (es : List (ℕ × First)) (w k : ℕ) (f : First) (d : ℕ × First) (y : ℕ × First) → Rises es → k < length es → get_or es k d ≡ (w, f) → y ≡ (w, opposite f) → set es k y ≡ map (reversed_at w) es
+pub entry_reversed : (es : List (ℕ × First)) (w k : ℕ) (f : First) (d : ℕ × First) (y : ℕ × First) → Rises es
+    → k < length es → get_or es k d ≡ (w, f) → y ≡ (w, opposite f) → set es k y ≡ map (reversed_at w) es
 entry_reversed es w k f d y rises inside here is =
     set_is_map (reversed_at w) es k y d inside
     (is ∙ sym (cond-true _ _ _ (eq-eqb w w refl)) ∙ ap (reversed_at w) (sym here))
@@ -301,10 +330,13 @@ pub record IsNext (net : Network) (counts : List ℕ) (seen : ℕ → Bool) (x p
   pub rows : ArePartTurned net counts (is_halfway counts seen x bound) table
 
 -- a row is as long while it turns
-pub length_shown : (net : Network) (counts : List ℕ) (done : ℕ → ℕ → Bool) (y : ℕ) (table : Table) → ArePartTurned net counts done table → y < net.nodes → length (row_of table y) ≡ length (row net.nodes net.links y)
+pub length_shown : (net : Network) (counts : List ℕ) (done : ℕ → ℕ → Bool) (y : ℕ) (table : Table)
+    → ArePartTurned net counts done table → y < net.nodes → length (row_of table y) ≡ length (row net.nodes net.links y)
 length_shown net counts done y table part lt = ap length (part.shown y lt) ∙ length-map (row net.nodes net.links y) (entry_done done counts y)
 
-pub next_neighbour : (net : Network) (counts : List ℕ) (seen : ℕ → Bool) (x place : ℕ) (table : Table) → IsHalfTurned net counts seen x place table → x < net.nodes → place < length (row net.nodes net.links x) → IsNext net counts seen x place table (get_or (row_of table x) place (0, Outward)).0
+pub next_neighbour : (net : Network) (counts : List ℕ) (seen : ℕ → Bool) (x place : ℕ) (table : Table)
+    → IsHalfTurned net counts seen x place table → x < net.nodes → place < length (row net.nodes net.links x)
+    → IsNext net counts seen x place table (get_or (row_of table x) place (0, Outward)).0
 next_neighbour net counts seen x place table half lt inside =
     let d : ℕ × First = (0, Outward) in
     let node : ℕ × First → ℕ = λ e. e.0 in
@@ -323,21 +355,25 @@ next_neighbour net counts seen x place table half lt inside =
       rows = half.rows;
     }
 
-pub half_more : (net : Network) (counts : List ℕ) (seen : ℕ → Bool) (x place : ℕ) (old new : Table) (w : ℕ) → IsNext net counts seen x place old w → ArePartTurned net counts (is_halfway counts seen x (w + 1)) new → IsHalfTurned net counts seen x (place + 1) new
+pub half_more : (net : Network) (counts : List ℕ) (seen : ℕ → Bool) (x place : ℕ) (old new : Table) (w : ℕ)
+    → IsNext net counts seen x place old w → ArePartTurned net counts (is_halfway counts seen x (w + 1)) new → IsHalfTurned net counts seen x (place + 1) new
 half_more net counts seen x place old new w next rows = record {
   bound = w + 1;
   at = place_after net x next.bound place w next.at next.inside next.here;
   rows = rows;
 }
 
-pub half_begins : (net : Network) (counts : List ℕ) (seen : ℕ → Bool) (x : ℕ) (table : Table) → ArePartTurned net counts (is_halfway counts seen x 0) table → IsHalfTurned net counts seen x 0 table
+pub half_begins : (net : Network) (counts : List ℕ) (seen : ℕ → Bool) (x : ℕ) (table : Table)
+    → ArePartTurned net counts (is_halfway counts seen x 0) table → IsHalfTurned net counts seen x 0 table
 half_begins net counts seen x table rows = record {
   bound = 0;
   at = record { inside = omega arith; before = λ k d l. absurd (omega arith); stops = λ k d l m. omega arith };
   rows = rows;
 }
 
-pub half_ends : (net : Network) (counts : List ℕ) (seen : ℕ → Bool) (x place : ℕ) (table : Table) → IsHalfTurned net counts seen x place table → length (row net.nodes net.links x) ≤ place → ArePartTurned net counts (is_done counts (seen_too x seen)) table
+pub half_ends : (net : Network) (counts : List ℕ) (seen : ℕ → Bool) (x place : ℕ) (table : Table)
+    → IsHalfTurned net counts seen x place table → length (row net.nodes net.links x) ≤ place
+    → ArePartTurned net counts (is_done counts (seen_too x seen)) table
 half_ends net counts seen x place table half past =
     let all : place ≡ length (row net.nodes net.links x) = omega (arith, half.at.inside, past) in
     node_done net counts seen x half.bound table (rw all at half.at) half.rows

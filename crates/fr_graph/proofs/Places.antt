@@ -17,7 +17,8 @@ use Rattle.fr_graph.specs.declared.first.First.{First}
 use Rattle.fr_graph.specs.declared.first.First.TheVariants.{Inward, Outward}
 
 -- no other link joins the ends of a link
-pub cut_is_remove : (links : List (ℕ × ℕ)) (u v k : ℕ) → AreSingle links → k < length links → get_or links k (u, v) ≡ (u, v) → without u v links ≡ remove links k
+pub cut_is_remove : (links : List (ℕ × ℕ)) (u v k : ℕ) → AreSingle links → k < length links → get_or links k (u, v) ≡ (u, v)
+    → without u v links ≡ remove links k
 cut_is_remove links u v k single l is =
     let test : ℕ × ℕ → Bool = λ y. is_between u v y in
     let here : (d : ℕ × ℕ) → is_between u v (get_or links k d) ≡ true = λ d. ap test (get_or_default links k d (u, v) l ∙ is) ∙ is_between_itself (u, v) in
@@ -64,12 +65,14 @@ not_joined n links u v k net before stops other (inr p) =
     other (v, Inward) t.0 (ap (λ (y : ℕ × First). y.0) t.1)
 
 -- an entry of the row is a link
-pub entry_out : (n : ℕ) (links : List (ℕ × ℕ)) (u v k : ℕ) (e : ℕ × First) → k < length (row n links u) → e ≡ get_or (row n links u) k e → e.0 ≡ v → e.1 ≡ Outward → Contains links (u, v)
+pub entry_out : (n : ℕ) (links : List (ℕ × ℕ)) (u v k : ℕ) (e : ℕ × First) → k < length (row n links u)
+    → e ≡ get_or (row n links u) k e → e.0 ≡ v → e.1 ≡ Outward → Contains links (u, v)
 entry_out n links u v k (w, f) l is node out =
     let h : Contains (row n links u) (w, f) = (k, l, sym is) in
     out_of_row n links u v (rw (node, out) at h)
 
-pub entry_in : (n : ℕ) (links : List (ℕ × ℕ)) (u v k : ℕ) (e : ℕ × First) → k < length (row n links u) → e ≡ get_or (row n links u) k e → e.0 ≡ v → e.1 ≡ Inward → Contains links (v, u)
+pub entry_in : (n : ℕ) (links : List (ℕ × ℕ)) (u v k : ℕ) (e : ℕ × First) → k < length (row n links u)
+    → e ≡ get_or (row n links u) k e → e.0 ≡ v → e.1 ≡ Inward → Contains links (v, u)
 entry_in n links u v k (w, f) l is node in_ =
     let h : Contains (row n links u) (w, f) = (k, l, sym is) in
     in_of_row n links u v (rw (node, in_) at h)

@@ -30,11 +30,13 @@ same_test a b u v to from =
       ]
     ]
 
-pub row_entry_same : (a b : List (ℕ × ℕ)) (x w : ℕ) → (Points a x w → Points b x w) → (Points b x w → Points a x w) → (Points a w x → Points b w x) → (Points b w x → Points a w x) → row_entry a x w ≡ row_entry b x w
+pub row_entry_same : (a b : List (ℕ × ℕ)) (x w : ℕ) → (Points a x w → Points b x w) → (Points b x w → Points a x w)
+    → (Points a w x → Points b w x) → (Points b w x → Points a w x) → row_entry a x w ≡ row_entry b x w
 row_entry_same a b x w out_to out_from back_to back_from =
     rw (same_test a b x w out_to out_from, same_test a b w x back_to back_from) refl
 
-pub row_same : (k : ℕ) (a b : List (ℕ × ℕ)) (x : ℕ) → ((u v : ℕ) → Points a u v → Points b u v) → ((u v : ℕ) → Points b u v → Points a u v) → row k a x ≡ row k b x
+pub row_same : (k : ℕ) (a b : List (ℕ × ℕ)) (x : ℕ) → ((u v : ℕ) → Points a u v → Points b u v)
+    → ((u v : ℕ) → Points b u v → Points a u v) → row k a x ≡ row k b x
 row_same zero a b x to from = refl
 row_same (suc w) a b x to from =
     rw (row_same w a b x to from, row_entry_same a b x w (to x w) (from x w) (to w x) (from w x)) refl
@@ -42,7 +44,8 @@ row_same (suc w) a b x to from =
 in_order_faultless : (n : ℕ) (listed : List (ℕ × ℕ)) → IsFaultless n listed → IsFaultless n (in_order listed)
 in_order_faultless n listed clear =
     let same = in_order_permutes listed in
-    faultless_sorted n listed (in_order listed) same (acyclic_listed (in_order listed) listed (IsPermutation-sym listed (in_order listed) same) clear.is_net.acyclic) clear
+    faultless_sorted n listed (in_order listed) same
+    (acyclic_listed (in_order listed) listed (IsPermutation-sym listed (in_order listed) same) clear.is_net.acyclic) clear
 
 pub in_order_row : (n : ℕ) (listed : List (ℕ × ℕ)) (x : ℕ) → row n listed x ≡ row n (in_order listed) x
 in_order_row n listed x = row_same n listed (in_order listed) x (λ u v. into_order listed (u, v)) (λ u v. out_of_order listed (u, v))
@@ -61,7 +64,8 @@ pub fewer_fall : (links fewer : List (ℕ × ℕ)) (heights : Levels) → ((u v 
 fewer_fall links fewer heights among fit known u v stands = fit known u v (among u v stands)
 
 -- so a graph of the rows of links without a fault, counted, and of heights along which they fall, shows their network
-pub graph_of : (g : Graph) (listed : List (ℕ × ℕ)) → IsFaultless g.nodes listed → g.link_count ≡ length listed → AreRows g.nodes listed g.rows → length g.heights.heights ≡ g.nodes → Fit listed g.heights → IsGraph g
+pub graph_of : (g : Graph) (listed : List (ℕ × ℕ)) → IsFaultless g.nodes listed → g.link_count ≡ length listed
+    → AreRows g.nodes listed g.rows → length g.heights.heights ≡ g.nodes → Fit listed g.heights → IsGraph g
 graph_of g listed clear count rows height_each fit =
     let n = g.nodes in
     let is = links_shown n listed g.rows clear.is_net rows in
@@ -69,7 +73,11 @@ graph_of g listed clear count rows height_each fit =
       faultless = rw is (in_order_faultless n listed clear);
       sorted = rw is (in_order_order listed);
       counted = count ∙ sym (length_permutation listed (in_order listed) (in_order_permutes listed)) ∙ sym (ap length is);
-      rows = record { one_each = rows.one_each; shown = λ x less. rows.shown x less ∙ in_order_row n listed x ∙ ap (λ (ls : List (ℕ × ℕ)). row n ls x) (sym is) };
+      rows = record {
+        one_each = rows.one_each;
+        shown = λ x less. rows.shown x less ∙ in_order_row n listed x
+            ∙ ap (λ (ls : List (ℕ × ℕ)). row n ls x) (sym is);
+      };
       height_each = height_each;
       fit = rw is (fewer_fall listed (in_order listed) g.heights (λ u v. out_of_order listed (u, v)) fit);
     }
@@ -84,7 +92,8 @@ made_of n listed made clear is = record {
   faultless = clear;
 }
 
-pub network_of_rows : (n : ℕ) (listed : List (ℕ × ℕ)) (table : Table) → IsFaultless n listed → AreRows n listed table → IsNetworkOf n listed (with_links n (links_in n table))
+pub network_of_rows : (n : ℕ) (listed : List (ℕ × ℕ)) (table : Table) → IsFaultless n listed → AreRows n listed table
+    → IsNetworkOf n listed (with_links n (links_in n table))
 network_of_rows n listed table clear rows = made_of n listed (links_in n table) clear (links_shown n listed table clear.is_net rows)
 
 -- a graph of the same rows, whatever their room
@@ -112,7 +121,8 @@ same_of_rows g table same kept graph = record {
 }
 
 -- the same graph of other heights along which its links fall
-pub same_of_heights : (g : Graph) (heights : Levels) → length heights.heights ≡ g.nodes → Fit (shown g).links heights → IsGraph g → IsSame g (record g { heights = heights })
+pub same_of_heights : (g : Graph) (heights : Levels) → length heights.heights ≡ g.nodes → Fit (shown g).links heights
+    → IsGraph g → IsSame g (record g { heights = heights })
 same_of_heights g heights height_each fit graph = record {
   graph = record {
     faultless = graph.faultless;

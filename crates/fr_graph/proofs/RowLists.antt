@@ -46,7 +46,8 @@ into_rows (suc k) x rows y lt h =
     ]
 
 -- rows that are sorted, each before the next, are sorted together
-pub sorted_rows : {X : Type 0} (R : X → X → Type 0) (rows : ℕ → List X) → ((x : ℕ) → IsSorted R (rows x)) → ((x z : ℕ) (a b : X) → x < z → Contains (rows x) a → Contains (rows z) b → R a b) → (k : ℕ) → IsSorted R (rows_below k rows)
+pub sorted_rows : {X : Type 0} (R : X → X → Type 0) (rows : ℕ → List X) → ((x : ℕ) → IsSorted R (rows x))
+    → ((x z : ℕ) (a b : X) → x < z → Contains (rows x) a → Contains (rows z) b → R a b) → (k : ℕ) → IsSorted R (rows_below k rows)
 sorted_rows R rows each across zero = tt
 sorted_rows R rows each across (suc k) =
     sorted-append R (rows_below k rows) (rows k) (sorted_rows R rows each across k) (each k)

@@ -1,5 +1,6 @@
 -- Rows that stand in one list, each between its start and its end, and one of which changes where it stands.
-use Rattle.std.proofs.Common.{Bool, List, [], ap, arith, count_by, drop, eq-eqb, eqb, false, get_or, inl, inr, length, map, ne_eqb, refl, set, slice_range, subst, suc, sym, take, true, zero, ℕ, ◌+◌, ◌-◌, ◌<◌, ◌∙◌, ◌∷◌, ◌≡◌, ◌≢◌, ◌≤◌}
+use Rattle.std.proofs.Common.{Bool, List, [], ap, arith, count_by, drop, eq-eqb, eqb, false, get_or, inl, inr, length, map, ne_eqb, refl, set}
+use Rattle.std.proofs.Common.{slice_range, subst, suc, sym, take, true, zero, ℕ, ◌+◌, ◌-◌, ◌<◌, ◌∙◌, ◌∷◌, ◌≡◌, ◌≢◌, ◌≤◌}
 use Rattle.std.proofs.lemmas.Bool.{cases_eq, cases_lt}
 use Rattle.std.proofs.lemmas.List.{get_or_past, get_or_read, get_or-set_other, get_or-set_same, length-set, same_lists, set-get_or, with_items_is}
 use Rattle.std.proofs.lemmas.List.Edits.{length-between, length-insert, length-remove}
@@ -13,7 +14,8 @@ use mir.Val.{bool_byte}
 use borrow.Rule.Slice.PartMut.{put_mid}
 use Rattle.fr_graph.proofs.Counting.{count-range_more, weigh}
 use Rattle.fr_graph.proofs.Lists.{length_put, alike_below, range_inserted, range_removed}
-use Rattle.fr_graph.specs.Tables.{ArePacked, HasRoomIn, IsTable, Table, end_of, has_none, place_between, places_of, room_between, room_of, row_between, row_of, rows_in, start_of, table_of, with_row}
+use Rattle.fr_graph.specs.Tables.{ArePacked, HasRoomIn, IsTable, Table, end_of, has_none, place_between, places_of, room_between, room_of}
+use Rattle.fr_graph.specs.Tables.{row_between, row_of, rows_in, start_of, table_of, with_row}
 use Rattle.fr_graph.specs.declared.row_table.Place.{Place}
 use Rattle.fr_graph.specs.declared.row_table.RowTable.TheInside.{Inside}
 use Rattle.fr_graph.specs.declared.first.First.{First}
@@ -155,20 +157,24 @@ module _ (t after : Inside) (x at end : ℕ) (part : List (ℕ × First)) (is : 
       let in_after : y < rows_in after = omega (arith, l, length_rows after) in
       let in_t : y < rows_in t = omega (arith, in_after, many) in
       get_or-map-range_with_len (row_between after) 0 (rows_in after) y y d in_after (omega arith) ∙ elim (cases_eq y x) [
-        | inl e ↦ ap (row_between after) e ∙ here ∙ sym (ap (λ k. get_or (set (table_of t).rows x row) k d) e ∙ get_or-set_same (table_of t).rows x row d (omega (arith, lt, length_rows t)))
-        | inr ne ↦ row_stays y in_t ne ∙ sym (get_or-set_other (table_of t).rows x y row d ne ∙ get_or-map-range_with_len (row_between t) 0 (rows_in t) y y d in_t (omega arith))
+        | inl e ↦ ap (row_between after) e ∙ here
+            ∙ sym (ap (λ k. get_or (set (table_of t).rows x row) k d) e ∙ get_or-set_same (table_of t).rows x row d (omega (arith, lt, length_rows t)))
+        | inr ne ↦ row_stays y in_t ne
+            ∙ sym (get_or-set_other (table_of t).rows x y row d ne ∙ get_or-map-range_with_len (row_between t) 0 (rows_in t) y y d in_t (omega arith))
       ])
 
   rooms_stay : (table_of after).rooms ≡ (table_of t).rooms
   rooms_stay =
-      alike_below (room_between after) (room_between t) (rows_in after) (λ y l. rw (start_stays (y + 1), start_stays y) refl) ∙ ap (λ n. map (room_between t) (range_with_len 0 n)) as_many
+      alike_below (room_between after) (room_between t) (rows_in after)
+      (λ y l. rw (start_stays (y + 1), start_stays y) refl) ∙ ap (λ n. map (room_between t) (range_with_len 0 n)) as_many
 
   -- the view has the new row in the place of the old one
   pub table_written : (row : List (ℕ × First)) → row_between after x ≡ row → table_of after ≡ with_row (table_of t) x row
   table_written row here = let rows = rows_written row here in let rooms = rooms_stay in λ i. record { rows = rows i; rooms = rooms i }
 
   -- what was kept still is
-  pub table_kept : (row : List (ℕ × First)) → row_between after x ≡ row → after.empty + weigh (has_none (row_between t x)) ≡ t.empty + weigh (has_none row) → IsTable after
+  pub table_kept : (row : List (ℕ × First)) → row_between after x ≡ row
+      → after.empty + weigh (has_none (row_between t x)) ≡ t.empty + weigh (has_none row) → IsTable after
   table_kept row here count =
       let many = as_many in
       let weight : List (ℕ × First) → ℕ = λ es. weigh (has_none es) in
@@ -190,9 +196,11 @@ module _ (t after : Inside) (x at end : ℕ) (part : List (ℕ × First)) (is : 
       }
 
 -- what a call that writes a part of the entries leaves
-pub part_put : {X : Type 0} (v : Vec X) (now part : List X) (at k : ℕ) → now ≡ v.items → length part ≡ k → at + k ≤ length v.items → (with_items v (put_mid at k now part)).items ≡ put_mid at (length part) v.items part
+pub part_put : {X : Type 0} (v : Vec X) (now part : List X) (at k : ℕ) → now ≡ v.items → length part ≡ k
+    → at + k ≤ length v.items → (with_items v (put_mid at k now part)).items ≡ put_mid at (length part) v.items part
 part_put v now part at k is long inside =
-    let same : put_mid at k now part ≡ put_mid at (length part) v.items part = ap (λ xs. put_mid at k xs part) is ∙ ap (λ n. put_mid at n v.items part) (sym long) in
+    let same : put_mid at k now part ≡ put_mid at (length part) v.items part = ap (λ xs. put_mid at k xs part) is
+    ∙ ap (λ n. put_mid at n v.items part) (sym long) in
     with_items_is v (put_mid at k now part) (ap length same ∙ length_put at (length part) v.items part (omega (arith, inside, long)) refl ∙ sym v.ok.0) ∙ same
 
 -- a row that has no entries is one whose end is where it starts
@@ -221,7 +229,8 @@ pub record ShowsRowWritten (after : Inside) (table : Table) (x : ℕ) (row : Lis
   pub is : IsTable after
   pub shown : table_of after ≡ with_row table x row
 
-row_shows : (t after : Inside) (table : Table) (x at end : ℕ) (part row : List (ℕ × First)) → IsTable t → table_of t ≡ table → x < length table.rows → IsWritten t after x at end part → row_between after x ≡ row
+row_shows : (t after : Inside) (table : Table) (x at end : ℕ) (part row : List (ℕ × First)) → IsTable t → table_of t ≡ table
+    → x < length table.rows → IsWritten t after x at end part → row_between after x ≡ row
     → after.empty + weigh (has_none (row_between t x)) ≡ t.empty + weigh (has_none row) → ShowsRowWritten after table x row
 row_shows t after table x at end part row is view lt w here count =
     let has = (row_at t table x is view lt).has in
@@ -231,9 +240,12 @@ row_shows t after table x at end part row is view lt w here count =
     }
 
 -- an entry was put into the row of x
-pub entry_inserted : (t after : Inside) (table : Table) (x p : ℕ) (entry : ℕ × First) (part : List (ℕ × First)) → IsTable t → table_of t ≡ table → x < length table.rows → p ≤ length (row_of table x) → HasRoomIn table x
-    → length part ≡ end_of t x + 1 - (start_of t x + p) → part ≡ take (end_of t x + 1 - (start_of t x + p)) (entry ∷ slice_range t.entries.items (start_of t x + p) (end_of t x + 1))
-    → after.places.items ≡ set t.places.items x (record { start = start_of t x; end = end_of t x + 1 }) → after.entries.items ≡ put_mid (start_of t x + p) (length part) t.entries.items part
+pub entry_inserted : (t after : Inside) (table : Table) (x p : ℕ) (entry : ℕ × First) (part : List (ℕ × First)) → IsTable t
+    → table_of t ≡ table → x < length table.rows → p ≤ length (row_of table x) → HasRoomIn table x
+    → length part ≡ end_of t x + 1 - (start_of t x + p)
+    → part ≡ take (end_of t x + 1 - (start_of t x + p)) (entry ∷ slice_range t.entries.items (start_of t x + p) (end_of t x + 1))
+    → after.places.items ≡ set t.places.items x (record { start = start_of t x; end = end_of t x + 1 })
+    → after.entries.items ≡ put_mid (start_of t x + p) (length part) t.entries.items part
     → after.empty + weigh (eqb (start_of t x) (end_of t x)) ≡ t.empty → ShowsRowWritten after table x (insert (row_of table x) p entry)
 entry_inserted t after table x p entry part is view lt inside room long is_part places entries count =
     let s = start_of t x in
@@ -251,16 +263,21 @@ entry_inserted t after table x p entry part is view lt inside room long is_part 
       high = omega (arith, high);
     } in
     let here : row_between after x ≡ insert row p entry =
-    row_put t after x (s + p) (e + 1) part is at.has w ∙ range_inserted t.entries.items part s p e entry low (omega (arith, high, at.inside)) long is_part ∙ ap (λ es. insert es p entry) at.is_row in
-    let before : weigh (has_none (row_between t x)) ≡ weigh (eqb s e) = ap weigh (none_where (row_between t x) s e (omega (arith, ap length at.is_row, at.long, at.low))) in
+    row_put t after x (s + p) (e + 1) part is at.has w
+    ∙ range_inserted t.entries.items part s p e entry low (omega (arith, high, at.inside)) long is_part ∙ ap (λ es. insert es p entry) at.is_row in
+    let before : weigh (has_none (row_between t x)) ≡ weigh (eqb s e) =
+    ap weigh (none_where (row_between t x) s e (omega (arith, ap length at.is_row, at.long, at.low))) in
     let more = length-insert row p entry inside in
-    let now : weigh (has_none (insert row p entry)) ≡ 0 = ap weigh (none_is (insert row p entry) ∙ ne_eqb (length (insert row p entry)) 0 (λ q. omega (arith, q, more))) in
+    let now : weigh (has_none (insert row p entry)) ≡ 0 =
+    ap weigh (none_is (insert row p entry) ∙ ne_eqb (length (insert row p entry)) 0 (λ q. omega (arith, q, more))) in
     row_shows t after table x (s + p) (e + 1) part (insert row p entry) is view lt w here (omega (arith, before, now, count))
 
 -- an entry was taken out of the row of x
-pub entry_removed : (t after : Inside) (table : Table) (x p e : ℕ) (part : List (ℕ × First)) → IsTable t → table_of t ≡ table → x < length table.rows → p < length (row_of table x) → e + 1 ≡ end_of t x
+pub entry_removed : (t after : Inside) (table : Table) (x p e : ℕ) (part : List (ℕ × First)) → IsTable t
+    → table_of t ≡ table → x < length table.rows → p < length (row_of table x) → e + 1 ≡ end_of t x
     → length part ≡ e + 1 - (start_of t x + p) → take (e + 1 - (start_of t x + p) - 1) part ≡ drop 1 (slice_range t.entries.items (start_of t x + p) (e + 1))
-    → after.places.items ≡ set t.places.items x (record { start = start_of t x; end = e }) → after.entries.items ≡ put_mid (start_of t x + p) (length part) t.entries.items part
+    → after.places.items ≡ set t.places.items x (record { start = start_of t x; end = e })
+    → after.entries.items ≡ put_mid (start_of t x + p) (length part) t.entries.items part
     → after.empty ≡ t.empty + weigh (eqb (start_of t x) e) → ShowsRowWritten after table x (remove (row_of table x) p)
 entry_removed t after table x p e part is view lt inside last long is_part places entries count =
     let s = start_of t x in
@@ -285,8 +302,10 @@ entry_removed t after table x p e part is view lt inside last long is_part place
     ∙ ap (λ k. remove (slice_range t.entries.items s k) p) last
     ∙ ap (λ es. remove es p) at.is_row in
     let some : ¬ (s ≡ end_of t x) = λ q. omega (arith, q, last, low) in
-    let before : weigh (has_none (row_between t x)) ≡ 0 = ap weigh (none_where (row_between t x) s (end_of t x) (omega (arith, ap length at.is_row, at.long, at.low)) ∙ ne_eqb s (end_of t x) some) in
-    let now : weigh (has_none (remove row p)) ≡ weigh (eqb s e) = ap weigh (none_where (remove row p) s e (omega (arith, length-remove row p inside, at.long, at.low, last, low))) in
+    let before : weigh (has_none (row_between t x)) ≡ 0 =
+    ap weigh (none_where (row_between t x) s (end_of t x) (omega (arith, ap length at.is_row, at.long, at.low)) ∙ ne_eqb s (end_of t x) some) in
+    let now : weigh (has_none (remove row p)) ≡ weigh (eqb s e) =
+    ap weigh (none_where (remove row p) s e (omega (arith, length-remove row p inside, at.long, at.low, last, low))) in
     row_shows t after table x (s + p) e part (remove row p) is view lt w here (omega (arith, before, now, count))
 
 -- no more rows are empty than there are
@@ -294,8 +313,10 @@ pub none_few : (t : Inside) → IsTable t → t.empty ≤ rows_in t
 none_few t is = omega (arith, is.counted, count_by-le-length has_none (table_of t).rows, length_rows t)
 
 -- the entries of the row of x were written over
-pub row_rewritten : (t after : Inside) (table : Table) (x : ℕ) (part : List (ℕ × First)) → IsTable t → table_of t ≡ table → x < length table.rows → length part ≡ length (row_of table x)
-    → after.places.items ≡ t.places.items → after.entries.items ≡ put_mid (start_of t x) (length part) t.entries.items part → after.empty ≡ t.empty → ShowsRowWritten after table x part
+pub row_rewritten : (t after : Inside) (table : Table) (x : ℕ) (part : List (ℕ × First)) → IsTable t → table_of t ≡ table
+    → x < length table.rows → length part ≡ length (row_of table x)
+    → after.places.items ≡ t.places.items → after.entries.items ≡ put_mid (start_of t x) (length part) t.entries.items part
+    → after.empty ≡ t.empty → ShowsRowWritten after table x part
 row_rewritten t after table x part is view lt long places entries count =
     let s = start_of t x in
     let e = end_of t x in
@@ -308,7 +329,8 @@ row_rewritten t after table x part is view lt long places entries count =
       low = at.low;
       high = at.high;
     } in
-    let here : row_between after x ≡ part = row_put t after x s e part is at.has w ∙ between-put_mid s (length part) t.entries.items part e (omega (arith, at.low, at.high, at.inside)) (omega (arith, long, at.long)) in
+    let here : row_between after x ≡ part = row_put t after x s e part is at.has w
+    ∙ between-put_mid s (length part) t.entries.items part e (omega (arith, at.low, at.high, at.inside)) (omega (arith, long, at.long)) in
     let same : weigh (has_none (row_between t x)) ≡ weigh (has_none part) = ap weigh (none_by_length (row_between t x) part (ap length at.is_row ∙ sym long)) in
     row_shows t after table x s e part part is view lt w here (omega (arith, same, count))
 
@@ -327,7 +349,9 @@ start_read t x place lt read = ap (λ (p : Place). p.start) (get_or_read t.place
 pub end_read : (t : Inside) (x : ℕ) (place : Place) → x < length t.places.items → place ≡ get_or t.places.items x place → place.end ≡ end_of t x
 end_read t x place lt read = ap (λ (p : Place). p.end) (get_or_read t.places.items x place lt read nowhere)
 
-pub part_at : (t : Inside) (table : Table) (x : ℕ) (place : Place) (entries : List (ℕ × First)) → IsTable t → table_of t ≡ table → x < length table.rows → place ≡ get_or t.places.items x place → entries ≡ t.entries.items → IsPart t table x place.start place.end entries
+pub part_at : (t : Inside) (table : Table) (x : ℕ) (place : Place) (entries : List (ℕ × First)) → IsTable t
+    → table_of t ≡ table → x < length table.rows → place ≡ get_or t.places.items x place → entries ≡ t.entries.items
+    → IsPart t table x place.start place.end entries
 part_at t table x place entries is view lt read same =
     let at = row_at t table x is view lt in
     let start = start_read t x place (omega (arith, at.next)) read in
@@ -342,15 +366,23 @@ part_at t table x place entries is view lt read same =
     }
 
 -- and once it is written over by as many entries, the row of x is these
-pub part_rewritten : (t : Inside) (table : Table) (x i j : ℕ) (entries new : List (ℕ × First)) → IsTable t → table_of t ≡ table → x < length table.rows → IsPart t table x i j entries → entries ≡ t.entries.items → length new ≡ length (row_of table x)
+pub part_rewritten : (t : Inside) (table : Table) (x i j : ℕ) (entries new : List (ℕ × First)) → IsTable t
+    → table_of t ≡ table → x < length table.rows → IsPart t table x i j entries → entries ≡ t.entries.items → length new ≡ length (row_of table x)
     → ShowsRowWritten (record { places = t.places; entries = with_items t.entries (put_mid i (j - i) entries new); empty = t.empty }) table x new
 part_rewritten t table x i j entries new is view lt part same long =
-    row_rewritten t (record { places = t.places; entries = with_items t.entries (put_mid i (j - i) entries new); empty = t.empty }) table x new is view lt long refl
-    (part_put t.entries entries new i (j - i) same (omega (arith, long, part.long)) (omega (arith, part.low, part.high, ap length same)) ∙ ap (λ k. put_mid k (length new) t.entries.items new) part.start)
+    row_rewritten t (record {
+      places = t.places;
+      entries = with_items t.entries (put_mid i (j - i) entries new);
+      empty =
+          t.empty;
+    }) table x new is view lt long refl
+    (part_put t.entries entries new i (j - i) same (omega (arith, long, part.long))
+    (omega (arith, part.low, part.high, ap length same)) ∙ ap (λ k. put_mid k (length new) t.entries.items new) part.start)
     refl
 
 -- as many elements made of numbers pass as numbers do
-count-map-range : {X : Type 0} (p : X → Bool) (q : ℕ → Bool) (f : ℕ → X) (n : ℕ) → ((x : ℕ) → x < n → p (f x) ≡ q x) → count_by p (map f (range_with_len 0 n)) ≡ count_by q (range_with_len 0 n)
+count-map-range : {X : Type 0} (p : X → Bool) (q : ℕ → Bool) (f : ℕ → X) (n : ℕ) → ((x : ℕ) → x < n → p (f x) ≡ q x)
+    → count_by p (map f (range_with_len 0 n)) ≡ count_by q (range_with_len 0 n)
 count-map-range p q f zero same = refl
 count-map-range {X} p q f (suc n) same =
     let weight : X → ℕ = λ x. weigh (p x) in
@@ -365,7 +397,8 @@ module _ (t : Inside) (starts : List ℕ) (packed : ArePacked starts t.entries.i
   packed_one_each = sym (ap length places ∙ length-map-range_with_len (place_between starts) 0 (length starts))
 
   place_is : (x : ℕ) → x < length starts → get_or t.places.items x nowhere ≡ place_between starts x
-  place_is x l = ap (λ (ps : List Place). get_or ps x nowhere) places ∙ get_or-map-range_with_len (place_between starts) 0 (length starts) x x nowhere l (omega arith)
+  place_is x l = ap (λ (ps : List Place). get_or ps x nowhere) places
+      ∙ get_or-map-range_with_len (place_between starts) 0 (length starts) x x nowhere l (omega arith)
 
   start_is : (x : ℕ) → start_of t x ≡ get_or starts x 0
   start_is x = elim (cases_lt x (length starts)) [
@@ -383,9 +416,16 @@ module _ (t : Inside) (starts : List ℕ) (packed : ArePacked starts t.entries.i
   pub packed_table : t.empty ≡ count_by (λ x. eqb (start_of t x) (end_of t x)) (range_with_len 0 (rows_in t)) → IsTable t
   packed_table count =
       let many = packed_one_each in
-      let up : (x : ℕ) → x < rows_in t → start_of t x ≤ end_of t x = λ x l. omega (arith, start_is x, end_is x (omega (arith, l, many)), packed.rise x (omega (arith, l, many))) in
+      let up : (x : ℕ) → x < rows_in t
+      → start_of t x ≤ end_of t x = λ x l. omega (arith, start_is x, end_is x (omega (arith, l, many)), packed.rise x (omega (arith, l, many))) in
       let none : (x : ℕ) → x < rows_in t → has_none (row_between t x) ≡ eqb (start_of t x) (end_of t x) = λ x l.
-      none_where (row_between t x) (start_of t x) (end_of t x) (omega (arith, up x l, length-between t.entries.items (start_of t x) (end_of t x) (omega (arith, end_is x (omega (arith, l, many)), packed.inside (x + 1))))) in
+      none_where (row_between t x) (start_of t x) (end_of t x)
+      (omega (
+        arith,
+        up x l,
+        length-between t.entries.items (start_of t x) (end_of t x)
+            (omega (arith, end_is x (omega (arith, l, many)), packed.inside (x + 1))),
+      )) in
       record {
         some = omega (arith, packed.some, many);
         low = up;

@@ -18,15 +18,18 @@ use Rattle.fr_graph.specs.declared.first.First.{First}
 use Rattle.fr_graph.specs.declared.first.First.TheVariants.{Outward}
 
 -- how far rows were read, as more nodes are done
-pub reads_stay : (rows : Table) (old new : List Mark) (path : List Step) → ((x : ℕ) → mark_of old x ≡ Done → mark_of new x ≡ Done) → All (HasRead rows old) path → All (HasRead rows new) path
+pub reads_stay : (rows : Table) (old new : List Mark) (path : List Step)
+    → ((x : ℕ) → mark_of old x ≡ Done → mark_of new x ≡ Done) → All (HasRead rows old) path → All (HasRead rows new) path
 reads_stay rows old new path stays read k d l = record {
   inside = (read k d l).inside;
   passed = λ j e lt out. stays _ ((read k d l).passed j e lt out);
 }
 
 -- and as the row of the last node is read on
-pub reads_on : (rows : Table) (marks : List Mark) (path : List Step) (last next : ℕ) (top : Step) → last + 1 ≡ length path → top ≡ get_or path last top → All (HasRead rows marks) path → next ≤ length (row_of rows top.node)
-    → ((k : ℕ) (d : ℕ × First) → top.next ≤ k → k < next → IsPassed marks (get_or (row_of rows top.node) k d)) → All (HasRead rows marks) (set path last (record { node = top.node; next = next }))
+pub reads_on : (rows : Table) (marks : List Mark) (path : List Step) (last next : ℕ) (top : Step) → last + 1 ≡ length path
+    → top ≡ get_or path last top → All (HasRead rows marks) path → next ≤ length (row_of rows top.node)
+    → ((k : ℕ) (d : ℕ × First) → top.next ≤ k → k < next → IsPassed marks (get_or (row_of rows top.node) k d))
+    → All (HasRead rows marks) (set path last (record { node = top.node; next = next }))
 reads_on rows marks path last next top full is read inside passes k d l =
     let moved : Step = record { node = top.node; next = next } in
     let was : HasRead rows marks top = rw (← is) at (read last top (omega (arith, full))) in
@@ -39,7 +42,8 @@ reads_on rows marks path last next top full is read inside passes k d l =
     ]
 
 -- the path has the same nodes then
-pub same_nodes : (path : List Step) (last next : ℕ) (top : Step) → top ≡ get_or path last top → nodes_of (set path last (record { node = top.node; next = next })) ≡ nodes_of path
+pub same_nodes : (path : List Step) (last next : ℕ) (top : Step) → top ≡ get_or path last top
+    → nodes_of (set path last (record { node = top.node; next = next })) ≡ nodes_of path
 same_nodes path last next top is = map-set_same (λ (s : Step). s.node) path last (record { node = top.node; next = next }) top (ap (λ (s : Step). s.node) is)
 
 pub nodes_counted : (some other : List Step) → nodes_of some ≡ nodes_of other → length some ≡ length other
@@ -49,7 +53,9 @@ nodes_counted some other same = omega (arith, ap length same, length-map some (�
 pub top_is : (path : List Step) (last : ℕ) (top : Step) → last + 1 ≡ length path → top ≡ get_or path last top → get_or (nodes_of path) last 0 ≡ top.node
 top_is path last top full is = get_or-map (λ (s : Step). s.node) path last top 0 (omega (arith, full)) ∙ ap (λ (s : Step). s.node) (sym is)
 
-pub read_through : (rows : Table) (marks : List Mark) (top : Step) (next : ℕ) → HasRead rows marks top → ((k : ℕ) (d : ℕ × First) → top.next ≤ k → k < next → IsPassed marks (get_or (row_of rows top.node) k d)) → length (row_of rows top.node) ≤ next → LeadsToDone (net_in rows).links marks top.node
+pub read_through : (rows : Table) (marks : List Mark) (top : Step) (next : ℕ) → HasRead rows marks top
+    → ((k : ℕ) (d : ℕ × First) → top.next ≤ k → k < next → IsPassed marks (get_or (row_of rows top.node) k d))
+    → length (row_of rows top.node) ≤ next → LeadsToDone (net_in rows).links marks top.node
 read_through rows marks top next read passes all v points =
     let at = (row_of_points rows top.node v points).1 in
     let entry : get_or (row_of rows top.node) at.0 (v, Outward) ≡ (v, Outward) = at.2 in
@@ -61,37 +67,47 @@ read_through rows marks top next read passes all v points =
     there refl
 
 -- the search goes on to a node that was not met
-pub search_opens : (rows : Table) (search after : Search) (x : ℕ) → IsSearch rows search → x < length search.marks.items → mark_of search.marks.items x ≡ Fresh → LeadsTo (net_in rows).links (nodes_of search.path.items) x
-    → after.marks.items ≡ set search.marks.items x Open → after.path.items ≡ search.path.items ++ record { node = x; next = 0 } ∷ [] → after.order.items ≡ search.order.items → IsSearch rows after
+pub search_opens : (rows : Table) (search after : Search) (x : ℕ) → IsSearch rows search → x < length search.marks.items
+    → mark_of search.marks.items x ≡ Fresh → LeadsTo (net_in rows).links (nodes_of search.path.items) x
+    → after.marks.items ≡ set search.marks.items x Open
+    → after.path.items ≡ search.path.items ++ record { node = x; next = 0 } ∷ [] → after.order.items ≡ search.order.items → IsSearch rows after
 search_opens rows search after x s below fresh leads marks path order =
     let old = search.marks.items in
     let new : Step = record { node = x; next = 0 } in
-    let same : nodes_of (search.path.items ++ new ∷ []) ≡ nodes_of search.path.items ++ x ∷ [] = map-append (λ (s : Step). s.node) search.path.items (new ∷ []) in
-    let stays : (y : ℕ) → mark_of old y ≡ Done → mark_of (set old x Open) y ≡ Done = λ y done. elim (mark_set old x y Open below) [ inl w ↦ cc (w.0, done, fresh) | inr w ↦ w.1 ∙ done ] in
+    let same : nodes_of (search.path.items ++ new ∷ []) ≡ nodes_of search.path.items ++ x ∷ [] =
+    map-append (λ (s : Step). s.node) search.path.items (new ∷ []) in
+    let stays : (y : ℕ) → mark_of old y ≡ Done → mark_of (set old x Open) y ≡ Done =
+    λ y done. elim (mark_set old x y Open below) [ inl w ↦ cc (w.0, done, fresh) | inr w ↦ w.1 ∙ done ] in
     record {
       one_each = rw (marks, length-set old x Open) s.one_each;
       below = rw (marks, length-set old x Open) s.below;
       steps = rw (marks, path, same, length-set old x Open) (opened _ _ old (nodes_of search.path.items) x s.steps below fresh leads);
-      read = rw (marks, path) (All-push (HasRead rows (set old x Open)) search.path.items new (reads_stay rows old _ search.path.items stays s.read) (record { inside = omega arith; passed = λ k d lt. absurd (omega (arith, lt)) }));
+      read = rw (marks, path) (All-push (HasRead rows (set old x Open)) search.path.items new
+          (reads_stay rows old _ search.path.items stays s.read) (record { inside = omega arith; passed = λ k d lt. absurd (omega (arith, lt)) }));
       order = rw (marks, order) (opened_order _ old _ x s.order below (λ e. cc (fresh, e)));
     }
 
 -- and back from one whose links lead to done nodes
-pub search_leaves : (rows : Table) (search after : Search) (x last : ℕ) → IsSearch rows search → last + 1 ≡ length search.path.items → x ≡ get_or (nodes_of search.path.items) last 0 → x < length search.marks.items → LeadsToDone (net_in rows).links search.marks.items x
-    → after.marks.items ≡ set search.marks.items x Done → after.path.items ≡ take last search.path.items → after.order.items ≡ search.order.items ++ x ∷ [] → IsSearch rows after
+pub search_leaves : (rows : Table) (search after : Search) (x last : ℕ) → IsSearch rows search
+    → last + 1 ≡ length search.path.items → x ≡ get_or (nodes_of search.path.items) last 0 → x < length search.marks.items
+    → LeadsToDone (net_in rows).links search.marks.items x
+    → after.marks.items ≡ set search.marks.items x Done → after.path.items ≡ take last search.path.items
+    → after.order.items ≡ search.order.items ++ x ∷ [] → IsSearch rows after
 search_leaves rows search after x last s full top below leads marks path order =
     let old = search.marks.items in
     let steps = search.path.items in
     let whole : last + 1 ≡ length (nodes_of steps) = omega (arith, full, length-map steps (λ (s : Step). s.node)) in
     let on_top : mark_of old x ≡ Open = rw top (s.steps.path_open last (omega (arith, whole))) in
-    let stays : (y : ℕ) → mark_of old y ≡ Done → mark_of (set old x Done) y ≡ Done = λ y done. elim (mark_set old x y Done below) [ inl w ↦ w.1 | inr w ↦ w.1 ∙ done ] in
+    let stays : (y : ℕ) → mark_of old y ≡ Done → mark_of (set old x Done) y ≡ Done =
+    λ y done. elim (mark_set old x y Done below) [ inl w ↦ w.1 | inr w ↦ w.1 ∙ done ] in
     let front : All (HasRead rows old) (take last steps) = λ k d l.
     let at : k < last = omega (arith, l, length-take-le last steps (omega (arith, full))) in
     rw (get_or-take last steps k d at) (s.read k d (omega (arith, at, full))) in
     record {
       one_each = rw (marks, length-set old x Done) s.one_each;
       below = rw (marks, length-set old x Done) s.below;
-      steps = rw (marks, path, ← take-map (λ (s : Step). s.node) last steps, length-set old x Done) (left _ _ old (nodes_of steps) x last s.steps whole top leads);
+      steps = rw (marks, path, ← take-map (λ (s : Step). s.node) last steps, length-set old x Done)
+          (left _ _ old (nodes_of steps) x last s.steps whole top leads);
       read = rw (marks, path) (reads_stay rows old _ (take last steps) stays front);
       order = rw (marks, order) (left_order _ _ old (nodes_of steps) _ x s.steps s.order below (λ e. cc (on_top, e)) leads);
     }

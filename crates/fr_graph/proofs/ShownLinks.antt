@@ -29,11 +29,13 @@ row_of_shown n table x w points =
     let there : Contains (row_of table row.0) (w, Outward) = subst (λ (y : ℕ). Contains (row_of table row.0) (y, Outward)) head here in
     (subst (λ (y : ℕ). y < n) tail row.1, subst (λ (y : ℕ). Contains (row_of table y) (w, Outward)) tail there)
 
-pub row_of_points : (table : Table) (x w : ℕ) → Points (links_in (length table.rows) table) x w → (x < length table.rows) × Contains (row_of table x) (w, Outward)
+pub row_of_points : (table : Table) (x w : ℕ) → Points (links_in (length table.rows) table) x w → (x < length table.rows)
+    × Contains (row_of table x) (w, Outward)
 row_of_points table x w points = row_of_shown (length table.rows) table x w points
 
 pub shown_of_row : (n : ℕ) (table : Table) (x w : ℕ) → x < n → Contains (row_of table x) (w, Outward) → Points (links_in n table) x w
-shown_of_row n table x w lt stands = into_rows n x (λ y. out_links y (row_of table y)) (x, w) lt (filter_map-Contains (λ (e : ℕ × First). link_to x e.0 e.1) (row_of table x) (w, Outward) (x, w) stands refl)
+shown_of_row n table x w lt stands = into_rows n x (λ y. out_links y (row_of table y)) (x, w) lt
+    (filter_map-Contains (λ (e : ℕ × First). link_to x e.0 e.1) (row_of table x) (w, Outward) (x, w) stands refl)
 
 -- the rows of links show these
 pub shows_same : (n : ℕ) (links : List (ℕ × ℕ)) (table : Table) → AreBelow n links → AreRows n links table → HaveSameLinks links (links_in n table)
@@ -48,7 +50,8 @@ shows_same n links table below rows u v = (
 pub same_shown : (n : ℕ) (links : List (ℕ × ℕ)) (table : Table) → AreBelow n links → AreRows n links table → HaveSameLinks links (net_in table).links
 same_shown n links table below rows = rw rows.one_each (shows_same n links table below rows)
 
-pub heads_of : (n : ℕ) (links : List (ℕ × ℕ)) (table : Table) {order : List ℕ} → AreBelow n links → AreRows n links table → HasHeadsFirst n (net_in table).links order → HasHeadsFirst n links order
+pub heads_of : (n : ℕ) (links : List (ℕ × ℕ)) (table : Table) {order : List ℕ} → AreBelow n links → AreRows n links table
+    → HasHeadsFirst n (net_in table).links order → HasHeadsFirst n links order
 heads_of n links table below rows first = record {
   few = first.few;
   below = first.below;

@@ -1,11 +1,13 @@
 -- A side of a search from both ends keeps its state as it begins, meets a node, leaves one aside, and as the other side goes on.
-use Rattle.std.proofs.Common.{Contains, List, [], ap, arith, get_or, inl, inr, length, refl, set, slice_index, subst, sym, ℕ, ◌++◌, ◌+◌, ◌<◌, ◌∙◌, ◌∷◌, ◌≡◌, ◌≤◌, ◌⊎◌}
+use Rattle.std.proofs.Common.{Contains, List, [], ap, arith, get_or, inl, inr, length, refl, set, slice_index, subst, sym, ℕ, ◌++◌, ◌+◌, ◌<◌, ◌∙◌}
+use Rattle.std.proofs.Common.{◌∷◌, ◌≡◌, ◌≤◌, ◌⊎◌}
 use Rattle.std.proofs.lemmas.Bool.{cases_lt}
 use Rattle.std.proofs.lemmas.List.{get_or_append_left, get_or_past, get_or_push, get_or-set_same, length_push}
 use Rattle.std.proofs.lemmas.List.Elements.{All-contains, All-push, Contains-append_left, Contains-push}
 use Rattle.std.specs.List.{All}
 use Rattle.fr_graph.proofs.Lists.{push_cases}
-use Rattle.fr_graph.specs.PathSearch.{HasBegun, HasMet, HasMetMore, HasMovedEdge, HasOrigins, IsBeyond, IsSide, LeadsOn, MeetsNew, met_by, never_count, start_of}
+use Rattle.fr_graph.specs.PathSearch.{HasBegun, HasMet, HasMetMore, HasMovedEdge, HasOrigins, IsBeyond, IsSide, LeadsOn, MeetsNew, met_by}
+use Rattle.fr_graph.specs.PathSearch.{never_count, start_of}
 use Rattle.fr_graph.specs.Network.{Network}
 use Rattle.fr_graph.specs.RowLists.{opposite}
 use Rattle.fr_graph.specs.declared.path_search.Met.{Met}
@@ -15,7 +17,8 @@ use Rattle.fr_graph.specs.declared.first.First.{First}
 use Rattle.fr_graph.proofs.MetNodes.{never_apart, met_set, one_more, none_more, same_more, met_stays, settled_stays, other_was}
 
 -- one node more to which a side came from one of its nodes
-came_on : (f : First) (links : List (ℕ × ℕ)) (nodes origins : List ℕ) (x place : ℕ) → HasOrigins f links nodes origins → place < length nodes → LeadsOn f links (get_or nodes place 0) x → HasOrigins f links (nodes ++ x ∷ []) (origins ++ place ∷ [])
+came_on : (f : First) (links : List (ℕ × ℕ)) (nodes origins : List ℕ) (x place : ℕ) → HasOrigins f links nodes origins
+    → place < length nodes → LeadsOn f links (get_or nodes place 0) x → HasOrigins f links (nodes ++ x ∷ []) (origins ++ place ∷ [])
 came_on f links nodes origins x place came inside step =
     let long = length_push nodes x in
     let also = length_push origins place in
@@ -29,13 +32,19 @@ came_on f links nodes origins x place came inside step =
       leads = λ k some l. elim (push_cases nodes x k l) [
         | inl w ↦
             let before : get_or origins k 0 < length nodes = omega (arith, came.earlier k some w.0, w.0) in
-            rw (w.1, get_or_append_left origins (place ∷ []) 0 k (omega (arith, w.0, came.one_each)), get_or_append_left nodes (x ∷ []) 0 (get_or origins k 0) before) (came.leads k some w.0)
+            rw (
+              w.1,
+              get_or_append_left origins (place ∷ []) 0 k (omega (arith, w.0, came.one_each)),
+              get_or_append_left nodes (x ∷ []) 0 (get_or origins k 0) before,
+            ) (came.leads k some w.0)
         | inr w ↦ rw (w.1, get_or_push origins place 0 k (omega (arith, w.0, came.one_each)), get_or_append_left nodes (x ∷ []) 0 place inside) step
       ];
     }
 
 -- a side that has met its start alone
-pub side_begins : (net : Network) (heights : List ℕ) (f : First) (start limit : ℕ) (met : List Met) (side : Side) → length met ≡ net.nodes → HasMet f met start → ((x : ℕ) → HasMet f met x → x ≡ start) → never_count met + 1 ≤ net.nodes → ¬ IsBeyond f limit (slice_index heights start) → HasBegun f start limit net.nodes side → IsSide net heights f start limit met side
+pub side_begins : (net : Network) (heights : List ℕ) (f : First) (start limit : ℕ) (met : List Met) (side : Side)
+    → length met ≡ net.nodes → HasMet f met start → ((x : ℕ) → HasMet f met x → x ≡ start) → never_count met + 1 ≤ net.nodes
+    → ¬ IsBeyond f limit (slice_index heights start) → HasBegun f start limit net.nodes side → IsSide net heights f start limit met side
 side_begins net heights f start limit met side long here alone few near b =
     let first : (P : ℕ → Type 0) → P start → All P side.nodes.items = λ P p. rw b.met_alone (All-push P [] start (λ k d h. absurd (omega arith)) p) in
     record {
@@ -61,7 +70,10 @@ side_begins net heights f start limit met side long here alone few near b =
     }
 
 -- a side that has met one node more
-side_meets : {net : Network} {heights : List ℕ} {f : First} {start limit : ℕ} {old new : List Met} {before after : Side} {x : ℕ} → x < net.nodes → before.read < length before.nodes.items → LeadsOn f net.links (get_or before.nodes.items before.read 0) x → ¬ IsBeyond f limit (slice_index heights x) → MeetsNew before after old new x → IsSide net heights f start limit old before → IsSide net heights f start limit new after
+side_meets : {net : Network} {heights : List ℕ} {f : First} {start limit : ℕ} {old new : List Met} {before after : Side}
+    {x : ℕ} → x < net.nodes → before.read < length before.nodes.items
+    → LeadsOn f net.links (get_or before.nodes.items before.read 0) x → ¬ IsBeyond f limit (slice_index heights x)
+    → MeetsNew before after old new x → IsSide net heights f start limit old before → IsSide net heights f start limit new after
 side_meets {net} {heights} {f} {start} {limit} {old} {new} {before} {after} {x} below unread step near m s =
     let l : x < length old = omega (arith, s.one_each) in
     let more = one_more l m in
@@ -85,12 +97,23 @@ side_meets {net} {heights} {f} {start} {limit} {old} {new} {before} {after} {x} 
           settled_stays f w (slice_index heights w) s.first_is more (s.leads_on k w early (rw (more.stands k (omega (arith, early, s.inside))) at step));
       room = record {
         nodes = rw m.same_room (omega (arith, more.counted, s.room.nodes));
-        origins = rw m.same_origin_room (omega (arith, more.counted, s.room.origins, s.came.one_each, ap length m.nodes, ap length m.origins, length_push before.nodes.items x, length_push before.origins.items before.read));
+        origins = rw m.same_origin_room
+            (omega (
+              arith,
+              more.counted,
+              s.room.origins,
+              s.came.one_each,
+              ap length m.nodes,
+              ap length m.origins,
+              length_push before.nodes.items x,
+              length_push before.origins.items before.read,
+            ));
       };
     }
 
 -- a side that may have left one node more aside
-pub side_moves : {net : Network} {heights : List ℕ} {f : First} {start limit : ℕ} {met : List Met} {before after : Side} → HasMovedEdge before after → IsSide net heights f start limit met before → IsSide net heights f start limit met after
+pub side_moves : {net : Network} {heights : List ℕ} {f : First} {start limit : ℕ} {met : List Met} {before after : Side}
+    → HasMovedEdge before after → IsSide net heights f start limit met before → IsSide net heights f start limit met after
 side_moves {net} {heights} {f} {start} {limit} {met} {before} {after} m s = record {
   one_each = s.one_each;
   first_is = m.same_first ∙ s.first_is;
@@ -101,17 +124,24 @@ side_moves {net} {heights} {f} {start} {limit} {met} {before} {after} m s = reco
   listed = rw m.same_nodes s.listed;
   inside = rw (m.same_nodes, m.same_read) s.inside;
   within = rw m.same_nodes s.within;
-  leads_on = λ k w l step. settled_stays f w (slice_index heights w) s.first_is (none_more m) (s.leads_on k w (omega (arith, l, m.same_read)) (rw m.same_nodes at step));
+  leads_on = λ k w l step. settled_stays f w (slice_index heights w) s.first_is (none_more m)
+      (s.leads_on k w (omega (arith, l, m.same_read)) (rw m.same_nodes at step));
   room = record { nodes = rw m.same_nodes s.room.nodes; origins = rw m.same_origins s.room.origins };
 }
 
 -- so it keeps its state, whether it meets a node within the limit now, or has met it before
-pub side_goes_on : {net : Network} {heights : List ℕ} {f : First} {start limit : ℕ} {old new : List Met} {before after : Side} (x : ℕ) → x < net.nodes → before.read < length before.nodes.items → LeadsOn f net.links (get_or before.nodes.items before.read 0) x → ¬ IsBeyond f limit (slice_index heights x) → ((after ≡ before) × (new ≡ old)) ⊎ MeetsNew before after old new x → IsSide net heights f start limit old before → IsSide net heights f start limit new after × HasMetMore before after old new × (after.read ≡ before.read) × (after.edge ≡ before.edge)
+pub side_goes_on : {net : Network} {heights : List ℕ} {f : First} {start limit : ℕ} {old new : List Met}
+    {before after : Side} (x : ℕ) → x < net.nodes → before.read < length before.nodes.items
+    → LeadsOn f net.links (get_or before.nodes.items before.read 0) x → ¬ IsBeyond f limit (slice_index heights x)
+    → ((after ≡ before) × (new ≡ old)) ⊎ MeetsNew before after old new x → IsSide net heights f start limit old before
+    → IsSide net heights f start limit new after × HasMetMore before after old new × (after.read ≡ before.read) × (after.edge ≡ before.edge)
 side_goes_on {old = old} {before = before} x below unread step near (inl m) s = rw (m.0, m.1) (s, same_more before old, refl, refl)
 side_goes_on x below unread step near (inr m) s = (side_meets below unread step near m s, one_more (omega (arith, s.one_each)) m, m.same_read, m.same_edge)
 
 -- the other side as a side meets more
-pub other_stays : {net : Network} {heights : List ℕ} {start limit : ℕ} {old new : List Met} {before after other : Side} (f : First) → before.first ≡ f → HasMetMore before after old new → IsSide net heights (opposite f) start limit old other → IsSide net heights (opposite f) start limit new other
+pub other_stays : {net : Network} {heights : List ℕ} {start limit : ℕ} {old new : List Met} {before after other : Side}
+    (f : First) → before.first ≡ f → HasMetMore before after old new → IsSide net heights (opposite f) start limit old other
+    → IsSide net heights (opposite f) start limit new other
 other_stays {net} {heights} {start} {limit} {old} {new} {before} {after} {other} f first_is more s =
     let g = opposite f in
     let met = rw first_is at more.met in
@@ -133,17 +163,22 @@ other_stays {net} {heights} {start} {limit} {old} {new} {before} {after} {other}
       };
     }
 
-pub start_met : {net : Network} {heights : List ℕ} {f : First} {start limit : ℕ} {met : List Met} {side : Side} → IsSide net heights f start limit met side → HasMet f met start
+pub start_met : {net : Network} {heights : List ℕ} {f : First} {start limit : ℕ} {met : List Met} {side : Side}
+    → IsSide net heights f start limit met side → HasMet f met start
 start_met s = rw s.start_is at (s.all_met 0 0 s.came.begun)
 
-pub listed_met : {net : Network} {heights : List ℕ} {f : First} {start limit : ℕ} {met : List Met} {side : Side} (x : ℕ) → IsSide net heights f start limit met side → Contains side.nodes.items x → HasMet f met x
+pub listed_met : {net : Network} {heights : List ℕ} {f : First} {start limit : ℕ} {met : List Met} {side : Side} (x : ℕ)
+    → IsSide net heights f start limit met side → Contains side.nodes.items x → HasMet f met x
 listed_met {net} {heights} {f} {start} {limit} {met} {side} x s h = All-contains (HasMet f met) side.nodes.items x s.all_met h
 
 -- the nodes of a side lie within the limit, and below the number of nodes
-pub near_met : {net : Network} {heights : List ℕ} {f : First} {start limit : ℕ} {met : List Met} {side : Side} (x : ℕ) → IsSide net heights f start limit met side → HasMet f met x → ¬ IsBeyond f limit (slice_index heights x)
-near_met {net} {heights} {f} {start} {limit} {met} {side} x s h = All-contains (λ (y : ℕ). ¬ IsBeyond f limit (slice_index heights y)) side.nodes.items x s.within (s.listed x h)
+pub near_met : {net : Network} {heights : List ℕ} {f : First} {start limit : ℕ} {met : List Met} {side : Side} (x : ℕ)
+    → IsSide net heights f start limit met side → HasMet f met x → ¬ IsBeyond f limit (slice_index heights x)
+near_met {net} {heights} {f} {start} {limit} {met} {side} x s h =
+    All-contains (λ (y : ℕ). ¬ IsBeyond f limit (slice_index heights y)) side.nodes.items x s.within (s.listed x h)
 
-pub met_below : {net : Network} {heights : List ℕ} {f : First} {start limit : ℕ} {met : List Met} {side : Side} (x : ℕ) → IsSide net heights f start limit met side → HasMet f met x → x < net.nodes
+pub met_below : {net : Network} {heights : List ℕ} {f : First} {start limit : ℕ} {met : List Met} {side : Side} (x : ℕ)
+    → IsSide net heights f start limit met side → HasMet f met x → x < net.nodes
 met_below {net} {heights} {f} {start} {limit} {met} {side} x s h =
     elim (cases_lt x net.nodes) [
       | inl l ↦ l
@@ -151,11 +186,14 @@ met_below {net} {heights} {f} {start} {limit} {met} {side} x s h =
     ]
 
 -- a side as it says itself where it goes
-pub own_side : {net : Network} {heights : List ℕ} {f : First} {start limit : ℕ} {met : List Met} {side : Side} → IsSide net heights f start limit met side → IsSide net heights side.first (start_of side) side.limit met side
+pub own_side : {net : Network} {heights : List ℕ} {f : First} {start limit : ℕ} {met : List Met} {side : Side}
+    → IsSide net heights f start limit met side → IsSide net heights side.first (start_of side) side.limit met side
 own_side {net} {heights} {f} {start} {limit} {met} {side} is =
     subst (λ (g : First). IsSide net heights g (start_of side) side.limit met side) (sym is.first_is)
-    (subst (λ (a : ℕ). IsSide net heights f a side.limit met side) (sym is.start_is) (subst (λ (l : ℕ). IsSide net heights f start l met side) (sym is.limit_is) is))
+    (subst (λ (a : ℕ). IsSide net heights f a side.limit met side) (sym is.start_is)
+    (subst (λ (l : ℕ). IsSide net heights f start l met side) (sym is.limit_is) is))
 
 -- the node whose row is read next
-pub next_below : {net : Network} {heights : List ℕ} {f : First} {start limit : ℕ} {met : List Met} {side : Side} (x : ℕ) → IsSide net heights f start limit met side → side.read < length side.nodes.items → x ≡ get_or side.nodes.items side.read x → x < net.nodes
+pub next_below : {net : Network} {heights : List ℕ} {f : First} {start limit : ℕ} {met : List Met} {side : Side} (x : ℕ)
+    → IsSide net heights f start limit met side → side.read < length side.nodes.items → x ≡ get_or side.nodes.items side.read x → x < net.nodes
 next_below {side = side} x is unread at = met_below x is (listed_met x is (side.read, unread, sym at))

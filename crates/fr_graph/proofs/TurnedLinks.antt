@@ -1,5 +1,6 @@
 -- The links that counts give are those of a network again.
-use Rattle.std.proofs.Common.{All, List, Some, [], ap, arith, count_by, eq-eqb, eqb, eqb-true, false, get_or, inl, inr, length, refl, sym, ℕ, ◌+◌, ◌<◌, ◌∷◌, ◌≡◌, ◌⊎◌}
+use Rattle.std.proofs.Common.{All, List, Some, [], ap, arith, count_by, eq-eqb, eqb, eqb-true, false, get_or, inl, inr, length, refl, sym, ℕ, ◌+◌}
+use Rattle.std.proofs.Common.{◌<◌, ◌∷◌, ◌≡◌, ◌⊎◌}
 use Rattle.std.proofs.lemmas.Bool.{cases_Bool}
 use Rattle.std.proofs.lemmas.List.Elements.{All-contains, All-head, All-tail, Contains-get_or}
 use Rattle.std.proofs.lemmas.List.Sums.{sum_by-cons}
@@ -13,13 +14,17 @@ use Rattle.fr_graph.proofs.Giving.{Points-links_at_from}
 use Rattle.fr_graph.specs.Links.{IsNet, is_between}
 
 -- a link that the counts give
-pub kept_cases : (counts : List ℕ) (l : ℕ × ℕ) → IsKept counts l → ((link_at counts l ≡ Some l) × (get_or counts l.1 0 ≡ get_or counts l.0 0)) ⊎ ((link_at counts l ≡ Some (l.1, l.0)) × (get_or counts l.1 0 ≡ get_or counts l.0 0 + 1))
+pub kept_cases : (counts : List ℕ) (l : ℕ × ℕ) → IsKept counts l
+    → ((link_at counts l ≡ Some l) × (get_or counts l.1 0 ≡ get_or counts l.0 0))
+    ⊎ ((link_at counts l ≡ Some (l.1, l.0)) × (get_or counts l.1 0 ≡ get_or counts l.0 0 + 1))
 kept_cases counts l (inl e) = inl (rw (eq-eqb _ _ e) refl, e)
 kept_cases counts l (inr e) =
-    let off : eqb (get_or counts l.1 0) (get_or counts l.0 0) ≡ false = elim (cases_Bool (eqb (get_or counts l.1 0) (get_or counts l.0 0))) [ inl t ↦ absurd (omega (arith, eqb-true _ _ t, e)) | inr f ↦ f ] in
+    let off : eqb (get_or counts l.1 0) (get_or counts l.0 0) ≡ false =
+    elim (cases_Bool (eqb (get_or counts l.1 0) (get_or counts l.0 0))) [ inl t ↦ absurd (omega (arith, eqb-true _ _ t, e)) | inr f ↦ f ] in
     inr (rw (off, eq-eqb _ _ e) refl, e)
 
-pub count-links_at : (links : List (ℕ × ℕ)) (counts : List ℕ) (u v : ℕ) → All (IsKept counts) links → count_by (is_between u v) (links_at links counts) ≡ count_by (is_between u v) links
+pub count-links_at : (links : List (ℕ × ℕ)) (counts : List ℕ) (u v : ℕ) → All (IsKept counts) links
+    → count_by (is_between u v) (links_at links counts) ≡ count_by (is_between u v) links
 count-links_at [] counts u v all = refl
 count-links_at (l ∷ ls) counts u v all =
     let f : ℕ × ℕ → ℕ = λ y. weigh (is_between u v y) in
@@ -56,12 +61,18 @@ net_turned n links counts all net = record {
       ];
   single = λ k d l.
       let x = get_or (links_at links counts) k d in
-      omega (arith, count-links_at links counts x.0 x.1 all, not_twice links x.0 x.1 net.single, one_passes (is_between x.0 x.1) (links_at links counts) k d l (is_between_itself x));
+      omega (
+        arith,
+        count-links_at links counts x.0 x.1 all,
+        not_twice links x.0 x.1 net.single,
+        one_passes (is_between x.0 x.1) (links_at links counts) k d l (is_between_itself x),
+      );
   acyclic = links_at_acyclic links counts net.acyclic;
 }
 
 -- and so a network can be made of them
-pub turned_faultless : (n : ℕ) (links : List (ℕ × ℕ)) (counts : List ℕ) → All (IsKept counts) links → IsFaultless n links → IsFaultless n (links_at links counts)
+pub turned_faultless : (n : ℕ) (links : List (ℕ × ℕ)) (counts : List ℕ) → All (IsKept counts) links → IsFaultless n links
+    → IsFaultless n (links_at links counts)
 turned_faultless n links counts all f = record {
   limits = record { nodes_few = f.limits.nodes_few; links_few = omega (arith, length-links_at links counts all, f.limits.links_few) };
   some = f.some;

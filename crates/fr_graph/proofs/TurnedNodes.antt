@@ -1,5 +1,7 @@
 -- The list of the nodes that have turned, as it is made and as turns are added.
-use Rattle.std.proofs.Common.{All, Contains, List, [], ap, arith, eq-eqb, eqb, get_or, get_or-set_other, get_or-set_same, inl, inr, length, length-set, map, ne_eqb, refl, replicate, set, subst, suc, sum, sum_by, sym, ℕ, ◌++◌, ◌*◌, ◌+◌, ◌<◌, ◌∙◌, ◌∷◌, ◌≡◌, ◌≤◌, ◌↔◌}
+use Rattle.std.proofs.Common.{All, Contains, List, [], ap, arith, eq-eqb, eqb, get_or, get_or-set_other, get_or-set_same, inl, inr, length}
+use Rattle.std.proofs.Common.{length-set, map, ne_eqb, refl, replicate, set, subst, suc, sum, sum_by, sym, ℕ, ◌++◌, ◌*◌, ◌+◌, ◌<◌, ◌∙◌, ◌∷◌, ◌≡◌, ◌≤◌}
+use Rattle.std.proofs.Common.{◌↔◌}
 use Rattle.std.proofs.lemmas.Bool.{cases_Bool, cases_eq, cases_lt, cond-false, cond-true, false≢true}
 use Rattle.std.proofs.lemmas.List.{ext_get_or, get_or-map, get_or-replicate, get_or_default, get_or_past, length-map, length-replicate, length_push}
 use Rattle.std.proofs.lemmas.List.Elements.{Contains-append_left, Contains-get_or, Contains-push, Contains-push_cases}
@@ -39,18 +41,21 @@ one_listed counts x list turned listed z = (
 pub none_listed : (counts : List ℕ) (x : ℕ) (list : List ℕ) → get_or counts x 0 ≡ 0 → AreListed counts x list → AreListed counts (x + 1) list
 none_listed counts x list none listed z = (
   λ stands. let at = (listed z).0 stands in (omega (arith, at.0), at.1),
-  λ (below, some). (listed z).1 (elim (cases_eq z x) [ inl it ↦ absurd (omega (arith, some, none, ap (λ (w : ℕ). get_or counts w 0) it)) | inr apart ↦ (omega (arith, below, apart), some) ]),
+  λ (below, some). (listed z).1 (elim (cases_eq z x)
+      [ inl it ↦ absurd (omega (arith, some, none, ap (λ (w : ℕ). get_or counts w 0) it)) | inr apart ↦ (omega (arith, below, apart), some) ]),
 )
 
 pub all_listed : (counts : List ℕ) (x : ℕ) (list : List ℕ) → length counts ≤ x → AreListed counts x list → (z : ℕ) → Contains list z ↔ (0 < get_or counts z 0)
 all_listed counts x list all listed z = (λ stands. ((listed z).0 stands).1, λ turned. (listed z).1 (omega (arith, turned_inside counts z turned, all), turned))
 
 -- counts that are set at the nodes that have turned
-pub each_set : (counts after nodes : List ℕ) (count : ℕ) → AreTurned counts nodes → length after ≡ length counts → AreSet nodes count counts after → after ≡ map (set_to count) counts
+pub each_set : (counts after nodes : List ℕ) (count : ℕ) → AreTurned counts nodes → length after ≡ length counts
+    → AreSet nodes count counts after → after ≡ map (set_to count) counts
 each_set counts after nodes count listed same set =
     ext_get_or 0 after (map (set_to count) counts) (same ∙ sym (length-map counts (set_to count)))
     (λ x inside.
-    let here : get_or (map (set_to count) counts) x 0 ≡ set_to count (get_or counts x 0) = get_or-map (set_to count) counts x 0 0 (omega (arith, inside, same)) in
+    let here : get_or (map (set_to count) counts) x 0 ≡ set_to count (get_or counts x 0) =
+    get_or-map (set_to count) counts x 0 0 (omega (arith, inside, same)) in
     elim (cases_eq (get_or counts x 0) 0) [
       | inl none ↦
           let out : ¬ Contains nodes x = λ h. absurd (omega (arith, none, (listed.each x).0 h)) in
@@ -70,7 +75,8 @@ still_turned counts nodes count some listed = record {
   each = λ x. (
     λ h.
         let turned = (listed.each x).0 h in
-        let here : get_or (map (set_to count) counts) x 0 ≡ set_to count (get_or counts x 0) = get_or-map (set_to count) counts x 0 0 (turned_inside counts x turned) in
+        let here : get_or (map (set_to count) counts) x 0 ≡ set_to count (get_or counts x 0) =
+        get_or-map (set_to count) counts x 0 0 (turned_inside counts x turned) in
         omega (arith, here, some, cond-false (eqb (get_or counts x 0) 0) 0 count (ne_eqb _ _ (λ none. omega (arith, none, turned)))),
     λ turned. elim (cases_eq (get_or counts x 0) 0) [
       | inr before ↦ (listed.each x).1 (omega (arith, before))
@@ -86,7 +92,9 @@ still_turned counts nodes count some listed = record {
 sum_by-alike : (f g : ℕ → ℕ) (xs : List ℕ) → ((x : ℕ) → Contains xs x → f x ≡ g x) → sum_by f xs ≡ sum_by g xs
 sum_by-alike f g [] same = refl
 sum_by-alike f g (x ∷ xs) same =
-    sum_by-cons f x xs ∙ sym (sum_by-cons g x xs ∙ ap (λ (n : ℕ). g x + n) (sym (sum_by-alike f g xs (λ y h. same y (Contains-tail y x xs h)))) ∙ ap (λ (n : ℕ). n + sum_by f xs) (sym (same x (Contains-head x xs))))
+    sum_by-cons f x xs ∙ sym (sum_by-cons g x xs
+    ∙ ap (λ (n : ℕ). g x + n) (sym (sum_by-alike f g xs (λ y h. same y (Contains-tail y x xs h))))
+    ∙ ap (λ (n : ℕ). n + sum_by f xs) (sym (same x (Contains-head x xs))))
 
 -- the turns of the nodes that have turned are all there are
 pub sum_listed : (nodes counts : List ℕ) → AreTurned counts nodes → sum_by (λ x. get_or counts x 0) nodes ≡ sum counts
@@ -143,11 +151,16 @@ turned_below counts nodes listed k d l = let z = get_or nodes k d in turned_insi
 pub no_more : (counts nodes : List ℕ) → AreTurned counts nodes → length nodes ≤ length counts
 no_more counts nodes listed =
     length-le_from_distinct_below nodes (length counts)
-    (IsDistinct-from_apart eqb nodes (λ i j d lt l. ne_eqb _ _ (λ same. listed.once i j lt l (sym (get_or_default nodes i d 0 (omega (arith, lt, l))) ∙ same ∙ get_or_default nodes j d 0 l))))
-    (λ q found. turned_inside counts q ((listed.each q).0 (Contains-from_any {eq = eqb} (λ x y same. elim (cases_eq x y) [ inl it ↦ it | inr apart ↦ absurd (false≢true (sym (ne_eqb x y apart) ∙ same)) ]) q nodes found)))
+    (IsDistinct-from_apart eqb nodes
+    (λ i j d lt l. ne_eqb _ _ (λ same. listed.once i j lt l (sym (get_or_default nodes i d 0 (omega (arith, lt, l)))
+    ∙ same ∙ get_or_default nodes j d 0 l))))
+    (λ q found. turned_inside counts q
+    ((listed.each q).0 (Contains-from_any {eq = eqb}
+    (λ x y same. elim (cases_eq x y) [ inl it ↦ it | inr apart ↦ absurd (false≢true (sym (ne_eqb x y apart) ∙ same)) ]) q nodes found)))
 
 -- a node that has not turned yet makes a turn
-pub first_turn : (counts nodes : List ℕ) (x count : ℕ) → AreTurned counts nodes → x < length counts → get_or counts x 0 ≡ 0 → 0 < count → AreTurned (set counts x count) (nodes ++ x ∷ [])
+pub first_turn : (counts nodes : List ℕ) (x count : ℕ) → AreTurned counts nodes → x < length counts → get_or counts x 0 ≡ 0
+    → 0 < count → AreTurned (set counts x count) (nodes ++ x ∷ [])
 first_turn counts nodes x count listed inside none some =
     let here : get_or (set counts x count) x 0 ≡ count = get_or-set_same counts x count 0 inside in
     record {
@@ -166,7 +179,8 @@ first_turn counts nodes x count listed inside none some =
     }
 
 -- a node that has turned makes another turn
-pub further_turn : (counts nodes : List ℕ) (x count : ℕ) → AreTurned counts nodes → x < length counts → 0 < get_or counts x 0 → 0 < count → AreTurned (set counts x count) nodes
+pub further_turn : (counts nodes : List ℕ) (x count : ℕ) → AreTurned counts nodes → x < length counts
+    → 0 < get_or counts x 0 → 0 < count → AreTurned (set counts x count) nodes
 further_turn counts nodes x count listed inside turned some =
     let here : get_or (set counts x count) x 0 ≡ count = get_or-set_same counts x count 0 inside in
     record {
@@ -186,7 +200,8 @@ place_left counts nodes x listed inside none =
     omega (arith, few, length_push nodes x, length-set counts x 1)
 
 -- how often one of them turned at most is so for all nodes
-pub most_of_all : (counts nodes : List ℕ) (most : ℕ) → AreTurned counts nodes → ((x : ℕ) → Contains nodes x → get_or counts x 0 ≤ most) → (x : ℕ) → get_or counts x 0 ≤ most
+pub most_of_all : (counts nodes : List ℕ) (most : ℕ) → AreTurned counts nodes
+    → ((x : ℕ) → Contains nodes x → get_or counts x 0 ≤ most) → (x : ℕ) → get_or counts x 0 ≤ most
 most_of_all counts nodes most listed bound x = elim (cases_eq (get_or counts x 0) 0) [
   | inl none ↦ omega (arith, none)
   | inr some ↦ bound x ((listed.each x).1 (omega (arith, some)))

@@ -1,5 +1,6 @@
 -- The rows of links as counts turn them, and the links that rows show.
-use Rattle.std.proofs.Common.{Bool, Contains, List, None, Some, [], All, ap, arith, count_by, eq-eqb, eqb, false, get_or, inl, inr, map, ne_eqb, option_map, option_to_list, refl, subst, suc, sym, true, zero, ℕ, ⊎_elim, ◌&&◌, ◌+◌, ◌<◌, ◌||◌, ◌∙◌, ◌∷◌, ◌≡◌, ◌≤◌, ◌⊎◌}
+use Rattle.std.proofs.Common.{Bool, Contains, List, None, Some, [], All, ap, arith, count_by, eq-eqb, eqb, false, get_or, inl, inr, map, ne_eqb}
+use Rattle.std.proofs.Common.{option_map, option_to_list, refl, subst, suc, sym, true, zero, ℕ, ⊎_elim, ◌&&◌, ◌+◌, ◌<◌, ◌||◌, ◌∙◌, ◌∷◌, ◌≡◌, ◌≤◌, ◌⊎◌}
 use Rattle.std.proofs.lemmas.Bool.{cases_Bool, cases_lt, cond-false, cond-true}
 use Rattle.std.proofs.lemmas.List.{map-append}
 use Rattle.std.proofs.lemmas.List.Elements.{All-contains}
@@ -7,7 +8,8 @@ use Rattle.std.proofs.lemmas.List.Sums.{sum_by-cons}
 use Rattle.fr_graph.proofs.Counting.{weigh}
 use Rattle.fr_graph.proofs.Giving.{Points-links_at_from, Points-links_at_same, Points-links_at_turned, filter_map-Contains, filter_map-from}
 use Rattle.fr_graph.proofs.Linking.{link_below, not_twice, one_way}
-use Rattle.fr_graph.proofs.Neighbours.{Points-has_link, Rises, has_link_true, out_of_row, rises_head, rises_tail, row_entry_in, row_entry_out, row_of_out, row_rises}
+use Rattle.fr_graph.proofs.Neighbours.{Points-has_link, Rises, has_link_true, out_of_row, rises_head, rises_tail, row_entry_in, row_entry_out}
+use Rattle.fr_graph.proofs.Neighbours.{row_of_out, row_rises}
 use Rattle.fr_graph.proofs.Ordering.{contains_counted, in_order_order, is_pair, one_counted, pair_from, same_order, times, times-cons, times-in_order}
 use Rattle.fr_graph.proofs.RowLists.{from_rows, into_rows, sorted_rows}
 use Rattle.fr_graph.proofs.Sorting.{IsSorted, sorted-filter_map, sorted_at}
@@ -50,14 +52,16 @@ turned_same counts x w f e = cond-true _ _ _ (eq-eqb _ _ e)
 turned_other : (counts : List ℕ) (x w : ℕ) (f : First) → ¬ (get_or counts w 0 ≡ get_or counts x 0) → turned_entry counts x (w, f) ≡ entry w (opposite f)
 turned_other counts x w f e = cond-false _ _ _ (ne_eqb _ _ e)
 
-turned_out : (n : ℕ) (links : List (ℕ × ℕ)) (c : List ℕ) (x w : ℕ) → IsNet n (links_at links c) → Points links x w → IsKept c (x, w) → row_entry (links_at links c) x w ≡ Some (turned_entry c x (w, Outward))
+turned_out : (n : ℕ) (links : List (ℕ × ℕ)) (c : List ℕ) (x w : ℕ) → IsNet n (links_at links c) → Points links x w
+    → IsKept c (x, w) → row_entry (links_at links c) x w ≡ Some (turned_entry c x (w, Outward))
 turned_out n links c x w net p (inl e) =
     row_entry_out (links_at links c) x w (Points-links_at_same links c x w p e) ∙ ap (λ (y : ℕ × First). Some y) (sym (turned_same c x w Outward e))
 turned_out n links c x w net p (inr e) =
     row_entry_in (links_at links c) x w (one_way (links_at links c) net.no_self net.single) (Points-links_at_turned links c w x p e)
     ∙ ap (λ (y : ℕ × First). Some y) (sym (turned_other c x w Outward (λ same. omega (arith, same, e))))
 
-turned_in : (n : ℕ) (links : List (ℕ × ℕ)) (c : List ℕ) (x w : ℕ) → IsNet n (links_at links c) → Points links w x → IsKept c (w, x) → row_entry (links_at links c) x w ≡ Some (turned_entry c x (w, Inward))
+turned_in : (n : ℕ) (links : List (ℕ × ℕ)) (c : List ℕ) (x w : ℕ) → IsNet n (links_at links c) → Points links w x
+    → IsKept c (w, x) → row_entry (links_at links c) x w ≡ Some (turned_entry c x (w, Inward))
 turned_in n links c x w net p (inl e) =
     row_entry_in (links_at links c) x w (one_way (links_at links c) net.no_self net.single) (Points-links_at_same links c w x p e)
     ∙ ap (λ (y : ℕ × First). Some y) (sym (turned_same c x w Inward (sym e)))
@@ -65,7 +69,8 @@ turned_in n links c x w net p (inr e) =
     row_entry_out (links_at links c) x w (Points-links_at_turned links c x w p e)
     ∙ ap (λ (y : ℕ × First). Some y) (sym (turned_other c x w Inward (λ same. omega (arith, same, e))))
 
-row_entry_turned : (n : ℕ) (links : List (ℕ × ℕ)) (c : List ℕ) (x w : ℕ) → All (IsKept c) links → IsNet n links → IsNet n (links_at links c) → row_entry (links_at links c) x w ≡ option_map (turned_entry c x) (row_entry links x w)
+row_entry_turned : (n : ℕ) (links : List (ℕ × ℕ)) (c : List ℕ) (x w : ℕ) → All (IsKept c) links → IsNet n links
+    → IsNet n (links_at links c) → row_entry (links_at links c) x w ≡ option_map (turned_entry c x) (row_entry links x w)
 row_entry_turned n links c x w kept net after =
     elim (cases_Bool (has_link links x w)) [
       | inl out ↦
@@ -85,7 +90,8 @@ row_entry_turned n links c x w kept net after =
       ]
     ]
 
-row_turned_by : (n k : ℕ) (links : List (ℕ × ℕ)) (c : List ℕ) (x : ℕ) → All (IsKept c) links → IsNet n links → IsNet n (links_at links c) → row k (links_at links c) x ≡ map (turned_entry c x) (row k links x)
+row_turned_by : (n k : ℕ) (links : List (ℕ × ℕ)) (c : List ℕ) (x : ℕ) → All (IsKept c) links → IsNet n links
+    → IsNet n (links_at links c) → row k (links_at links c) x ≡ map (turned_entry c x) (row k links x)
 row_turned_by n zero links c x kept net after = refl
 row_turned_by n (suc w) links c x kept net after =
     rw (
@@ -96,7 +102,8 @@ row_turned_by n (suc w) links c x kept net after =
     ) refl
 
 -- the row of a node once links have turned
-pub row_turned : (n : ℕ) (links : List (ℕ × ℕ)) (c : List ℕ) (x : ℕ) → All (IsKept c) links → IsNet n links → row n (links_at links c) x ≡ map (turned_entry c x) (row n links x)
+pub row_turned : (n : ℕ) (links : List (ℕ × ℕ)) (c : List ℕ) (x : ℕ) → All (IsKept c) links → IsNet n links
+    → row n (links_at links c) x ≡ map (turned_entry c x) (row n links x)
 row_turned n links c x kept net = row_turned_by n n links c x kept net (net_turned n links c kept net)
 
 -- links in strictly rising order stand once each
@@ -132,7 +139,8 @@ times-le-between (l ∷ ls) x =
 pub single_once : (links : List (ℕ × ℕ)) (x : ℕ × ℕ) → AreSingle links → times links x ≤ 1
 single_once links x single = omega (arith, times-le-between links x, not_twice links x.0 x.1 single)
 
-same_times : (a b : List (ℕ × ℕ)) (x : ℕ × ℕ) → times a x ≤ 1 → times b x ≤ 1 → (Contains a x → Contains b x) → (Contains b x → Contains a x) → times a x ≡ times b x
+same_times : (a b : List (ℕ × ℕ)) (x : ℕ × ℕ) → times a x ≤ 1 → times b x ≤ 1 → (Contains a x → Contains b x)
+    → (Contains b x → Contains a x) → times a x ≡ times b x
 same_times a b x one two to from =
     elim (cases_le_none (times a x)) [
       | inl none ↦ elim (cases_le_none (times b x)) [
@@ -143,7 +151,8 @@ same_times a b x one two to from =
     ]
 
 -- links in strictly rising order are those of a network with the same links, in order
-pub rising_links : (rising links : List (ℕ × ℕ)) → IsSorted IsBefore rising → AreSingle links → ((x : ℕ × ℕ) → Contains rising x → Contains links x) → ((x : ℕ × ℕ) → Contains links x → Contains rising x) → rising ≡ in_order links
+pub rising_links : (rising links : List (ℕ × ℕ)) → IsSorted IsBefore rising → AreSingle links
+    → ((x : ℕ × ℕ) → Contains rising x → Contains links x) → ((x : ℕ × ℕ) → Contains links x → Contains rising x) → rising ≡ in_order links
 rising_links rising links s single to from =
     same_order rising (in_order links) (rising_in_order rising s) (in_order_order links)
     (λ x. same_times rising links x (rising_once rising x s) (single_once links x single) (to x) (from x) ∙ sym (times-in_order links x))

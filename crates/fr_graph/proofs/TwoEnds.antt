@@ -1,5 +1,6 @@
 -- The steps of the search for a way from both ends keep its state, and where a side has nothing left to read, they show that none leads.
-use Rattle.std.proofs.Common.{Contains, List, [], ap, arith, get_or, inl, inr, length, replicate, set, slice_index, sym, ℕ, ◌+◌, ◌<◌, ◌∙◌, ◌∷◌, ◌≡◌, ◌≢◌, ◌≤◌, ◌⊎◌}
+use Rattle.std.proofs.Common.{Contains, List, [], ap, arith, get_or, inl, inr, length, replicate, set, slice_index, sym, ℕ, ◌+◌, ◌<◌, ◌∙◌, ◌∷◌, ◌≡◌}
+use Rattle.std.proofs.Common.{◌≢◌, ◌≤◌, ◌⊎◌}
 use Rattle.std.proofs.lemmas.Bool.{cases_lt}
 use Rattle.std.proofs.lemmas.List.{get_or_default, get_or_past, get_or-replicate, get_or-set_other, get_or-set_same, length-replicate, length-set}
 use Rattle.std.proofs.lemmas.List.Elements.{Contains-push_cases}
@@ -8,7 +9,8 @@ use Rattle.fr_graph.proofs.Acyclic.{path_falls}
 use Rattle.fr_graph.proofs.AddedLinks.{added}
 use Rattle.fr_graph.specs.Heights.{AreFalling, FitBetween}
 use Rattle.fr_graph.specs.Links.{HasPath, IsPath, Points, end_of}
-use Rattle.fr_graph.specs.PathSearch.{HasBegun, HasMet, IsBeyond, IsMeeting, IsPast, IsSide, IsPathAnswer, LeadsOn, MeetAlong, is_never, link_by, met_of, never_count, answer_of_ended}
+use Rattle.fr_graph.specs.PathSearch.{HasBegun, HasMet, IsBeyond, IsMeeting, IsPast, IsSide, IsPathAnswer, LeadsOn, MeetAlong, is_never, link_by}
+use Rattle.fr_graph.specs.PathSearch.{met_of, never_count, answer_of_ended}
 use Rattle.fr_graph.specs.Network.{Network}
 use Rattle.fr_graph.specs.RowLists.{opposite}
 use Rattle.fr_graph.specs.declared.path_search.Meeting.{Meeting}
@@ -21,7 +23,9 @@ use Rattle.fr_graph.proofs.MetNodes.{sides_apart, met_set, fewer_never}
 use Rattle.fr_graph.proofs.Sides.{side_begins, start_met, listed_met, near_met, met_below}
 
 -- where links lead from nodes with P to nodes with P only, but for heads below the limit, so do paths that end no lower
-path_ahead : (heights : List ℕ) (links : List (ℕ × ℕ)) (limit : ℕ) (P : ℕ → Type 0) → AreFalling heights links → ((u v : ℕ) → P u → Points links u v → P v ⊎ (slice_index heights v < limit)) → (u : ℕ) (vs : List ℕ) → IsPath links u vs → limit ≤ slice_index heights (end_of u vs) → P u → P (end_of u vs)
+path_ahead : (heights : List ℕ) (links : List (ℕ × ℕ)) (limit : ℕ) (P : ℕ → Type 0) → AreFalling heights links
+    → ((u v : ℕ) → P u → Points links u v → P v ⊎ (slice_index heights v < limit)) → (u : ℕ) (vs : List ℕ)
+    → IsPath links u vs → limit ≤ slice_index heights (end_of u vs) → P u → P (end_of u vs)
 path_ahead heights links limit P falling on u [] path high here = here
 path_ahead heights links limit P falling on u (v ∷ vs) path high here =
     elim (on u v here path.0) [
@@ -30,22 +34,29 @@ path_ahead heights links limit P falling on u (v ∷ vs) path high here =
     ]
 
 -- and so backward, but for tails above the limit, along paths that begin no higher
-path_behind : (heights : List ℕ) (links : List (ℕ × ℕ)) (limit : ℕ) (P : ℕ → Type 0) → AreFalling heights links → ((u v : ℕ) → P v → Points links u v → P u ⊎ (limit < slice_index heights u)) → (u : ℕ) (vs : List ℕ) → IsPath links u vs → slice_index heights u ≤ limit → P (end_of u vs) → P u
+path_behind : (heights : List ℕ) (links : List (ℕ × ℕ)) (limit : ℕ) (P : ℕ → Type 0) → AreFalling heights links
+    → ((u v : ℕ) → P v → Points links u v → P u ⊎ (limit < slice_index heights u)) → (u : ℕ) (vs : List ℕ)
+    → IsPath links u vs → slice_index heights u ≤ limit → P (end_of u vs) → P u
 path_behind heights links limit P falling on u [] path low there = there
 path_behind heights links limit P falling on u (v ∷ vs) path low there =
-    elim (on u v (path_behind heights links limit P falling on v vs path.1 (omega (arith, falling u v path.0)) there) path.0) [ inl here ↦ here | inr high ↦ absurd (omega arith) ]
+    elim (on u v (path_behind heights links limit P falling on v vs path.1 (omega (arith, falling u v path.0)) there)
+    path.0) [ inl here ↦ here | inr high ↦ absurd (omega arith) ]
 
 -- a side has not met the start of the other
-start_unmet : {net : Network} {heights : List ℕ} {f : First} {a b low high : ℕ} {met : List Met} {side other : Side} → IsSide net heights f a low met side → IsSide net heights (opposite f) b high met other → ¬ HasMet f met b
+start_unmet : {net : Network} {heights : List ℕ} {f : First} {a b low high : ℕ} {met : List Met} {side other : Side}
+    → IsSide net heights f a low met side → IsSide net heights (opposite f) b high met other → ¬ HasMet f met b
 start_unmet {net} {heights} {f} s o h = sides_apart f (sym h ∙ start_met o)
 
 -- a side leads on from one of its nodes to one of the other
-pub meet_along : (f : First) (links : List (ℕ × ℕ)) (met : List Met) (x w : ℕ) → HasMet f met x → HasMet (opposite f) met w → LeadsOn f links x w → MeetAlong links met (link_by f x w)
+pub meet_along : (f : First) (links : List (ℕ × ℕ)) (met : List Met) (x w : ℕ) → HasMet f met x → HasMet (opposite f) met w
+    → LeadsOn f links x w → MeetAlong links met (link_by f x w)
 meet_along Outward links met x w own other step = record { tail = own; head = other; points = step }
 meet_along Inward links met x w own other step = record { tail = other; head = own; points = step }
 
 -- so both sides tell where they met
-pub sides_meet : {net : Network} {heights : List ℕ} {from to low high : ℕ} {met : List Met} (meeting : Meeting) → IsSide net heights Outward from low met meeting.ahead → IsSide net heights Inward to high met meeting.behind → MeetAlong net.links met meeting.link → IsMeeting net.links from to meeting
+pub sides_meet : {net : Network} {heights : List ℕ} {from to low high : ℕ} {met : List Met} (meeting : Meeting)
+    → IsSide net heights Outward from low met meeting.ahead → IsSide net heights Inward to high met meeting.behind
+    → MeetAlong net.links met meeting.link → IsMeeting net.links from to meeting
 sides_meet meeting ahead behind along = record {
   ahead = ahead.came;
   behind = behind.came;
@@ -57,7 +68,9 @@ sides_meet meeting ahead behind along = record {
 }
 
 -- where a side has read all rows of its nodes, links lead on to nodes that it has met or that lie past its edge
-side_closed : {net : Network} {heights : List ℕ} {f : First} {start limit : ℕ} {met : List Met} {side : Side} (x w : ℕ) → IsSide net heights f start limit met side → length side.nodes.items ≤ side.read → HasMet f met x → LeadsOn f net.links x w → HasMet f met w ⊎ (IsBeyond f limit (slice_index heights w) × IsPast f side.edge (slice_index heights w))
+side_closed : {net : Network} {heights : List ℕ} {f : First} {start limit : ℕ} {met : List Met} {side : Side} (x w : ℕ)
+    → IsSide net heights f start limit met side → length side.nodes.items ≤ side.read → HasMet f met x
+    → LeadsOn f net.links x w → HasMet f met w ⊎ (IsBeyond f limit (slice_index heights w) × IsPast f side.edge (slice_index heights w))
 side_closed {net} {heights} {f} {start} {limit} {met} {side} x w s all h step =
     let at = s.listed x h in
     let is : get_or side.nodes.items at.0 0 ≡ x = get_or_default side.nodes.items at.0 0 x at.1 ∙ at.2 in
@@ -68,20 +81,27 @@ side_closed {net} {heights} {f} {start} {limit} {met} {side} x w s all h step =
 
 -- the links with one back fall outside and within a side that has met one of its ends alone
 points_added : (links : List (ℕ × ℕ)) (a b u v : ℕ) → Points (added links a b) u v → Points links u v ⊎ ((u ≡ a) × (v ≡ b))
-points_added links a b u v p = elim (Contains-push_cases links (a, b) (u, v) p) [ inl old ↦ inl old | inr e ↦ inr (ap (λ (l : ℕ × ℕ). l.0) (sym e), ap (λ (l : ℕ × ℕ). l.1) (sym e)) ]
+points_added links a b u v p =
+    elim (Contains-push_cases links (a, b) (u, v) p) [ inl old ↦ inl old | inr e ↦ inr (ap (λ (l : ℕ × ℕ). l.0) (sym e), ap (λ (l : ℕ × ℕ). l.1) (sym e)) ]
 
-old_falls : (heights : List ℕ) (links : List (ℕ × ℕ)) (a b u v : ℕ) → AreFalling heights links → Points (added links a b) u v → ¬ ((u ≡ a) × (v ≡ b)) → slice_index heights v < slice_index heights u
+old_falls : (heights : List ℕ) (links : List (ℕ × ℕ)) (a b u v : ℕ) → AreFalling heights links
+    → Points (added links a b) u v → ¬ ((u ≡ a) × (v ≡ b)) → slice_index heights v < slice_index heights u
 old_falls heights links a b u v falling p old = elim (points_added links a b u v p) [ inl step ↦ falling u v step | inr new ↦ absurd (old new) ]
 
 -- so it is decided whether links lead from the one node to the other, once a side has read all rows of its nodes
-pub ended_ahead : {net : Network} {heights : List ℕ} {from to : ℕ} {met : List Met} {ahead behind : Side} → AreFalling heights net.links → IsSide net heights Outward from (slice_index heights to) met ahead → IsSide net heights Inward to (slice_index heights from) met behind → length ahead.nodes.items ≤ ahead.read → IsPathAnswer net heights from to (answer_of_ended ahead)
+pub ended_ahead : {net : Network} {heights : List ℕ} {from to : ℕ} {met : List Met} {ahead behind : Side}
+    → AreFalling heights net.links → IsSide net heights Outward from (slice_index heights to) met ahead
+    → IsSide net heights Inward to (slice_index heights from) met behind → length ahead.nodes.items ≤ ahead.read
+    → IsPathAnswer net heights from to (answer_of_ended ahead)
 ended_ahead {net} {heights} {from} {to} {met} {ahead} {behind} falling s o all =
     let links = net.links in
     let here : Contains ahead.nodes.items from = s.listed from (start_met s) in
     let there : ¬ Contains ahead.nodes.items to = λ h. start_unmet s o (listed_met to s h) in
     let none : ¬ HasPath links from to = λ way.
-    let on : (u v : ℕ) → HasMet Outward met u → Points links u v → HasMet Outward met v ⊎ (slice_index heights v < slice_index heights to) = λ u v h step. elim (side_closed u v s all h step) [ inl h ↦ inl h | inr past ↦ inr past.0 ] in
-    let reached = path_ahead heights links (slice_index heights to) (HasMet Outward met) falling on from way.0 way.1.0 (rw way.1.1 (omega arith)) (start_met s) in
+    let on : (u v : ℕ) → HasMet Outward met u → Points links u v → HasMet Outward met v
+    ⊎ (slice_index heights v < slice_index heights to) = λ u v h step. elim (side_closed u v s all h step) [ inl h ↦ inl h | inr past ↦ inr past.0 ] in
+    let reached = path_ahead heights links (slice_index heights to) (HasMet Outward met) falling on from way.0 way.1.0
+    (rw way.1.1 (omega arith)) (start_met s) in
     start_unmet s o (rw way.1.1 at reached) in
     let fit : FitBetween (added links to from) heights ahead.nodes.items ahead.edge (slice_index heights to) = record {
       into = λ u v p out inside. elim (points_added links to from u v p) [
@@ -98,14 +118,19 @@ ended_ahead {net} {heights} {from} {to} {met} {ahead} {behind} falling s o all =
     let first_is = s.first_is in
     rw (first_is, s.limit_is) (none, (λ k d l. met_below _ s (s.all_met k d l), fit))
 
-pub ended_behind : {net : Network} {heights : List ℕ} {from to : ℕ} {met : List Met} {ahead behind : Side} → AreFalling heights net.links → IsSide net heights Outward from (slice_index heights to) met ahead → IsSide net heights Inward to (slice_index heights from) met behind → length behind.nodes.items ≤ behind.read → IsPathAnswer net heights from to (answer_of_ended behind)
+pub ended_behind : {net : Network} {heights : List ℕ} {from to : ℕ} {met : List Met} {ahead behind : Side}
+    → AreFalling heights net.links → IsSide net heights Outward from (slice_index heights to) met ahead
+    → IsSide net heights Inward to (slice_index heights from) met behind → length behind.nodes.items ≤ behind.read
+    → IsPathAnswer net heights from to (answer_of_ended behind)
 ended_behind {net} {heights} {from} {to} {met} {ahead} {behind} falling o s all =
     let links = net.links in
     let here : Contains behind.nodes.items to = s.listed to (start_met s) in
     let there : ¬ Contains behind.nodes.items from = λ h. start_unmet s o (listed_met from s h) in
     let none : ¬ HasPath links from to = λ way.
-    let on : (u v : ℕ) → HasMet Inward met v → Points links u v → HasMet Inward met u ⊎ (slice_index heights from < slice_index heights u) = λ u v h step. elim (side_closed v u s all h step) [ inl h ↦ inl h | inr past ↦ inr past.0 ] in
-    start_unmet s o (path_behind heights links (slice_index heights from) (HasMet Inward met) falling on from way.0 way.1.0 (omega arith) (rw way.1.1 (start_met s))) in
+    let on : (u v : ℕ) → HasMet Inward met v → Points links u v → HasMet Inward met u
+    ⊎ (slice_index heights from < slice_index heights u) = λ u v h step. elim (side_closed v u s all h step) [ inl h ↦ inl h | inr past ↦ inr past.0 ] in
+    start_unmet s o (path_behind heights links (slice_index heights from) (HasMet Inward met) falling on from way.0 way.1.0
+    (omega arith) (rw way.1.1 (start_met s))) in
     let fit : FitBetween (added links to from) heights behind.nodes.items (slice_index heights from) behind.edge = record {
       into = λ u v p out inside. elim (points_added links to from u v p) [
         | inl step ↦ elim (side_closed v u s all (listed_met v s inside) step) [ inl h ↦ absurd (out (s.listed u h)) | inr past ↦ past.1 ]
@@ -128,7 +153,12 @@ none_met n x =
       | inr g ↦ get_or_past (replicate n Never) x Never (omega (arith, length-replicate n Never))
     ]
 
-pub sides_begin : (net : Network) (heights : List ℕ) (from to : ℕ) (met : List Met) (ahead behind : Side) → from < net.nodes → to < net.nodes → from ≢ to → slice_index heights to ≤ slice_index heights from → met ≡ set (set (replicate net.nodes Never) from Forward) to Backward → HasBegun Outward from (slice_index heights to) net.nodes ahead → HasBegun Inward to (slice_index heights from) net.nodes behind → IsSide net heights Outward from (slice_index heights to) met ahead × IsSide net heights Inward to (slice_index heights from) met behind
+pub sides_begin : (net : Network) (heights : List ℕ) (from to : ℕ) (met : List Met) (ahead behind : Side) → from < net.nodes
+    → to < net.nodes → from ≢ to → slice_index heights to ≤ slice_index heights from
+    → met ≡ set (set (replicate net.nodes Never) from Forward) to Backward
+    → HasBegun Outward from (slice_index heights to) net.nodes ahead
+    → HasBegun Inward to (slice_index heights from) net.nodes behind
+    → IsSide net heights Outward from (slice_index heights to) met ahead × IsSide net heights Inward to (slice_index heights from) met behind
 sides_begin net heights from to met ahead behind from_below to_below apart no_higher met_is a b =
     let none : List Met = replicate net.nodes Never in
     let one : List Met = set none from Forward in
@@ -138,7 +168,15 @@ sides_begin net heights from to met ahead behind from_below to_below apart no_hi
     let l : from < length none = omega (arith, long) in
     let m : to < length one = omega (arith, one_long) in
     let to_fresh : met_of one to ≡ Never = get_or-set_other none from to Forward Never (λ e. apart (sym e)) ∙ none_met net.nodes to in
-    let few : never_count met + 1 ≤ net.nodes = rw met_is (omega (arith, long, count_by-le-length is_never none, fewer_never none from Outward l (none_met net.nodes from), fewer_never one to Inward m to_fresh)) in
+    let few : never_count met + 1 ≤ net.nodes =
+    rw met_is (omega (
+      arith,
+      long,
+      count_by-le-length is_never none,
+      fewer_never none from Outward l
+          (none_met net.nodes from),
+      fewer_never one to Inward m to_fresh,
+    )) in
     let from_met : met_of met from ≡ Forward = rw met_is (get_or-set_other one to from Backward Never apart ∙ get_or-set_same none from Forward Never l) in
     let to_met : met_of met to ≡ Backward = rw met_is (get_or-set_same one to Backward Never m) in
     let cases : (x : ℕ) → ((x ≡ to) × (met_of met x ≡ Backward)) ⊎ (((x ≡ from) × (met_of met x ≡ Forward)) ⊎ (met_of met x ≡ Never)) = λ x.
@@ -146,8 +184,10 @@ sides_begin net heights from to met ahead behind from_below to_below apart no_hi
       | inl w ↦ inl w
       | inr e ↦ elim (met_set none from x Forward l) [ inl v ↦ inr (inl (v.0, e ∙ v.1)) | inr q ↦ inr (inr (e ∙ q ∙ none_met net.nodes x)) ]
     ]) in
-    let from_alone : (x : ℕ) → met_of met x ≡ Forward → x ≡ from = λ x h. elim (cases x) [ inl w ↦ cc (w.1, h) | inr r ↦ elim r [ inl v ↦ v.0 | inr q ↦ cc (q, h) ] ] in
-    let to_alone : (x : ℕ) → met_of met x ≡ Backward → x ≡ to = λ x h. elim (cases x) [ inl w ↦ w.0 | inr r ↦ elim r [ inl v ↦ cc (v.1, h) | inr q ↦ cc (q, h) ] ] in (
+    let from_alone : (x : ℕ) → met_of met x ≡ Forward
+    → x ≡ from = λ x h. elim (cases x) [ inl w ↦ cc (w.1, h) | inr r ↦ elim r [ inl v ↦ v.0 | inr q ↦ cc (q, h) ] ] in
+    let to_alone : (x : ℕ) → met_of met x ≡ Backward
+    → x ≡ to = λ x h. elim (cases x) [ inl w ↦ w.0 | inr r ↦ elim r [ inl v ↦ cc (v.1, h) | inr q ↦ cc (q, h) ] ] in (
       side_begins net heights Outward from (slice_index heights to) met ahead met_long from_met from_alone few (λ l. omega arith) a,
       side_begins net heights Inward to (slice_index heights from) met behind met_long to_met to_alone few (λ l. omega arith) b,
     )

@@ -2,7 +2,8 @@
 use Rattle.std.proofs.Common.{IsPermutation, List, [], ap, arith, get_or, length, refl, subst, sym, ℕ, ⊎_elim, ◌++◌, ◌+◌, ◌<◌, ◌∙◌, ◌∷◌, ◌≡◌, ◌≤◌}
 use Rattle.std.proofs.lemmas.List.{append-nil, length_push}
 use Rattle.std.proofs.lemmas.List.Elements.{All-contains, Contains-push}
-use Rattle.std.proofs.lemmas.List.Sorted.{IsPermutation-middle, IsPermutation-refl, IsPermutation-remove, IsPermutation-sym, IsPermutation-trans, length_permutation}
+use Rattle.std.proofs.lemmas.List.Sorted.{IsPermutation-middle, IsPermutation-refl, IsPermutation-remove, IsPermutation-sym, IsPermutation-trans}
+use Rattle.std.proofs.lemmas.List.Sorted.{length_permutation}
 use Rattle.fr_graph.proofs.AddedLinks.{added, added_in_order}
 use Rattle.fr_graph.proofs.AddedRows.{ends_more}
 use Rattle.fr_graph.proofs.Building.{acyclic_listed}
@@ -26,7 +27,8 @@ use Rattle.fr_graph.specs.declared.graph.Done.TheVariants.{Put, Taken}
 use Rattle.fr_graph.specs.declared.graph.Graph.{Graph}
 
 -- a link taken out and put back
-back_permutes : (links : List (ℕ × ℕ)) (tail head : ℕ) → AreSingle links → Points links tail head → IsPermutation (added (without tail head links) tail head) links
+back_permutes : (links : List (ℕ × ℕ)) (tail head : ℕ) → AreSingle links → Points links tail head
+    → IsPermutation (added (without tail head links) tail head) links
 back_permutes links tail head single stands =
     let p : ℕ × ℕ = (tail, head) in
     let gone = without tail head links in
@@ -38,14 +40,16 @@ back_permutes links tail head single stands =
 
 pub cut_one : (links : List (ℕ × ℕ)) (tail head : ℕ) → AreSingle links → Points links tail head → length links ≡ length (without tail head links) + 1
 cut_one links tail head single stands =
-    length_permutation (added (without tail head links) tail head) links (back_permutes links tail head single stands) ∙ length_push (without tail head links) (tail, head)
+    length_permutation (added (without tail head links) tail head) links (back_permutes links tail head single stands)
+    ∙ length_push (without tail head links) (tail, head)
 
 taken_is : (net : Network) (tail head : ℕ) (after : Network) → IsDone net (Taken tail head) after → after ≡ with_links net.nodes (without tail head net.links)
 taken_is net tail head after done = done.step.1.is ∙ ap (with_links net.nodes) (sym (cut_in_order net.links tail head done.sorted))
 
 permuted : (net : Network) (tail head : ℕ) (after : Network) → IsDone net (Taken tail head) after → IsPermutation (added after.links tail head) net.links
 permuted net tail head after done =
-    subst (λ (m : Network). IsPermutation (added m.links tail head) net.links) (sym (taken_is net tail head after done)) (back_permutes net.links tail head done.faultless.is_net.single done.step.0)
+    subst (λ (m : Network). IsPermutation (added m.links tail head) net.links) (sym (taken_is net tail head after done))
+    (back_permutes net.links tail head done.faultless.is_net.single done.step.0)
 
 pub taken_one : (net : Network) (tail head : ℕ) (after : Network) → IsDone net (Taken tail head) after → length net.links ≡ length after.links + 1
 taken_one net tail head after done =
@@ -73,18 +77,22 @@ taken_can_be_put net tail head after done = record {
   acyclic = acyclic_listed (added after.links tail head) net.links (permuted net tail head after done) done.faultless.is_net.acyclic;
 }
 
-pub taken_back : (net : Network) (tail head : ℕ) (after back : Network) → IsDone net (Taken tail head) after → IsNetworkOf after.nodes (added after.links tail head) back → back ≡ net
+pub taken_back : (net : Network) (tail head : ℕ) (after back : Network) → IsDone net (Taken tail head) after
+    → IsNetworkOf after.nodes (added after.links tail head) back → back ≡ net
 taken_back net tail head after back done made =
     let nodes : after.nodes ≡ net.nodes = ap (λ (m : Network). m.nodes) (taken_is net tail head after done) in
-    let links : net.links ≡ in_order (added after.links tail head) = order_of_listed (added after.links tail head) net.links (permuted net tail head after done) done.sorted in
+    let links : net.links ≡ in_order (added after.links tail head) = order_of_listed (added after.links tail head) net.links
+    (permuted net tail head after done) done.sorted in
     made.is ∙ ap (λ (n : ℕ). with_links n (in_order (added after.links tail head))) nodes ∙ ap (with_links net.nodes) (sym links)
 
 -- a link put in and taken out
 pub put_stands : (net : Network) (tail head : ℕ) (after : Network) → IsDone net (Put tail head) after → Points after.links tail head
 put_stands net tail head after done =
-    subst (λ (m : Network). Points m.links tail head) (sym done.step.1.is) (into_order (added net.links tail head) (tail, head) (Contains-push net.links (tail, head)))
+    subst (λ (m : Network). Points m.links tail head) (sym done.step.1.is)
+    (into_order (added net.links tail head) (tail, head) (Contains-push net.links (tail, head)))
 
-pub put_back : (net : Network) (tail head : ℕ) (after back : Network) → IsDone net (Put tail head) after → IsNetworkOf after.nodes (without tail head after.links) back → back ≡ net
+pub put_back : (net : Network) (tail head : ℕ) (after back : Network) → IsDone net (Put tail head) after
+    → IsNetworkOf after.nodes (without tail head after.links) back → back ≡ net
 put_back net tail head after back done made =
     let is : after ≡ with_links net.nodes (in_order (added net.links tail head)) = done.step.1.is in
     let gone : without tail head after.links ≡ net.links =
@@ -97,7 +105,8 @@ put_back net tail head after back done made =
     ∙ ap (with_links net.nodes) (sym (order_of_listed net.links net.links (IsPermutation-refl net.links) done.sorted))
 
 -- one step more, and the last one
-pub more_done : (g : Graph) (net : Network) (done : List Done) (mid : Network) (last : Done) (after : Network) → AreDone g net done mid → HasRoomFor g mid → IsDone mid last after → AreDone g net (done ++ last ∷ []) after
+pub more_done : (g : Graph) (net : Network) (done : List Done) (mid : Network) (last : Done) (after : Network)
+    → AreDone g net done mid → HasRoomFor g mid → IsDone mid last after → AreDone g net (done ++ last ∷ []) after
 more_done g net [] mid last after steps room h =
     subst (λ (m : Network). AreDone g m (last ∷ []) after) steps (room, (after, (h, refl)))
 more_done g net (d ∷ ds) mid last after steps room h =
@@ -120,7 +129,8 @@ no_steps g net (d ∷ ds) after none steps = absurd (omega (arith, none))
 pub still_room : (before after : Graph) (net : Network) → KeepsRooms before.rows after.rows → HasRoomFor before net → HasRoomFor after net
 still_room before after net kept room = λ x less. omega (arith, room x less, kept x)
 
-pub still_done : (before after : Graph) (net : Network) (done : List Done) (end : Network) → KeepsRooms before.rows after.rows → AreDone before net done end → AreDone after net done end
+pub still_done : (before after : Graph) (net : Network) (done : List Done) (end : Network)
+    → KeepsRooms before.rows after.rows → AreDone before net done end → AreDone after net done end
 still_done before after net [] end kept steps = steps
 still_done before after net (d ∷ ds) end kept steps =
     (still_room before after net kept steps.0, (steps.1.0, (steps.1.1.0, still_done before after steps.1.0 ds end kept steps.1.1.1)))
@@ -130,7 +140,8 @@ pub own_room : (g : Graph) → IsGraph g → ((x : ℕ) → length (row_of g.row
 own_room g graph room = λ x less. omega (arith, room x, ap length (graph.rows.shown x less))
 
 -- a row as it was before its link was taken out
-row_before : (net : Network) (tail head : ℕ) (after : Network) (x : ℕ) → IsDone net (Taken tail head) after → row net.nodes net.links x ≡ row after.nodes (added after.links tail head) x
+row_before : (net : Network) (tail head : ℕ) (after : Network) (x : ℕ) → IsDone net (Taken tail head) after
+    → row net.nodes net.links x ≡ row after.nodes (added after.links tail head) x
 row_before net tail head after x done =
     let more = added after.links tail head in
     let nodes : after.nodes ≡ net.nodes = ap (λ (m : Network). m.nodes) (taken_is net tail head after done) in
@@ -145,8 +156,20 @@ taken_room net tail head g graph done room =
     let nodes : after.nodes ≡ net.nodes = ap (λ (m : Network). m.nodes) (taken_is net tail head after done) in
     let more = ends_more after.nodes after.links tail head free in
     record {
-      tail = omega (arith, more.0, ap length (row_before net tail head after tail done), room tail (omega (arith, nodes, free.tail)), ap length (graph.rows.shown tail free.tail));
-      head = omega (arith, more.1, ap length (row_before net tail head after head done), room head (omega (arith, nodes, free.head)), ap length (graph.rows.shown head free.head));
+      tail = omega (
+        arith,
+        more.0,
+        ap length (row_before net tail head after tail done),
+        room tail (omega (arith, nodes, free.tail)),
+        ap length (graph.rows.shown tail free.tail),
+      );
+      head = omega (
+        arith,
+        more.1,
+        ap length (row_before net tail head after head done),
+        room head (omega (arith, nodes, free.head)),
+        ap length (graph.rows.shown head free.head),
+      );
     }
 
 -- the same rooms are no less
@@ -160,10 +183,12 @@ pub record IsPut (before after : Graph) (tail head : ℕ) : Type 0 where
   pub rooms : KeepsRooms before.rows after.rows
   pub back : HasRoomFor after (shown before)
 
-pub put_with_room : (before mid after : Graph) (tail head : ℕ) → IsGraph before → IsSame before mid → ((x : ℕ) → length (row_of mid.rows x) ≤ room_of mid.rows x) → AreUnjoined before.nodes (shown before).links tail head
+pub put_with_room : (before mid after : Graph) (tail head : ℕ) → IsGraph before → IsSame before mid
+    → ((x : ℕ) → length (row_of mid.rows x) ≤ room_of mid.rows x) → AreUnjoined before.nodes (shown before).links tail head
     → after.rows.rooms ≡ mid.rows.rooms → IsNetworkOf mid.nodes (added (shown mid).links tail head) (shown after) → IsPut before after tail head
 put_with_room before mid after tail head graph same law free is made =
-    let here : IsNetworkOf before.nodes (added (shown before).links tail head) (shown after) = subst (λ (m : Network). IsNetworkOf m.nodes (added m.links tail head) (shown after)) same.same made in
+    let here : IsNetworkOf before.nodes (added (shown before).links tail head) (shown after) =
+    subst (λ (m : Network). IsNetworkOf m.nodes (added m.links tail head) (shown after)) same.same made in
     let kept = rooms_kept mid after is in
     record {
       by = record { faultless = graph.faultless; sorted = graph.sorted; step = (free, here) };

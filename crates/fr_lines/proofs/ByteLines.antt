@@ -1,5 +1,6 @@
 -- A line that is read by its bytes: from its lexemes to its request.
-use Rattle.std.proofs.Common.{Err, IsUtf8, List, Ok, Option, Some, [], ap, append_assoc, arith, codes, decimal, lt-ltb, map, ok_or, refl, sym, true, ℕ, ◌++◌, ◌≤◌, ◌∙◌, ◌∷◌, ◌≡◌}
+use Rattle.std.proofs.Common.{Err, IsUtf8, List, Ok, Option, Some, [], ap, append_assoc, arith, codes, decimal, lt-ltb, map, ok_or, refl, sym, true}
+use Rattle.std.proofs.Common.{ℕ, ◌++◌, ◌≤◌, ◌∙◌, ◌∷◌, ◌≡◌}
 use Rattle.std.proofs.lemmas.Bool.{false≢true}
 use Rattle.std.proofs.lemmas.List.{append-nil}
 use Rattle.std.proofs.lemmas.Str.{IsUtf8-nil}
@@ -14,8 +15,10 @@ use Rattle.serde_json.specs.Data.{Data, Items, array, item, no_items, no_members
 use Rattle.serde_json.specs.Read.{number_of, of_items, of_json}
 use Rattle.serde_json.specs.View.{items_of}
 use Rattle.fr_lines.specs.LineTokens.{value_alone}
-use Rattle.fr_lines.specs.LineLexemes.{AreNumbers, AreSmall, Begins, Each, HasSmallEnds, IsNumber, IsReadAs, IsSmall, edit_ends, edit_lexemes, letters, link_lexemes, list_lexemes, number_lexeme, number_lexemes, opening, plain_edit, word_of}
-use Rattle.fr_lines.specs.Requests.{ask, edit_in, edit_of_word, edits_in, item_list, link_in, links_in, make_edits, move_dest, new_network, number_in, read_all, reading, reading_of_value, request_of, request_of_word, walk_from}
+use Rattle.fr_lines.specs.LineLexemes.{AreNumbers, AreSmall, Begins, Each, HasSmallEnds, IsNumber, IsReadAs, IsSmall, edit_ends, edit_lexemes}
+use Rattle.fr_lines.specs.LineLexemes.{letters, link_lexemes, list_lexemes, number_lexeme, number_lexemes, opening, plain_edit, word_of}
+use Rattle.fr_lines.specs.Requests.{ask, edit_in, edit_of_word, edits_in, item_list, link_in, links_in, make_edits, move_dest, new_network, number_in}
+use Rattle.fr_lines.specs.Requests.{read_all, reading, reading_of_value, request_of, request_of_word, walk_from}
 use Rattle.fr_graph.specs.declared.edit.Edit.{Edit}
 use Rattle.fr_graph.specs.declared.edit.Edit.TheVariants.{Add, Cut, Join}
 use Rattle.fr_lines.specs.declared.requests.LineFault.TheVariants.{NotRequest}
@@ -36,7 +39,8 @@ each_before_comma of_one (x ∷ xs) = of_one x ++ comma ∷ each_before_comma of
 pub one_more_before_comma : {X : Type 0} (of_one : X → List Lexeme) (xs : List X) (x : X)
     → each_before_comma of_one xs ++ (of_one x ++ comma ∷ []) ≡ each_before_comma of_one (xs ++ x ∷ [])
 one_more_before_comma of_one [] x = refl
-one_more_before_comma of_one (y ∷ ys) x = append_assoc (of_one y) (comma ∷ each_before_comma of_one ys) _ ∙ ap (λ ls. of_one y ++ comma ∷ ls) (one_more_before_comma of_one ys x)
+one_more_before_comma of_one (y ∷ ys) x = append_assoc (of_one y) (comma ∷ each_before_comma of_one ys) _
+    ∙ ap (λ ls. of_one y ++ comma ∷ ls) (one_more_before_comma of_one ys x)
 
 -- a last item, and the bracket behind it
 pub last_before_bracket : {X : Type 0} (of_one : X → List Lexeme) (xs : List X) (x : X)
@@ -47,14 +51,17 @@ last_before_bracket of_one (y ∷ z ∷ zs) x =
     append_assoc (of_one y) (comma ∷ each_before_comma of_one (z ∷ zs)) _ ∙ ap (λ ls. of_one y ++ comma ∷ ls) (last_before_bracket of_one (z ∷ zs) x)
 
 -- a list that ends its line
-pub list_closes : {X : Type 0} (of_one : X → List Lexeme) (text mid behind : List ℕ) (xs : List X) (x : X) → Begins text (each_before_comma of_one xs) mid → Begins mid (of_one x) behind
+pub list_closes : {X : Type 0} (of_one : X → List Lexeme) (text mid behind : List ℕ) (xs : List X) (x : X)
+    → Begins text (each_before_comma of_one xs) mid → Begins mid (of_one x) behind
     → Begins behind (token Token.end_array ∷ token Token.end_array ∷ []) [] → Begins text (list_lexemes of_one (xs ++ x ∷ []) ++ token Token.end_array ∷ []) []
 list_closes of_one text mid behind xs x before last end =
     let bracket = token Token.end_array ∷ [] in
     let same : each_before_comma of_one xs ++ (of_one x ++ token Token.end_array ∷ token Token.end_array ∷ []) ≡ list_lexemes of_one (xs ++ x ∷ []) ++ bracket =
-    ap (λ ls. each_before_comma of_one xs ++ ls) (sym (append_assoc (of_one x) bracket bracket)) ∙ sym (append_assoc (each_before_comma of_one xs) (of_one x ++ bracket) bracket)
+    ap (λ ls. each_before_comma of_one xs ++ ls) (sym (append_assoc (of_one x) bracket bracket))
+    ∙ sym (append_assoc (each_before_comma of_one xs) (of_one x ++ bracket) bracket)
     ∙ ap (λ ls. ls ++ bracket) (last_before_bracket of_one xs x) in
-    rw (← same) (begins_more _ _ _ (each_before_comma of_one xs) (of_one x ++ token Token.end_array ∷ token Token.end_array ∷ []) before (begins_more _ _ _ (of_one x) _ last end))
+    rw (← same) (begins_more _ _ _ (each_before_comma of_one xs)
+    (of_one x ++ token Token.end_array ∷ token Token.end_array ∷ []) before (begins_more _ _ _ (of_one x) _ last end))
 
 pub Each-snoc : {X : Type 0} (P : X → Type 0) (xs : List X) (x : X) → Each P xs → P x → Each P (xs ++ x ∷ [])
 Each-snoc P [] x all one = (one, tt)
@@ -81,7 +88,8 @@ items_json json_of (x ∷ xs) = json.item (json_of x) (items_json json_of xs)
 -- one item begins wherever a value may, and has these tokens
 abbrev IsPlaced : {X : Type 0} → (X → List Lexeme) → (X → Json) → Type 0
 IsPlaced {X} of_one json_of =
-    (x : X) (place : Place) (more : List Lexeme) → may_begin place ≡ true → punctuate place (of_one x ++ more) ≡ json_tokens (json_of x) ++ punctuate after_value more
+    (x : X) (place : Place) (more : List Lexeme) → may_begin place ≡ true
+    → punctuate place (of_one x ++ more) ≡ json_tokens (json_of x) ++ punctuate after_value more
 
 link_placed : IsPlaced link_lexemes link_json
 unfolding punctuate
@@ -112,16 +120,20 @@ module _ {X : Type 0} (of_one : X → List Lexeme) (json_of : X → Json) (place
       ap (punctuate place) (append_assoc (of_one x) (token Token.end_array ∷ []) more) ∙ placed x place (token Token.end_array ∷ more) may
       ∙ sym (append_assoc (json_tokens (json_of x)) (Token.end_array ∷ []) (punctuate after_value more))
   some_tokens x (y ∷ ys) place more may =
-      ap (punctuate place) (append_assoc (of_one x) (comma ∷ list_lexemes of_one (y ∷ ys)) more) ∙ placed x place (comma ∷ (list_lexemes of_one (y ∷ ys) ++ more)) may
-      ∙ ap (λ ts. json_tokens (json_of x) ++ ts) (some_tokens y ys after_comma more refl) ∙ sym (append_assoc (json_tokens (json_of x)) _ (punctuate after_value more))
+      ap (punctuate place) (append_assoc (of_one x) (comma ∷ list_lexemes of_one (y ∷ ys)) more)
+      ∙ placed x place (comma ∷ (list_lexemes of_one (y ∷ ys) ++ more)) may
+      ∙ ap (λ ts. json_tokens (json_of x) ++ ts) (some_tokens y ys after_comma more refl)
+      ∙ sym (append_assoc (json_tokens (json_of x)) _ (punctuate after_value more))
 
-  list_tokens : (xs : List X) (more : List Lexeme) → punctuate fresh (list_lexemes of_one xs ++ more) ≡ items_tokens (items_json json_of xs) ++ punctuate after_value more
+  list_tokens : (xs : List X) (more : List Lexeme) → punctuate fresh (list_lexemes of_one xs ++ more) ≡ items_tokens
+      (items_json json_of xs) ++ punctuate after_value more
   unfolding punctuate
   list_tokens [] more = refl
   list_tokens (x ∷ xs) more = some_tokens x xs fresh more refl
 
   -- behind the list the bracket of its line stands
-  closed_tokens : (text : List ℕ) (xs : List X) → Begins text (list_lexemes of_one xs ++ token Token.end_array ∷ []) [] → tokens text ≡ items_tokens (items_json json_of xs) ++ Token.end_array ∷ []
+  closed_tokens : (text : List ℕ) (xs : List X) → Begins text (list_lexemes of_one xs ++ token Token.end_array ∷ []) []
+      → tokens text ≡ items_tokens (items_json json_of xs) ++ Token.end_array ∷ []
   unfolding lex punctuate
   closed_tokens text xs closes = ap (punctuate fresh) (closes.0 ∙ append-nil _) ∙ list_tokens xs (token Token.end_array ∷ [])
 
@@ -145,7 +157,8 @@ IsRead {X} json_of data_of P one = (x : X) → P x → (of_json (json_of x) ≡ 
 
 module _ {X : Type 0} (json_of : X → Json) (data_of : X → Data) (P : X → Type 0) (one : Data → Option X) (is_read : IsRead json_of data_of P one) where
   all_read : (xs : List X) → Each P xs
-      → (of_items (items_json json_of xs) ≡ Some (items_of (map data_of xs))) × (read_all one (map data_of xs) ≡ Some xs) × (items_depth (items_json json_of xs) ≤ 1)
+      → (of_items (items_json json_of xs) ≡ Some (items_of (map data_of xs))) × (read_all one (map data_of xs) ≡ Some xs)
+      × (items_depth (items_json json_of xs) ≤ 1)
   all_read [] small = (refl, refl, omega arith)
   all_read (x ∷ xs) small =
       let first = is_read x small.0 in
@@ -177,7 +190,8 @@ reads_as line j d told utf8 shallow is =
     ap reading_of_value (value_of_text line utf8) ∙ ap (λ found. reading_of_value (value_alone found)) whole ∙ ap reading_of_value is
 
 -- likewise where the value is an array that a word opens
-word_reads_as : (line word : List ℕ) (js : json.Items) (ds : Items) → tokens line ≡ Token.begin_array ∷ Token.string word ∷ items_tokens js → IsUtf8 line → items_depth js ≤ 126
+word_reads_as : (line word : List ℕ) (js : json.Items) (ds : Items)
+    → tokens line ≡ Token.begin_array ∷ Token.string word ∷ items_tokens js → IsUtf8 line → items_depth js ≤ 126
     → of_items js ≡ Some ds → reading line ≡ ok_or (request_of_word word (item_list ds)) NotRequest
 word_reads_as line word js ds told utf8 shallow is =
     reads_as line (json.array (json.item (json.string word) js)) (array (item (string word) ds)) told utf8 (omega arith) (rw is)
@@ -185,13 +199,16 @@ word_reads_as line word js ds told utf8 shallow is =
 pub edit_reads : (line : List ℕ) (edit : Edit) → HasSmallEnds edit → Begins line (edit_lexemes edit) [] → reading line ≡ Ok (plain_edit edit)
 unfolding lex punctuate request_of_word
 edit_reads line (Cut u v) small is =
-    word_reads_as line (codes "cut") (ends_json (u, v)) (ends_data (u, v)) (ap (punctuate fresh) is.0) (is.1 IsUtf8-nil) (omega arith) (rw (wide u small.0, wide v small.1))
+    word_reads_as line (codes "cut") (ends_json (u, v)) (ends_data (u, v)) (ap (punctuate fresh) is.0) (is.1 IsUtf8-nil)
+    (omega arith) (rw (wide u small.0, wide v small.1))
     ∙ rw (lt-ltb _ _ small.0, lt-ltb _ _ small.1)
 edit_reads line (Add u v) small is =
-    word_reads_as line (codes "add") (ends_json (u, v)) (ends_data (u, v)) (ap (punctuate fresh) is.0) (is.1 IsUtf8-nil) (omega arith) (rw (wide u small.0, wide v small.1))
+    word_reads_as line (codes "add") (ends_json (u, v)) (ends_data (u, v)) (ap (punctuate fresh) is.0) (is.1 IsUtf8-nil)
+    (omega arith) (rw (wide u small.0, wide v small.1))
     ∙ rw (lt-ltb _ _ small.0, lt-ltb _ _ small.1)
 edit_reads line (Join u v) small is =
-    word_reads_as line (codes "join") (ends_json (u, v)) (ends_data (u, v)) (ap (punctuate fresh) is.0) (is.1 IsUtf8-nil) (omega arith) (rw (wide u small.0, wide v small.1))
+    word_reads_as line (codes "join") (ends_json (u, v)) (ends_data (u, v)) (ap (punctuate fresh) is.0) (is.1 IsUtf8-nil)
+    (omega arith) (rw (wide u small.0, wide v small.1))
     ∙ rw (lt-ltb _ _ small.0, lt-ltb _ _ small.1)
 
 module _ (rest : List ℕ) (x : ℕ) (small : IsSmall x) (ends : Begins rest (comma ∷ number_lexeme x ∷ token Token.end_array ∷ []) []) where
@@ -199,7 +216,8 @@ module _ (rest : List ℕ) (x : ℕ) (small : IsSmall x) (ends : Begins rest (co
   unfolding lex punctuate
   node_reads word line opens =
       let is = begins_more line rest [] (opening word) (comma ∷ number_lexeme x ∷ token Token.end_array ∷ []) opens ends in
-      word_reads_as line word (json.item (number_json x) json.no_items) (item (number_data x) no_items) (ap (punctuate fresh) is.0) (is.1 IsUtf8-nil) (omega arith) (rw (wide x small))
+      word_reads_as line word (json.item (number_json x) json.no_items) (item (number_data x) no_items)
+      (ap (punctuate fresh) is.0) (is.1 IsUtf8-nil) (omega arith) (rw (wide x small))
 
   pub dest_reads : IsReadAs (codes "dest") rest (move_dest x)
   unfolding request_of_word
@@ -209,7 +227,8 @@ module _ (rest : List ℕ) (x : ℕ) (small : IsSmall x) (ends : Begins rest (co
   unfolding request_of_word
   walk_reads line opens = node_reads (codes "walk") line opens ∙ rw (lt-ltb _ _ small)
 
-pub question_reads : (rest : List ℕ) (question : Question) → Begins rest (token Token.end_array ∷ []) [] → IsReadAs (letters (word.Ask question)) rest (ask question)
+pub question_reads : (rest : List ℕ) (question : Question) → Begins rest (token Token.end_array ∷ []) []
+    → IsReadAs (letters (word.Ask question)) rest (ask question)
 unfolding lex punctuate request_of_word
 question_reads rest question ends line opens =
     let is = begins_more line rest [] (opening (letters (word.Ask question))) (token Token.end_array ∷ []) opens ends in
@@ -222,10 +241,12 @@ question_reads rest question ends line opens =
 
 pub network_reads : (rest items : List ℕ) (nodes dest : ℕ) (links : List (ℕ × ℕ)) → IsSmall nodes → IsSmall dest
     → Begins rest (comma ∷ number_lexeme nodes ∷ comma ∷ number_lexeme dest ∷ comma ∷ token Token.begin_array ∷ []) items
-    → Begins items (list_lexemes link_lexemes links ++ token Token.end_array ∷ []) [] → Each AreSmall links → IsReadAs (codes "net") rest (new_network nodes dest links)
+    → Begins items (list_lexemes link_lexemes links ++ token Token.end_array ∷ []) [] → Each AreSmall links
+    → IsReadAs (codes "net") rest (new_network nodes dest links)
 unfolding punctuate request_of_word
 network_reads rest items nodes dest links n d head closes small line opens =
-    let both = begins_more line rest items (opening (codes "net")) (comma ∷ number_lexeme nodes ∷ comma ∷ number_lexeme dest ∷ comma ∷ token Token.begin_array ∷ []) opens head in
+    let both = begins_more line rest items (opening (codes "net"))
+    (comma ∷ number_lexeme nodes ∷ comma ∷ number_lexeme dest ∷ comma ∷ token Token.begin_array ∷ []) opens head in
     let js = json.item (number_json nodes) (json.item (number_json dest) (json.item (json.array (items_json link_json links)) json.no_items)) in
     let ds = item (number_data nodes) (item (number_data dest) (item (array (items_of (map link_data links))) no_items)) in
     let all = all_read link_json link_data AreSmall link_in link_is_read links small in
@@ -234,10 +255,12 @@ network_reads rest items nodes dest links n d head closes small line opens =
     ∙ ap (λ ts. Token.begin_array ∷ Token.string (codes "net") ∷ Token.number (decimal nodes) ∷ Token.number (decimal dest) ∷ Token.begin_array ∷ ts)
     (closed_tokens link_lexemes link_json link_placed items links closes) in
     let listed : links_in (array (items_of (map link_data links))) ≡ Some links = rw (list_again (map link_data links)) all.1 in
-    word_reads_as line (codes "net") js ds told (both.1 (closes.1 IsUtf8-nil)) (omega (arith, all.2)) (rw (wide nodes n, wide dest d, all.0)) ∙ rw (lt-ltb _ _ n, lt-ltb _ _ d, listed)
+    word_reads_as line (codes "net") js ds told (both.1 (closes.1 IsUtf8-nil)) (omega (arith, all.2))
+    (rw (wide nodes n, wide dest d, all.0)) ∙ rw (lt-ltb _ _ n, lt-ltb _ _ d, listed)
 
 pub batch_reads : (rest items : List ℕ) (edits : List Edit) → Begins rest (comma ∷ token Token.begin_array ∷ []) items
-    → Begins items (list_lexemes edit_lexemes edits ++ token Token.end_array ∷ []) [] → Each HasSmallEnds edits → IsReadAs (codes "batch") rest (make_edits edits)
+    → Begins items (list_lexemes edit_lexemes edits ++ token Token.end_array ∷ []) [] → Each HasSmallEnds edits
+    → IsReadAs (codes "batch") rest (make_edits edits)
 unfolding punctuate request_of_word
 batch_reads rest items edits head closes small line opens =
     let both = begins_more line rest items (opening (codes "batch")) (comma ∷ token Token.begin_array ∷ []) opens head in
@@ -245,7 +268,8 @@ batch_reads rest items edits head closes small line opens =
     let ds = item (array (items_of (map edit_data edits))) no_items in
     let all = all_read edit_json edit_data HasSmallEnds edit_in edit_is_read edits small in
     let told : tokens line ≡ Token.begin_array ∷ Token.string (codes "batch") ∷ items_tokens js =
-    ap (punctuate fresh) both.0 ∙ ap (λ ts. Token.begin_array ∷ Token.string (codes "batch") ∷ Token.begin_array ∷ ts) (closed_tokens edit_lexemes edit_json edit_placed items edits closes) in
+    ap (punctuate fresh) both.0 ∙ ap (λ ts. Token.begin_array ∷ Token.string (codes "batch") ∷ Token.begin_array ∷ ts)
+    (closed_tokens edit_lexemes edit_json edit_placed items edits closes) in
     let listed : edits_in (array (items_of (map edit_data edits))) ≡ Some edits = rw (list_again (map edit_data edits)) all.1 in
     word_reads_as line (codes "batch") js ds told (both.1 (closes.1 IsUtf8-nil)) (omega (arith, all.2)) (rw all.0) ∙ rw listed
 
@@ -253,7 +277,8 @@ batch_reads rest items edits head closes small line opens =
 
 pub number_is_none : (line : List ℕ) → IsNumber line → reading line ≡ Err NotRequest
 unfolding lex punctuate
-number_is_none line is = reads_as line (number_json is.0) (number_data is.0) (ap (punctuate fresh) is.2.0) (is.2.1 IsUtf8-nil) (omega arith) (rw (wide is.0 is.1))
+number_is_none line is = reads_as line (number_json is.0) (number_data is.0) (ap (punctuate fresh) is.2.0)
+    (is.2.1 IsUtf8-nil) (omega arith) (rw (wide is.0 is.1))
 
 numbers_are_none : (ns : List ℕ) → ok_or (request_of (array (items_of (map number_data ns)))) NotRequest ≡ Err NotRequest
 numbers_are_none [] = refl
@@ -264,12 +289,15 @@ unfolding lex punctuate
 list_is_none line items opens are =
     let ns = are.0 in
     let all = all_read number_json number_data IsSmall number_in number_is_read ns are.1 in
-    let inside : tokens items ≡ items_tokens (items_json number_json ns) = ap (punctuate fresh) are.2.0 ∙ list_tokens number_lexemes number_json number_placed ns [] ∙ append-nil _ in
-    reads_as line (json.array (items_json number_json ns)) (array (items_of (map number_data ns))) (ap (punctuate fresh) opens.0 ∙ ap (λ ts. Token.begin_array ∷ ts) inside)
+    let inside : tokens items ≡ items_tokens (items_json number_json ns) = ap (punctuate fresh) are.2.0
+    ∙ list_tokens number_lexemes number_json number_placed ns [] ∙ append-nil _ in
+    reads_as line (json.array (items_json number_json ns)) (array (items_of (map number_data ns)))
+    (ap (punctuate fresh) opens.0 ∙ ap (λ ts. Token.begin_array ∷ ts) inside)
     (opens.1 (are.2.1 IsUtf8-nil)) (omega (arith, all.2)) (rw all.0)
     ∙ numbers_are_none ns
 
-pub object_is_none : (line members : List ℕ) → Begins line (token Token.begin_object ∷ []) members → Begins members (token Token.end_object ∷ []) [] → reading line ≡ Err NotRequest
+pub object_is_none : (line members : List ℕ) → Begins line (token Token.begin_object ∷ []) members
+    → Begins members (token Token.end_object ∷ []) [] → reading line ≡ Err NotRequest
 unfolding lex punctuate
 object_is_none line members opens end =
     let both = begins_more line members [] (token Token.begin_object ∷ []) (token Token.end_object ∷ []) opens end in

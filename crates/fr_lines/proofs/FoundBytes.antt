@@ -1,5 +1,6 @@
 -- Bytes as a pattern finds them, and a number that grows digit by digit.
-use Rattle.std.proofs.Common.{List, [], ap, append_assoc, arith, decimal, drop, get_or, length, length-drop, sym, take, take_all, ℕ, ◌*◌, ◌+◌, ◌++◌, ◌-◌, ◌/◌, ◌%◌, ◌<◌, ◌≤◌, ◌^◌, ◌∙◌, ◌∷◌, ◌≡◌}
+use Rattle.std.proofs.Common.{List, [], ap, append_assoc, arith, decimal, drop, get_or, length, length-drop, sym, take, take_all, ℕ, ◌*◌, ◌+◌, ◌++◌}
+use Rattle.std.proofs.Common.{◌-◌, ◌/◌, ◌%◌, ◌<◌, ◌≤◌, ◌^◌, ◌∙◌, ◌∷◌, ◌≡◌}
 use Rattle.std.specs.Prelude.{⊤}
 use Rattle.std.proofs.lemmas.Fmt.{decimal_step}
 use Rattle.std.proofs.lemmas.List.{drop_more}
@@ -16,7 +17,8 @@ from_place k (b ∷ bs) bytes long h =
     drop_more bytes k 0 (omega arith) ∙ (λ i. h.0 i ∷ from_place (k + 1) bs bytes (omega arith) h.1 i) ∙ ap (λ j. b ∷ (bs ++ drop j bytes)) further
 
 -- bytes are those at their front, and those that a pattern's `..` takes
-pub front_and_rest : (front bytes : List ℕ) → length front ≤ length bytes → StandFrom 0 front bytes → bytes ≡ front ++ take (length bytes - length front) (drop (length front) bytes)
+pub front_and_rest : (front bytes : List ℕ) → length front ≤ length bytes → StandFrom 0 front bytes
+    → bytes ≡ front ++ take (length bytes - length front) (drop (length front) bytes)
 front_and_rest front bytes long h =
     let n = length front in
     let none : 0 + n ≡ n = omega arith in
@@ -24,8 +26,10 @@ front_and_rest front bytes long h =
     from_place 0 front bytes (omega arith) h ∙ ap (λ k. front ++ drop k bytes) none ∙ ap (λ rest. front ++ rest) (sym all)
 
 -- a number grows by the digit that stands behind those before
-pub one_digit_more : (n digit m : ℕ) (behind : List ℕ) → m ≡ n * 10 + (digit - 48) → 0 < n → 48 ≤ digit → digit ≤ 57 → m < 2 ^ 64 → decimal n ++ digit ∷ behind ≡ decimal m ++ behind
+pub one_digit_more : (n digit m : ℕ) (behind : List ℕ) → m ≡ n * 10 + (digit - 48) → 0 < n → 48 ≤ digit → digit ≤ 57
+    → m < 2 ^ 64 → decimal n ++ digit ∷ behind ≡ decimal m ++ behind
 one_digit_more n digit m behind is some low high small =
     let front : m / 10 ≡ n = omega arith in
     let last : 48 + m % 10 ≡ digit = omega arith in
-    sym (ap (λ ds. ds ++ behind) (decimal_step m (omega arith) small ∙ (λ i. decimal (front i) ++ (last i ∷ []))) ∙ append_assoc (decimal n) (digit ∷ []) behind)
+    sym (ap (λ ds. ds ++ behind) (decimal_step m (omega arith) small ∙ (λ i. decimal (front i) ++ (last i ∷ [])))
+    ∙ append_assoc (decimal n) (digit ∷ []) behind)

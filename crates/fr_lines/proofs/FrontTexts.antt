@@ -1,5 +1,6 @@
 -- What stands at the front of a text, as the lexeme that it is there.
-use Rattle.std.proofs.Common.{Bool, IsUtf8, List, Some, [], ap, append_assoc, decimal, eqb-true, false, get_or, inl, inr, refl, subst, sym, true, ℕ, ◌++◌, ◌<◌, ◌==◌, ◌||◌, ◌∙◌, ◌∷◌, ◌≡◌, ◌^◌, if◌then◌else◌}
+use Rattle.std.proofs.Common.{Bool, IsUtf8, List, Some, [], ap, append_assoc, decimal, eqb-true, false, get_or, inl, inr, refl, subst, sym, true, ℕ}
+use Rattle.std.proofs.Common.{◌++◌, ◌<◌, ◌==◌, ◌||◌, ◌∙◌, ◌∷◌, ◌≡◌, ◌^◌, if◌then◌else◌}
 use Rattle.std.proofs.lemmas.Bool.{or_cases}
 use Rattle.std.proofs.lemmas.Fmt.{IsAscii-decimal}
 use Rattle.std.proofs.lemmas.Str.{IsUtf8-append, IsUtf8-from_ascii}
@@ -32,7 +33,8 @@ mark_is : (P : ℕ → Type 0) (b : ℕ) → is_operator b ≡ true → P 123 �
 mark_is P b h p q r s t u =
     let at : (k : ℕ) → P k → (b == k) ≡ true → P b = λ k given e. subst P (sym (eqb-true b k e)) given in
     either _ _ (P b) h
-    (λ h. either _ _ (P b) h (λ h. either _ _ (P b) h (λ h. either _ _ (P b) h (λ h. either _ _ (P b) h (at 123 p) (at 125 q)) (at 91 r)) (at 93 s)) (at 58 t)) (at 44 u)
+    (λ h. either _ _ (P b) h (λ h. either _ _ (P b) h
+    (λ h. either _ _ (P b) h (λ h. either _ _ (P b) h (at 123 p) (at 125 q)) (at 91 r)) (at 93 s)) (at 58 t)) (at 44 u)
 
 one_byte : (b : ℕ) (bs : List ℕ) → are_ascii (b ∷ []) ≡ true → IsUtf8 bs → IsUtf8 (b ∷ bs)
 one_byte b bs ascii utf8 = IsUtf8-append (b ∷ []) bs (IsUtf8-are_ascii (b ∷ []) ascii) utf8
@@ -74,7 +76,8 @@ unfolding lex
 mark_begins mark text rest is stands =
     let its : class mark ≡ operator = mark_is (λ k. class k ≡ operator) mark is refl refl refl refl refl refl in
     let ascii : are_ascii (mark ∷ []) ≡ true = mark_is (λ k. are_ascii (k ∷ []) ≡ true) mark is refl refl refl refl refl refl in
-    begins text (mark ∷ []) rest (operator_lexeme mark ∷ []) stands (IsUtf8-are_ascii (mark ∷ []) ascii) (ap (λ c. lex_byte between c mark rest (λ next. lex next rest)) its)
+    begins text (mark ∷ []) rest (operator_lexeme mark ∷ []) stands (IsUtf8-are_ascii (mark ∷ []) ascii)
+    (ap (λ c. lex_byte between c mark rest (λ next. lex next rest)) its)
 
 -- an array that opens with a word that needs no escape
 pub opens_with : (letters text inside rest : List ℕ) → escape letters ≡ letters → are_ascii (34 ∷ (letters ++ 34 ∷ [])) ≡ true
@@ -83,7 +86,8 @@ pub opens_with : (letters text inside rest : List ℕ) → escape letters ≡ le
 unfolding lex
 opens_with letters text inside rest plain_word ascii opens stands =
     let whole = append_assoc letters (34 ∷ []) rest in
-    let within : content plain (letters ++ 34 ∷ rest) ≡ Some letters = ap (λ w. content plain (w ++ 34 ∷ rest)) (sym plain_word) ∙ content-escape letters rest in
+    let within : content plain (letters ++ 34 ∷ rest) ≡ Some letters = ap (λ w. content plain (w ++ 34 ∷ rest))
+    (sym plain_word) ∙ content-escape letters rest in
     let over : lex in_string (letters ++ 34 ∷ rest) ≡ lex between rest = ap (λ w. lex in_string (w ++ 34 ∷ rest)) (sym plain_word) ∙ lex-escape letters rest in
     begins_more text inside rest (token Token.begin_array ∷ []) (token (Token.string letters) ∷ []) opens
     (begins inside (34 ∷ (letters ++ 34 ∷ [])) rest (token (Token.string letters) ∷ []) stands (IsUtf8-are_ascii _ ascii)
@@ -109,7 +113,8 @@ pub number_begins : (n mark : ℕ) (text between_them rest : List ℕ) → n < 2
 number_begins n mark text between_them rest small is stands follows =
     let ended = ends_at_mark mark between_them rest is follows in
     begins_more text between_them rest (number_lexeme n ∷ []) (operator_lexeme mark ∷ [])
-    (begins text (decimal n) between_them (number_lexeme n ∷ []) stands (IsUtf8-from_ascii (decimal n) (IsAscii-decimal n small)) (lex-number (decimal n) between_them (IsNumber-decimal n small) ended))
+    (begins text (decimal n) between_them (number_lexeme n ∷ []) stands
+    (IsUtf8-from_ascii (decimal n) (IsAscii-decimal n small)) (lex-number (decimal n) between_them (IsNumber-decimal n small) ended))
     (mark_begins mark between_them rest is follows)
 
 -- nothing but white space is left
@@ -126,10 +131,12 @@ ends_at_end (b ∷ bs) over = go (is_space b) refl over
     go false e over = absurd (cc)
 
 -- a number, and then just white space
-pub number_ends : (n : ℕ) (text behind : List ℕ) → n < 2 ^ 64 → unspaced text ≡ decimal n ++ behind → unspaced behind ≡ [] → Begins text (number_lexeme n ∷ []) []
+pub number_ends : (n : ℕ) (text behind : List ℕ) → n < 2 ^ 64 → unspaced text ≡ decimal n ++ behind → unspaced behind ≡ []
+    → Begins text (number_lexeme n ∷ []) []
 number_ends n text behind small is over =
     begins_more text behind [] (number_lexeme n ∷ []) []
-    (begins text (decimal n) behind (number_lexeme n ∷ []) is (IsUtf8-from_ascii (decimal n) (IsAscii-decimal n small)) (lex-number (decimal n) behind (IsNumber-decimal n small) (ends_at_end behind over)))
+    (begins text (decimal n) behind (number_lexeme n ∷ []) is (IsUtf8-from_ascii (decimal n) (IsAscii-decimal n small))
+    (lex-number (decimal n) behind (IsNumber-decimal n small) (ends_at_end behind over)))
     (over_begins behind over)
 
 -- the words of requests need no escape

@@ -1,6 +1,8 @@
 -- The items of an array, token by token, as values that are put one behind the other, and the members of an object.
-use Rattle.std.proofs.Common.{List, None, Option, Some, [], ap, arith, length, option_and_then, option_map, refl, suc, zero, ℕ, ◌+◌, ◌++◌, ◌-◌, ◌<◌, ◌∙◌, ◌∷◌, ◌≡◌, ◌≤◌}
-use Rattle.json.proofs.Grammar.{items_end, items_more, left, members_end, members_more, members_no_key, skip_value-shorter, value-begin_array, value-begin_object, value_is}
+use Rattle.std.proofs.Common.{List, None, Option, Some, [], ap, arith, length, option_and_then, option_map, refl, suc, zero, ℕ, ◌+◌, ◌++◌, ◌-◌, ◌<◌}
+use Rattle.std.proofs.Common.{◌∙◌, ◌∷◌, ◌≡◌, ◌≤◌}
+use Rattle.json.proofs.Grammar.{items_end, items_more, left, members_end, members_more, members_no_key, skip_value-shorter, value-begin_array}
+use Rattle.json.proofs.Grammar.{value-begin_object, value_is}
 use Rattle.json.specs.Json as json
 use Rattle.json.specs.Json.{Parse, after_end_array, items, items_step, members, parse_map, read_key, value, value_with}
 use Rattle.json.specs.Reads.{token_of}
@@ -21,7 +23,8 @@ paired r s None b e = absurd (cc)
 paired r s (Some c) b e = let same = ap (or_else (c, r)) e in (ap (λ p. p.1) same, ap (λ p. Some p.0) same)
 
 -- what was read under f was read, and f takes it
-pub read_first : {A B : Type 0} (f : A → Option B) (o : Option (A × List Token)) (b : B) (rest : List Token) → converted f o ≡ Some (b, rest) → (a : A) × (o ≡ Some (a, rest)) × (f a ≡ Some b)
+pub read_first : {A B : Type 0} (f : A → Option B) (o : Option (A × List Token)) (b : B) (rest : List Token)
+    → converted f o ≡ Some (b, rest) → (a : A) × (o ≡ Some (a, rest)) × (f a ≡ Some b)
 read_first f None b rest e = absurd (cc)
 read_first f (Some p) b rest e = let both = paired p.1 rest (f p.0) b e in (p.0, ap (λ s. Some (p.0, s)) both.0, both.1)
 
@@ -29,7 +32,8 @@ read_first f (Some p) b rest e = let both = paired p.1 rest (f p.0) b e in (p.0,
 pub value_takes : (depth : ℕ) (ts rest : List Token) (d : Data) → converted of_json (value depth ts) ≡ Some (d, rest) → length rest < length ts
 value_takes depth ts rest d e = skip_value-shorter depth ts rest (ap left (read_first of_json (value depth ts) d rest e).1)
 
-outside : {A B : Type 0} (g : A → B) (rest : List Token) (o : Option A) → option_map (λ b. (b, rest)) (option_map g o) ≡ parse_map g (option_map (λ a. (a, rest)) o)
+outside : {A B : Type 0} (g : A → B) (rest : List Token) (o : Option A)
+    → option_map (λ b. (b, rest)) (option_map g o) ≡ parse_map g (option_map (λ a. (a, rest)) o)
 outside g rest None = refl
 outside g rest (Some a) = refl
 
@@ -43,15 +47,18 @@ pub value_of_array : (depth inside : ℕ) (ts behind : List Token) → depth ≡
     → converted of_json (value depth ts) ≡ parse_map array (converted of_items (items (value inside) (length behind) behind))
 value_of_array depth inside ts behind one opens =
     let below : depth - 1 ≡ inside = omega arith in
-    ap (converted of_json) (ap (value depth) opens ∙ value-begin_array depth behind (omega arith)) ∙ array_of_items (items (value (depth - 1)) (length behind) behind)
+    ap (converted of_json) (ap (value depth) opens ∙ value-begin_array depth behind (omega arith))
+    ∙ array_of_items (items (value (depth - 1)) (length behind) behind)
     ∙ ap (λ d. parse_map array (converted of_items (items (value d) (length behind) behind))) below
 
-first_of_items : (j : json.Json) (d : Data) → of_json j ≡ Some d → (o : Option (json.Items × List Token)) → converted of_items (parse_map (json.item j) o) ≡ parse_map (item d) (converted of_items o)
+first_of_items : (j : json.Json) (d : Data) → of_json j ≡ Some d → (o : Option (json.Items × List Token))
+    → converted of_items (parse_map (json.item j) o) ≡ parse_map (item d) (converted of_items o)
 first_of_items j d e None = refl
 first_of_items j d e (Some p) = rw e (outside (item d) p.1 (of_items p.0))
 
 -- an item that is read is the first of the items
-pub one_item : (p : Parse json.Json) (most : ℕ) (ts rest : List Token) (d : Data) → 0 < most → after_end_array ts ≡ None → converted of_json (p ts) ≡ Some (d, rest)
+pub one_item : (p : Parse json.Json) (most : ℕ) (ts rest : List Token) (d : Data) → 0 < most → after_end_array ts ≡ None
+    → converted of_json (p ts) ≡ Some (d, rest)
     → converted of_items (items p most ts) ≡ parse_map (item d) (converted of_items (items p (most - 1) rest))
 one_item p most ts rest d some going e =
     let first = read_first of_json (p ts) d rest e in
@@ -70,17 +77,20 @@ refused_first j e None = refl
 refused_first j e (Some p) = rw e
 
 -- an item that is refused refuses the items
-pub item_refused : (p : Parse json.Json) (most : ℕ) (ts : List Token) → after_end_array ts ≡ None → converted of_json (p ts) ≡ None → converted of_items (items p most ts) ≡ None
+pub item_refused : (p : Parse json.Json) (most : ℕ) (ts : List Token) → after_end_array ts ≡ None
+    → converted of_json (p ts) ≡ None → converted of_items (items p most ts) ≡ None
 unfolding items
 item_refused p zero ts going e = refl
 item_refused p (suc n) ts going e = ap (λ o. converted of_items (items_step p (items p n) ts o)) going ∙ go (p ts) e
   where
-    go : (o : Option (json.Json × List Token)) → converted of_json o ≡ None → converted of_items (option_and_then (λ q. parse_map (json.item q.0) (items p n q.1)) o) ≡ None
+    go : (o : Option (json.Json × List Token)) → converted of_json o ≡ None
+        → converted of_items (option_and_then (λ q. parse_map (json.item q.0) (items p n q.1)) o) ≡ None
     go None e = refl
     go (Some q) e = refused_first q.0 (nothing_under of_json q e) (items p n q.1)
 
 -- where the array ends there is no item
-pub no_item : (p : Parse json.Json) (most : ℕ) (ts rest : List Token) → length ts ≤ most → after_end_array ts ≡ Some rest → converted of_items (items p most ts) ≡ Some (no_items, rest)
+pub no_item : (p : Parse json.Json) (most : ℕ) (ts rest : List Token) → length ts ≤ most → after_end_array ts ≡ Some rest
+    → converted of_items (items p most ts) ≡ Some (no_items, rest)
 no_item p most ts rest enough e = ap (converted of_items) (items_end p most ts rest enough e)
 
 -- the views of values, and then other items
@@ -96,7 +106,8 @@ then_one : (vs : List Value) (v : Value) (more : Items) → then_items vs (item 
 then_one [] v more = refl
 then_one (w ∷ vs) v more = ap (item (view w)) (then_one vs v more)
 
-pub one_more : (vs : List Value) (v : Value) (o : Option (Items × List Token)) → parse_map (then_items vs) (parse_map (item (view v)) o) ≡ parse_map (then_items (vs ++ v ∷ [])) o
+pub one_more : (vs : List Value) (v : Value) (o : Option (Items × List Token))
+    → parse_map (then_items vs) (parse_map (item (view v)) o) ≡ parse_map (then_items (vs ++ v ∷ [])) o
 one_more vs v None = refl
 one_more vs v (Some p) = ap (λ ds. Some (ds, p.1)) (then_one vs v p.0)
 
@@ -105,7 +116,8 @@ none_yet None = refl
 none_yet (Some p) = refl
 
 -- members that are read are read as an object
-object_of_members : (o : Option (json.Members × List Token)) → converted of_json (parse_map json.object o) ≡ parse_map object (converted (λ ms. of_members ms no_members) o)
+object_of_members : (o : Option (json.Members × List Token))
+    → converted of_json (parse_map json.object o) ≡ parse_map object (converted (λ ms. of_members ms no_members) o)
 object_of_members None = refl
 object_of_members (Some p) = outside object p.1 (of_members p.0 no_members)
 
@@ -114,15 +126,19 @@ pub value_of_object : (depth inside : ℕ) (ts behind : List Token) → depth �
     → converted of_json (value depth ts) ≡ parse_map object (converted (λ ms. of_members ms no_members) (members (value inside) (length behind) behind))
 value_of_object depth inside ts behind one opens =
     let below : depth - 1 ≡ inside = omega arith in
-    ap (converted of_json) (ap (value depth) opens ∙ value-begin_object depth behind (omega arith)) ∙ object_of_members (members (value (depth - 1)) (length behind) behind)
+    ap (converted of_json) (ap (value depth) opens ∙ value-begin_object depth behind (omega arith))
+    ∙ object_of_members (members (value (depth - 1)) (length behind) behind)
     ∙ ap (λ d. parse_map object (converted (λ ms. of_members ms no_members) (members (value d) (length behind) behind))) below
 
 -- a token that opens nothing is a value by itself, or none
-pub single_read : (depth : ℕ) (k : reader.Token) (ts behind : List Token) → (k ≡ reader.Token.BeginArray → ⊥) → (k ≡ reader.Token.BeginObject → ⊥) → ts ≡ token_of k ∷ behind
+pub single_read : (depth : ℕ) (k : reader.Token) (ts behind : List Token) → (k ≡ reader.Token.BeginArray → ⊥)
+    → (k ≡ reader.Token.BeginObject → ⊥) → ts ≡ token_of k ∷ behind
     → converted of_json (value depth ts) ≡ option_map (λ d. (d, behind)) (single_data (token_of k))
-single_read depth k ts behind no_array no_object first = ap (converted of_json) (ap (value depth) first ∙ value_is depth (token_of k ∷ behind)) ∙ go _ _ k no_array no_object
+single_read depth k ts behind no_array no_object first = ap (converted of_json) (ap (value depth) first
+    ∙ value_is depth (token_of k ∷ behind)) ∙ go _ _ k no_array no_object
   where
-    go : (of_array : Parse json.Items) (of_object : Parse json.Members) (k : reader.Token) → (k ≡ reader.Token.BeginArray → ⊥) → (k ≡ reader.Token.BeginObject → ⊥)
+    go : (of_array : Parse json.Items) (of_object : Parse json.Members) (k : reader.Token)
+        → (k ≡ reader.Token.BeginArray → ⊥) → (k ≡ reader.Token.BeginObject → ⊥)
         → converted of_json (value_with of_array of_object (token_of k ∷ behind)) ≡ option_map (λ d. (d, behind)) (single_data (token_of k))
     go of_array of_object reader.Token.BeginObject no_array no_object = absurd (no_object refl)
     go of_array of_object reader.Token.EndObject no_array no_object = refl
@@ -136,7 +152,8 @@ single_read depth k ts behind no_array no_object first = ap (converted of_json) 
     go of_array of_object reader.Token.Bad no_array no_object = refl
 
 -- where nothing may nest, neither an array nor an object is a value
-pub too_deep : (depth : ℕ) (behind : List Token) → depth ≡ 0 → (value depth (Token.begin_array ∷ behind) ≡ None) × (value depth (Token.begin_object ∷ behind) ≡ None)
+pub too_deep : (depth : ℕ) (behind : List Token) → depth ≡ 0 → (value depth (Token.begin_array ∷ behind) ≡ None)
+    × (value depth (Token.begin_object ∷ behind) ≡ None)
 unfolding value
 too_deep zero behind e = (refl, refl)
 too_deep (suc d) behind e = absurd (omega arith)
@@ -147,11 +164,13 @@ first_of_members key j d found e None = refl
 first_of_members key j d found e (Some p) = rw e
 
 -- a member that is read is put among those before it
-pub one_member : (p : Parse json.Json) (found : Members) (most : ℕ) (key : List ℕ) (ts after rest : List Token) (d : Data) → 0 < most → read_key ts ≡ Some (Some key, after) → converted of_json (p after) ≡ Some (d, rest)
+pub one_member : (p : Parse json.Json) (found : Members) (most : ℕ) (key : List ℕ) (ts after rest : List Token) (d : Data)
+    → 0 < most → read_key ts ≡ Some (Some key, after) → converted of_json (p after) ≡ Some (d, rest)
     → converted (λ ms. of_members ms found) (members p most ts) ≡ converted (λ ms. of_members ms (put key d found)) (members p (most - 1) rest)
 one_member p found most key ts after rest d some named e =
     let first = read_first of_json (p after) d rest e in
-    ap (converted (λ ms. of_members ms found)) (members_more p most key ts after rest first.0 some named first.1) ∙ first_of_members key first.0 d found first.2 _
+    ap (converted (λ ms. of_members ms found)) (members_more p most key ts after rest first.0 some named first.1)
+    ∙ first_of_members key first.0 d found first.2 _
 
 refused_member : (key : List ℕ) (j : json.Json) (found : Members) → of_json j ≡ None → (o : Option (json.Members × List Token))
     → converted (λ ms. of_members ms found) (parse_map (json.member key j) o) ≡ None
@@ -159,7 +178,8 @@ refused_member key j found e None = refl
 refused_member key j found e (Some p) = rw e
 
 -- a member whose value is refused refuses the members
-pub member_refused : (p : Parse json.Json) (found : Members) (most : ℕ) (key : List ℕ) (ts after : List Token) → read_key ts ≡ Some (Some key, after) → converted of_json (p after) ≡ None
+pub member_refused : (p : Parse json.Json) (found : Members) (most : ℕ) (key : List ℕ) (ts after : List Token)
+    → read_key ts ≡ Some (Some key, after) → converted of_json (p after) ≡ None
     → converted (λ ms. of_members ms found) (members p most ts) ≡ None
 unfolding members
 member_refused p found zero key ts after named e = refl
@@ -171,11 +191,13 @@ member_refused p found (suc n) key ts after named e = rw named (go (p after) e)
     go (Some q) e = refused_member key q.0 found (nothing_under of_json q e) (members p n q.1)
 
 -- so does a token that is no key where one must be
-pub key_refused : (p : Parse json.Json) (found : Members) (most : ℕ) (ts : List Token) → read_key ts ≡ None → converted (λ ms. of_members ms found) (members p most ts) ≡ None
+pub key_refused : (p : Parse json.Json) (found : Members) (most : ℕ) (ts : List Token) → read_key ts ≡ None
+    → converted (λ ms. of_members ms found) (members p most ts) ≡ None
 key_refused p found most ts e = ap (converted (λ ms. of_members ms found)) (members_no_key p most ts e)
 
 -- where the object ends there is no member
-pub no_member : (p : Parse json.Json) (found : Members) (most : ℕ) (ts rest : List Token) → length ts ≤ most → read_key ts ≡ Some (None, rest) → converted (λ ms. of_members ms found) (members p most ts) ≡ Some (found, rest)
+pub no_member : (p : Parse json.Json) (found : Members) (most : ℕ) (ts rest : List Token) → length ts ≤ most
+    → read_key ts ≡ Some (None, rest) → converted (λ ms. of_members ms found) (members p most ts) ≡ Some (found, rest)
 no_member p found most ts rest enough e = ap (converted (λ ms. of_members ms found)) (members_end p most ts rest enough e)
 
 -- a value behind which nothing stands is the value of the text
@@ -183,7 +205,8 @@ pub whole_value : (o : Option (json.Json × List Token)) (d : Data) → converte
 whole_value o d e = let found = read_first of_json o d [] e in ap value_alone found.1 ∙ found.2
 
 -- a text with more behind its value has none
-pub more_behind : (o : Option (json.Json × List Token)) (d : Data) (rest : List Token) → converted of_json o ≡ Some (d, rest) → (rest ≡ [] → ⊥) → value_alone o ≡ None
+pub more_behind : (o : Option (json.Json × List Token)) (d : Data) (rest : List Token)
+    → converted of_json o ≡ Some (d, rest) → (rest ≡ [] → ⊥) → value_alone o ≡ None
 more_behind o d [] e more = absurd (more refl)
 more_behind o d (t ∷ rest) e more = ap value_alone (read_first of_json o d (t ∷ rest) e).1
 

@@ -18,7 +18,8 @@ pub reading_of_whole : (ts : List Token) (d : Data) → converted of_json (value
 reading_of_whole ts d e = rw (whole_value (value 127 ts) d e)
 
 -- tokens with others behind their value are no JSON
-pub reading_with_more : (ts : List Token) (d : Data) (rest : List Token) → converted of_json (value 127 ts) ≡ Some (d, rest) → (rest ≡ [] → ⊥) → reading_of_tokens ts ≡ Err NotJson
+pub reading_with_more : (ts : List Token) (d : Data) (rest : List Token) → converted of_json (value 127 ts) ≡ Some (d, rest)
+    → (rest ≡ [] → ⊥) → reading_of_tokens ts ≡ Err NotJson
 reading_with_more ts d rest e more = rw (more_behind (value 127 ts) d rest e more)
 
 -- tokens that begin with no value are no JSON
@@ -27,14 +28,16 @@ reading_of_none ts e = rw (no_value (value 127 ts) e)
 
 -- the items behind its first word settle what an array is
 pub array_of_word : (word : List ℕ) (behind : List Token)
-    → converted of_json (value 127 (Token.begin_array ∷ Token.string word ∷ behind)) ≡ parse_map array (parse_map (item (string word)) (converted of_items (items (value 126) (length behind) behind)))
+    → converted of_json (value 127 (Token.begin_array ∷ Token.string word ∷ behind)) ≡ parse_map array
+    (parse_map (item (string word)) (converted of_items (items (value 126) (length behind) behind)))
 array_of_word word behind =
     let p = value 126 in
     let inside = Token.string word ∷ behind in
     let first : converted of_json (p inside) ≡ Some (string word, behind) = ap (converted of_json) (value_is 126 inside) in
     let after : length inside - 1 ≡ length behind = omega arith in
     value_of_array 127 126 _ inside refl refl
-    ∙ ap (parse_map array) (one_item p (length inside) inside behind (string word) (omega arith) refl first ∙ ap (λ most. parse_map (item (string word)) (converted of_items (items p most behind))) after)
+    ∙ ap (parse_map array) (one_item p (length inside) inside behind (string word) (omega arith) refl first
+    ∙ ap (λ most. parse_map (item (string word)) (converted of_items (items p most behind))) after)
 
 -- the request of an array is that of its word and the items after it
 pub request_of_array : (word : List ℕ) (rest : List Value) → request_of (array (item (string word) (items_view rest))) ≡ request_of_word word (map view rest)

@@ -1,5 +1,6 @@
 -- What the steps of a call come to.
-use Rattle.std.proofs.Common.{◌≡◌, ◌≢◌, ◌⊎◌, ℕ, ◌+◌, ◌<◌, ◌≤◌, List, false, get_or-set_other, length, sym, ap, ◌∙◌, subst, ⊎_elim, arith, get_or-set_same, ltb-false, ltb-true, true, Bool}
+use Rattle.std.proofs.Common.{◌≡◌, ◌≢◌, ◌⊎◌, ℕ, ◌+◌, ◌<◌, ◌≤◌, List, false, get_or-set_other, length, sym, ap, ◌∙◌, subst, ⊎_elim, arith}
+use Rattle.std.proofs.Common.{get_or-set_same, ltb-false, ltb-true, true, Bool}
 use Rattle.std.specs.Prelude.{MatchBool, nat_lt, not, slice_index, slice_set}
 use Rattle.std.specs.List.{All}
 use Rattle.std.proofs.lemmas.List.Elements.{All-contains, All-from_get_or}
@@ -19,7 +20,8 @@ use Rattle.fr_round.specs.Calls.{AreEnough, IsUnderWay, AllMeet}
 use Rattle.fr_round.proofs.Entries.{set_up}
 use Rattle.fr_round.proofs.MissingNumbers.{none_misses}
 
-enough_next : (neighbours : List (ℕ × First)) (j c : ℕ) (seen seen' : List ℕ) → ((z : ℕ) → slice_index seen z ≤ slice_index seen' z) → AreEnough neighbours j seen c
+enough_next : (neighbours : List (ℕ × First)) (j c : ℕ) (seen seen' : List ℕ)
+    → ((z : ℕ) → slice_index seen z ≤ slice_index seen' z) → AreEnough neighbours j seen c
     → bound_of (neighbour_at neighbours j).1 c ≤ slice_index seen' (neighbour_at neighbours j).0 → AreEnough neighbours (j + 1) seen' c
 enough_next neighbours j c seen seen' up before here i below =
     ⊎_elim
@@ -31,7 +33,8 @@ enough_next neighbours j c seen seen' up before here i below =
     split k i h = grind arith
 
 -- a neighbour that meets its bound
-pub looks_on : (b : Setup) (v w w' : View) (x c i y : ℕ) → IsUnderWay b v x c i w → w' ≡ noted w y (slice_index w'.seen y) → slice_index w.seen y ≤ slice_index w'.seen y → y ≢ x
+pub looks_on : (b : Setup) (v w w' : View) (x c i y : ℕ) → IsUnderWay b v x c i w → w' ≡ noted w y (slice_index w'.seen y)
+    → slice_index w.seen y ≤ slice_index w'.seen y → y ≢ x
     → bound_of (neighbour_at (row b.nodes b.links x) i).1 c ≤ slice_index w'.seen (neighbour_at (row b.nodes b.links x) i).0 → IsUnderWay b v x c (i + 1) w'
 looks_on b v w w' x c i y g is le other here =
     let l = g.looking in
@@ -49,7 +52,8 @@ looks_on b v w w' x c i y g is le other here =
     }
 
 -- every neighbour meets its bound where each entry of the row does,
-meet_by_row : (n : ℕ) (links : List (ℕ × ℕ)) (x c : ℕ) (seen : List ℕ) → IsNet n links → All (λ (e : ℕ × First). bound_of e.1 c ≤ slice_index seen e.0) (row n links x) → AllMeet links seen x c
+meet_by_row : (n : ℕ) (links : List (ℕ × ℕ)) (x c : ℕ) (seen : List ℕ) → IsNet n links
+    → All (λ (e : ℕ × First). bound_of e.1 c ≤ slice_index seen e.0) (row n links x) → AllMeet links seen x c
 meet_by_row n links x c seen net each =
     let IsEnough : ℕ × First → Type 0 = λ e. bound_of e.1 c ≤ slice_index seen e.0 in
     record {
@@ -58,13 +62,15 @@ meet_by_row n links x c seen net each =
     }
 
 -- as it does once the whole row was looked at,
-pub all_meet : (b : Setup) (x c j : ℕ) (seen : List ℕ) → IsNet b.nodes b.links → length (row b.nodes b.links x) ≤ j → AreEnough (row b.nodes b.links x) j seen c → AllMeet b.links seen x c
+pub all_meet : (b : Setup) (x c j : ℕ) (seen : List ℕ) → IsNet b.nodes b.links → length (row b.nodes b.links x) ≤ j
+    → AreEnough (row b.nodes b.links x) j seen c → AllMeet b.links seen x c
 all_meet b x c j seen net all enough =
     meet_by_row b.nodes b.links x c seen net
     (All-from_get_or (λ (e : ℕ × First). bound_of e.1 c ≤ slice_index seen e.0) (row b.nodes b.links x) (0, Outward) (λ k lt. enough k (omega arith)))
 
 -- and where the number of the node is 0
-pub all_were_seen : (n : ℕ) (links : List (ℕ × ℕ)) (seen : Seen) (x : ℕ) → IsNet n links → IsCounted n links seen → x < n → slice_index seen.missing.items x ≡ 0 → AllMeet links seen.counts.items x (slice_index seen.counts.items x)
+pub all_were_seen : (n : ℕ) (links : List (ℕ × ℕ)) (seen : Seen) (x : ℕ) → IsNet n links → IsCounted n links seen → x < n
+    → slice_index seen.missing.items x ≡ 0 → AllMeet links seen.counts.items x (slice_index seen.counts.items x)
 all_were_seen n links seen x net counted inside zero =
     let counts = seen.counts.items in
     let own : ℕ = slice_index counts x in
@@ -75,7 +81,8 @@ all_were_seen n links seen x net counted inside zero =
 -- a neighbour whose count was loaded
 pub met_or_held : (v w : View) (x : ℕ) (e : ℕ × First) (c found : ℕ) (missed : Bool) → missed ≡ nat_lt found (bound_of e.1 c) → e.0 < length v.seen
     → (bound_of e.1 c ≤ found → w ≡ noted v e.0 found) → (found < bound_of e.1 c → EndsCall v x (Held e.0) e.0 found w)
-    → MatchBool (not missed) ((bound_of e.1 c ≤ slice_index w.seen e.0) × (w ≡ noted v e.0 (slice_index w.seen e.0))) (EndsCall v x (Held e.0) e.0 (slice_index w.seen e.0) w)
+    → MatchBool (not missed) ((bound_of e.1 c ≤ slice_index w.seen e.0) × (w ≡ noted v e.0 (slice_index w.seen e.0)))
+    (EndsCall v x (Held e.0) e.0 (slice_index w.seen e.0) w)
 met_or_held v w x e c found false is inside met held =
     let enough : bound_of e.1 c ≤ found = ltb-false _ _ (sym is) in
     let noted_is : w ≡ noted v e.0 found = met enough in

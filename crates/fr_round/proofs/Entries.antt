@@ -1,5 +1,6 @@
 -- Lists of counts, and histories with one entry more.
-use Rattle.std.proofs.Common.{◌≡◌, ◌≢◌, ◌⊎◌, ℕ, zero, suc, ◌≤◌, Bool, cond, eqb, List, [], ◌∷◌, ◌++◌, get_or, set, replicate, refl, ap, ◌∙◌, ⊎_elim, inl, inr, arith, eq-eqb, ne_eqb, append-nil}
+use Rattle.std.proofs.Common.{◌≡◌, ◌≢◌, ◌⊎◌, ℕ, zero, suc, ◌≤◌, Bool, cond, eqb, List, [], ◌∷◌, ◌++◌, get_or, set, replicate, refl, ap, ◌∙◌, ⊎_elim}
+use Rattle.std.proofs.Common.{inl, inr, arith, eq-eqb, ne_eqb, append-nil}
 use Rattle.std.proofs.lemmas.List.{length-replicate}
 use Rattle.std.proofs.lemmas.List.Elements.{filter-append}
 use Rattle.fr_graph.specs.Links.{IsNet}
@@ -42,14 +43,16 @@ pub set_below : (seen words : List ℕ) (i v : ℕ) → ((y : ℕ) → get_or se
     → (y : ℕ) → get_or (set seen i v) y 0 ≤ get_or words y 0
 set_below seen words i v h le y =
     ⊎_elim (λ (e : get_or (set seen i v) y 0 ≡ get_or seen y 0). let b = h y in omega arith)
-    (λ (t : (y ≡ i) × (get_or (set seen i v) y 0 ≡ v)). let p : get_or words y 0 ≡ get_or words i 0 = ap (λ z. get_or words z 0) t.0 in let q = t.1 in omega arith)
+    (λ (t : (y ≡ i) × (get_or (set seen i v) y 0 ≡ v)). let p : get_or words y 0 ≡ get_or words i 0 =
+    ap (λ z. get_or words z 0) t.0 in let q = t.1 in omega arith)
     (set_or seen i v y)
 
 pub part_mine : (k : ℕ) (h : List Entry) (e : Entry) → e.worker ≡ k → part k (h ++ e ∷ []) ≡ part k h ++ e ∷ []
 part_mine k h e is = filter-append (λ (e : Entry). eqb e.worker k) h (e ∷ []) ∙ ap (λ (b : Bool). part k h ++ cond b (e ∷ []) []) (eq-eqb e.worker k is)
 
 pub part_other : (k : ℕ) (h : List Entry) (e : Entry) → e.worker ≢ k → part k (h ++ e ∷ []) ≡ part k h
-part_other k h e not = filter-append (λ (e : Entry). eqb e.worker k) h (e ∷ []) ∙ (ap (λ (b : Bool). part k h ++ cond b (e ∷ []) []) (ne_eqb e.worker k not) ∙ append-nil (part k h))
+part_other k h e not = filter-append (λ (e : Entry). eqb e.worker k) h (e ∷ [])
+    ∙ (ap (λ (b : Bool). part k h ++ cond b (e ∷ []) []) (ne_eqb e.worker k not) ∙ append-nil (part k h))
 
 pub part_more : (k : ℕ) (e : Entry) (h : List Entry) → e.worker ≡ k → part k (e ∷ h) ≡ e ∷ part k h
 part_more k e h is = ap (λ (b : Bool). cond b (e ∷ part k h) (part k h)) (eq-eqb e.worker k is)

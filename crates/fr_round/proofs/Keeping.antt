@@ -1,5 +1,6 @@
 -- Each step of a worker keeps the rule, and tells what `specs/Steps.antt` says of it.
-use Rattle.std.proofs.Common.{◌≡◌, ◌≢◌, ℕ, ◌+◌, ◌<◌, ◌≤◌, true, eqb, List, [], ◌∷◌, ◌++◌, length, map, set, refl, sym, ap, ◌∙◌, subst, ⊎_elim, arith, le_refl, length-set, get_or-set_same, append-nil, append_assoc, true≢false}
+use Rattle.std.proofs.Common.{◌≡◌, ◌≢◌, ℕ, ◌+◌, ◌<◌, ◌≤◌, true, eqb, List, [], ◌∷◌, ◌++◌, length, map, set, refl, sym, ap, ◌∙◌, subst, ⊎_elim, arith}
+use Rattle.std.proofs.Common.{le_refl, length-set, get_or-set_same, append-nil, append_assoc, true≢false}
 use Rattle.std.specs.Prelude.{slice_index, slice_set}
 use Rattle.std.proofs.lemmas.List.{set-get_or}
 use Rattle.std.specs.List.{AllByRecursion as Each, Contains}
@@ -60,7 +61,8 @@ starts_on : (k : ℕ) (h h' known : List Entry) → Grows k h h' → StartsWith 
 starts_on k h h' known g s = (s.0 ++ g.rest, g.is ∙ (ap (λ l. l ++ g.rest) s.1 ∙ append_assoc known s.0 g.rest))
 
 -- what the rule says of the other seats goes on to hold
-others_stay : (b : Setup) (next : ℕ) (seat_of : ℕ → ℕ) (at : ℕ) (h h' : List Entry) (words words' : List ℕ) (k : ℕ) → Grows k h h' → ((y : ℕ) → slice_index words y ≤ slice_index words' y)
+others_stay : (b : Setup) (next : ℕ) (seat_of : ℕ → ℕ) (at : ℕ) (h h' : List Entry) (words words' : List ℕ) (k : ℕ)
+    → Grows k h h' → ((y : ℕ) → slice_index words y ≤ slice_index words' y)
     → (j : ℕ) (u : View) → seat_of k ≢ j → ViewFits b next seat_of at h words j u → ViewFits b next seat_of at h' words' j u
 others_stay b next seat_of at h h' words words' k g up j u apart f = record {
   worker = λ works. let w = f.worker works in record {
@@ -97,8 +99,10 @@ decided_view v h y c = record v { seen = slice_set v.seen y c; known = h }
 
 module _ {S : Type 0} where
   -- a worker's seat has a new view, after a history that its calls made longer
-  keeps_step : (b : Setup) (s : State S View) (r : KeepsRule b s) (id : ℕ) (v w : View) (h' : List Entry) (words' : List ℕ) → get_elem? s.views id ≡ some v → v.works ≡ true
-      → Grows v.number r.history h' → IsHistory b h' → words' ≡ (moment b h').counts → Each (λ (e : Entry). e.worker < r.next) h' → ((y : ℕ) → slice_index s.words y ≤ slice_index words' y)
+  keeps_step : (b : Setup) (s : State S View) (r : KeepsRule b s) (id : ℕ) (v w : View) (h' : List Entry) (words' : List ℕ)
+      → get_elem? s.views id ≡ some v → v.works ≡ true
+      → Grows v.number r.history h' → IsHistory b h' → words' ≡ (moment b h').counts
+      → Each (λ (e : Entry). e.worker < r.next) h' → ((y : ℕ) → slice_index s.words y ≤ slice_index words' y)
       → ViewFits b r.next r.seat_of r.at h' words' id w → KeepsRule b (record { words = words'; homes = s.homes; views = set s.views id w })
   keeps_step b s r id v w h' words' here works g run same given up fit =
       let mine = (r.views id v here).worker works in record {
@@ -125,11 +129,13 @@ module _ {S : Type 0} where
   word_is b s r y = ap (λ l. slice_index l y) r.words
 
   -- a count that a word has reached is noted
-  notes : (s : State S View) (id : ℕ) (v : View) (r : KeepsRule v.setup s) (y c node count : ℕ) → get_elem? s.views id ≡ some v → v.works ≡ true → c ≤ slice_index s.words y
+  notes : (s : State S View) (id : ℕ) (v : View) (r : KeepsRule v.setup s) (y c node count : ℕ)
+      → get_elem? s.views id ≡ some v → v.works ≡ true → c ≤ slice_index s.words y
       → KeepsRule v.setup (record { words = s.words; homes = s.homes; views = set s.views id (marked v y c node count) })
   notes s id v r y c node count here works le =
       let f = r.views id v here in let mine = f.worker works in
-      keeps_step v.setup s r id v (marked v y c node count) r.history s.words here works (grows_same v.number r.history) r.run r.words r.given_out (λ z. le_refl _) (record {
+      keeps_step v.setup s r id v (marked v y c node count) r.history s.words here works (grows_same v.number r.history)
+      r.run r.words r.given_out (λ z. le_refl _) (record {
         worker = λ _. record {
           setup = refl;
           begins = mine.begins;
@@ -146,7 +152,8 @@ module _ {S : Type 0} where
       })
 
   -- a call is decided by an entry that is legal after the history
-  call_ended : (s : State S View) (id : ℕ) (v : View) (r : KeepsRule v.setup s) (x : ℕ) (reply : Reply) (y c : ℕ) (words' : List ℕ) → get_elem? s.views id ≡ some v → v.works ≡ true
+  call_ended : (s : State S View) (id : ℕ) (v : View) (r : KeepsRule v.setup s) (x : ℕ) (reply : Reply) (y c : ℕ)
+      (words' : List ℕ) → get_elem? s.views id ≡ some v → v.works ≡ true
       → IsLegal v.setup.nodes v.setup.dest (moment v.setup r.history) (entry v.number x reply)
       → words' ≡ (after (moment v.setup r.history) (entry v.number x reply)).counts
       → ((z : ℕ) → slice_index s.words z ≤ slice_index words' z) → c ≤ slice_index words' y
@@ -158,22 +165,24 @@ module _ {S : Type 0} where
       let h' : List Entry = r.history ++ e ∷ [] in
       let run : IsHistory v.setup h' = run_append v.setup.nodes v.setup.dest (start v.setup) r.history (e ∷ []) r.run (legal, tt) in
       let counts : words' ≡ (moment v.setup h').counts = same ∙ ap (λ (m : Moment). m.counts) (sym (after_all-append (start v.setup) r.history (e ∷ []))) in
-      let below : (z : ℕ) → slice_index (slice_set v.seen y c) z ≤ slice_index words' z = set_below v.seen words' y c (λ z. let p = mine.below z in let q = up z in omega arith) le in (
-        keeps_step v.setup s r id v (decided_view v h' y c) h' words' here works (grows_by v.number x reply r.history) run counts (each_snoc (λ (e : Entry). e.worker < r.next) r.history e r.given_out mine.numbered) up (record {
-          worker = λ _. record {
-            setup = refl;
-            begins = ([], sym (append-nil h'));
-            own = refl;
-            below = below;
-            long = length-set v.seen y c ∙ mine.long;
-            numbered = mine.numbered;
-            placed = mine.placed;
-            not_opening = mine.not_opening;
-            not_closing = mine.not_closing;
-          };
-          opening = λ opens. absurd (true≢false (sym opens ∙ mine.not_opening));
-          closing = λ closes. absurd (true≢false (sym closes ∙ mine.not_closing));
-        }),
+      let below : (z : ℕ) → slice_index (slice_set v.seen y c) z ≤ slice_index words' z =
+      set_below v.seen words' y c (λ z. let p = mine.below z in let q = up z in omega arith) le in (
+        keeps_step v.setup s r id v (decided_view v h' y c) h' words' here works (grows_by v.number x reply r.history)
+            run counts (each_snoc (λ (e : Entry). e.worker < r.next) r.history e r.given_out mine.numbered) up (record {
+              worker = λ _. record {
+                setup = refl;
+                begins = ([], sym (append-nil h'));
+                own = refl;
+                below = below;
+                long = length-set v.seen y c ∙ mine.long;
+                numbered = mine.numbered;
+                placed = mine.placed;
+                not_opening = mine.not_opening;
+                not_closing = mine.not_closing;
+              };
+              opening = λ opens. absurd (true≢false (sym opens ∙ mine.not_opening));
+              closing = λ closes. absurd (true≢false (sym closes ∙ mine.not_closing));
+            }),
         record {
           same = refl;
           extends = record {
@@ -188,18 +197,23 @@ module _ {S : Type 0} where
 
   -- what a step at a known setup shows, at the setup of the rule
   abbrev Outcome : State S View → ℕ → Me S View → List ℕ → (Me S View → Type 0) → Setup → Type 0
-  Outcome s id me words' then b = (w : View) × (a : Act S) × Valid s.homes me.1 a × KeepsRule b (record { words = words'; homes = homes_after s.homes me.1 a; views = slice_set s.views id w }) × then (w, carried_after me.1 a)
+  Outcome s id me words' then b = (w : View) × (a : Act S) × Valid s.homes me.1 a
+      × KeepsRule b (record { words = words'; homes = homes_after s.homes me.1 a; views = slice_set s.views id w }) × then (w, carried_after me.1 a)
 
-  rebase : (s : State S View) (id : ℕ) (me : Me S View) (words' : List ℕ) (then : Me S View → Type 0) (b : Setup) (r : KeepsRule b s) → get_elem? s.views id ≡ some me.0 → me.0.works ≡ true
+  rebase : (s : State S View) (id : ℕ) (me : Me S View) (words' : List ℕ) (then : Me S View → Type 0) (b : Setup)
+      (r : KeepsRule b s) → get_elem? s.views id ≡ some me.0 → me.0.works ≡ true
       → ((r : KeepsRule me.0.setup s) → Outcome s id me words' then me.0.setup) → Outcome s id me words' then b
-  rebase s id me words' then b r here works main = subst (λ (z : Setup). KeepsRule z s → Outcome s id me words' then z) ((r.views id me.0 here).worker works).setup main r
+  rebase s id me words' then b r here works main = subst (λ (z : Setup). KeepsRule z s → Outcome s id me words' then z)
+      ((r.views id me.0 here).worker works).setup main r
 
-  load_at : (s : State S View) (id i : ℕ) (me : Me S View) (then : Me S View → Type 0) (b : Setup) → Outcome s id me s.words then b → Outcome s id me (slice_set s.words i (slice_index s.words i)) then b
+  load_at : (s : State S View) (id i : ℕ) (me : Me S View) (then : Me S View → Type 0) (b : Setup)
+      → Outcome s id me s.words then b → Outcome s id me (slice_set s.words i (slice_index s.words i)) then b
   load_at s id i me then b out = subst (λ ws. Outcome s id me ws then b) (sym (set-get_or s.words i 0)) out
 
   -- a load shows what it shows where the setup of the rule is the worker's own
   loads : (b : Setup) (slots id : ℕ) (me : Me S View) (i : ℕ) (then : ℕ → Me S View → Type 0) → me.0.works ≡ true
-      → ((s : State S View) → get_elem? s.views id ≡ some me.0 → (r : KeepsRule me.0.setup s) → Outcome s id me s.words (then (slice_index s.words i)) me.0.setup)
+      → ((s : State S View) → get_elem? s.views id ≡ some me.0 → (r : KeepsRule me.0.setup s)
+      → Outcome s id me s.words (then (slice_index s.words i)) me.0.setup)
       → Allows (KeepsRule b) slots id me i (λ n. n) then
   loads b slots id me i then works main s r0 _ here _ =
       let found : ℕ = slice_index s.words i in
@@ -210,7 +224,8 @@ module _ {S : Type 0} where
   word_low b s r y = omega (arith, word_is b s r y, (lawful_here b s r).lawful.capped y)
 
   -- a node whose neighbours were all seen to meet their bounds is a sink
-  sink_here : (s : State S View) (id : ℕ) (v : View) (r : KeepsRule v.setup s) → get_elem? s.views id ≡ some v → v.works ≡ true → (x c : ℕ) → slice_index s.words x ≡ c → (w : ℕ) × Joins v.setup.links x w
+  sink_here : (s : State S View) (id : ℕ) (v : View) (r : KeepsRule v.setup s) → get_elem? s.views id ≡ some v
+      → v.works ≡ true → (x c : ℕ) → slice_index s.words x ≡ c → (w : ℕ) × Joins v.setup.links x w
       → AllMeet v.setup.links v.seen x c → IsSink (moment v.setup r.history).links x
   sink_here s id v r here works x c hit linked met =
       let st = lawful_here v.setup s r in
@@ -218,7 +233,8 @@ module _ {S : Type 0} where
       let own : count_at (moment v.setup r.history) x ≡ c = sym (word_is v.setup s r x) ∙ hit in
       subst (λ (ls : List (ℕ × ℕ)). IsSink ls x) (sym st.links)
       (sink_from_seen v.setup.links (moment v.setup r.history).counts st.lawful.kept x (slice_index v.seen)
-      (λ y. let q = mine.below y in let e = word_is v.setup s r y in omega arith) linked (λ y l. let p = met.along y l in omega arith) (λ y l. let p = met.against y l in omega arith))
+      (λ y. let q = mine.below y in let e = word_is v.setup s r y in omega arith) linked (λ y l. let p = met.along y l in
+      omega arith) (λ y l. let p = met.against y l in omega arith))
 
   pub loads_own : (b : Setup) (slots id : ℕ) (me : Me S View) (i : ℕ) → me.0.works ≡ true → i < me.0.setup.nodes
       → Allows (KeepsRule b) slots id me i (λ n. n) (own_loaded (step slots i 0 0 none) me)
@@ -232,13 +248,21 @@ module _ {S : Type 0} where
       (λ (full : found ≡ v.setup.nodes).
       let d = call_ended s id v r i Cut i found s.words here works (inside, sym is ∙ full) r.words (λ z. le_refl _) (le_refl found) in
       (decided_view v (r.history ++ entry v.number i Cut ∷ []) i found, keeps, tt, d.0, (mine.below i, most, (λ other. absurd (other full)), (λ _. d.1), refl)))
-      (λ (other : found ≢ v.setup.nodes).
-      (begun v i found, keeps, tt, notes s id v r i found i found here works (le_refl found), (mine.below i, most, (λ _. refl), (λ full. absurd (other full)), refl))))
+      (λ (other : found ≢ v.setup.nodes). (
+        begun v i found,
+        keeps,
+        tt,
+        notes s id v r i found i found here works (le_refl found),
+        (mine.below i, most, (λ _. refl), (λ full. absurd (other full)), refl),
+      )))
 
-  loads_neighbour : (b : Setup) (slots id more : ℕ) (me : Me S View) (i : ℕ) → me.0.works ≡ true → me.0.node < me.0.setup.nodes → me.0.count ≤ slice_index me.0.seen me.0.node
-      → ((m : Moment) → IsLawfulAt me.0.setup.nodes me.0.setup.dest me.0.setup.links m → me.0.count ≤ count_at m me.0.node → count_at m i < me.0.count + more → Points m.links me.0.node i)
+  loads_neighbour : (b : Setup) (slots id more : ℕ) (me : Me S View) (i : ℕ) → me.0.works ≡ true
+      → me.0.node < me.0.setup.nodes → me.0.count ≤ slice_index me.0.seen me.0.node
+      → ((m : Moment) → IsLawfulAt me.0.setup.nodes me.0.setup.dest me.0.setup.links m → me.0.count ≤ count_at m me.0.node
+      → count_at m i < me.0.count + more → Points m.links me.0.node i)
       → Allows (KeepsRule b) slots id me i (λ n. n) (neighbour_loaded more (step slots i 0 0 none) me)
-  loads_neighbour b slots id more me i works inside begun_at points = loads b slots id me i (neighbour_loaded more (step slots i 0 0 none) me) works (λ s here r.
+  loads_neighbour b slots id more me i works inside begun_at points =
+      loads b slots id me i (neighbour_loaded more (step slots i 0 0 none) me) works (λ s here r.
       let found : ℕ = slice_index s.words i in
       let v = me.0 in
       let mine = (r.views id v here).worker works in
@@ -248,19 +272,33 @@ module _ {S : Type 0} where
       dite (dec_lt found (v.count + more))
       (λ (miss : found < v.count + more).
       let low : reached v.setup r.history i < v.count + more = omega arith in
-      let d = call_ended s id v r v.node (Held i) i found s.words here works (inside, points (moment v.setup r.history) (lawful_here v.setup s r) own low) r.words (λ z. le_refl _) (le_refl found) in
-      (decided_view v (r.history ++ entry v.number v.node (Held i) ∷ []) i found, keeps, tt, d.0, (mine.below i, most, (λ meets. absurd (omega arith)), (λ _. d.1), refl)))
-      (λ (meets : ¬ (found < v.count + more)).
-      (noted v i found, keeps, tt, notes s id v r i found v.node v.count here works (le_refl found), (mine.below i, most, (λ _. refl), (λ miss. absurd (meets miss)), refl))))
+      let d = call_ended s id v r v.node (Held i) i found s.words here works
+      (inside, points (moment v.setup r.history) (lawful_here v.setup s r) own low) r.words (λ z. le_refl _) (le_refl found) in (
+        decided_view v (r.history ++ entry v.number v.node (Held i) ∷ []) i found,
+        keeps,
+        tt,
+        d.0,
+        (mine.below i, most, (λ meets. absurd (omega arith)), (λ _. d.1), refl),
+      ))
+      (λ (meets : ¬ (found < v.count + more)). (
+        noted v i found,
+        keeps,
+        tt,
+        notes s id v r i found v.node v.count here works (le_refl found),
+        (mine.below i, most, (λ _. refl), (λ miss. absurd (meets miss)), refl),
+      )))
 
-  exchanges : (b : Setup) (slots id : ℕ) (me : Me S View) (x c new : ℕ) → new ≡ c + 1 → me.0.works ≡ true → c < me.0.setup.nodes → c ≤ slice_index me.0.seen x → IsTurnable me.0.setup.nodes me.0.setup.dest me.0.setup.links x
+  exchanges : (b : Setup) (slots id : ℕ) (me : Me S View) (x c new : ℕ) → new ≡ c + 1 → me.0.works ≡ true
+      → c < me.0.setup.nodes → c ≤ slice_index me.0.seen x → IsTurnable me.0.setup.nodes me.0.setup.dest me.0.setup.links x
       → AllMeet me.0.setup.links me.0.seen x c → Allows (KeepsRule b) slots id me x (λ n. either (eqb n c) new n) (exchange_made (step slots x c new none) me)
   exchanges b slots id me x c new up works room had may met s r0 _ here _ =
       let found : ℕ = slice_index s.words x in
-      rebase s id me (slice_set s.words x (either (eqb found c) new found)) (exchange_made (step slots x c new none) me found) b r0 here works (λ r. main s here r)
+      rebase s id me (slice_set s.words x (either (eqb found c) new found))
+      (exchange_made (step slots x c new none) me found) b r0 here works (λ r. main s here r)
     where
       main : (s : State S View) → get_elem? s.views id ≡ some me.0 → (r : KeepsRule me.0.setup s)
-          → Outcome s id me (slice_set s.words x (either (eqb (slice_index s.words x) c) new (slice_index s.words x))) (exchange_made (step slots x c new none) me (slice_index s.words x)) me.0.setup
+          → Outcome s id me (slice_set s.words x (either (eqb (slice_index s.words x) c) new (slice_index s.words x)))
+          (exchange_made (step slots x c new none) me (slice_index s.words x)) me.0.setup
       main s here r =
           let found : ℕ = slice_index s.words x in
           let v = me.0 in
@@ -272,20 +310,35 @@ module _ {S : Type 0} where
           exchanged found c new (λ z. Outcome s id me (slice_set s.words x z) (exchange_made (step slots x c new none) me found) b)
           (λ (hit : found ≡ c).
           let own : count_at m x ≡ c = sym is ∙ hit in
-          let can : CanTurn b.nodes b.dest m x = record { not_destination = may.not_destination; below_cap = omega arith; sink = sink_here s id v r here works x c hit may.linked met } in
+          let can : CanTurn b.nodes b.dest m x = record {
+            not_destination = may.not_destination;
+            below_cap = omega arith;
+            sink = sink_here s id v r here works x c hit may.linked met;
+          } in
           let words' : List ℕ = slice_set s.words x new in
           let one_each = (lawful_here b s r).lawful.one_each in
           let long : x < length s.words = omega (arith, one_each, may.inside, ap (λ (l : List ℕ). length l) r.words) in
           let new_is : new ≡ count_at m x + 1 = omega arith in
           let same : words' ≡ slice_set m.counts x (count_at m x + 1) = λ i. slice_set (r.words i) x (new_is i) in
           let here_now : slice_index words' x ≡ new = get_or-set_same s.words x new 0 long in
-          let t = call_ended s id v r x (Turned (c + 1)) x (c + 1) words' here works (may.inside, (can, ap (λ (z : ℕ). z + 1) (sym own))) same (set_up s.words x new (omega arith)) (omega arith) in
-          (decided_view v (r.history ++ entry v.number x (Turned (c + 1)) ∷ []) x (c + 1), keeps, tt, t.0, (mine.below x, most, (λ _. t.1), (λ other. absurd (other hit)), refl)))
+          let t = call_ended s id v r x (Turned (c + 1)) x (c + 1) words' here works
+          (may.inside, (can, ap (λ (z : ℕ). z + 1) (sym own))) same (set_up s.words x new (omega arith)) (omega arith) in (
+            decided_view v (r.history ++ entry v.number x (Turned (c + 1)) ∷ []) x (c + 1),
+            keeps,
+            tt,
+            t.0,
+            (mine.below x, most, (λ _. t.1), (λ other. absurd (other hit)), refl),
+          ))
           (λ (miss : found ≢ c).
           let above : c < found = let p = mine.below x in omega arith in
           let t = call_ended s id v r x (Moved c found) x found s.words here works (may.inside, (is, above)) r.words (λ z. le_refl _) (le_refl found) in
-          subst (λ ws. Outcome s id me ws (exchange_made (step slots x c new none) me found) b) (sym (set-get_or s.words x 0))
-          (decided_view v (r.history ++ entry v.number x (Moved c found) ∷ []) x found, keeps, tt, t.0, (mine.below x, most, (λ hit. absurd (miss hit)), (λ _. t.1), refl)))
+          subst (λ ws. Outcome s id me ws (exchange_made (step slots x c new none) me found) b) (sym (set-get_or s.words x 0)) (
+            decided_view v (r.history ++ entry v.number x (Moved c found) ∷ []) x found,
+            keeps,
+            tt,
+            t.0,
+            (mine.below x, most, (λ hit. absurd (miss hit)), (λ _. t.1), refl),
+          ))
 
   pub begins_look : (b : Setup) (slots id : ℕ) (me : Me S View) (i : ℕ) → me.0.works ≡ true
       → Allows (KeepsRule b) slots id me i (λ n. n) (look_begun (step slots i 0 0 none) me)
@@ -294,7 +347,8 @@ module _ {S : Type 0} where
       let mine = (r.views id me.0 here).worker works in
       (begun me.0 i found, keeps, tt, notes s id me.0 r i found i found here works (le_refl found), (mine.below i, word_low me.0.setup s r i, refl, refl)))
 
-  ends_look : (b : Setup) (slots id : ℕ) (me : Me S View) (x : ℕ) → me.0.works ≡ true → me.0.count ≤ slice_index me.0.seen x → IsLookable me.0.setup.nodes me.0.setup.links x → AllMeet me.0.setup.links me.0.seen x me.0.count
+  ends_look : (b : Setup) (slots id : ℕ) (me : Me S View) (x : ℕ) → me.0.works ≡ true → me.0.count ≤ slice_index me.0.seen x
+      → IsLookable me.0.setup.nodes me.0.setup.links x → AllMeet me.0.setup.links me.0.seen x me.0.count
       → Allows (KeepsRule b) slots id me x (λ n. n) (look_ended (step slots x 0 0 none) me)
   ends_look b slots id me x works had may met = loads b slots id me x (look_ended (step slots x 0 0 none) me) works (λ s here r.
       let found : ℕ = slice_index s.words x in
@@ -305,17 +359,24 @@ module _ {S : Type 0} where
       let most : found ≤ v.setup.nodes = word_low v.setup s r x in
       dite (ℕ_discrete found c)
       (λ (hit : found ≡ c).
-      let t = call_ended s id v r x Sink x found s.words here works (may.inside, sink_here s id v r here works x c hit may.linked met) r.words (λ z. le_refl _) (le_refl found) in
+      let t = call_ended s id v r x Sink x found s.words here works
+      (may.inside, sink_here s id v r here works x c hit may.linked met) r.words (λ z. le_refl _) (le_refl found) in
       (decided_view v (r.history ++ entry v.number x Sink ∷ []) x found, keeps, tt, t.0, (mine.below x, most, (λ _. t.1), (λ other. absurd (other hit)), refl)))
       (λ (miss : found ≢ c).
       let above : c < found = let p = mine.below x in omega arith in
-      let t = call_ended s id v r x (Moved c found) x found s.words here works (may.inside, (is, above)) r.words (λ z. le_refl _) (le_refl found) in
-      (decided_view v (r.history ++ entry v.number x (Moved c found) ∷ []) x found, keeps, tt, t.0, (mine.below x, most, (λ hit. absurd (miss hit)), (λ _. t.1), refl))))
+      let t = call_ended s id v r x (Moved c found) x found s.words here works (may.inside, (is, above)) r.words (λ z. le_refl _) (le_refl found) in (
+        decided_view v (r.history ++ entry v.number x (Moved c found) ∷ []) x found,
+        keeps,
+        tt,
+        t.0,
+        (mine.below x, most, (λ hit. absurd (miss hit)), (λ _. t.1), refl),
+      )))
 
 -- the same, by what the contracts of the steps say: the setup of the rule needs no name there, since it is that of each worker
 module _ {S : Type 0} (b own : Setup) (slots id : ℕ) (me : Me S View) (x c w : ℕ) (call : IsInCall own x c me.0) where
   here_begun : me.0.count ≤ slice_index me.0.seen me.0.node
-  here_begun = let e : slice_index me.0.seen me.0.node ≡ slice_index me.0.seen x = ap (slice_index me.0.seen) call.node in omega (arith, e, call.own, call.count)
+  here_begun = let e : slice_index me.0.seen me.0.node ≡ slice_index me.0.seen x = ap (slice_index me.0.seen) call.node in
+      omega (arith, e, call.own, call.count)
 
   here_inside : me.0.node < me.0.setup.nodes
   here_inside = let e : me.0.setup.nodes ≡ own.nodes = ap (λ (z : Setup). z.nodes) call.worker.setup in omega (arith, e, call.node, call.in_range)
@@ -324,22 +385,26 @@ module _ {S : Type 0} (b own : Setup) (slots id : ℕ) (me : Me S View) (x c w :
   loads_along_at link =
       let here = subst (λ (p : List (ℕ × ℕ) × ℕ). Contains p.0 (p.1, w)) (λ i. ((sym call.worker.setup i).links, sym call.node i)) link in
       loads_neighbour b slots id 1 me w call.worker.works here_inside here_begun
-      (λ m st up miss. subst (λ (ls : List (ℕ × ℕ)). Points ls me.0.node w) (sym st.links) (held_along me.0.setup.links m.counts st.lawful.kept me.0.node w me.0.count up here miss))
+      (λ m st up miss. subst (λ (ls : List (ℕ × ℕ)). Points ls me.0.node w) (sym st.links)
+      (held_along me.0.setup.links m.counts st.lawful.kept me.0.node w me.0.count up here miss))
 
   pub loads_against_at : Contains own.links (w, x) → Allows (KeepsRule b) slots id me w (λ n. n) (neighbour_loaded 0 (step slots w 0 0 none) me)
   loads_against_at link =
       let here = subst (λ (p : List (ℕ × ℕ) × ℕ). Contains p.0 (w, p.1)) (λ i. ((sym call.worker.setup i).links, sym call.node i)) link in
       loads_neighbour b slots id 0 me w call.worker.works here_inside here_begun
-      (λ m st up miss. subst (λ (ls : List (ℕ × ℕ)). Points ls me.0.node w) (sym st.links) (held_against me.0.setup.links m.counts st.lawful.kept me.0.node w me.0.count up here (omega arith)))
+      (λ m st up miss. subst (λ (ls : List (ℕ × ℕ)). Points ls me.0.node w) (sym st.links)
+      (held_against me.0.setup.links m.counts st.lawful.kept me.0.node w me.0.count up here (omega arith)))
 
-pub exchanges_at : {S : Type 0} (b own : Setup) (slots id : ℕ) (me : Me S View) (x c new : ℕ) → new ≡ c + 1 → c < own.nodes → c ≤ slice_index me.0.seen x → IsWorker own me.0 → IsTurnable own.nodes own.dest own.links x → AllMeet own.links me.0.seen x c
+pub exchanges_at : {S : Type 0} (b own : Setup) (slots id : ℕ) (me : Me S View) (x c new : ℕ) → new ≡ c + 1 → c < own.nodes
+    → c ≤ slice_index me.0.seen x → IsWorker own me.0 → IsTurnable own.nodes own.dest own.links x → AllMeet own.links me.0.seen x c
     → Allows (KeepsRule b) slots id me x (λ n. either (eqb n c) new n) (exchange_made (step slots x c new none) me)
 exchanges_at b own slots id me x c new up room had worker may met =
     let back = sym worker.setup in
     exchanges b slots id me x c new up worker.works (subst (λ (z : Setup). c < z.nodes) back room) had
     (subst (λ (z : Setup). IsTurnable z.nodes z.dest z.links x) back may) (subst (λ (z : Setup). AllMeet z.links me.0.seen x c) back met)
 
-pub ends_look_at : {S : Type 0} (b own : Setup) (slots id : ℕ) (me : Me S View) (x c : ℕ) → IsInCall own x c me.0 → IsLookable own.nodes own.links x → AllMeet own.links me.0.seen x c
+pub ends_look_at : {S : Type 0} (b own : Setup) (slots id : ℕ) (me : Me S View) (x c : ℕ) → IsInCall own x c me.0
+    → IsLookable own.nodes own.links x → AllMeet own.links me.0.seen x c
     → Allows (KeepsRule b) slots id me x (λ n. n) (look_ended (step slots x 0 0 none) me)
 ends_look_at b own slots id me x c call may met =
     let back = sym call.worker.setup in

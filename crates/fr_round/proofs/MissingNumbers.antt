@@ -1,5 +1,7 @@
 -- The numbers of neighbours that miss their bounds, and what becomes of them when a seen count rises.
-use Rattle.std.proofs.Common.{Bool, List, None, Option, Some, [], ap, arith, cond, count_by, eq-eqb, eqb, false, get_or, get_or-set_other, get_or-set_same, inl, inr, length, length-set, ltb, ltb-false, ltb-true, ne_eqb, option_to_list, refl, slice_index, slice_set, subst, suc, sym, take, take_all, true, zero, ℕ, ◌&&◌, ◌++◌, ◌+◌, ◌-◌, ◌<◌, ◌∙◌, ◌∷◌, ◌≡◌, ◌≢◌, ◌≤◌}
+use Rattle.std.proofs.Common.{Bool, List, None, Option, Some, [], ap, arith, cond, count_by, eq-eqb, eqb, false, get_or, get_or-set_other}
+use Rattle.std.proofs.Common.{get_or-set_same, inl, inr, length, length-set, ltb, ltb-false, ltb-true, ne_eqb, option_to_list, refl, slice_index}
+use Rattle.std.proofs.Common.{slice_set, subst, suc, sym, take, take_all, true, zero, ℕ, ◌&&◌, ◌++◌, ◌+◌, ◌-◌, ◌<◌, ◌∙◌, ◌∷◌, ◌≡◌, ◌≢◌, ◌≤◌}
 use Rattle.std.specs.Prelude.{nat_lt, not}
 use mir.Val.{bool_byte as from_bool}
 use Rattle.std.proofs.lemmas.Bool.{cases_Bool, cases_lt}
@@ -27,16 +29,19 @@ count_by-append p xs ys = sum_by-append (λ (e : ℕ × First). cond (p e) 1 0) 
 abbrev entry_at : List (ℕ × ℕ) → ℕ → ℕ → List (ℕ × First)
 entry_at links x w = option_to_list (row_entry links x w)
 
-count_same : (p q : ℕ × First → Bool) (o : Option (ℕ × First)) → ((e : ℕ × First) → o ≡ Some e → p e ≡ q e) → count_by p (option_to_list o) ≡ count_by q (option_to_list o)
+count_same : (p q : ℕ × First → Bool) (o : Option (ℕ × First)) → ((e : ℕ × First) → o ≡ Some e → p e ≡ q e)
+    → count_by p (option_to_list o) ≡ count_by q (option_to_list o)
 count_same p q None same = refl
 count_same p q (Some e) same = ap (λ (b : Bool). 0 + cond b 1 0) (same e refl)
 
-agrees_at : (p q : ℕ × First → Bool) (links : List (ℕ × ℕ)) (x w m : ℕ) → ((e : ℕ × First) → e.0 ≢ w → p e ≡ q e) → m ≢ w → count_by p (entry_at links x m) ≡ count_by q (entry_at links x m)
+agrees_at : (p q : ℕ × First → Bool) (links : List (ℕ × ℕ)) (x w m : ℕ) → ((e : ℕ × First) → e.0 ≢ w → p e ≡ q e) → m ≢ w
+    → count_by p (entry_at links x m) ≡ count_by q (entry_at links x m)
 agrees_at p q links x w m same other =
     count_same p q (row_entry links x m) (λ e is. same e (λ there. other (sym (row_entry_node links x m e is) ∙ there)))
 
 -- two tests that agree on all entries but that of node w count alike over a row that ends before it,
-row_before : (p q : ℕ × First → Bool) (n : ℕ) (links : List (ℕ × ℕ)) (x w : ℕ) → ((e : ℕ × First) → e.0 ≢ w → p e ≡ q e) → n ≤ w → count_by p (row n links x) ≡ count_by q (row n links x)
+row_before : (p q : ℕ × First → Bool) (n : ℕ) (links : List (ℕ × ℕ)) (x w : ℕ) → ((e : ℕ × First) → e.0 ≢ w → p e ≡ q e)
+    → n ≤ w → count_by p (row n links x) ≡ count_by q (row n links x)
 row_before p q zero links x w same le = refl
 row_before p q (suc m) links x w same le =
     omega (
@@ -49,7 +54,8 @@ row_before p q (suc m) links x w same le =
 
 -- and over one that reaches it they count alike but for that entry
 row_but_for : (p q : ℕ × First → Bool) (n : ℕ) (links : List (ℕ × ℕ)) (x w : ℕ) → ((e : ℕ × First) → e.0 ≢ w → p e ≡ q e) → w < n
-    → count_by p (row n links x) + count_by q (option_to_list (row_entry links x w)) ≡ count_by q (row n links x) + count_by p (option_to_list (row_entry links x w))
+    → count_by p (row n links x) + count_by q (option_to_list (row_entry links x w)) ≡ count_by q
+    (row n links x) + count_by p (option_to_list (row_entry links x w))
 row_but_for p q zero links x w same lt = absurd (omega arith)
 row_but_for p q (suc m) links x w same lt =
     let whole_p = count_by-append p (row m links x) (entry_at links x m) in
@@ -86,7 +92,8 @@ none_pass [] = refl
 none_pass (e ∷ es) = none_pass es
 
 -- a count that rises from `had` misses a bound still, or begins to meet it, or met it
-rises_past : (had count bound : ℕ) → had ≤ count → 0 + cond (ltb had bound) 1 0 ≡ (0 + cond (ltb count bound) 1 0) + (0 + cond (ltb had bound && not (ltb count bound)) 1 0)
+rises_past : (had count bound : ℕ) → had ≤ count
+    → 0 + cond (ltb had bound) 1 0 ≡ (0 + cond (ltb count bound) 1 0) + (0 + cond (ltb had bound && not (ltb count bound)) 1 0)
 rises_past had count bound up =
     elim (cases_Bool (ltb had bound)) [
       | inl low ↦ elim (cases_Bool (ltb count bound)) [
@@ -105,14 +112,16 @@ rises_past had count bound up =
 seen_both_ways : (P Q D : ℕ × First → Bool) (y z : ℕ) (out back : Bool) → ((out ≡ true) → (back ≡ true) → ⊥)
     → ((f : First) → 0 + cond (P (y, opposite f)) 1 0 ≡ (0 + cond (Q (y, opposite f)) 1 0) + (0 + cond (D (z, f)) 1 0))
     → count_by P (option_to_list (cond back (Some (y, Outward)) (cond out (Some (y, Inward)) None)))
-    ≡ count_by Q (option_to_list (cond back (Some (y, Outward)) (cond out (Some (y, Inward)) None))) + count_by D (option_to_list (cond out (Some (z, Outward)) (cond back (Some (z, Inward)) None)))
+    ≡ count_by Q (option_to_list (cond back (Some (y, Outward)) (cond out (Some (y, Inward)) None))) + count_by D
+    (option_to_list (cond out (Some (z, Outward)) (cond back (Some (z, Inward)) None)))
 seen_both_ways P Q D y z true true bar same = absurd (bar refl refl)
 seen_both_ways P Q D y z true false bar same = same Outward
 seen_both_ways P Q D y z false true bar same = same Inward
 seen_both_ways P Q D y z false false bar same = refl
 
 -- the number of z as it was is the new one, and one more if y is a neighbour that begins to meet its bound
-missing_lowered : (n : ℕ) (links : List (ℕ × ℕ)) (counts : List ℕ) (y z count : ℕ) → IsNet n links → y < n → z < n → z ≢ y → length counts ≡ n → slice_index counts y ≤ count
+missing_lowered : (n : ℕ) (links : List (ℕ × ℕ)) (counts : List ℕ) (y z count : ℕ) → IsNet n links → y < n → z < n → z ≢ y
+    → length counts ≡ n → slice_index counts y ≤ count
     → missing_of n links counts z ≡ missing_of n links (slice_set counts y count) z + count_by (lowers counts (slice_index counts y) count z) (row n links y)
 missing_lowered n links counts y z count net y_in z_in other long up =
     let had : ℕ = slice_index counts y in
@@ -141,7 +150,8 @@ pub record IsCountedTo (list : List (ℕ × First)) (counts : List ℕ) (own : �
   pub few : missing ≤ j
 
 -- one entry more is counted
-pub counted_on : (list : List (ℕ × First)) (counts : List ℕ) (own missing j more : ℕ) (b : Bool) → IsCountedTo list counts own missing j → j < length list → misses counts own (get_or list j (0, Outward)) ≡ b → more ≡ from_bool b
+pub counted_on : (list : List (ℕ × First)) (counts : List ℕ) (own missing j more : ℕ) (b : Bool)
+    → IsCountedTo list counts own missing j → j < length list → misses counts own (get_or list j (0, Outward)) ≡ b → more ≡ from_bool b
     → IsCountedTo list counts own (missing + more) (j + 1)
 counted_on list counts own missing j more true t inside passes is =
     let one : more ≡ 1 = is in
@@ -157,10 +167,12 @@ one_at_most false more is = omega (arith, is)
 -- the numbers of the nodes but y, once node y is taken off those of the first j entries of its row
 pub record IsLoweredTo (n : ℕ) (links : List (ℕ × ℕ)) (list : List (ℕ × First)) (counts missing : List ℕ) (y count j : ℕ) : Type 0 where
   pub as_many : length missing ≡ n
-  pub left : (z : ℕ) → z < n → z ≢ y → slice_index missing z + count_by (lowers counts (slice_index counts y) count z) (take j list) ≡ missing_of n links counts z
+  pub left : (z : ℕ) → z < n → z ≢ y → slice_index missing z + count_by (lowers counts (slice_index counts y) count z)
+      (take j list) ≡ missing_of n links counts z
 
 -- an entry of a row is another node
-pub other_node : (n : ℕ) (links : List (ℕ × ℕ)) (y : ℕ) (list : List (ℕ × First)) (j : ℕ) → IsNet n links → list ≡ row n links y → j < length list → ((get_or list j (0, Outward)).0 < n) × ((get_or list j (0, Outward)).0 ≢ y)
+pub other_node : (n : ℕ) (links : List (ℕ × ℕ)) (y : ℕ) (list : List (ℕ × First)) (j : ℕ) → IsNet n links
+    → list ≡ row n links y → j < length list → ((get_or list j (0, Outward)).0 < n) × ((get_or list j (0, Outward)).0 ≢ y)
 other_node n links y list j net is =
     subst (λ (l : List (ℕ × First)). j < length l → ((get_or l j (0, Outward)).0 < n) × ((get_or l j (0, Outward)).0 ≢ y)) (sym is)
     (λ inside.
@@ -178,8 +190,10 @@ other_node n links y list j net is =
         ]
 
 -- the entry at place j begins to meet its bound, so its number goes down,
-pub room_to_lower : (n : ℕ) (links : List (ℕ × ℕ)) (list : List (ℕ × First)) (counts missing : List ℕ) (y count j : ℕ) → IsNet n links → list ≡ row n links y → y < n → length counts ≡ n → slice_index counts y ≤ count
-    → IsLoweredTo n links list counts missing y count j → j < length list → begins_to_meet counts (slice_index counts y) count (get_or list j (0, Outward)) ≡ true → 1 ≤ slice_index missing (get_or list j (0, Outward)).0
+pub room_to_lower : (n : ℕ) (links : List (ℕ × ℕ)) (list : List (ℕ × First)) (counts missing : List ℕ) (y count j : ℕ)
+    → IsNet n links → list ≡ row n links y → y < n → length counts ≡ n → slice_index counts y ≤ count
+    → IsLoweredTo n links list counts missing y count j → j < length list
+    → begins_to_meet counts (slice_index counts y) count (get_or list j (0, Outward)) ≡ true → 1 ≤ slice_index missing (get_or list j (0, Outward)).0
 room_to_lower n links list counts missing y count j net is y_in long up t inside begins =
     let e : ℕ × First = get_or list j (0, Outward) in
     let D : ℕ × First → Bool = lowers counts (slice_index counts y) count e.0 in
@@ -192,9 +206,11 @@ room_to_lower n links list counts missing y count j net is y_in long up t inside
     omega (arith, t.left e.0 other.0 other.1, whole, same, one, sum_by_more_le (λ (x : ℕ × First). cond (D x) 1 0) list j (0, Outward) inside)
 
 pub lowered_yes : (n : ℕ) (links : List (ℕ × ℕ)) (list : List (ℕ × First)) (counts missing : List ℕ) (y count j : ℕ) → IsNet n links → list ≡ row n links y
-    → IsLoweredTo n links list counts missing y count j → j < length list → begins_to_meet counts (slice_index counts y) count (get_or list j (0, Outward)) ≡ true
+    → IsLoweredTo n links list counts missing y count j → j < length list
+    → begins_to_meet counts (slice_index counts y) count (get_or list j (0, Outward)) ≡ true
     → 1 ≤ slice_index missing (get_or list j (0, Outward)).0
-    → IsLoweredTo n links list counts (slice_set missing (get_or list j (0, Outward)).0 (slice_index missing (get_or list j (0, Outward)).0 - 1)) y count (j + 1)
+    → IsLoweredTo n links list counts
+    (slice_set missing (get_or list j (0, Outward)).0 (slice_index missing (get_or list j (0, Outward)).0 - 1)) y count (j + 1)
 lowered_yes n links list counts missing y count j net is t inside begins room =
     let e : ℕ × First = get_or list j (0, Outward) in
     let had : ℕ = slice_index counts y in
@@ -206,7 +222,8 @@ lowered_yes n links list counts missing y count j net is t inside begins room =
           (λ (here : z ≡ e.0).
           let D : ℕ × First → Bool = lowers counts had count z in
           let passes : D e ≡ true = subst (λ (k : ℕ). lowers counts had count k e ≡ true) (sym here) (lowers_at counts had count e.0 e.1 ∙ begins) in
-          let now : slice_index (slice_set missing e.0 lower) z ≡ lower = ap (λ (k : ℕ). slice_index (slice_set missing e.0 lower) k) here ∙ get_or-set_same missing e.0 lower 0 (omega (arith, t.as_many, other.0)) in
+          let now : slice_index (slice_set missing e.0 lower) z ≡ lower =
+          ap (λ (k : ℕ). slice_index (slice_set missing e.0 lower) k) here ∙ get_or-set_same missing e.0 lower 0 (omega (arith, t.as_many, other.0)) in
           let was : slice_index missing z ≡ slice_index missing e.0 = ap (λ (k : ℕ). slice_index missing k) here in
           omega (arith, t.left z z_in not_y, count_by_more_yes D list j (0, Outward) inside passes, now, was, room))
           (λ (away : z ≢ e.0).
@@ -217,7 +234,8 @@ lowered_yes n links list counts missing y count j net is t inside begins room =
 
 -- and else all numbers stay
 pub lowered_no : (n : ℕ) (links : List (ℕ × ℕ)) (list : List (ℕ × First)) (counts missing : List ℕ) (y count j : ℕ)
-    → IsLoweredTo n links list counts missing y count j → j < length list → begins_to_meet counts (slice_index counts y) count (get_or list j (0, Outward)) ≡ false → IsLoweredTo n links list counts missing y count (j + 1)
+    → IsLoweredTo n links list counts missing y count j → j < length list
+    → begins_to_meet counts (slice_index counts y) count (get_or list j (0, Outward)) ≡ false → IsLoweredTo n links list counts missing y count (j + 1)
 lowered_no n links list counts missing y count j t inside stays =
     let e : ℕ × First = get_or list j (0, Outward) in
     let had : ℕ = slice_index counts y in
@@ -230,8 +248,10 @@ lowered_no n links list counts missing y count j t inside stays =
     }
 
 -- once the whole row was looked at, the numbers are those for the higher count
-pub all_lowered : (n : ℕ) (links : List (ℕ × ℕ)) (list : List (ℕ × First)) (counts missing : List ℕ) (y count j : ℕ) → IsNet n links → list ≡ row n links y → y < n → length counts ≡ n → slice_index counts y ≤ count
-    → IsLoweredTo n links list counts missing y count j → length list ≤ j → (z : ℕ) → z < n → z ≢ y → slice_index missing z ≡ missing_of n links (slice_set counts y count) z
+pub all_lowered : (n : ℕ) (links : List (ℕ × ℕ)) (list : List (ℕ × First)) (counts missing : List ℕ) (y count j : ℕ)
+    → IsNet n links → list ≡ row n links y → y < n → length counts ≡ n → slice_index counts y ≤ count
+    → IsLoweredTo n links list counts missing y count j → length list ≤ j → (z : ℕ) → z < n → z ≢ y
+    → slice_index missing z ≡ missing_of n links (slice_set counts y count) z
 all_lowered n links list counts missing y count j net is y_in long up t end z z_in other =
     let D : ℕ × First → Bool = lowers counts (slice_index counts y) count z in
     let whole = missing_lowered n links counts y z count net y_in z_in other long up in
@@ -239,31 +259,37 @@ all_lowered n links list counts missing y count j net is y_in long up t end z z_
     omega (arith, t.left z z_in other, whole, same)
 
 -- tests that agree at each place count alike
-count_alike : (p q : ℕ × First → Bool) (entries : List (ℕ × First)) → ((k : ℕ) → k < length entries → p (get_or entries k (0, Outward)) ≡ q (get_or entries k (0, Outward))) → count_by p entries ≡ count_by q entries
+count_alike : (p q : ℕ × First → Bool) (entries : List (ℕ × First))
+    → ((k : ℕ) → k < length entries → p (get_or entries k (0, Outward)) ≡ q (get_or entries k (0, Outward))) → count_by p entries ≡ count_by q entries
 count_alike p q [] same = refl
 count_alike p q (e ∷ es) same =
     let first : count_by p (e ∷ []) ≡ count_by q (e ∷ []) = ap (λ (b : Bool). 0 + cond b 1 0) (same 0 (omega arith)) in
     omega (arith, count_by-append p (e ∷ []) es, count_by-append q (e ∷ []) es, first, count_alike p q es (λ k inside. same (suc k) (omega arith)))
 
 -- and what was counted is the number of y for that count, since no entry is y
-pub all_counted : (n : ℕ) (links : List (ℕ × ℕ)) (list : List (ℕ × First)) (counts : List ℕ) (y count own j : ℕ) → IsNet n links → list ≡ row n links y → y < n → length counts ≡ n
+pub all_counted : (n : ℕ) (links : List (ℕ × ℕ)) (list : List (ℕ × First)) (counts : List ℕ) (y count own j : ℕ)
+    → IsNet n links → list ≡ row n links y → y < n → length counts ≡ n
     → IsCountedTo list counts count own j → length list ≤ j → own ≡ missing_of n links (slice_set counts y count) y
 all_counted n links list counts y count own j net is y_in long t end =
     let new : List ℕ = slice_set counts y count in
     let now : slice_index new y ≡ count = get_or-set_same counts y count 0 (omega arith) in
     let alike : count_by (misses counts count) list ≡ count_by (misses new count) list =
     count_alike (misses counts count) (misses new count) list
-    (λ k inside. ap (λ (s : ℕ). nat_lt s (bound_of (get_or list k (0, Outward)).1 count)) (sym (get_or-set_other counts y (get_or list k (0, Outward)).0 count 0 (other_node n links y list k net is inside).1))) in
-    t.so_far ∙ (ap (count_by (misses counts count)) (take_all j list end) ∙ (alike ∙ (ap (count_by (misses new count)) is ∙ ap (λ (c : ℕ). count_by (misses new c) (row n links y)) (sym now))))
+    (λ k inside. ap (λ (s : ℕ). nat_lt s (bound_of (get_or list k (0, Outward)).1 count))
+    (sym (get_or-set_other counts y (get_or list k (0, Outward)).0 count 0 (other_node n links y list k net is inside).1))) in
+    t.so_far ∙ (ap (count_by (misses counts count)) (take_all j list end)
+    ∙ (alike ∙ (ap (count_by (misses new count)) is ∙ ap (λ (c : ℕ). count_by (misses new c) (row n links y)) (sym now))))
 
 -- the numbers of the nodes below k are right
 abbrev pub AreRightTo : ℕ → List (ℕ × ℕ) → List ℕ → List ℕ → ℕ → Type 0
 AreRightTo n links counts missing k = (x : ℕ) → x < k → slice_index missing x ≡ missing_of n links counts x
 
 -- a seen count is higher: the numbers of the other nodes are right for it, and that of its own node was counted anew
-pub raised : (n : ℕ) (links : List (ℕ × ℕ)) (seen seen' : Seen) (y count m : ℕ) (missing : List ℕ) → y < n → IsCounted n links seen → length missing ≡ length seen.missing.items
+pub raised : (n : ℕ) (links : List (ℕ × ℕ)) (seen seen' : Seen) (y count m : ℕ) (missing : List ℕ) → y < n
+    → IsCounted n links seen → length missing ≡ length seen.missing.items
     → ((z : ℕ) → z < n → z ≢ y → slice_index missing z ≡ missing_of n links (slice_set seen.counts.items y count) z)
-    → seen'.counts.items ≡ slice_set seen.counts.items y count → seen'.missing.items ≡ slice_set missing y m → m ≡ missing_of n links (slice_set seen.counts.items y count) y → IsCounted n links seen'
+    → seen'.counts.items ≡ slice_set seen.counts.items y count → seen'.missing.items ≡ slice_set missing y m
+    → m ≡ missing_of n links (slice_set seen.counts.items y count) y → IsCounted n links seen'
 raised n links seen seen' y count m missing y_in was long others counts numbers own = record {
   one_each = ap (λ (l : List ℕ). length l) counts ∙ (length-set seen.counts.items y count ∙ was.one_each);
   as_many = ap (λ (l : List ℕ). length l) numbers ∙ (length-set missing y m ∙ (long ∙ was.as_many));
@@ -275,7 +301,8 @@ raised n links seen seen' y count m missing y_in was long others counts numbers 
 }
 
 -- where none passes, none does at any place
-pub none_misses : (p : ℕ × First → Bool) (entries : List (ℕ × First)) (k : ℕ) (d : ℕ × First) → count_by p entries ≡ 0 → k < length entries → p (get_or entries k d) ≡ false
+pub none_misses : (p : ℕ × First → Bool) (entries : List (ℕ × First)) (k : ℕ) (d : ℕ × First) → count_by p entries ≡ 0
+    → k < length entries → p (get_or entries k d) ≡ false
 none_misses p entries k d none inside =
     elim (cases_Bool (p (get_or entries k d))) [
       | inl passes ↦ absurd (omega (arith, one_passes p entries k d inside passes, none))

@@ -1,5 +1,6 @@
 -- Each step of a worker on the words is a step of the machine.
-use Rattle.std.proofs.Common.{Bool, List, ap, arith, eqb, eqb-true, false, length, ltb, ltb-false, ltb-true, refl, slice_index, slice_set, subst, sym, true, ℕ, ◌+◌, ◌∙◌, ◌∷◌, ◌≡◌}
+use Rattle.std.proofs.Common.{Bool, List, ap, arith, eqb, eqb-true, false, length, ltb, ltb-false, ltb-true, refl, slice_index, slice_set, subst, sym}
+use Rattle.std.proofs.Common.{true, ℕ, ◌+◌, ◌∙◌, ◌∷◌, ◌≡◌}
 use Rattle.std.specs.Prelude.{IsSome, if◌then◌else◌}
 use Rattle.std.proofs.lemmas.Bool.{eqb-false}
 use Rattle.fr_graph.specs.Rows.{row}
@@ -14,7 +15,8 @@ use Rattle.fr_core.specs.declared.worker.Phase.{Phase}
 use Rattle.fr_core.specs.declared.worker.Phase.TheVariants.{Idle, Looking}
 use Rattle.fr_round.specs.declared.view.View.{View}
 use Rattle.fr_round.specs.Histories.{entry}
-use Rattle.fr_round.specs.Laws.{ComesToTheSame, ExchangeIsTheMachines, LookBeginsAsTheMachines, LookEndsAsTheMachines, NeighbourLoadIsTheMachines, OwnLoadIsTheMachines, more_of, phase_past}
+use Rattle.fr_round.specs.Laws.{ComesToTheSame, ExchangeIsTheMachines, LookBeginsAsTheMachines, LookEndsAsTheMachines, NeighbourLoadIsTheMachines}
+use Rattle.fr_round.specs.Laws.{OwnLoadIsTheMachines, more_of, phase_past}
 use Rattle.fr_round.specs.Steps.{Extends}
 use Rattle.std.proofs.lemmas.List.{set-get_or}
 
@@ -51,7 +53,8 @@ goes_past v w words targets false one other stays = record { counts = refl; deci
 
 pub neighbour_load_same : NeighbourLoadIsTheMachines
 neighbour_load_same s me me' found j f t first words targets at on here (up, low, meets, misses, same) =
-    subst (λ (x : ℕ). ComesToTheSame v me'.0 words targets (phase_past (row v.setup.nodes first x) t me'.0.count j) (load_neighbour (row v.setup.nodes first (node_of t)) words targets t c j)) on
+    subst (λ (x : ℕ). ComesToTheSame v me'.0 words targets (phase_past (row v.setup.nodes first x) t me'.0.count j)
+    (load_neighbour (row v.setup.nodes first (node_of t)) words targets t c j)) on
     (subst (λ (p : ℕ × First). P (if (ltb (slice_index words p.0) (bound_of p.1 c)) then decides words targets (node_of t) (Held p.0) else past)) (sym here_on)
     (by_test P (ltb (slice_index words s.word) (bound_of f c)) (decides words targets (node_of t) (Held s.word)) past
     (λ e. let d = misses (omega (arith, ltb-true (slice_index words s.word) (bound_of f c) e, at, bound_is f c)) in record {

@@ -1,5 +1,6 @@
 -- The opening seat gives out numbers, and a closing seat takes workers back.
-use Rattle.std.proofs.Common.{◌≡◌, ◌≢◌, ◌⊎◌, ℕ, zero, suc, ◌+◌, ◌<◌, Bool, true, false, cond, eqb, List, [], ◌∷◌, ◌++◌, map, length, set, replicate, refl, sym, ap, ◌∙◌, subst, ⊎_elim, inl, inr, arith, eq-eqb, ne_eqb, length-set, true≢false}
+use Rattle.std.proofs.Common.{◌≡◌, ◌≢◌, ◌⊎◌, ℕ, zero, suc, ◌+◌, ◌<◌, Bool, true, false, cond, eqb, List, [], ◌∷◌, ◌++◌, map, length, set, replicate}
+use Rattle.std.proofs.Common.{refl, sym, ap, ◌∙◌, subst, ⊎_elim, inl, inr, arith, eq-eqb, ne_eqb, length-set, true≢false}
 use Rattle.std.specs.List.{AllByRecursion as Each}
 use Rattle.std.proofs.lemmas.List.{length-replicate}
 use mathlib.Core.Option.{some, some-injective, some-ne-none}
@@ -72,7 +73,8 @@ module _ {S : Type 0} where
       })
       one (suc j) v e = absurd (some-ne-none v (sym e))
 
-  pub splits : (b : Setup) (id : ℕ) (v : View) → v.opens ≡ true → v.works ≡ false → v.closes ≡ false → v.next < b.workers → Splits {S = S} (KeepsRule b) id v (numbered_next v) (worker_view v)
+  pub splits : (b : Setup) (id : ℕ) (v : View) → v.opens ≡ true → v.works ≡ false → v.closes ≡ false → v.next < b.workers
+      → Splits {S = S} (KeepsRule b) id v (numbered_next v) (worker_view v)
   splits b id v opens idle not_closing more s r here =
       let mine = (r.views id v here).opening opens in
       let last : ℕ = length s.views in
@@ -92,7 +94,8 @@ module _ {S : Type 0} where
         given_out = each_weaker (λ (e : Entry). e.worker < r.next) (λ (e : Entry). e.worker < r.next + 1) (λ e lt. omega arith) r.history r.given_out;
         views = λ j u e. ⊎_elim
             (λ (old : get_elem? (set s.views id left) j ≡ some u). ⊎_elim
-            (λ (t : (j ≡ id) × (left ≡ u)). subst (λ (p : ℕ × View). ViewFits b (r.next + 1) seat_of' r.at r.history s.words p.0 p.1) (λ i. (sym t.0 i, t.1 i)) (record {
+            (λ (t : (j ≡ id) × (left ≡ u)). subst
+            (λ (p : ℕ × View). ViewFits b (r.next + 1) seat_of' r.at r.history s.words p.0 p.1) (λ i. (sym t.0 i, t.1 i)) (record {
               worker = λ works. absurd (off (sym idle ∙ works));
               opening = λ _. record { setup = mine.setup; here = mine.here; counts = ap (λ (k : ℕ). k + 1) mine.counts };
               closing = λ closes. absurd (off (sym not_closing ∙ closes));
@@ -124,7 +127,8 @@ module _ {S : Type 0} where
               };
             })
             (at_set s.views id j left u old))
-            (λ (t : (j ≡ length (set s.views id left)) × (right ≡ u)). subst (λ (p : ℕ × View). ViewFits b (r.next + 1) seat_of' r.at r.history s.words p.0 p.1) (λ i. (sym t.0 i, t.1 i)) (record {
+            (λ (t : (j ≡ length (set s.views id left)) × (right ≡ u)). subst
+            (λ (p : ℕ × View). ViewFits b (r.next + 1) seat_of' r.at r.history s.words p.0 p.1) (λ i. (sym t.0 i, t.1 i)) (record {
               worker = λ _. record {
                 setup = mine.setup;
                 begins = (r.history, refl);
@@ -168,12 +172,14 @@ module _ {S : Type 0} where
     refl,
   )
 
-  pub joins : (b : Setup) (id : ℕ) (v : View) (other : ℕ) (w : View) → v.closes ≡ true → v.works ≡ false → v.opens ≡ false → w.works ≡ true → Joins {S = S} (KeepsRule b) id v other w (with_taken v w) spent_view
+  pub joins : (b : Setup) (id : ℕ) (v : View) (other : ℕ) (w : View) → v.closes ≡ true → v.works ≡ false → v.opens ≡ false
+      → w.works ≡ true → Joins {S = S} (KeepsRule b) id v other w (with_taken v w) spent_view
   joins b id v other w closes idle not_opening works s r here apart there =
       let mine = (r.views id v here).closing closes in
       let both = with_taken v w in
       let was : get_elem? s.views other ≡ some w =
-      ⊎_elim (λ (t : (other ≡ id) × (both ≡ w)). absurd (apart t.0)) (λ (t : (other ≢ id) × (get_elem? s.views other ≡ some w)). t.1) (at_set s.views id other both w there) in
+      ⊎_elim (λ (t : (other ≡ id) × (both ≡ w)). absurd (apart t.0))
+      (λ (t : (other ≢ id) × (get_elem? s.views other ≡ some w)). t.1) (at_set s.views id other both w there) in
       let theirs = (r.views other w was).worker works in
       let other_seat : other ≢ id = apart in
       let seat_of' = moved r.seat_of w.number id in
@@ -188,13 +194,15 @@ module _ {S : Type 0} where
         words = r.words;
         given_out = r.given_out;
         views = λ j u e. ⊎_elim
-            (λ (t : (j ≡ other) × (spent_view ≡ u)). subst (λ (p : ℕ × View). ViewFits b r.next seat_of' r.at r.history s.words p.0 p.1) (λ i. (sym t.0 i, t.1 i)) (record {
+            (λ (t : (j ≡ other) × (spent_view ≡ u)). subst
+            (λ (p : ℕ × View). ViewFits b r.next seat_of' r.at r.history s.words p.0 p.1) (λ i. (sym t.0 i, t.1 i)) (record {
               worker = λ bad. absurd (off bad);
               opening = λ bad. absurd (off bad);
               closing = λ bad. absurd (off bad);
             }))
             (λ (t : (j ≢ other) × (get_elem? (set s.views id both) j ≡ some u)). ⊎_elim
-            (λ (q : (j ≡ id) × (both ≡ u)). subst (λ (p : ℕ × View). ViewFits b r.next seat_of' r.at r.history s.words p.0 p.1) (λ i. (sym q.0 i, q.1 i)) (record {
+            (λ (q : (j ≡ id) × (both ≡ u)). subst
+            (λ (p : ℕ × View). ViewFits b r.next seat_of' r.at r.history s.words p.0 p.1) (λ i. (sym q.0 i, q.1 i)) (record {
               worker = λ bad. absurd (off (sym idle ∙ bad));
               opening = λ bad. absurd (off (sym not_opening ∙ bad));
               closing = λ _. record {
@@ -225,7 +233,8 @@ module _ {S : Type 0} where
                 below = x.below;
                 long = x.long;
                 numbered = x.numbered;
-                placed = moved_else r.seat_of w.number id u.number (λ (k : u.number ≡ w.number). t.0 (sym x.placed ∙ (ap r.seat_of k ∙ theirs.placed))) ∙ x.placed;
+                placed = moved_else r.seat_of w.number id u.number
+                    (λ (k : u.number ≡ w.number). t.0 (sym x.placed ∙ (ap r.seat_of k ∙ theirs.placed))) ∙ x.placed;
                 not_opening = x.not_opening;
                 not_closing = x.not_closing;
               };
@@ -237,7 +246,8 @@ module _ {S : Type 0} where
                     (λ k known. record {
                       begins = known.begins;
                       own = known.own;
-                      placed = moved_else r.seat_of w.number id k.0 (λ (e : k.0 ≡ w.number). t.0 (sym known.placed ∙ (ap r.seat_of e ∙ theirs.placed))) ∙ known.placed;
+                      placed = moved_else r.seat_of w.number id k.0
+                          (λ (e : k.0 ≡ w.number). t.0 (sym known.placed ∙ (ap r.seat_of e ∙ theirs.placed))) ∙ known.placed;
                       numbered = known.numbered;
                     })
                     u.taken o.taken;

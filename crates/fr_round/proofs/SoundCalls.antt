@@ -31,13 +31,15 @@ knowledge_holds w s = record {
 abbrev pub with_caller : Inside → Caller → ℕ → Inside
 with_caller w p turned = record { caller = p; number = w.number; turned = turned }
 
-module _ (words : Words) (w : Inside) (p : Caller) (x : ℕ) (reply : Reply) (s : IsSoundWorker w) (of : w.caller.seat.me.0.setup ≡ setup_of words.terms) (made : Makes words w.caller x reply p) where
+module _ (words : Words) (w : Inside) (p : Caller) (x : ℕ) (reply : Reply) (s : IsSoundWorker w)
+    (of : w.caller.seat.me.0.setup ≡ setup_of words.terms) (made : Makes words w.caller x reply p) where
   turned_more : turn_count (part w.number p.seat.me.0.known) ≡ w.turned + turn_of reply
   turned_more =
       let v = w.caller.seat.me.0 in
       let w' = p.seat.me.0 in
       let e = entry v.number x reply in
-      let own : part w.number w'.known ≡ part w.number v.known ++ e ∷ [] = subst (λ (k : ℕ). part k w'.known ≡ part k v.known ++ e ∷ []) s.numbered made.call.extends.own in
+      let own : part w.number w'.known ≡ part w.number v.known ++ e ∷ [] =
+      subst (λ (k : ℕ). part k w'.known ≡ part k v.known ++ e ∷ []) s.numbered made.call.extends.own in
       omega (arith, ap (λ (h : List Entry). turn_count h) own, turn_count_push (part w.number v.known) e, s.counted)
 
   pub turned_fits : IsNet words.terms.net.nodes words.terms.net.links → words.terms.net.nodes < 2 ^ 32 → w.turned + turn_of reply < 2 ^ 64
@@ -70,6 +72,7 @@ module _ (words : Words) (w : Inside) (p : Caller) (x : ℕ) (reply : Reply) (s 
   pub learns_after : (turned : ℕ) → LearnsReply (knowledge_of w) x reply (knowledge_of (with_caller w p turned))
   learns_after turned = record {
     history = subst (λ (k : ℕ). Extends w.caller.seat.me.0.setup k w.caller.seat.me.0.known (entry k x reply) p.seat.me.0.known) s.numbered made.call.extends;
-    count = subst (λ (l : List ℕ × List ℕ). ShowsCount w.caller.seat.me.0.setup.nodes l.0 l.1 x reply) (λ i. (s.noted i, made.stays.seen.counts i)) made.call.shows;
+    count = subst (λ (l : List ℕ × List ℕ). ShowsCount w.caller.seat.me.0.setup.nodes l.0 l.1 x reply)
+        (λ i. (s.noted i, made.stays.seen.counts i)) made.call.shows;
     known = knowledge_holds (with_caller w p (w.turned + turn_of reply)) (sound_after (w.turned + turn_of reply) refl);
   }

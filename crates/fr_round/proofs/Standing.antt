@@ -1,5 +1,6 @@
 -- One history stands behind the words and behind what all workers know.
-use Rattle.std.proofs.Common.{◌≡◌, ◌≢◌, ℕ, zero, suc, ◌+◌, ◌<◌, ◌≤◌, Bool, true, false, List, [], ◌∷◌, ◌++◌, map, replicate, refl, sym, ap, subst, arith, true≢false, ◌∙◌}
+use Rattle.std.proofs.Common.{◌≡◌, ◌≢◌, ℕ, zero, suc, ◌+◌, ◌<◌, ◌≤◌, Bool, true, false, List, [], ◌∷◌, ◌++◌, map, replicate, refl, sym, ap, subst}
+use Rattle.std.proofs.Common.{arith, true≢false, ◌∙◌}
 use Rattle.std.specs.Prelude.{if◌then◌else◌}
 use Rattle.std.specs.List.{AllByRecursion as Each}
 use mathlib.Core.List.{map-append}
@@ -14,7 +15,8 @@ use Rattle.fr_core.specs.declared.entry.Entry.{Entry}
 use Rattle.fr_round.specs.declared.view.Setup.{Setup}
 use Rattle.fr_round.specs.declared.view.View.{View}
 use Rattle.fr_round.specs.Histories.{AreApart, moment}
-use Rattle.fr_round.specs.Laws.{EveryStepKeepsTheRule, KnowsPartOf, OneHistoryStandsBehindAll, NoOtherStateIsFirst, RuleHoldsAtFirst, first_state, workers_at, workers_of}
+use Rattle.fr_round.specs.Laws.{EveryStepKeepsTheRule, KnowsPartOf, OneHistoryStandsBehindAll, NoOtherStateIsFirst, RuleHoldsAtFirst, first_state}
+use Rattle.fr_round.specs.Laws.{workers_at, workers_of}
 use Rattle.fr_round.specs.Opening.{HasNotBegun, KnowsNothing}
 use Rattle.fr_round.specs.Knowledge.{Knowledge, OpenRound, new_worker, new_workers}
 use Rattle.fr_round.specs.Rule.{IsTaken, ViewFits, opening_view}
@@ -25,14 +27,16 @@ use Rattle.fr_round.proofs.Seating.{apart_append, enters, first_keeps, joins, sp
 abbrev numbers : List (ℕ × List Entry) → List ℕ
 numbers ws = map (λ (w : ℕ × List Entry). w.0) ws
 
-each_of_view : (P : ℕ × List Entry → Type 0) (works closes : Bool) (w : ℕ × List Entry) (taken : List (ℕ × List Entry)) → (works ≡ true → P w) → (closes ≡ true → Each P taken)
+each_of_view : (P : ℕ × List Entry → Type 0) (works closes : Bool) (w : ℕ × List Entry) (taken : List (ℕ × List Entry))
+    → (works ≡ true → P w) → (closes ≡ true → Each P taken)
     → Each P ((if works then w ∷ [] else []) ++ (if closes then taken else []))
 each_of_view P true true w taken own others = (own refl, others refl)
 each_of_view P true false w taken own others = (own refl, tt)
 each_of_view P false true w taken own others = others refl
 each_of_view P false false w taken own others = tt
 
-apart_of_view : (works closes : Bool) (w : ℕ × List Entry) (taken : List (ℕ × List Entry)) → (works ≡ true → closes ≡ false) → (closes ≡ true → AreApart (numbers taken))
+apart_of_view : (works closes : Bool) (w : ℕ × List Entry) (taken : List (ℕ × List Entry)) → (works ≡ true → closes ≡ false)
+    → (closes ≡ true → AreApart (numbers taken))
     → AreApart (numbers ((if works then w ∷ [] else []) ++ (if closes then taken else [])))
 apart_of_view true true w taken one apart = absurd (true≢false (one refl))
 apart_of_view true false w taken one apart = (tt, tt)
@@ -61,30 +65,40 @@ module _ (b : Setup) (next : ℕ) (seat_of : ℕ → ℕ) (at : ℕ) (h : List E
   from [] i fits = (tt, tt)
   from (v ∷ vs) i fits =
       let one = here (i + 0) v (fits 0 v refl) in
-      let others = from vs (i + 1) (λ j u e. let same : i + suc j ≡ (i + 1) + j = omega arith in subst (λ (k : ℕ). ViewFits b next seat_of at h words k u) same (fits (suc j) u e)) in (
+      let others = from vs (i + 1) (λ j u e. let same : i + suc j ≡ (i + 1) + j = omega arith in
+      subst (λ (k : ℕ). ViewFits b next seat_of at h words k u) same (fits (suc j) u e)) in (
         each_append (IsSeatedFrom next seat_of h i) (workers_at v) (workers_of vs)
             (each_weaker (IsTaken next seat_of (i + 0) h) (IsSeatedFrom next seat_of h i)
-            (λ w t. record { knows = record { begins = t.begins; own = t.own }; numbered = t.numbered; placed = let p = t.placed in omega arith }) (workers_at v) one.0)
+            (λ w t. record {
+              knows = record { begins = t.begins; own = t.own };
+              numbered = t.numbered;
+              placed = let p =
+                  t.placed in omega arith;
+            }) (workers_at v) one.0)
             (each_weaker (IsSeatedFrom next seat_of h (i + 1)) (IsSeatedFrom next seat_of h i)
             (λ w t. record { knows = t.knows; numbered = t.numbered; placed = let p = t.placed in omega arith }) (workers_of vs) others.0),
         subst AreApart (sym (map-append (λ (w : ℕ × List Entry). w.0) (workers_at v) (workers_of vs)))
             (apart_append (numbers (workers_at v)) (numbers (workers_of vs)) one.1 others.1
             (each_mapped (IsTaken next seat_of (i + 0) h) (λ (k : ℕ). Each (λ (j : ℕ). j ≢ k) (numbers (workers_of vs))) (λ (w : ℕ × List Entry). w.0)
             (λ w t. each_mapped (IsSeatedFrom next seat_of h (i + 1)) (λ (j : ℕ). j ≢ w.0) (λ (u : ℕ × List Entry). u.0)
-            (λ u q is. let same : seat_of u.0 ≡ seat_of w.0 = ap seat_of is in let p = t.placed in let past = q.placed in absurd (omega arith)) (workers_of vs) others.0)
+            (λ u q is. let same : seat_of u.0 ≡ seat_of w.0 = ap seat_of is in let p = t.placed in let past = q.placed in
+            absurd (omega arith)) (workers_of vs) others.0)
             (workers_at v) one.0)),
       )
 
 pub one_history : OneHistoryStandsBehindAll
 one_history b s r =
-    let all = from b r.next r.seat_of r.at r.history s.words s.views 0 (λ j v e. subst (λ (k : ℕ). ViewFits b r.next r.seat_of r.at r.history s.words k v) (omega arith) (r.views j v e)) in (
+    let all = from b r.next r.seat_of r.at r.history s.words s.views 0
+    (λ j v e. subst (λ (k : ℕ). ViewFits b r.next r.seat_of r.at r.history s.words k v) (omega arith) (r.views j v e)) in (
       r.history,
       record {
         run = some_run b s r;
-        opened = each_weaker (λ (e : Entry). e.worker < r.next) (λ (e : Entry). e.worker < b.workers) (λ e lt. let m = r.most in omega arith) r.history r.given_out;
+        opened = each_weaker (λ (e : Entry). e.worker < r.next) (λ (e : Entry). e.worker < b.workers)
+            (λ e lt. let m = r.most in omega arith) r.history r.given_out;
         parts = each_weaker (IsSeatedFrom r.next r.seat_of r.history 0) (KnowsPartOf r.history) (λ w t. t.knows) (workers_of s.views) all.0;
         apart = all.1;
-        numbered = each_weaker (IsSeatedFrom r.next r.seat_of r.history 0) (λ (w : ℕ × List Entry). w.0 < b.workers) (λ w t. let m = r.most in let lt = t.numbered in omega arith) (workers_of s.views) all.0;
+        numbered = each_weaker (IsSeatedFrom r.next r.seat_of r.history 0) (λ (w : ℕ × List Entry). w.0 < b.workers)
+            (λ w t. let m = r.most in let lt = t.numbered in omega arith) (workers_of s.views) all.0;
       },
     )
 
@@ -103,10 +117,12 @@ first_holds b net = (
 -- new workers know nothing
 new_know_nothing : (t : TableId) (b : Setup) (k : ℕ) → Each (KnowsNothing b) (new_workers t b k)
 new_know_nothing t b zero = tt
-new_know_nothing t b (suc k) = each_append (KnowsNothing b) (new_workers t b k) (new_worker t b k ∷ []) (new_know_nothing t b k) (record { calls = refl; seen = refl }, tt)
+new_know_nothing t b (suc k) = each_append (KnowsNothing b) (new_workers t b k) (new_worker t b k ∷ [])
+    (new_know_nothing t b k) (record { calls = refl; seen = refl }, tt)
 
 -- so a round with its new workers has not begun
-pub not_begun : (r : OpenRound) (k : ℕ) (workers : List Knowledge) → IsNet r.setup.nodes r.setup.links → workers ≡ new_workers r.table r.setup k → HasNotBegun r workers
+pub not_begun : (r : OpenRound) (k : ℕ) (workers : List Knowledge) → IsNet r.setup.nodes r.setup.links
+    → workers ≡ new_workers r.table r.setup k → HasNotBegun r workers
 not_begun r k workers net new =
     let first = first_holds r.setup net in
     record {

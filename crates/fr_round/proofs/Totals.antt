@@ -1,5 +1,6 @@
 -- Where all workers are handed back, their turns are all the turns of the history.
-use Rattle.std.proofs.Common.{◌≡◌, ◌≢◌, ◌⊎◌, ℕ, ◌+◌, ◌<◌, eqb, Contains, List, [], ◌∷◌, map, length, refl, sym, ap, ◌∙◌, subst, ⊎_elim, inl, inr, arith, sum, sum_by}
+use Rattle.std.proofs.Common.{◌≡◌, ◌≢◌, ◌⊎◌, ℕ, ◌+◌, ◌<◌, eqb, Contains, List, [], ◌∷◌, map, length, refl, sym, ap, ◌∙◌, subst, ⊎_elim, inl, inr}
+use Rattle.std.proofs.Common.{arith, sum, sum_by}
 use Rattle.std.proofs.lemmas.Bool.{cases_eq}
 use Rattle.std.proofs.lemmas.List.{length-map, length-replicate}
 use Rattle.std.proofs.lemmas.List.Folds.{sum_by-replicate}
@@ -59,7 +60,8 @@ same_turns (k ∷ ks) e h a = omega (
   same_turns ks e h a.1,
 )
 
-one_more : (ks : List ℕ) (e : Entry) (h : List Entry) → AreApart ks → Contains ks e.worker → sum_by (part_turns (e ∷ h)) ks ≡ turn_of e.reply + sum_by (part_turns h) ks
+one_more : (ks : List ℕ) (e : Entry) (h : List Entry) → AreApart ks → Contains ks e.worker
+    → sum_by (part_turns (e ∷ h)) ks ≡ turn_of e.reply + sum_by (part_turns h) ks
 one_more [] e h apart c = absurd (Contains-none e.worker c)
 one_more (k ∷ ks) e h apart c =
     let cons = sum_by-cons (part_turns (e ∷ h)) k ks in
@@ -91,7 +93,8 @@ sum_of_parts : (ks : List ℕ) (h : List Entry) → AreApart ks → Each (λ (e 
 sum_of_parts ks [] apart a = no_turns ks
 sum_of_parts ks (e ∷ h) apart a = omega (arith, one_more ks e h apart a.0, sum_of_parts ks h apart a.1, turn_count_cons e h)
 
-each_in_all : (n : ℕ) (ks : List ℕ) (h : List Entry) → ((j : ℕ) → j < n → Contains ks j) → Each (λ (e : Entry). e.worker < n) h → Each (λ (e : Entry). Contains ks e.worker) h
+each_in_all : (n : ℕ) (ks : List ℕ) (h : List Entry) → ((j : ℕ) → j < n → Contains ks j)
+    → Each (λ (e : Entry). e.worker < n) h → Each (λ (e : Entry). Contains ks e.worker) h
 each_in_all n ks [] f a = tt
 each_in_all n ks (e ∷ h) f a = (f e.worker a.0, each_in_all n ks h f a.1)
 
@@ -107,12 +110,14 @@ sum_of_pairs h (k ∷ ks) a = omega (
   sum_of_pairs h ks a.1,
 )
 
-pub all_handed_back : (b : Setup) (h : List Entry) (counts : List ℕ) (workers : List Knowledge) → IsRunTo b.nodes b.dest b.links h counts → Each (λ (e : Entry). e.worker < b.workers) h → Each (IsPartOf h) workers
+pub all_handed_back : (b : Setup) (h : List Entry) (counts : List ℕ) (workers : List Knowledge)
+    → IsRunTo b.nodes b.dest b.links h counts → Each (λ (e : Entry). e.worker < b.workers) h → Each (IsPartOf h) workers
     → AreApart (map (λ (k : Knowledge). k.number) workers) → Each (λ (k : Knowledge). k.number < b.workers) workers → length workers ≡ b.workers
     → sum_by (λ (p : ℕ × ℕ). p.1) (map number_and_turns workers) ≡ sum counts
 all_handed_back b h counts workers run opened parts apart numbered long =
     let ks : List ℕ = map (λ (k : Knowledge). k.number) workers in
-    let all = all_in b.workers ks apart (each_mapped (λ (k : Knowledge). k.number < b.workers) (λ (k : ℕ). k < b.workers) (λ (k : Knowledge). k.number) (λ k lt. lt) workers numbered) (length-map workers (λ (k : Knowledge). k.number) ∙ long) in
+    let all = all_in b.workers ks apart (each_mapped (λ (k : Knowledge). k.number < b.workers) (λ (k : ℕ). k < b.workers)
+    (λ (k : Knowledge). k.number) (λ k lt. lt) workers numbered) (length-map workers (λ (k : Knowledge). k.number) ∙ long) in
     omega (
       arith,
       sum_of_pairs h workers parts,

@@ -1,5 +1,6 @@
 -- A table that differs from another one at given nodes. Tables that differ from it at the same nodes have the same waves and push orders.
-use Rattle.std.proofs.Common.{Bool, List, [], ap, arith, cond, false, get_or, inl, inr, length, refl, slice_get, suc, sym, true, zero, ℕ, ◌+◌, ◌<◌, ◌∙◌, ◌∷◌, ◌≡◌, ◌↔◌}
+use Rattle.std.proofs.Common.{Bool, List, [], ap, arith, cond, false, get_or, inl, inr, length, refl, slice_get, suc, sym, true, zero, ℕ, ◌+◌, ◌<◌}
+use Rattle.std.proofs.Common.{◌∙◌, ◌∷◌, ◌≡◌, ◌↔◌}
 use Rattle.std.specs.List.{count_by}
 use Rattle.std.proofs.lemmas.Bool.{cases_Bool, false≢true}
 use Rattle.std.proofs.lemmas.List.{get_or_past}
@@ -38,7 +39,8 @@ module _ (differ : List Bool) (new : List Hop) (x : ℕ) (low : x < length new) 
   unmarked_same is = same_read (changed_at differ new) new x (omega (arith, low, length_changed differ new)) low (read false is)
 
   -- what a read of a mark says
-  pub marked_step : (w k : ℕ) → (get_or differ x false ≡ true → w ≡ k + 1) → (¬ (get_or differ x false ≡ true) → w ≡ k) → w ≡ k + step (changed_at differ new) new x
+  pub marked_step : (w k : ℕ) → (get_or differ x false ≡ true → w ≡ k + 1) → (¬ (get_or differ x false ≡ true) → w ≡ k)
+      → w ≡ k + step (changed_at differ new) new x
   marked_step w k differs same = elim (cases_Bool (get_or differ x false)) [
     | inl t ↦ omega (arith, differs t, step_differs (changed_at differ new) new x (marked_differs t))
     | inr f ↦ omega (arith, same (λ t. false≢true (sym f ∙ t)), step_same (changed_at differ new) new x (unmarked_same f))

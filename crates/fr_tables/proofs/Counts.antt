@@ -1,5 +1,6 @@
 -- The wave of a node, by that of the node to which it sends on; how waves fall downstream, and that none is above the length of the table.
-use Rattle.std.proofs.Common.{Bool, List, None, Option, Some, [], ap, arith, cond, eqb, get_or, inl, inr, length, ne_eqb, refl, slice_get, subst, suc, sym, true, zero, ℕ, ⊎_elim, ◌+◌, ◌<◌, ◌∙◌, ◌∷◌, ◌≡◌, ◌≤◌, ◌⊎◌, Contains}
+use Rattle.std.proofs.Common.{Bool, List, None, Option, Some, [], ap, arith, cond, eqb, get_or, inl, inr, length, ne_eqb, refl, slice_get, subst, suc}
+use Rattle.std.proofs.Common.{sym, true, zero, ℕ, ⊎_elim, ◌+◌, ◌<◌, ◌∙◌, ◌∷◌, ◌≡◌, ◌≤◌, ◌⊎◌, Contains}
 use Rattle.std.specs.Prelude.{not}
 use Rattle.std.specs.List.{count_by}
 use Rattle.std.specs.Cmp.{nat_eq_equiv}
@@ -62,7 +63,8 @@ step_differs old new x differs = ⊎_elim
     (cases_Bool (is_same (slice_get old x) (slice_get new x)))
 
 pub step_same : (old new : List Hop) (x : ℕ) → slice_get old x ≡ slice_get new x → step old new x ≡ 0
-step_same old new x same = ap (λ (b : Bool). cond (not b) 1 0) (subst (λ (b : Option Hop). is_same (slice_get old x) b ≡ true) same (same-refl (slice_get old x)))
+step_same old new x same = ap (λ (b : Bool). cond (not b) 1 0)
+    (subst (λ (b : Option Hop). is_same (slice_get old x) b ≡ true) same (same-refl (slice_get old x)))
 
 pub count_more : (old new : List Hop) (x : ℕ) (xs : List ℕ) → count_by (differ_at old new) (x ∷ xs) ≡ step old new x + count_by (differ_at old new) xs
 count_more old new x xs = sum_by-cons (λ (y : ℕ). cond (differ_at old new y) 1 0) x xs
@@ -109,7 +111,8 @@ wave_along old new x (y ∷ ys) k goes w =
     (l, last, omega (arith, is, low))
 
 -- and they fall behind a node that differs
-pub wave_falls : (old new : List Hop) (x y k : ℕ) → DifferAt old new x → IsDownstream new x y → IsWave old new x k → (x ≡ y) ⊎ ((l : ℕ) × IsWave old new y l × (l < k))
+pub wave_falls : (old new : List Hop) (x y k : ℕ) → DifferAt old new x → IsDownstream new x y → IsWave old new x k → (x ≡ y)
+    ⊎ ((l : ℕ) × IsWave old new y l × (l < k))
 wave_falls old new x y k differs down w = subst (λ (z : ℕ). (x ≡ z) ⊎ ((l : ℕ) × IsWave old new z l × (l < k))) down.ends (go down.by down.goes)
   where
     go : (by : List ℕ) → IsWalk new x by → (x ≡ end_of x by) ⊎ ((l : ℕ) × IsWave old new (end_of x by) l × (l < k))
@@ -154,7 +157,12 @@ free_simple new x (y ∷ ys) free goes = (free_once new x (y ∷ ys) free goes, 
 
 pub wave_low : (old new : List Hop) (x k : ℕ) → IsInRange new → x < length new → IsWave old new x k → k ≤ length new
 wave_low old new x k range low w =
-    omega (arith, w.number, count_by-le-length (differ_at old new) (x ∷ w.walk), simple_short new x w.walk range low w.whole.goes (whole_simple new x w.walk w.whole))
+    omega (
+      arith,
+      w.number,
+      count_by-le-length (differ_at old new) (x ∷ w.walk),
+      simple_short new x w.walk range low w.whole.goes (whole_simple new x w.walk w.whole),
+    )
 
 -- a walk of so many steps, or one that ends before
 walk_some : (new : List Hop) (n x : ℕ) → ((ys : List ℕ) × IsWholeWalk new x ys) ⊎ ((ys : List ℕ) × IsWalk new x ys × (length ys ≡ n))

@@ -1,5 +1,6 @@
 -- Nodes are noted as changed, and listed with their keys, one after the other.
-use Rattle.std.proofs.Common.{Bool, Contains, List, [], ap, arith, eqb, false, get_or, inl, inr, length, length-set, length-take, refl, replicate, set, subst, sym, take, true, ℕ, ⊎_elim, ◌++◌, ◌+◌, ◌<◌, ◌∙◌, ◌∷◌, ◌≡◌, ◌≤◌}
+use Rattle.std.proofs.Common.{Bool, Contains, List, [], ap, arith, eqb, false, get_or, inl, inr, length, length-set, length-take, refl, replicate}
+use Rattle.std.proofs.Common.{set, subst, sym, take, true, ℕ, ⊎_elim, ◌++◌, ◌+◌, ◌<◌, ◌∙◌, ◌∷◌, ◌≡◌, ◌≤◌}
 use Rattle.std.specs.List.{IsDistinct, count_by}
 use Rattle.std.specs.Cmp.{nat_eq_equiv}
 use Rattle.std.proofs.lemmas.Bool.{cases_eq, cases_lt, false≢true}
@@ -42,7 +43,8 @@ noted_more done differ x low before y = elim (cases_eq y x) [
 ]
 
 -- one more node gets its key
-module _ (marks : List Mark) (done keys counts : List ℕ) (x k : ℕ) (before : AreListed marks done keys counts) (low : x < length keys) (out : ¬ Contains done x) where
+module _ (marks : List Mark) (done keys counts : List ℕ) (x k : ℕ) (before : AreListed marks done keys counts)
+    (low : x < length keys) (out : ¬ Contains done x) where
   count_set : (p : ℕ → Bool) → p 0 ≡ false → count_by p (set keys x k) ≡ count_by p keys + weigh (p k)
   count_set p zeroes =
       let none : weigh (p (get_or keys x 0)) ≡ 0 = rw (before.others x out, zeroes) (omega arith) in

@@ -1,7 +1,8 @@
 -- The marks of nodes while a walk is followed, and while its nodes get their waves.
 use Rattle.std.specs.declared.alloc.Global.{Global}
 use Rattle.std.specs.declared.vec.Vec.{Vec}
-use Rattle.std.proofs.Common.{Bool, vec_capacity, ◌^◌, Contains, List, [], arith, eqb, inl, inr, length, length-set, refl, replicate, set, subst, sym, ℕ, ⊎_elim, ◌++◌, ◌+◌, ◌<◌, ◌∙◌, ◌∷◌, ◌≡◌, ◌≤◌}
+use Rattle.std.proofs.Common.{Bool, vec_capacity, ◌^◌, Contains, List, [], arith, eqb, inl, inr, length, length-set, refl, replicate, set, subst, sym}
+use Rattle.std.proofs.Common.{ℕ, ⊎_elim, ◌++◌, ◌+◌, ◌<◌, ◌∙◌, ◌∷◌, ◌≡◌, ◌≤◌}
 use Rattle.std.specs.List.{IsDistinct}
 use Rattle.std.specs.Cmp.{nat_eq_equiv}
 use Rattle.std.proofs.lemmas.Bool.{cases_eq, cases_lt, eqb-true}
@@ -35,7 +36,8 @@ marked_low marks x is = elim (cases_lt x (length marks)) [
 ]
 
 -- a node that was not met goes onto the walk
-module _ (new : List Hop) (marks : List Mark) (walk : List ℕ) (x : ℕ) (stacked : IsStacked new marks walk) (low : x < length new) (fresh : mark_of marks x ≡ Unmet) where
+module _ (new : List Hop) (marks : List Mark) (walk : List ℕ) (x : ℕ) (stacked : IsStacked new marks walk)
+    (low : x < length new) (fresh : mark_of marks x ≡ Unmet) where
   here : x < length marks
   here = omega (arith, low, stacked.one_each)
 
@@ -85,7 +87,8 @@ wave_of_top old new marks x k known (inl (y, sends, is)) = wave_before old new x
 wave_of_top old new marks x k known (inr (ends, none)) = subst (IsWave old new x) (omega (arith, none)) (wave_of_last old new x ends)
 
 -- the last node of a walk gets its wave
-module _ (old new : List Hop) (marks : List Mark) (rest : List ℕ) (x k : ℕ) (stacked : IsStacked new marks (rest ++ x ∷ [])) (known : AreKnown old new marks) (stop : IsStop new marks (rest ++ x ∷ []) (Known k)) where
+module _ (old new : List Hop) (marks : List Mark) (rest : List ℕ) (x k : ℕ) (stacked : IsStacked new marks (rest ++ x ∷ []))
+    (known : AreKnown old new marks) (stop : IsStop new marks (rest ++ x ∷ []) (Known k)) where
   pub top_wave : IsWave old new x (k + step old new x)
   top_wave = wave_of_top old new marks x k known (stop rest x refl)
 
@@ -112,7 +115,11 @@ module _ (old new : List Hop) (marks : List Mark) (rest : List ℕ) (x k : ℕ) 
         (cases_eq y x)
 
     pub given_stop : IsStop new (set marks x (Wave l)) rest (Known l)
-    given_stop before y e = inl (x, trail_last new before y x (subst (λ (ws : List ℕ). IsTrail new (ws ++ x ∷ [])) e stacked.trail), mark_here marks x (Wave l) top_low)
+    given_stop before y e = inl (
+      x,
+      trail_last new before y x (subst (λ (ws : List ℕ). IsTrail new (ws ++ x ∷ [])) e stacked.trail),
+      mark_here marks x (Wave l) top_low,
+    )
 
     pub given_stacked : IsStacked new (set marks x (Wave l)) rest
     given_stacked = record {
@@ -123,7 +130,8 @@ module _ (old new : List Hop) (marks : List Mark) (rest : List ℕ) (x k : ℕ) 
             mark_there marks x y (Wave l) apart ∙ (stacked.these y).0 (Contains-append_left rest (x ∷ []) y found),
         λ on. ⊎_elim
             (λ e. let is : Wave l ≡ OnWalk = sym (mark_here marks x (Wave l) top_low) ∙ subst (λ (z : ℕ). mark_of (set marks x (Wave l)) z ≡ OnWalk) e on in cc)
-            (λ apart. ⊎_elim (λ was. was) (λ e. absurd (apart (sym e))) (Contains-push_cases rest x y ((stacked.these y).1 (sym (mark_there marks x y (Wave l) apart) ∙ on))))
+            (λ apart. ⊎_elim (λ was. was) (λ e. absurd (apart (sym e)))
+            (Contains-push_cases rest x y ((stacked.these y).1 (sym (mark_there marks x y (Wave l) apart) ∙ on))))
             (cases_eq y x),
       );
       once = distinct_front rest x stacked.once;
@@ -154,7 +162,8 @@ none_known old new n x k is = let e = none_marked n x (Wave k) is in cc
 pub wave_from_met : (marks : List Mark) (walk : List ℕ) (x : ℕ) → walk ≡ [] → IsMet marks walk x → HasWave marks x
 wave_from_met marks walk x empty met = ⊎_elim (λ found. absurd (Contains-none x (subst (λ (ws : List ℕ). Contains ws x) empty found))) (λ is. is) met
 
-pub none_sound : (differ : List Bool) (new : List Hop) (marks : List Mark) (walk : Vec ℕ Global) → length differ ≡ length new → length new < 2 ^ 32 → IsInRange new
+pub none_sound : (differ : List Bool) (new : List Hop) (marks : List Mark) (walk : Vec ℕ Global)
+    → length differ ≡ length new → length new < 2 ^ 32 → IsInRange new
     → length new ≤ vec_capacity walk → marks ≡ replicate (length new) Unmet → walk.items ≡ [] → IsSound differ new marks walk
 none_sound differ new marks walk one_each few range room unmet empty = record {
   table = record { one_each = one_each; few = few; range = range };

@@ -1,5 +1,6 @@
 -- Push orders: their beginnings and whole waves are closed downstream, they end with the new table, and the tables determine them.
-use Rattle.std.proofs.Common.{Contains, List, [], arith, get_or, inl, inr, length, length-append, refl, slice_get, subst, suc, sym, ℕ, ⊎_elim, ◌++◌, ◌<◌, ◌∙◌, ◌∷◌, ◌≡◌, ap, Some, length-set, set}
+use Rattle.std.proofs.Common.{Contains, List, [], arith, get_or, inl, inr, length, length-append, refl, slice_get, subst, suc, sym, ℕ, ⊎_elim, ◌++◌}
+use Rattle.std.proofs.Common.{◌<◌, ◌∙◌, ◌∷◌, ◌≡◌, ap, Some, length-set, set}
 use Rattle.std.proofs.lemmas.List.Elements.{Contains-append_left, Contains-push, Contains-push_cases}
 use Rattle.std.proofs.lemmas.Bool.{cases_lt, cases_eq}
 use Rattle.std.proofs.lemmas.List.{ext_get_or, get_or_append_left, get_or_default, get_or-set_other, get_or-set_same}
@@ -24,7 +25,8 @@ beginning_closed old new done left order x y (i, low, here) down differs =
     let whole = length-append done left in
     let at_i : get_or (done ++ left) i 0 ≡ x = get_or_append_left done left 0 i low ∙ (get_or_default done i 0 x low ∙ here) in
     let at_j : get_or (done ++ left) j 0 ≡ y = get_or_default (done ++ left) j 0 y inside ∙ there in
-    let x_differs : DifferAt old new x = (order.these x).0 (i, omega (arith, whole, low), get_or_default (done ++ left) i x 0 (omega (arith, whole, low)) ∙ at_i) in
+    let x_differs : DifferAt old new x =
+    (order.these x).0 (i, omega (arith, whole, low), get_or_default (done ++ left) i x 0 (omega (arith, whole, low)) ∙ at_i) in
     elim (cases_lt j (length done)) [
       | inl lt ↦ (j, lt, sym (get_or_append_left done left y j lt) ∙ there)
       | inr ge ↦
@@ -37,9 +39,11 @@ beginning_closed old new done left order x y (i, low, here) down differs =
 
 -- two tables with the same hops are one
 same_table : (some other : List Hop) → length some ≡ length other → ((x : ℕ) → slice_get some x ≡ slice_get other x) → some ≡ other
-same_table some other same at = ext_get_or Here some other same (λ x low. get_or_from_slice_get some x (get_or other x Here) Here (at x ∙ slice_get-get_or other x Here (omega arith)))
+same_table some other same at = ext_get_or Here some other same
+    (λ x low. get_or_from_slice_get some x (get_or other x Here) Here (at x ∙ slice_get-get_or other x Here (omega arith)))
 
-pub ends_as_new : (old new : List Hop) (order : List ℕ) (table : List Hop) → length old ≡ length new → IsPushOrder old new order → IsPushed old new order table → table ≡ new
+pub ends_as_new : (old new : List Hop) (order : List ℕ) (table : List Hop) → length old ≡ length new
+    → IsPushOrder old new order → IsPushed old new order table → table ≡ new
 ends_as_new old new order table same is pushed = same_table table new (pushed.one_length ∙ same) (λ x. ⊎_elim (pushed.these x)
     (λ out. ⊎_elim (λ kept. pushed.others x out ∙ kept) (λ differs. absurd (out ((is.these x).1 differs))) (cases_differ old new x))
     (cases_member order x))
@@ -52,11 +56,13 @@ set_here table i hop low = slice_get-get_or (set table i hop) i hop (omega (arit
 
 set_there : (table : List Hop) (i : ℕ) (hop : Hop) (k : ℕ) → ¬ (k ≡ i) → slice_get (set table i hop) k ≡ slice_get table k
 set_there table i hop k apart = elim (cases_lt k (length table)) as (λ _. slice_get (set table i hop) k ≡ slice_get table k) [
-  | inl low ↦ slice_get-get_or (set table i hop) k hop (omega (arith, low, length-set table i hop)) ∙ (ap Some (get_or-set_other table i k hop hop apart) ∙ sym (slice_get-get_or table k hop low))
+  | inl low ↦ slice_get-get_or (set table i hop) k hop (omega (arith, low, length-set table i hop))
+      ∙ (ap Some (get_or-set_other table i k hop hop apart) ∙ sym (slice_get-get_or table k hop low))
   | inr out ↦ slice_get_past (set table i hop) k (omega (arith, out, length-set table i hop)) ∙ sym (slice_get_past table k out)
 ]
 
-pub push_is_one_more : (old new : List Hop) (nodes : List ℕ) (table : List Hop) (x : ℕ) (hop : Hop) → length old ≡ length new → slice_get new x ≡ Some hop → IsPushed old new nodes table
+pub push_is_one_more : (old new : List Hop) (nodes : List ℕ) (table : List Hop) (x : ℕ) (hop : Hop)
+    → length old ≡ length new → slice_get new x ≡ Some hop → IsPushed old new nodes table
     → IsPushed old new (nodes ++ x ∷ []) (set table x hop)
 push_is_one_more old new nodes table x hop same is pushed =
     let low : x < length table = omega (arith, slice_get_within new x hop is, pushed.one_length, same) in
@@ -85,7 +91,8 @@ sorted_from R (x ∷ xs) at = (
   sorted_from R xs (λ i j lt low. at (suc i) (suc j) (omega arith) (omega arith)),
 )
 
-sorted_unique : (R : ℕ → ℕ → Type 0) → ((x y : ℕ) → R x y → ¬ R y x) → (xs ys : List ℕ) → IsSorted R xs → IsSorted R ys → ((z : ℕ) → Contains xs z → Contains ys z) → ((z : ℕ) → Contains ys z → Contains xs z) → xs ≡ ys
+sorted_unique : (R : ℕ → ℕ → Type 0) → ((x y : ℕ) → R x y → ¬ R y x) → (xs ys : List ℕ) → IsSorted R xs → IsSorted R ys
+    → ((z : ℕ) → Contains xs z → Contains ys z) → ((z : ℕ) → Contains ys z → Contains xs z) → xs ≡ ys
 unfolding IsSorted
 sorted_unique R one [] [] s t to from = refl
 sorted_unique R one [] (y ∷ ys) s t to from = absurd (Contains-none y (from y (Contains-head y ys)))
@@ -95,8 +102,10 @@ sorted_unique R one (x ∷ xs) (y ∷ ys) s t to from =
     (λ in_ys. ⊎_elim (λ e. e) (λ in_xs. absurd (one x y (s.0 y in_xs) (t.0 x in_ys))) (Contains-cases y x xs (from y (Contains-head y ys))))
     (Contains-cases x y ys (to x (Contains-head x xs))) in
     let tails : xs ≡ ys = sorted_unique R one xs ys s.1 t.1
-    (λ z in_xs. ⊎_elim (λ e. absurd (let r : R x z = s.0 z in_xs in let q : R x x = subst (R x) (sym (same ∙ e)) r in one x x q q)) (λ h. h) (Contains-cases z y ys (to z (Contains-tail z x xs in_xs))))
-    (λ z in_ys. ⊎_elim (λ e. absurd (let r : R y z = t.0 z in_ys in let q : R y y = subst (R y) (sym (sym same ∙ e)) r in one y y q q)) (λ h. h) (Contains-cases z x xs (from z (Contains-tail z y ys in_ys)))) in
+    (λ z in_xs. ⊎_elim (λ e. absurd (let r : R x z = s.0 z in_xs in let q : R x x = subst (R x) (sym (same ∙ e)) r in
+    one x x q q)) (λ h. h) (Contains-cases z y ys (to z (Contains-tail z x xs in_xs))))
+    (λ z in_ys. ⊎_elim (λ e. absurd (let r : R y z = t.0 z in_ys in let q : R y y = subst (R y) (sym (sym same ∙ e)) r in
+    one y y q q)) (λ h. h) (Contains-cases z x xs (from z (Contains-tail z y ys in_ys)))) in
     ap (λ (w : ℕ). w ∷ xs) same ∙ ap (λ (ws : List ℕ). y ∷ ws) tails
 
 one_before : (old new : List Hop) (x y : ℕ) → IsBefore old new x y → ¬ IsBefore old new y x

@@ -1,5 +1,6 @@
 -- Hops of a set that is closed downstream are pushed: which loops stand, and where a packet comes.
-use Rattle.std.proofs.Common.{Bool, Contains, List, [], ap, arith, cond, eqb, false, inl, inr, refl, slice_get, subst, sym, true, ℕ, ⊎_elim, ◌++◌, ◌+◌, ◌∙◌, ◌∷◌, ◌≡◌, ◌≤◌, ◌↔◌, ◌⊎◌}
+use Rattle.std.proofs.Common.{Bool, Contains, List, [], ap, arith, cond, eqb, false, inl, inr, refl, slice_get, subst, sym, true, ℕ, ⊎_elim, ◌++◌}
+use Rattle.std.proofs.Common.{◌+◌, ◌∙◌, ◌∷◌, ◌≡◌, ◌≤◌, ◌↔◌, ◌⊎◌}
 use Rattle.std.specs.List.{count_by}
 use Rattle.std.proofs.lemmas.Bool.{cases_Bool, eqb-true}
 use Rattle.std.proofs.lemmas.List.Sums.{sum_by-append, sum_by-cons}
@@ -93,7 +94,8 @@ come_once table z x (y ∷ ys) free goes = elim (cases_Bool (eqb z x)) [
 ]
 
 -- a packet at a clean node moves along the new table,
-moves_clean : (old new : List Hop) (pushed : ℕ → List ℕ) (x : ℕ) (ys : List ℕ) → Grows pushed → IsClean old new (pushed 0) x → Moves old new pushed x ys → IsWalk new x ys
+moves_clean : (old new : List Hop) (pushed : ℕ → List ℕ) (x : ℕ) (ys : List ℕ) → Grows pushed → IsClean old new (pushed 0) x
+    → Moves old new pushed x ys → IsWalk new x ys
 moves_clean old new pushed x [] grows clean moves = tt
 moves_clean old new pushed x (y ∷ ys) grows clean moves =
     let sends : SendsOn new x y = ⊎_elim moves.0.pushed
@@ -108,7 +110,8 @@ moves_clean old new pushed x (y ∷ ys) grows clean moves =
     )
 
 -- and before it was at one, along the old table
-moves_split : (old new : List Hop) (pushed : ℕ → List ℕ) (x : ℕ) (ys : List ℕ) → ((k : ℕ) → IsClosedDownstream old new (pushed k)) → Grows pushed → Moves old new pushed x ys
+moves_split : (old new : List Hop) (pushed : ℕ → List ℕ) (x : ℕ) (ys : List ℕ)
+    → ((k : ℕ) → IsClosedDownstream old new (pushed k)) → Grows pushed → Moves old new pushed x ys
     → (us : List ℕ) × (vs : List ℕ) × (ys ≡ us ++ vs) × IsWalk old x us × IsWalk new (end_of x us) vs
 moves_split old new pushed x [] closed grows moves = ([], [], refl, tt, tt)
 moves_split old new pushed x (y ∷ ys) closed grows moves = ⊎_elim
@@ -118,7 +121,8 @@ moves_split old new pushed x (y ∷ ys) closed grows moves = ⊎_elim
     (y ∷ us, vs, ap (λ (ws : List ℕ). y ∷ ws) is, (moves.0.other out, first), last))
     (cases_member (pushed 0) x)
 
-pub comes_twice : (old new : List Hop) (pushed : ℕ → List ℕ) (x : ℕ) (ys : List ℕ) (z : ℕ) → IsLoopFree old → IsLoopFree new → ((k : ℕ) → IsClosedDownstream old new (pushed k))
+pub comes_twice : (old new : List Hop) (pushed : ℕ → List ℕ) (x : ℕ) (ys : List ℕ) (z : ℕ) → IsLoopFree old → IsLoopFree new
+    → ((k : ℕ) → IsClosedDownstream old new (pushed k))
     → Grows pushed → Moves old new pushed x ys → count_by (eqb z) (x ∷ ys) ≤ 2
 comes_twice old new pushed x ys z was free closed grows moves =
     let (us, vs, is, first, last) = moves_split old new pushed x ys closed grows moves in

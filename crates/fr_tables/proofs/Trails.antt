@@ -1,5 +1,6 @@
 -- The nodes of a walk as a list that grows at its end, and the loop that closes where the walk comes back to one of them.
-use Rattle.std.proofs.Common.{Contains, List, MatchOption, None, Option, Some, [], arith, drop, eqb, false, get_or, length, refl, subst, suc, sym, zero, ℕ, ◌++◌, ◌<◌, ◌∙◌, ◌∷◌, ◌≡◌}
+use Rattle.std.proofs.Common.{Contains, List, MatchOption, None, Option, Some, [], arith, drop, eqb, false, get_or, length, refl, subst, suc, sym}
+use Rattle.std.proofs.Common.{zero, ℕ, ◌++◌, ◌<◌, ◌∙◌, ◌∷◌, ◌≡◌}
 use Rattle.std.specs.List.{IsDistinct}
 use Rattle.std.specs.Cmp.{nat_eq_equiv}
 use Rattle.std.proofs.lemmas.Bool.{false≢true}

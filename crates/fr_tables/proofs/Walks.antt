@@ -1,5 +1,6 @@
 -- Walks along a table: where they lead, that a walk that ends is the only one, and that it comes to no node twice.
-use Rattle.std.proofs.Common.{Contains, List, [], Some, ap, arith, get_or, inl, inr, length, length-append, refl, subst, sym, ℕ, ⊎_elim, ◌++◌, ◌<◌, ◌∙◌, ◌∷◌, ◌≡◌, ◌⊎◌, None, Option, slice_get}
+use Rattle.std.proofs.Common.{Contains, List, [], Some, ap, arith, get_or, inl, inr, length, length-append, refl, subst, sym, ℕ, ⊎_elim, ◌++◌, ◌<◌}
+use Rattle.std.proofs.Common.{◌∙◌, ◌∷◌, ◌≡◌, ◌⊎◌, None, Option, slice_get}
 use Rattle.std.proofs.lemmas.Bool.{cases_lt}
 use Rattle.std.proofs.lemmas.List.{append-nil, get_or_past}
 use Rattle.std.proofs.lemmas.Option.{get_or_from_slice_get, slice_get-get_or}
@@ -40,7 +41,8 @@ walk_append table x [] zs goes more = more
 walk_append table x (y ∷ ys) zs goes more = (goes.0, walk_append table y ys zs goes.1 more)
 
 -- a walk is the beginning of a walk that ends
-pub whole_after : (table : List Hop) (x : ℕ) (ys zs : List ℕ) → IsWalk table x ys → IsWholeWalk table x zs → (rest : List ℕ) × IsWholeWalk table (end_of x ys) rest × (zs ≡ ys ++ rest)
+pub whole_after : (table : List Hop) (x : ℕ) (ys zs : List ℕ) → IsWalk table x ys → IsWholeWalk table x zs → (rest : List ℕ)
+    × IsWholeWalk table (end_of x ys) rest × (zs ≡ ys ++ rest)
 whole_after table x [] zs goes whole = (zs, whole, refl)
 whole_after table x (y ∷ ys) [] goes whole = absurd (whole.ends y goes.0)
 whole_after table x (y ∷ ys) (z ∷ zs) goes whole =
@@ -81,7 +83,8 @@ pub whole_once : (table : List Hop) (x : ℕ) (ys : List ℕ) → IsWholeWalk ta
 whole_once table x ys whole found = let (xs, to) = walk_to table x ys x whole.goes found in whole_no_loop table x xs ys whole to
 
 -- where the walk of each node of a loop's table ends, there is no loop
-pub free_from_whole : (table : List Hop) → ((x : ℕ) → x < length table → (ys : List ℕ) × IsWholeWalk table x ys) → ((x y : ℕ) → SendsOn table x y → x < length table) → IsLoopFree table
+pub free_from_whole : (table : List Hop) → ((x : ℕ) → x < length table → (ys : List ℕ) × IsWholeWalk table x ys)
+    → ((x y : ℕ) → SendsOn table x y → x < length table) → IsLoopFree table
 free_from_whole table whole low [] is = is
 free_from_whole table whole low (x ∷ xs) is = go xs is
   where

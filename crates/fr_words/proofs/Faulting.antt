@@ -14,13 +14,15 @@ use Rattle.fr_words.specs.declared.task.TaskFault.TheVariants.{Usage, Version, M
 
 module _ {T : Type 0} where
   -- words that the command takes have no fault
-  pub taken_faultless : (app : App) (words : List Text) (r : Result T Error) → app ≡ command → (is_simple_and_free app ≡ true → FailsBy (fault_of app words) r) → IfOk r (λ _. fault_of command words ≡ [])
+  pub taken_faultless : (app : App) (words : List Text) (r : Result T Error) → app ≡ command
+      → (is_simple_and_free app ≡ true → FailsBy (fault_of app words) r) → IfOk r (λ _. fault_of command words ≡ [])
   taken_faultless app words (Ok m) same kinds =
       subst (λ (a : App). fault_of a words ≡ []) same (kinds (subst (λ (a : App). is_simple_and_free a ≡ true) (sym same) refl))
   taken_faultless app words (Err e) same kinds = tt
 
   -- an error of the command has one of its kinds
-  pub refused_kinds : (app : App) (words : List Text) (r : Result T Error) → app ≡ command → (is_simple_and_free app ≡ true → FailsBy (fault_of app words) r) → IfErr r (HasKind (fault_of command words))
+  pub refused_kinds : (app : App) (words : List Text) (r : Result T Error) → app ≡ command
+      → (is_simple_and_free app ≡ true → FailsBy (fault_of app words) r) → IfErr r (HasKind (fault_of command words))
   refused_kinds app words (Ok m) same kinds = tt
   refused_kinds app words (Err e) same kinds =
       subst (λ (a : App). HasKind (fault_of a words) e) same (kinds (subst (λ (a : App). is_simple_and_free a ≡ true) (sym same) refl))

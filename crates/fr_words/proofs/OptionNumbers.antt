@@ -7,8 +7,10 @@ use Rattle.clap.proofs.WalkLemmas.{one_text-rows}
 use Rattle.clap.specs.declared.parser.matches.Found.{Found}
 use Rattle.fr_words.specs.Commands.{number_of, IsNumberUpTo}
 
-pub number_read : (E : Type 0) (k : ℕ) (G : List ℕ → Result ℕ E → Type 0) (f : Found) (name : Text) → ((u : List ℕ) (x : Result ℕ E) → G u x → ParsesUnsigned k 10 u x)
-    → (r : Option ℕ) → (one_text f name ≡ None → r ≡ None) → ((t : List ℕ) → one_text f name ≡ Some t → ReadsOne G t r) → IfSome r (λ n. number_of name (rows_of f) ≡ Some n)
+pub number_read : (E : Type 0) (k : ℕ) (G : List ℕ → Result ℕ E → Type 0) (f : Found) (name : Text)
+    → ((u : List ℕ) (x : Result ℕ E) → G u x → ParsesUnsigned k 10 u x)
+    → (r : Option ℕ) → (one_text f name ≡ None → r ≡ None) → ((t : List ℕ) → one_text f name ≡ Some t → ReadsOne G t r)
+    → IfSome r (λ n. number_of name (rows_of f) ≡ Some n)
 number_read E k G f name parses None none value = tt
 number_read E k G f name parses (Some n) none value = go (one_text f name) refl
   where
@@ -19,8 +21,10 @@ number_read E k G f name parses (Some n) none value = go (one_text f name) refl
         rw (← one_text-rows f name, e) (ap Some (sym is))
 
 -- where it reads no number of at most so much, the option's text is none
-pub number_not_read : (E : Type 0) (k most : ℕ) (G : List ℕ → Result ℕ E → Type 0) (f : Found) (name : Text) → ((u : List ℕ) (x : Result ℕ E) → G u x → ParsesUnsigned k 10 u x) → most < 2 ^ k
-    → (r : Option ℕ) → ((t : List ℕ) → one_text f name ≡ Some t → ReadsOne G t r) → IfSome r (λ n. most < n) → (text : Text) → one_of name (rows_of f) ≡ Some text → ¬ IsNumberUpTo most text
+pub number_not_read : (E : Type 0) (k most : ℕ) (G : List ℕ → Result ℕ E → Type 0) (f : Found) (name : Text)
+    → ((u : List ℕ) (x : Result ℕ E) → G u x → ParsesUnsigned k 10 u x) → most < 2 ^ k
+    → (r : Option ℕ) → ((t : List ℕ) → one_text f name ≡ Some t → ReadsOne G t r) → IfSome r (λ n. most < n) → (text : Text)
+    → one_of name (rows_of f) ≡ Some text → ¬ IsNumberUpTo most text
 number_not_read E k most G f name parses few None value above text is number =
     let read = value text (one_text-rows f name ∙ is) in
     parses text (Err read.0) read.1 (number.0, omega (arith, number.1, few))

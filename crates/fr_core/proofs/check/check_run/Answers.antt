@@ -20,14 +20,19 @@ pub loop-index-init : goal.loop-index-init
 loop-index-init c =
     let net = c.args.net.now in
     let zeros : c.in_ok-counts.counts.items ≡ replicate net.nodes 0 = search rules in
-    rw zeros (run_to net.nodes c.args.dest net.links c.nodes-nodes.ensures.faultless.is_net [] (replicate net.nodes 0) tt refl (zeros_lawful net.nodes c.args.dest net.links))
+    rw zeros (run_to net.nodes c.args.dest net.links c.nodes-nodes.ensures.faultless.is_net []
+    (replicate net.nodes 0) tt refl (zeros_lawful net.nodes c.args.dest net.links))
 
 pub returns-in-Some-clause-refused : goal.returns-in-Some-clause-refused
 unfolding none
 returns-in-Some-clause-refused c _ =
     let net = c.args.net.now in
-    let fails : Fails net.nodes c.args.dest (moment_of net.links c.loop-index.counts.items) (slice_index_or c.args.entries.now c.loop-index.index none) c.in-Some.why = rw c.deref.ensures.value at c.in-Some.ensures.some in
-    (omega (arith, c.if-dest-nodes.false), bad_at net.nodes c.args.dest net.links c.args.entries.now c.loop-index.index none c.loop-index.counts.items c.in-Some.why c.loop-index.invariant (omega arith) fails)
+    let fails : Fails net.nodes c.args.dest (moment_of net.links c.loop-index.counts.items)
+    (slice_index_or c.args.entries.now c.loop-index.index none) c.in-Some.why = rw c.deref.ensures.value at c.in-Some.ensures.some in (
+      omega (arith, c.if-dest-nodes.false),
+      bad_at net.nodes c.args.dest net.links c.args.entries.now c.loop-index.index none c.loop-index.counts.items
+          c.in-Some.why c.loop-index.invariant (omega arith) fails,
+    )
 
 pub loop-index-preserved : goal.loop-index-preserved
 unfolding none
@@ -37,10 +42,13 @@ loop-index-preserved c =
     let e : Entry = slice_index_or c.args.entries.now c.loop-index.index none in
     let m : Moment = moment_of net.links old in
     let legal : IsLegal net.nodes c.args.dest m e = rw c.deref.ensures.value at c.in_default.ensures.none in
-    one_more net.nodes c.args.dest net.links c.args.entries.now c.loop-index.index none old c.match-entry.counts.items c.nodes-nodes.ensures.faultless.is_net c.loop-index.invariant (omega arith) legal
+    one_more net.nodes c.args.dest net.links c.args.entries.now c.loop-index.index none old c.match-entry.counts.items
+    c.nodes-nodes.ensures.faultless.is_net c.loop-index.invariant (omega arith) legal
     (elim c.match-entry.branch [
       | in-Turned w ↦
-          let read : w.index_mut.result.now ≡ slice_index old e.node = get_or_read old e.node w.index_mut.result.now (let l = legal.0 in let each = c.loop-index.invariant.lawful.one_each in omega (arith, l, each)) w.index_mut.ensures.value 0 in
-          ap (λ (v : Vec ℕ Global). v.items) w.counts-is ∙ ap (λ (k : ℕ). slice_set old e.node (k + 1)) read ∙ ap (λ (r : Reply). (after_reply m e.node r).counts) (sym w.in-Turned.is)
+          let read : w.index_mut.result.now ≡ slice_index old e.node = get_or_read old e.node w.index_mut.result.now
+          (let l = legal.0 in let each = c.loop-index.invariant.lawful.one_each in omega (arith, l, each)) w.index_mut.ensures.value 0 in
+          ap (λ (v : Vec ℕ Global). v.items) w.counts-is ∙ ap (λ (k : ℕ). slice_set old e.node (k + 1)) read
+          ∙ ap (λ (r : Reply). (after_reply m e.node r).counts) (sym w.in-Turned.is)
       | in_default-reply w ↦ ap (λ (v : Vec ℕ Global). v.items) w.counts-is ∙ same_after m e.node e.reply w.in_default-reply.not-Turned
     ])

@@ -20,7 +20,8 @@ returns-then-is_none c = (
   λ kept.
       let net = c.args.net.now in
       let e : ℕ × First = get_or c.row-row.result.now c.loop-w.w-index (0, first.Outward) in
-      let all : All (IsKeptOut c.args.counts.now c.args.x) c.row-row.result.now = rw c.row-row.ensures (row_kept net.nodes net.links c.args.counts.now c.args.x kept) in
+      let all : All (IsKeptOut c.args.counts.now c.args.x) c.row-row.result.now =
+      rw c.row-row.ensures (row_kept net.nodes net.links c.args.counts.now c.args.x kept) in
       let out : e.1 ≡ first.Outward = search rules in
       let known = sense_from_kept c.args.counts.now c.args.x e.0 (all c.loop-w.w-index (0, first.Outward) c.loop-w-test.true out) in
       cc (rw c.sense.ensures at c.if-is_none.ensures, known),
@@ -39,5 +40,6 @@ loop-w-preserved c =
 pub returns : goal.returns
 returns c =
     let net = c.args.net.now in
-    let whole : All (IsKeptOut c.args.counts.now c.args.x) c.row-row.result.now = subst (All (IsKeptOut c.args.counts.now c.args.x)) (take_all c.loop-w.w-index c.row-row.result.now c.loop-w-test.false) c.loop-w.invariant in
+    let whole : All (IsKeptOut c.args.counts.now c.args.x) c.row-row.result.now =
+    subst (All (IsKeptOut c.args.counts.now c.args.x)) (take_all c.loop-w.w-index c.row-row.result.now c.loop-w-test.false) c.loop-w.invariant in
     (λ t. kept_by_row net.nodes net.links c.args.counts.now c.args.x c.network_law.ensures.is_net (rw c.row-row.ensures at whole), λ all. refl)

@@ -21,7 +21,8 @@ returns-in-Some-Outward c = (
   λ f. absurd (false≢true f),
   λ sink.
       let net = c.args.net.now in
-      let all : All (PointsBy c.args.counts.now c.args.x Inward) c.row-row.result.now = rw c.row-row.ensures (row_points_in net.nodes net.links c.args.counts.now c.args.x c.requires.kept sink) in
+      let all : All (PointsBy c.args.counts.now c.args.x Inward) c.row-row.result.now =
+      rw c.row-row.ensures (row_points_in net.nodes net.links c.args.counts.now c.args.x c.requires.kept sink) in
       let here = all c.loop-w.w-index (0, first.Outward) c.loop-w-test.true in
       cc,
 )
@@ -31,7 +32,8 @@ returns-in-Some-Outward-2 c = (
   λ f. absurd (false≢true f),
   λ sink.
       let net = c.args.net.now in
-      let all : All (PointsBy c.args.counts.now c.args.x Inward) c.row-row.result.now = rw c.row-row.ensures (row_points_in net.nodes net.links c.args.counts.now c.args.x c.requires.kept sink) in
+      let all : All (PointsBy c.args.counts.now c.args.x Inward) c.row-row.result.now =
+      rw c.row-row.ensures (row_points_in net.nodes net.links c.args.counts.now c.args.x c.requires.kept sink) in
       let here = all c.loop-w.w-index (0, first.Outward) c.loop-w-test.true in
       cc,
 )
@@ -43,7 +45,8 @@ loop-w-preserved c =
 pub returns : goal.returns
 returns c =
     let net = c.args.net.now in
-    let whole : All (PointsBy c.args.counts.now c.args.x Inward) c.row-row.result.now = subst (All (PointsBy c.args.counts.now c.args.x Inward)) (take_all c.loop-w.w-index c.row-row.result.now c.loop-w-test.false) c.loop-w.invariant in
+    let whole : All (PointsBy c.args.counts.now c.args.x Inward) c.row-row.result.now =
+    subst (All (PointsBy c.args.counts.now c.args.x Inward)) (take_all c.loop-w.w-index c.row-row.result.now c.loop-w-test.false) c.loop-w.invariant in
     let length_same : length c.row-row.result.now ≡ length (row net.nodes net.links c.args.x) = ap length c.row-row.ensures in (
       λ some. (let filled : 0 < length c.row-row.result.now = grind (arith, nat_tests) in
           sink_from_row net.nodes net.links c.args.counts.now c.args.x c.network_law.ensures.is_net (omega arith) (rw c.row-row.ensures at whole)),

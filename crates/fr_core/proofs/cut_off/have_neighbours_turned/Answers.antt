@@ -22,9 +22,11 @@ returns-then-counts-w-eq0 c = (
 )
 
 pub loop-w-preserved : goal.loop-w-preserved
-loop-w-preserved c = All-more (HasTurned c.args.counts.now) c.row-row.result.now c.loop-w.w-index (0, first.Outward) c.loop-w-test.true c.loop-w.invariant (omega (arith, c.if-counts-w-eq0.false))
+loop-w-preserved c = All-more (HasTurned c.args.counts.now) c.row-row.result.now c.loop-w.w-index
+    (0, first.Outward) c.loop-w-test.true c.loop-w.invariant (omega (arith, c.if-counts-w-eq0.false))
 
 pub returns : goal.returns
 returns c =
-    let whole : All (HasTurned c.args.counts.now) c.row-row.result.now = subst (All (HasTurned c.args.counts.now)) (take_all c.loop-w.w-index c.row-row.result.now c.loop-w-test.false) c.loop-w.invariant in
+    let whole : All (HasTurned c.args.counts.now) c.row-row.result.now = subst (All (HasTurned c.args.counts.now))
+    (take_all c.loop-w.w-index c.row-row.result.now c.loop-w-test.false) c.loop-w.invariant in
     (λ t. rw c.row-row.ensures at whole, λ all. refl)

@@ -13,17 +13,21 @@ pub total_of-requires : goal.total_of-requires
 total_of-requires c =
     let net = c.args.net.now in
     let known = c.network_law.ensures in
-    lawful_sum_fits net.nodes c.args.dest net.links c.settle.new.counts known.limits.nodes_few (settled_lawful net.nodes c.args.dest net.links known.is_net c.requires.node c.settle.new.counts c.settle.ensures)
+    lawful_sum_fits net.nodes c.args.dest net.links c.settle.new.counts known.limits.nodes_few
+    (settled_lawful net.nodes c.args.dest net.links known.is_net c.requires.node c.settle.new.counts c.settle.ensures)
 
 pub overflow_sub-result : goal.overflow_sub-result
 overflow_sub-result c =
     let net = c.args.net.now in
-    let run = run_to_settled net.nodes c.args.dest net.links c.args.counts.now c.settle.new.counts c.network_law.ensures.is_net c.requires.node c.requires.lawful c.settle.ensures in
+    let run = run_to_settled net.nodes c.args.dest net.links c.args.counts.now c.settle.new.counts
+    c.network_law.ensures.is_net c.requires.node c.requires.lawful c.settle.ensures in
     omega (arith, run.0, c.total_of-before.ensures, c.total_of.ensures)
 
 pub returns-clause-run : goal.returns-clause-run
 returns-clause-run c =
     let net = c.args.net.now in
-    let run = run_to_settled net.nodes c.args.dest net.links c.args.counts.now c.settle.new.counts c.network_law.ensures.is_net c.requires.node c.requires.lawful c.settle.ensures in
-    let made : sum c.settle.new.counts - sum c.args.counts.now ≡ c.total_of.result - c.total_of-before.result = omega (arith, c.total_of-before.ensures, c.total_of.ensures) in
+    let run = run_to_settled net.nodes c.args.dest net.links c.args.counts.now c.settle.new.counts
+    c.network_law.ensures.is_net c.requires.node c.requires.lawful c.settle.ensures in
+    let made : sum c.settle.new.counts - sum c.args.counts.now ≡ c.total_of.result - c.total_of-before.result =
+    omega (arith, c.total_of-before.ensures, c.total_of.ensures) in
     subst (IsFinish net.nodes c.args.dest net.links c.args.counts.now c.settle.new.counts) made run.1

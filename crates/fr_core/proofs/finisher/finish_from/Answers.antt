@@ -5,4 +5,5 @@ pub returns-else-not-turn_few : goal.returns-else-not-turn_few
 returns-else-not-turn_few c =
     let net = c.args.net.now in
     let turned = c.turn_few in
-    settled_from_none net.nodes c.args.dest net.links c.network_law.ensures.is_net c.requires.node turned.new.turns turned.ensures.lawful (turned.ensures.none c.if-not-turn_few.false)
+    settled_from_none net.nodes c.args.dest net.links c.network_law.ensures.is_net c.requires.node turned.new.turns
+    turned.ensures.lawful (turned.ensures.none c.if-not-turn_few.false)

@@ -5,6 +5,7 @@ pub returns-then-turn_few-clause-settled : goal.returns-then-turn_few-clause-set
 returns-then-turn_few-clause-settled c =
     let net = c.args.net.now in
     let turned = c.turn_few in (
-      λ none_left. settled_from_none net.nodes c.args.dest net.links c.network_law.ensures.is_net c.requires.node turned.new.turns turned.ensures.lawful (turned.ensures.none c.if-turn_few.true),
+      λ none_left. settled_from_none net.nodes c.args.dest net.links c.network_law.ensures.is_net c.requires.node
+          turned.new.turns turned.ensures.lawful (turned.ensures.none c.if-turn_few.true),
       λ settled. c.if-turn_few.true,
     )

@@ -5,4 +5,5 @@ pub returns-else-not-turn_few_of_all : goal.returns-else-not-turn_few_of_all
 returns-else-not-turn_few_of_all c =
     let net = c.args.net.now in
     let turned = c.turn_few_of_all in
-    settled_from_none net.nodes c.args.dest net.links c.requires.net c.requires.node turned.new.turns turned.ensures.lawful (turned.ensures.none c.if-not-turn_few_of_all.false)
+    settled_from_none net.nodes c.args.dest net.links c.requires.net c.requires.node turned.new.turns turned.ensures.lawful
+    (turned.ensures.none c.if-not-turn_few_of_all.false)

@@ -24,5 +24,11 @@ returns-clause-start c = λ n d first. (links_at-zeros n first, zeros_lawful n d
 
 pub returns-clause-order : goal.returns-clause-order
 returns-clause-order c = λ n d first other counts p.
-    let same = same_from_permutation first other p in
-    (permuted_net n first other p, same_lawful first other same n d counts, same_settled first other same n d counts, same_links_at first other same counts, same_joined first other same d, same_sink first other same)
+    let same = same_from_permutation first other p in (
+      permuted_net n first other p,
+      same_lawful first other same n d counts,
+      same_settled first other same n d counts,
+      same_links_at first other same counts,
+      same_joined first other same d,
+      same_sink first other same,
+    )

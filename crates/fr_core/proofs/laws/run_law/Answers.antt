@@ -27,7 +27,8 @@ pub returns-clause-acyclic : goal.returns-clause-acyclic
 returns-clause-acyclic c = λ n d first h net run.
     let start : Moment = moment_of first (replicate n 0) in
     let at = run_keeps n d first net start (record { links = refl; lawful = zeros_lawful n d first }) h run in
-    let same : (after_all start h).links ≡ links_after first h = links-after_all start h ∙ ap (λ (links : List (ℕ × ℕ)). links_after links h) (links_at-zeros n first) in
+    let same : (after_all start h).links ≡ links_after first h = links-after_all start h
+    ∙ ap (λ (links : List (ℕ × ℕ)). links_after links h) (links_at-zeros n first) in
     let given : links_after first h ≡ links_at first (after_all start h).counts = sym same ∙ at.links in
     (given, subst IsAcyclic (sym given) (links_at_acyclic first (after_all start h).counts net.acyclic))
 

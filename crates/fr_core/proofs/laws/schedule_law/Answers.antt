@@ -21,7 +21,8 @@ returns-clause-each c = λ n d first counts entries net below lawful run.
     let f = finish n d first net middle at in
     let whole = run_append n d start entries f.entries run f.run in
     let end = run_keeps n d first net start (record { links = refl; lawful = lawful }) (entries ++ f.entries) whole in
-    let none_left : NoneCanTurn n d (after_all start (entries ++ f.entries)) = subst (NoneCanTurn n d) (sym (after_all-append start entries f.entries)) f.ends in
+    let none_left : NoneCanTurn n d (after_all start (entries ++ f.entries)) =
+    subst (NoneCanTurn n d) (sym (after_all-append start entries f.entries)) f.ends in
     (f.entries, whole, f.turns_alone, none_left, settled_at_end n d first net below (after_all start (entries ++ f.entries)) end none_left)
 
 pub returns-clause-alike : goal.returns-clause-alike

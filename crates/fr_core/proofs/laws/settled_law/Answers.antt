@@ -10,7 +10,10 @@ pub returns-clause-settled : goal.returns-clause-settled
 returns-clause-settled c = λ n d first counts net below lawful none_left. settled_from_none n d first net below counts lawful none_left
 
 pub returns-clause-last : goal.returns-clause-last
-returns-clause-last c = λ n d first counts net below settled. (settled_lawful n d first net below counts settled, none_at_settled n d first net below counts settled)
+returns-clause-last c = λ n d first counts net below settled. (
+  settled_lawful n d first net below counts settled,
+  none_at_settled n d first net below counts settled,
+)
 
 pub returns-clause-unique : goal.returns-clause-unique
 returns-clause-unique c = settled_unique

@@ -21,4 +21,5 @@ returns-clause-search c =
     let net = c.args.net.now in
     let q : List ℕ = c.args.queue.now in
     let e : c.loop-at.at ≡ length q = omega (arith, c.loop-at.invariant.search.opened_in) in
-    subst (λ (z : ℕ). IsLevelSearch net.nodes (slice_index q 0) net.links c.loop-at.counts c.loop-at.queue (length q) z (length q) c.args.count) e c.loop-at.invariant.search
+    subst (λ (z : ℕ). IsLevelSearch net.nodes (slice_index q 0) net.links c.loop-at.counts c.loop-at.queue (length q) z
+    (length q) c.args.count) e c.loop-at.invariant.search

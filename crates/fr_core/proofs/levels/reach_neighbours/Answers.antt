@@ -17,13 +17,16 @@ pub loop-entry-preserved : goal.loop-entry-preserved
 loop-entry-preserved c =
     let net = c.args.net.now in
     let same : length c.row-entry-items.result.now ≡ length (row net.nodes net.links c.args.x) = ap length c.row-entry-items.ensures in
-    let p = reached_step net.nodes c.args.level.count (row net.nodes net.links c.args.x) c.args.level.wanted c.args.counts.now c.args.queue.now c.loop-entry.entry-index (omega arith)
+    let p = reached_step net.nodes c.args.level.count (row net.nodes net.links c.args.x)
+    c.args.level.wanted c.args.counts.now c.args.queue.now c.loop-entry.entry-index (omega arith)
     c.loop-entry.counts c.loop-entry.queue c.reach.new.counts c.reach.new.queue
-    (c.loop-entry.invariant.only, c.loop-entry.invariant.reached) (rw c.row-entry-items.ensures at c.reach.ensures.only) (rw c.row-entry-items.ensures at c.reach.ensures.reached) in
+    (c.loop-entry.invariant.only, c.loop-entry.invariant.reached) (rw c.row-entry-items.ensures at c.reach.ensures.only)
+    (rw c.row-entry-items.ensures at c.reach.ensures.reached) in
     record { only = p.0; reached = p.1 }
 
 pub returns-clause-reached : goal.returns-clause-reached
 returns-clause-reached c =
     let net = c.args.net.now in
     let same : length c.row-entry-items.result.now ≡ length (row net.nodes net.links c.args.x) = ap length c.row-entry-items.ensures in
-    subst (All (IsReached net.nodes c.loop-entry.counts c.args.level.wanted)) (take_all c.loop-entry.entry-index (row net.nodes net.links c.args.x) (omega arith)) c.loop-entry.invariant.reached
+    subst (All (IsReached net.nodes c.loop-entry.counts c.args.level.wanted))
+    (take_all c.loop-entry.entry-index (row net.nodes net.links c.args.x) (omega arith)) c.loop-entry.invariant.reached

@@ -13,10 +13,13 @@ pub open_level-requires-clause-search : goal.open_level-requires-clause-search
 open_level-requires-clause-search c =
     let net = c.args.net.now in
     let q : List ℕ = c.close_level.new.queue in
-    let s = next_level net.nodes (slice_index c.loop-start.queue 0) net.links c.close_level.new.counts q c.loop-start.start c.loop-start.count c.close_level.ensures.search (omega (arith, c.close_level.ensures.longer)) in
-    subst (λ (d : ℕ). IsLevelSearch net.nodes d net.links c.close_level.new.counts q (length q) c.loop-start.start (length q) (c.loop-start.count + 1)) (sym s.head) s
+    let s = next_level net.nodes (slice_index c.loop-start.queue 0) net.links c.close_level.new.counts q c.loop-start.start
+    c.loop-start.count c.close_level.ensures.search (omega (arith, c.close_level.ensures.longer)) in
+    subst (λ (d : ℕ). IsLevelSearch net.nodes d net.links c.close_level.new.counts q (length q) c.loop-start.start
+    (length q) (c.loop-start.count + 1)) (sym s.head) s
 
 pub returns : goal.returns
 returns c =
     let net = c.args.net.now in
-    search_ends net.nodes c.args.dest net.links c.loop-start.counts c.loop-start.queue c.loop-start.start c.loop-start.count c.loop-start.invariant (omega arith)
+    search_ends net.nodes c.args.dest net.links c.loop-start.counts c.loop-start.queue c.loop-start.start c.loop-start.count
+    c.loop-start.invariant (omega arith)

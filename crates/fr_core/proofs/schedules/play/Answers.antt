@@ -1,4 +1,5 @@
-use Rattle.std.proofs.Common.{All, Any, Bool, Global, List, Vec, ap, arith, false, get_or, inl, inr, length, map, refl, subst, sym, true, ℕ, ⊎_elim, ◌<◌, ◌∙◌, ◌≡◌, ◌≤◌}
+use Rattle.std.proofs.Common.{All, Any, Bool, Global, List, Vec, ap, arith, false, get_or, inl, inr, length, map, refl, subst, sym, true, ℕ, ⊎_elim}
+use Rattle.std.proofs.Common.{◌<◌, ◌∙◌, ◌≡◌, ◌≤◌}
 use Rattle.std.proofs.lemmas.Bool.{cases_lt, false≢true}
 use Rattle.std.proofs.lemmas.List.{get_or_default, length-map}
 use Rattle.std.proofs.lemmas.Result.{err_from_is_err_and}
@@ -13,7 +14,8 @@ use Rattle.fr_core.proofs.schedules.play.Goals as goal
 use Rattle.fr_core.proofs.schedules.play.Goals.{then-dest-nodes-via-then-dest-nodes, then-dest-nodes-via-else-dest-nodes+then-names_no_worker}
 
 -- where no number is found that names no worker, each names one
-all_named : (targets : List (Vec Target Global)) (schedule : List ℕ) (workers : ℕ) (found : Bool) → workers ≡ length targets → found ≡ false → (Any (λ k. workers ≤ k) schedule → found ≡ true)
+all_named : (targets : List (Vec Target Global)) (schedule : List ℕ) (workers : ℕ) (found : Bool) → workers ≡ length targets
+    → found ≡ false → (Any (λ k. workers ≤ k) schedule → found ≡ true)
     → All (λ k. k < length (lists_of targets)) schedule
 all_named targets schedule workers found each none named i d l =
     let k : ℕ = get_or schedule i d in
@@ -23,7 +25,8 @@ all_named targets schedule workers found each none named i d l =
     (cases_lt k (length (lists_of targets)))
 
 -- in range, the fault of a machine is that of a play
-fault_of_play : (n d : ℕ) (links : List (ℕ × ℕ)) (targets : List (List Target)) (schedule : List ℕ) (fault : PlayFault) → IsPlayInRange n d targets schedule → IsMachineFault n d links targets fault
+fault_of_play : (n d : ℕ) (links : List (ℕ × ℕ)) (targets : List (List Target)) (schedule : List ℕ) (fault : PlayFault)
+    → IsPlayInRange n d targets schedule → IsMachineFault n d links targets fault
     → IsPlayFault n d links targets schedule fault
 fault_of_play n d links targets schedule Range range h = inl h
 fault_of_play n d links targets schedule (BadTarget worker at) range h = (range, h.1)
@@ -33,23 +36,28 @@ pub returns-then-dest-nodes-clause-refused : goal.returns-then-dest-nodes-clause
 returns-then-dest-nodes-clause-refused c _ = elim c.then-dest-nodes.branch [
   | then-dest-nodes-via-then-dest-nodes w ↦ inl (omega (arith, w.if-dest-nodes.true, c.nodes.ensures.value))
   | then-dest-nodes-via-else-dest-nodes+then-names_no_worker w ↦
-      let each : w.len.result ≡ length (lists_of c.args.targets.items) = omega (arith, w.len.ensures, length-map c.args.targets.items (λ (v : Vec Target Global). v.items)) in
+      let each : w.len.result ≡ length (lists_of c.args.targets.items) =
+      omega (arith, w.len.ensures, length-map c.args.targets.items (λ (v : Vec Target Global). v.items)) in
       inr (subst (λ (workers : ℕ). Any (λ k. workers ≤ k) c.args.schedule.now) each (w.names_no_worker.ensures.0 w.if-names_no_worker.true))
 ]
 
 pub follow-requires : goal.follow-requires
 follow-requires c i d l =
     let lists = lists_of c.args.targets.items in
-    let named = all_named c.args.targets.items c.args.schedule.now c.len.result c.names_no_worker.result (omega arith) c.if-names_no_worker.false c.names_no_worker.ensures.1 in
-    let workers : length c.in_ok-machine.machine.state.workers ≡ length (map fresh lists) = ap (λ (m : MachineView). length m.state.workers) c.in_ok-machine.ensures.ok in
+    let named = all_named c.args.targets.items c.args.schedule.now c.len.result c.names_no_worker.result
+    (omega arith) c.if-names_no_worker.false c.names_no_worker.ensures.1 in
+    let workers : length c.in_ok-machine.machine.state.workers ≡ length (map fresh lists) =
+    ap (λ (m : MachineView). length m.state.workers) c.in_ok-machine.ensures.ok in
     omega (arith, named i d l, workers, length-map lists fresh)
 
 pub returns-in_err-machine-clause-refused : goal.returns-in_err-machine-clause-refused
 returns-in_err-machine-clause-refused c =
     let net = c.args.net.now in
     let lists = lists_of c.args.targets.items in
-    let named = all_named c.args.targets.items c.args.schedule.now c.len.result c.names_no_worker.result (omega arith) c.if-names_no_worker.false c.names_no_worker.ensures.1 in
-    let range : IsPlayInRange net.nodes c.args.dest lists c.args.schedule.now = record { destination = omega (arith, c.if-dest-nodes.false, c.nodes.ensures.value); workers = named } in
+    let named = all_named c.args.targets.items c.args.schedule.now c.len.result c.names_no_worker.result
+    (omega arith) c.if-names_no_worker.false c.names_no_worker.ensures.1 in
+    let range : IsPlayInRange net.nodes c.args.dest lists c.args.schedule.now =
+    record { destination = omega (arith, c.if-dest-nodes.false, c.nodes.ensures.value); workers = named } in
     let told = err_from_is_err_and c.from_residual.result c.from_residual.ensures.1 in
     rw (told.1, told.2) (λ other. fault_of_play net.nodes c.args.dest net.links lists c.args.schedule.now _ range (c.in_err-machine.ensures.refused other))
 
@@ -62,7 +70,8 @@ pub returns-clause-ok : goal.returns-clause-ok
 returns-clause-ok c =
     let net = c.args.net.now in
     let lists = lists_of c.args.targets.items in
-    let named = all_named c.args.targets.items c.args.schedule.now c.len.result c.names_no_worker.result (omega arith) c.if-names_no_worker.false c.names_no_worker.ensures.1 in
+    let named = all_named c.args.targets.items c.args.schedule.now c.len.result c.names_no_worker.result
+    (omega arith) c.if-names_no_worker.false c.names_no_worker.ensures.1 in
     played net.nodes c.args.dest net.links lists c.args.schedule.now c.in_ok-follow.field-0.items c.nodes.ensures.faultless.is_net
     (record { in_range = record { destination = c.in_ok-machine.ensures.destination; workers = named }; accepted = c.in_ok-machine.ensures.accepted })
     (c.in_ok-follow.ensures ∙ ap (λ (m : MachineView). entries_of m.nodes m.links m.state c.args.schedule.now) c.in_ok-machine.ensures.ok)

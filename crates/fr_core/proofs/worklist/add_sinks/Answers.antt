@@ -31,7 +31,11 @@ loop-x-preserved c =
           | inl less ↦ i.all y less can
           | inr ge ↦
               let e : y ≡ x = omega (arith, below, ge) in
-              absurd (cc (c.can_turn.ensures.1 (subst (CanTurn c.args.net.now.nodes c.args.dest (moment_of c.args.net.now.links c.args.counts.now)) e can), w.if-can_turn.false))
+              absurd (cc (
+                c.can_turn.ensures.1
+                    (subst (CanTurn c.args.net.now.nodes c.args.dest (moment_of c.args.net.now.links c.args.counts.now)) e can),
+                w.if-can_turn.false,
+              ))
         ];
       })
     ]
@@ -43,7 +47,8 @@ returns c =
     record {
       nodes = inv.nodes;
       all = λ x can.
-          let below = can_turn_below net.nodes c.args.dest net.links c.nodes-x-end.ensures.faultless.is_net (moment_of net.links c.args.counts.now) refl x can in
+          let below = can_turn_below net.nodes c.args.dest net.links c.nodes-x-end.ensures.faultless.is_net
+          (moment_of net.links c.args.counts.now) refl x can in
           let q = inv.all x (omega (arith, below)) can in
           (q.0, omega arith, q.1, q.2);
     }

@@ -32,7 +32,12 @@ loop-x-preserved g c =
           | inl before ↦ l.all i before can
           | inr ge ↦
               let e : i ≡ at = omega (arith, less, ge) in
-              absurd (cc (c.can_turn.ensures.1 (subst (λ (k : ℕ). CanTurn c.args.net.now.nodes c.args.dest (moment_of c.args.net.now.links c.args.counts.now) (slice_index from k)) e can), w.if-can_turn.false))
+              absurd (cc (
+                c.can_turn.ensures.1
+                    (subst (λ (k : ℕ). CanTurn c.args.net.now.nodes c.args.dest
+                    (moment_of c.args.net.now.links c.args.counts.now) (slice_index from k)) e can),
+                w.if-can_turn.false,
+              ))
         ];
       })
     ]
@@ -42,10 +47,12 @@ returns g c = λ _.
     let net = c.args.net.now in
     let from = c.args.from.now in
     let work = c.loop-x.work in
-    let each = All-from_get_or (λ (y : ℕ). CanTurn net.nodes c.args.dest (moment_of net.links c.args.counts.now) y → IsQueued work y) from 0 (λ i below. c.loop-x.invariant.all i (omega (arith, below))) in
+    let each = All-from_get_or (λ (y : ℕ). CanTurn net.nodes c.args.dest (moment_of net.links c.args.counts.now) y
+    → IsQueued work y) from 0 (λ i below. c.loop-x.invariant.all i (omega (arith, below))) in
     record {
       nodes = c.loop-x.invariant.nodes;
       all = λ x can.
-          let q = All-contains (λ (y : ℕ). CanTurn net.nodes c.args.dest (moment_of net.links c.args.counts.now) y → IsQueued work y) from x each (c.requires.from.all x can) can in
+          let q = All-contains (λ (y : ℕ). CanTurn net.nodes c.args.dest (moment_of net.links c.args.counts.now) y
+          → IsQueued work y) from x each (c.requires.from.all x can) can in
           (q.0, omega arith, q.1, q.2);
     }

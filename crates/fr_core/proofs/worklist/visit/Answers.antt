@@ -23,4 +23,5 @@ returns-clause-carries g c = λ _.
 
 pub returns-then-not-can_turn-clause-carries : goal.returns-then-not-can_turn-clause-carries
 returns-then-not-can_turn-clause-carries g c = λ _.
-    passed_over c.args.net.now c.args.dest c.args.turns.now c.args.work.now c.args.x (λ can. cc (c.can_turn.ensures.1 (rw (← c.counts.ensures) at can), c.if-not-can_turn.true))
+    passed_over c.args.net.now c.args.dest c.args.turns.now c.args.work.now c.args.x
+    (λ can. cc (c.can_turn.ensures.1 (rw (← c.counts.ensures) at can), c.if-not-can_turn.true))

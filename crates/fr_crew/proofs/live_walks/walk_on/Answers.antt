@@ -33,7 +33,8 @@ returns-in-Sink-clause-walked c =
     let e = c.in-Ok.ensures in
     let looked = subst (HasLooked now next here) c.in-Sink.is (record { keeps = c.look.ensures.keeps; learns = e.learns; kind = e.kind }) in
     subst (λ (d : ℕ). HasWalked old next d c.args.x c.args.limit c.loop-made.nodes.items AtSink) c.dest-dest.ensures
-    (ends_at_sink old now next c.dest-dest.result c.args.x c.loop-made._made c.args.limit c.loop-made.nodes.items here w looked c.if-here-dest.false c.loop-made-test.true)
+    (ends_at_sink old now next c.dest-dest.result c.args.x c.loop-made._made c.args.limit c.loop-made.nodes.items here w
+    looked c.if-here-dest.false c.loop-made-test.true)
 
 pub loop-made-preserved : goal.loop-made-preserved
 loop-made-preserved c =
@@ -52,22 +53,30 @@ loop-made-preserved c =
       | in-Held w ↦
           let by = w.in-Held.by in
           let held = subst (HasLooked now next here) w.in-Held.is looked in
-          let items : c.match-reply.nodes.items ≡ c.loop-made.nodes.items ++ by ∷ [] = ap (λ (v : Vec ℕ Global). v.items) w.nodes-is ∙ w.push_reserved.ensures.items in
-          let long : vec_len c.match-reply.nodes ≡ vec_len c.loop-made.nodes + 1 = ap (λ (v : Vec ℕ Global). vec_len v) w.nodes-is ∙ w.push_reserved.ensures.len in
-          let room : vec_capacity c.match-reply.nodes ≡ vec_capacity c.loop-made.nodes = ap (λ (v : Vec ℕ Global). vec_capacity v) w.nodes-is ∙ w.push_reserved.ensures.capacity in
+          let items : c.match-reply.nodes.items ≡ c.loop-made.nodes.items ++ by ∷ [] =
+          ap (λ (v : Vec ℕ Global). v.items) w.nodes-is ∙ w.push_reserved.ensures.items in
+          let long : vec_len c.match-reply.nodes ≡ vec_len c.loop-made.nodes + 1 =
+          ap (λ (v : Vec ℕ Global). vec_len v) w.nodes-is ∙ w.push_reserved.ensures.len in
+          let room : vec_capacity c.match-reply.nodes ≡ vec_capacity c.loop-made.nodes =
+          ap (λ (v : Vec ℕ Global). vec_capacity v) w.nodes-is ∙ w.push_reserved.ensures.capacity in
           record {
             walking = subst (λ (h : ℕ). IsWalking old next dest c.args.x (c.loop-made._made + 1) c.match-reply.nodes.items h) (sym w.here-is)
-                (walks_held old now next dest c.args.x c.loop-made._made c.loop-made.nodes.items here i.walking by held c.if-here-dest.false c.match-reply.nodes.items items);
+                (walks_held old now next dest c.args.x c.loop-made._made c.loop-made.nodes.items here i.walking by held
+                c.if-here-dest.false c.match-reply.nodes.items items);
             node = subst (λ (h : ℕ). IsLookable round.setup.nodes round.setup.links h) (sym w.here-is)
-                (held_lookable round.setup now.number here by now.known next.known net (subst (λ (b : Setup). Extends b now.number now.known (entry now.number here (Held by)) next.known) setup held.learns.history));
+                (held_lookable round.setup now.number here by now.known next.known net
+                (subst (λ (b : Setup). Extends b now.number now.known (entry now.number here (Held by)) next.known) setup held.learns.history));
             room = (omega (arith, long, i.room.0), omega (arith, room, i.room.1));
           }
       | in-Moved w ↦
           let moved = subst (HasLooked now next here) w.in-Moved.is looked in
           record {
-            walking = subst (λ (p : Vec ℕ Global × ℕ). IsWalking old next dest c.args.x (c.loop-made._made + 1) p.0.items p.1) (λ k. (sym w.nodes-is k, sym w.here-is k))
-                (walks_moved old now next dest c.args.x c.loop-made._made c.loop-made.nodes.items here i.walking w.in-Moved.had w.in-Moved.count moved c.if-here-dest.false);
+            walking = subst (λ (p : Vec ℕ Global × ℕ). IsWalking old next dest c.args.x
+                (c.loop-made._made + 1) p.0.items p.1) (λ k. (sym w.nodes-is k, sym w.here-is k))
+                (walks_moved old now next dest c.args.x c.loop-made._made c.loop-made.nodes.items here i.walking
+                w.in-Moved.had w.in-Moved.count moved c.if-here-dest.false);
             node = subst (λ (h : ℕ). IsLookable round.setup.nodes round.setup.links h) (sym w.here-is) i.node;
-            room = subst (λ (v : Vec ℕ Global). (vec_len v ≤ c.loop-made._made + 1 + 1) × (c.args.limit + 1 ≤ vec_capacity v)) (sym w.nodes-is) (omega (arith, i.room.0), i.room.1);
+            room = subst (λ (v : Vec ℕ Global). (vec_len v ≤ c.loop-made._made + 1 + 1)
+                × (c.args.limit + 1 ≤ vec_capacity v)) (sym w.nodes-is) (omega (arith, i.room.0), i.room.1);
           }
     ]

@@ -6,7 +6,8 @@ use Rattle.fr_crew.proofs.settlement.finished.Goals as goal
 
 pub turn-requires-clause-kept : goal.turn-requires-clause-kept
 turn-requires-clause-kept c =
-    (settled_lawful c.args.net.nodes c.args.dest c.args.net.links c.network_law.ensures.is_net c.requires.node c.finish_turns-by_finisher.new.turns c.finish_turns-by_finisher.ensures.settled).kept
+    (settled_lawful c.args.net.nodes c.args.dest c.args.net.links c.network_law.ensures.is_net c.requires.node
+    c.finish_turns-by_finisher.new.turns c.finish_turns-by_finisher.ensures.settled).kept
 
 pub returns-clause-settled : goal.returns-clause-settled
 returns-clause-settled c =

@@ -3,4 +3,5 @@ use Rattle.fr_crew.proofs.Beginning.{zeros_hold}
 use Rattle.fr_crew.proofs.settlement.settled_counts_alone.Goals as goal
 
 pub finished_counts-requires-clause-from : goal.finished_counts-requires-clause-from
-finished_counts-requires-clause-from c = rw c.requires.none (IfSome_then c.args.from c.requires.from_sinks (λ from holds. zeros_hold c.args.net.now c.args.dest from.now holds))
+finished_counts-requires-clause-from c =
+    rw c.requires.none (IfSome_then c.args.from c.requires.from_sinks (λ from holds. zeros_hold c.args.net.now c.args.dest from.now holds))

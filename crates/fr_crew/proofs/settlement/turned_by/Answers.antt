@@ -17,7 +17,8 @@ run_crew-requires-clause-some g c κs within =
 all_back : (g : Over) (c : In_ok-round g) → length c.in_ok-round.workers.items ≡ c.in_ok-round.round.setup.workers
 all_back g c =
     let same : length c.in_ok-round.workers.items ≡ length c.in-Ok.workers.items = search rules in
-    all_came_back c.in-Ok.round c.in_ok-round.round _ _ _ _ c.in-Ok.workers.items c.in_ok-round.workers.items c.in-Ok.ensures.setup c.in-Ok.ensures.workers c.in_ok-round.ensures.back.round_is same
+    all_came_back c.in-Ok.round c.in_ok-round.round _ _ _ _ c.in-Ok.workers.items c.in_ok-round.workers.items
+    c.in-Ok.ensures.setup c.in-Ok.ensures.workers c.in_ok-round.ensures.back.round_is same
 
 pub close-requires-clause-few : goal.close-requires-clause-few
 close-requires-clause-few g c = omega (arith, all_back g (goal.at.close-requires-clause-few g c).In_ok-round)

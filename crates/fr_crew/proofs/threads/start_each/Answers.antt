@@ -12,5 +12,7 @@ loop-member-preserved g c =
       count = search rules;
       room = search rules;
       rest = here.1;
-      own = rw c.push_reserved.ensures.items (each_snoc (IsOwnThread c.args.job.now.round) _ _ was.own (subst (λ p. IsOwn c.args.job.now.round p.0.value) (sym c.in-Ok.ensures.ok) (subst (IsOwn c.args.job.now.round) (sym c.of.ensures) here.0)));
+      own = rw c.push_reserved.ensures.items
+          (each_snoc (IsOwnThread c.args.job.now.round) _ _ was.own
+          (subst (λ p. IsOwn c.args.job.now.round p.0.value) (sym c.in-Ok.ensures.ok) (subst (IsOwn c.args.job.now.round) (sym c.of.ensures) here.0)));
     }

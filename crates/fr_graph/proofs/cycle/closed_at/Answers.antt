@@ -20,12 +20,15 @@ loop-step-preserved c =
     let inside : i < length rest = omega (arith, c.loop-step-test.true, length-drop at path) in
     let same : read ≡ rest = take_all (length path - at) rest (omega (arith, length-drop at path)) in
     c.in_ok-push.ensures.items ∙ ap (λ (ns : List ℕ). ns ++ (get_or read i no_step).node ∷ []) c.loop-step.invariant
-    ∙ ap (λ (steps : List Step). nodes_of (take i rest) ++ (get_or steps i no_step).node ∷ []) same ∙ sym (map_more (λ (s : Step). s.node) rest i no_step inside)
+    ∙ ap (λ (steps : List Step). nodes_of (take i rest) ++ (get_or steps i no_step).node ∷ []) same
+    ∙ sym (map_more (λ (s : Step). s.node) rest i no_step inside)
 
 pub returns : goal.returns
 returns c =
     let path = c.args.path.now in
     let at = c.place_on-at.result in
     let rest = drop at path in
-    let whole : c.loop-step.walk.items ≡ drop at (nodes_of path) = c.loop-step.invariant ∙ ap nodes_of (take_all c.loop-step.step-index rest (omega (arith, c.loop-step-test.false, length-drop at path))) ∙ sym (drop-map (λ (s : Step). s.node) at path) in
+    let whole : c.loop-step.walk.items ≡ drop at (nodes_of path) = c.loop-step.invariant
+    ∙ ap nodes_of (take_all c.loop-step.step-index rest (omega (arith, c.loop-step-test.false, length-drop at path)))
+    ∙ sym (drop-map (λ (s : Step). s.node) at path) in
     (at, c.place_on-at.ensures.inside, c.place_on-at.ensures.is, c.in_ok-push-2.ensures.items ∙ ap (λ ns. ns ++ c.args.node ∷ []) whole)

@@ -22,7 +22,8 @@ returns-in_ok-closed_at-in-Some c =
     let steps = c.visit_all.new.self.path.items in
     let path = nodes_of steps in
     let node = c.in-Some.node in
-    let made : (k : ℕ) × (k < length steps) × (slice_index path k ≡ node) × (c.in_ok-closed_at-in-Some.field-0.items ≡ drop k path ++ node ∷ []) = rw c.deref.ensures.value at c.in_ok-closed_at-in-Some.ensures in
+    let made : (k : ℕ) × (k < length steps) × (slice_index path k ≡ node)
+    × (c.in_ok-closed_at-in-Some.field-0.items ≡ drop k path ++ node ∷ []) = rw c.deref.ensures.value at c.in_ok-closed_at-in-Some.ensures in
     let last = length path - 1 in
     let inside : made.0 < length path = omega (arith, made.1, length-map steps (λ (s : Step). s.node)) in
     let full : last + 1 ≡ length path = omega (arith, inside) in

@@ -21,7 +21,8 @@ beside : (c : After-cut_entry) → row_of c.cut_entry.new.rows c.args.v ≡ row 
 beside c =
     let net = c.requires.0 in
     let shown = c.requires.1 in
-    row_beside net.nodes net.links c.args.rows.now c.cut_entry.new.rows c.args.u c.args.v (remove (row_of c.args.rows.now c.args.u) c.cut_entry.ensures.0) shown.rows
+    row_beside net.nodes net.links c.args.rows.now c.cut_entry.new.rows c.args.u c.args.v
+    (remove (row_of c.args.rows.now c.args.u) c.cut_entry.ensures.0) shown.rows
     (below net c.args.u c.args.v c.args.rows.now shown).1 (apart net c.args.u c.args.v c.args.rows.now shown) c.cut_entry.ensures.2
 
 pub cut_entry-requires-clause-row : goal.cut_entry-requires-clause-row
@@ -36,23 +37,27 @@ pub cut_entry-requires-clause-stands : goal.cut_entry-requires-clause-stands
 cut_entry-requires-clause-stands c =
     let net = c.requires.0 in
     let shown = c.requires.1 in
-    rw (shown.rows.shown c.args.u (below net c.args.u c.args.v c.args.rows.now shown).0) (end_listed net.nodes net.links c.args.u c.args.v shown.is_net shown.joins)
+    rw (shown.rows.shown c.args.u (below net c.args.u c.args.v c.args.rows.now shown).0)
+    (end_listed net.nodes net.links c.args.u c.args.v shown.is_net shown.joins)
 
 pub cut_entry-requires-2-clause-row : goal.cut_entry-requires-2-clause-row
 cut_entry-requires-2-clause-row c =
     let net = c.requires.0 in
     let shown = c.requires.1 in
-    let long = length_beside net.nodes net.links c.args.rows.now c.cut_entry.new.rows c.args.u (remove (row_of c.args.rows.now c.args.u) c.cut_entry.ensures.0) shown.rows c.cut_entry.ensures.2 in
+    let long = length_beside net.nodes net.links c.args.rows.now c.cut_entry.new.rows c.args.u
+    (remove (row_of c.args.rows.now c.args.u) c.cut_entry.ensures.0) shown.rows c.cut_entry.ensures.2 in
     omega (arith, (below net c.args.u c.args.v c.args.rows.now shown).1, long)
 
 pub cut_entry-requires-2-clause-rising : goal.cut_entry-requires-2-clause-rising
-cut_entry-requires-2-clause-rising c = rw (beside (goal.at.cut_entry-requires-2-clause-rising c).After-cut_entry) (neighbours_rise c.requires.0.nodes c.requires.0.links c.args.v)
+cut_entry-requires-2-clause-rising c = rw (beside (goal.at.cut_entry-requires-2-clause-rising c).After-cut_entry)
+    (neighbours_rise c.requires.0.nodes c.requires.0.links c.args.v)
 
 pub cut_entry-requires-2-clause-stands : goal.cut_entry-requires-2-clause-stands
 cut_entry-requires-2-clause-stands c =
     let net = c.requires.0 in
     let shown = c.requires.1 in
-    rw (beside (goal.at.cut_entry-requires-2-clause-stands c).After-cut_entry) (end_listed net.nodes net.links c.args.v c.args.u shown.is_net (joins_back net.links c.args.u c.args.v shown.joins))
+    rw (beside (goal.at.cut_entry-requires-2-clause-stands c).After-cut_entry)
+    (end_listed net.nodes net.links c.args.v c.args.u shown.is_net (joins_back net.links c.args.u c.args.v shown.joins))
 
 pub returns-clause-rows : goal.returns-clause-rows
 returns-clause-rows c = λ net shown.

@@ -13,7 +13,8 @@ beside : (c : After-put_entry) → row_of c.put_entry.new.rows c.args.head ≡ r
 beside c =
     let net = c.requires.shown.0 in
     let shown = c.requires.shown.1 in
-    row_beside net.nodes net.links c.args.rows.now c.put_entry.new.rows c.args.tail c.args.head (insert (row_of c.args.rows.now c.args.tail) c.put_entry.ensures.0 (c.args.head, Outward)) shown.rows
+    row_beside net.nodes net.links c.args.rows.now c.put_entry.new.rows c.args.tail c.args.head
+    (insert (row_of c.args.rows.now c.args.tail) c.put_entry.ensures.0 (c.args.head, Outward)) shown.rows
     shown.nodes.head shown.nodes.apart c.put_entry.ensures.2
 
 pub put_entry-requires-clause-row : goal.put_entry-requires-clause-row
@@ -31,19 +32,22 @@ pub put_entry-requires-2-clause-row : goal.put_entry-requires-2-clause-row
 put_entry-requires-2-clause-row c =
     let net = c.requires.shown.0 in
     let shown = c.requires.shown.1 in
-    let long = length_beside net.nodes net.links c.args.rows.now c.put_entry.new.rows c.args.tail (insert (row_of c.args.rows.now c.args.tail) c.put_entry.ensures.0 (c.args.head, Outward)) shown.rows c.put_entry.ensures.2 in
+    let long = length_beside net.nodes net.links c.args.rows.now c.put_entry.new.rows c.args.tail
+    (insert (row_of c.args.rows.now c.args.tail) c.put_entry.ensures.0 (c.args.head, Outward)) shown.rows c.put_entry.ensures.2 in
     omega (arith, shown.nodes.head, long)
 
 pub put_entry-requires-2-clause-few : goal.put_entry-requires-2-clause-few
 put_entry-requires-2-clause-few c = let shown = c.requires.shown.1 in omega (arith, shown.nodes.tail, shown.rows.one_each, c.requires.few)
 
 pub put_entry-requires-2-clause-rising : goal.put_entry-requires-2-clause-rising
-put_entry-requires-2-clause-rising c = rw (beside (goal.at.put_entry-requires-2-clause-rising c).After-put_entry) (neighbours_rise c.requires.shown.0.nodes c.requires.shown.0.links c.args.head)
+put_entry-requires-2-clause-rising c = rw (beside (goal.at.put_entry-requires-2-clause-rising c).After-put_entry)
+    (neighbours_rise c.requires.shown.0.nodes c.requires.shown.0.links c.args.head)
 
 pub put_entry-requires-2-clause-room : goal.put_entry-requires-2-clause-room
 put_entry-requires-2-clause-room c =
     let net = c.requires.shown.0 in
-    let rooms : room_of c.put_entry.new.rows c.args.head ≡ room_of c.args.rows.now c.args.head = ap (λ (t : Table). room_of t c.args.head) c.put_entry.ensures.2 in
+    let rooms : room_of c.put_entry.new.rows c.args.head ≡ room_of c.args.rows.now c.args.head =
+    ap (λ (t : Table). room_of t c.args.head) c.put_entry.ensures.2 in
     let same = ap length (beside (goal.at.put_entry-requires-2-clause-room c).After-put_entry) in
     let first = ap length (c.requires.shown.1.rows.shown c.args.head c.requires.shown.1.nodes.head) in
     omega (arith, rooms, same, first, c.requires.room.head)

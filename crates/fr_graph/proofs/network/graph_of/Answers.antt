@@ -16,7 +16,8 @@ returns-clause-graph c =
     let rows = c.requires.links.2 in
     let one_each = c.in_ok-heights.ensures.one_each in
     let below : AreBelow (length c.in_ok-heights.heights.heights) links = rw one_each clear.is_net.in_range in
-    let heads : HasHeadsFirst (length c.in_ok-heights.heights.heights) links c.args.order.now = rw one_each (heads_of c.args.nodes links c.args.rows clear.is_net.in_range rows c.requires.order) in
+    let heads : HasHeadsFirst (length c.in_ok-heights.heights.heights) links c.args.order.now =
+    rw one_each (heads_of c.args.nodes links c.args.rows clear.is_net.in_range rows c.requires.order) in
     let fit = c.put_in_order.ensures.fit links below heads in
     graph_of _ links clear c.requires.links.3 rows (c.put_in_order.ensures.one_each ∙ one_each) fit
 

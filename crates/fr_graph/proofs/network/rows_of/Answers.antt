@@ -6,7 +6,8 @@ use Rattle.fr_graph.proofs.network.rows_of.Goals as goal
 use Rattle.fr_graph.proofs.network.rows_of.Goals.{In_ok-entries_of}
 
 -- the links stand in the rows between the starts
-shows : (c : In_ok-entries_of) (n : ℕ) (links : List (ℕ × ℕ)) → AreHalvesOf n links c.args.halves.now c.args.starts.items → (x : ℕ) → x < n → ShowsRow n links c.args.starts.items c.in_ok-entries_of.field-0.items x
+shows : (c : In_ok-entries_of) (n : ℕ) (links : List (ℕ × ℕ)) → AreHalvesOf n links c.args.halves.now c.args.starts.items
+    → (x : ℕ) → x < n → ShowsRow n links c.args.starts.items c.in_ok-entries_of.field-0.items x
 shows c n links of = rw c.in_ok-entries_of.ensures (rows_shown n links c.args.halves.now c.args.starts.items of)
 
 pub packed-requires : goal.packed-requires

@@ -8,7 +8,8 @@ use Rattle.fr_graph.specs.declared.path_search.Met.{Met}
 use Rattle.fr_graph.specs.declared.path_search.Met.TheVariants.{Backward, Forward, Never}
 use Rattle.fr_graph.specs.declared.first.First.TheVariants.{Inward, Outward}
 use Rattle.fr_graph.proofs.path_search.path_between.Goals as goal
-use Rattle.fr_graph.proofs.path_search.path_between.Goals.{Joined-goes_next, In-Some, else-goes_next, else-has_unread-2, else-loop-behind-test, then-goes_next, then-has_unread-2, then-loop-behind-test+else-has_unread}
+use Rattle.fr_graph.proofs.path_search.path_between.Goals.{Joined-goes_next, In-Some, else-goes_next, else-has_unread-2, else-loop-behind-test}
+use Rattle.fr_graph.proofs.path_search.path_between.Goals.{then-goes_next, then-has_unread-2, then-loop-behind-test+else-has_unread}
 
 -- a side that says that it has no unread node has read all its rows
 none_left : {has : Bool} {read nodes : ℕ} → has ≡ false → IsTrue has ↔ (read < nodes) → nodes ≤ read
@@ -18,9 +19,12 @@ pub loop-behind-init : goal.loop-behind-init
 loop-behind-init c =
     let net = net_in c.args.rows.now in
     let heights = c.args.heights.now.heights in
-    let fresh : c.as_mut_slice-met.result.now ≡ replicate net.nodes Never = c.as_mut_slice-met.ensures.value ∙ c.in_ok-table.ensures.items_if_clones_equal (λ y e. e) ∙ ap (λ n. replicate n Never) c.len-nodes.ensures in
+    let fresh : c.as_mut_slice-met.result.now ≡ replicate net.nodes Never = c.as_mut_slice-met.ensures.value
+    ∙ c.in_ok-table.ensures.items_if_clones_equal (λ y e. e) ∙ ap (λ n. replicate n Never) c.len-nodes.ensures in
     let met : List Met = set (set c.as_mut_slice-met.result.now c.args.from Forward) c.args.to Backward in
-    let begun = sides_begin net heights c.args.from c.args.to met c.in_ok-ahead.ahead c.in_ok-behind.behind c.requires.from c.requires.to c.requires.apart c.requires.no_higher (rw fresh refl) (rw (c.height-low.ensures, c.len-nodes.ensures) at c.in_ok-ahead.ensures) (rw (c.height-high.ensures, c.len-nodes.ensures) at c.in_ok-behind.ensures) in
+    let begun = sides_begin net heights c.args.from c.args.to met c.in_ok-ahead.ahead c.in_ok-behind.behind c.requires.from
+    c.requires.to c.requires.apart c.requires.no_higher (rw fresh refl)
+    (rw (c.height-low.ensures, c.len-nodes.ensures) at c.in_ok-ahead.ensures) (rw (c.height-high.ensures, c.len-nodes.ensures) at c.in_ok-behind.ensures) in
     record { ahead = begun.0; behind = begun.1 }
 
 pub begun-requires : goal.begun-requires
@@ -48,7 +52,8 @@ pub read_next-met_along-requires-else-goes_next-clause-side : goal.read_next-met
 read_next-met_along-requires-else-goes_next-clause-side c = own_side c.loop-behind.invariant.behind
 
 -- both sides once the one or the other has read a row
-ahead_then : (c : Joined-goes_next) → IsSide (net_in c.args.rows.now) c.args.heights.now.heights Outward c.args.from (slice_index c.args.heights.now.heights c.args.to) c.if-goes_next.met c.if-goes_next.ahead
+ahead_then : (c : Joined-goes_next) → IsSide (net_in c.args.rows.now) c.args.heights.now.heights Outward c.args.from
+    (slice_index c.args.heights.now.heights c.args.to) c.if-goes_next.met c.if-goes_next.ahead
 ahead_then c =
     let inv = c.loop-behind.invariant in
     elim c.if-goes_next.branch [
@@ -56,12 +61,14 @@ ahead_then c =
       | else-goes_next w ↦ rw (w.met-is, w.ahead-is) (other_stays Inward inv.behind.first_is w.read_next-met_along-else-goes_next.ensures.more inv.ahead)
     ]
 
-behind_then : (c : Joined-goes_next) → IsSide (net_in c.args.rows.now) c.args.heights.now.heights Inward c.args.to (slice_index c.args.heights.now.heights c.args.from) c.if-goes_next.met c.if-goes_next.behind
+behind_then : (c : Joined-goes_next) → IsSide (net_in c.args.rows.now) c.args.heights.now.heights Inward c.args.to
+    (slice_index c.args.heights.now.heights c.args.from) c.if-goes_next.met c.if-goes_next.behind
 behind_then c =
     let inv = c.loop-behind.invariant in
     elim c.if-goes_next.branch [
       | then-goes_next w ↦ rw (w.met-is, w.behind-is) (other_stays Outward inv.ahead.first_is w.read_next-met_along.ensures.more inv.behind)
-      | else-goes_next w ↦ rw (w.met-is, w.behind-is) (rw (inv.behind.first_is, inv.behind.start_is, inv.behind.limit_is) at w.read_next-met_along-else-goes_next.ensures.side)
+      | else-goes_next w ↦ rw (w.met-is, w.behind-is)
+          (rw (inv.behind.first_is, inv.behind.start_is, inv.behind.limit_is) at w.read_next-met_along-else-goes_next.ensures.side)
     ]
 
 found : (c : In-Some) → MeetAlong (net_in c.args.rows.now).links c.if-goes_next.met c.in-Some.link
@@ -73,7 +80,8 @@ found c = elim c.if-goes_next.branch [
 pub returns-in-Some : goal.returns-in-Some
 returns-in-Some c =
     let at = goal.at.returns-in-Some c in
-    sides_meet (record { ahead = c.if-goes_next.ahead; behind = c.if-goes_next.behind; link = c.in-Some.link }) (ahead_then at.Joined-goes_next) (behind_then at.Joined-goes_next) (found at.In-Some)
+    sides_meet (record { ahead = c.if-goes_next.ahead; behind = c.if-goes_next.behind; link = c.in-Some.link })
+    (ahead_then at.Joined-goes_next) (behind_then at.Joined-goes_next) (found at.In-Some)
 
 pub loop-behind-smaller : goal.loop-behind-smaller
 loop-behind-smaller c = elim c.if-goes_next.branch [
@@ -84,7 +92,8 @@ loop-behind-smaller c = elim c.if-goes_next.branch [
   | else-goes_next w ↦
       let read = w.read_next-met_along-else-goes_next.ensures in
       let one_more = rw (← w.met_along-is, c.in_default.is) at read.answer in
-      rw (w.met-is, w.ahead-is, w.behind-is) (omega (arith, read.more.counted, read.more.longer, one_more, c.has_unread-in-loop-behind.ensures.0 c.if-has_unread.true))
+      rw (w.met-is, w.ahead-is, w.behind-is)
+      (omega (arith, read.more.counted, read.more.longer, one_more, c.has_unread-in-loop-behind.ensures.0 c.if-has_unread.true))
 ]
 
 pub loop-behind-preserved : goal.loop-behind-preserved
@@ -98,7 +107,8 @@ returns c =
       | then-has_unread-2 t ↦
           let all : length c.loop-behind.behind.nodes.items ≤ c.loop-behind.behind.read = elim c.loop-behind-test.branch [
             | then-loop-behind-test+else-has_unread w ↦ none_left w.if-has_unread.false w.has_unread-in-loop-behind.ensures
-            | else-loop-behind-test w ↦ absurd (omega (arith, c.has_unread-2.ensures.0 t.if-has_unread-2.true, none_left w.loop-behind-test.false c.has_unread.ensures))
+            | else-loop-behind-test w ↦ absurd
+                (omega (arith, c.has_unread-2.ensures.0 t.if-has_unread-2.true, none_left w.loop-behind-test.false c.has_unread.ensures))
           ] in
           rw (t.result-is, t.ended.ensures) (ended_behind falling inv.ahead inv.behind all)
       | else-has_unread-2 t ↦

@@ -8,11 +8,13 @@ use Rattle.fr_graph.proofs.row.reverse_entry.Goals as goal
 use Rattle.fr_graph.proofs.row.reverse_entry.Goals.{After-place_in_row-place}
 
 -- the entry of w at its place
-stands : (c : After-place_in_row-place) → (f : First) × (c.place_in_row-place.result < length c.args.row.now) × (get_or c.args.row.now c.place_in_row-place.result (c.args.w, f) ≡ (c.args.w, f))
+stands : (c : After-place_in_row-place) → (f : First) × (c.place_in_row-place.result < length c.args.row.now)
+    × (get_or c.args.row.now c.place_in_row-place.result (c.args.w, f) ≡ (c.args.w, f))
 stands c =
     let es = c.args.row.now in
     let in_row = neighbour_in es c.args.w c.requires.stands in
-    let at = neighbour_at es c.args.w c.place_in_row-place.result in_row.0 (rises_from es c.requires.rising) in_row.1 c.place_in_row-place.ensures.before c.place_in_row-place.ensures.stops in
+    let at = neighbour_at es c.args.w c.place_in_row-place.result in_row.0 (rises_from es c.requires.rising)
+    in_row.1 c.place_in_row-place.ensures.before c.place_in_row-place.ensures.stops in
     (in_row.0, at.0, at.1)
 
 pub place_in_row-place-requires : goal.place_in_row-place-requires

@@ -15,10 +15,12 @@ loop-entry-preserved c =
     let inside : i < length c.args.row.now = c.loop-entry-test.true in
     let here : i < length now = omega (arith, inside, c.loop-entry.auto.row) in
     ap (slice_set now i) c.turned_at.ensures
-    ∙ map_over_more (turned_entry c.args.counts.now c.args.x) c.args.row.now now i (get_or now i d) inside c.loop-entry.invariant (get_or_default now i d (get_or now i d) here)
+    ∙ map_over_more (turned_entry c.args.counts.now c.args.x) c.args.row.now now i
+    (get_or now i d) inside c.loop-entry.invariant (get_or_default now i d (get_or now i d) here)
 
 -- the elements ahead are as they stood
-ahead : (f : ℕ × First → ℕ × First) (row : List (ℕ × First)) (i : ℕ) (d : ℕ × First) → i < length row → get_or (map f (take i row) ++ drop i row) i d ≡ get_or row i d
+ahead : (f : ℕ × First → ℕ × First) (row : List (ℕ × First)) (i : ℕ) (d : ℕ × First) → i < length row
+    → get_or (map f (take i row) ++ drop i row) i d ≡ get_or row i d
 ahead f row i d inside =
     let front : length (map f (take i row)) ≡ i = length-map (take i row) f ∙ length-take-le i row (omega arith) in
     let seam = get_or-append_seam (map f (take i row)) (get_or row i d) (drop (suc i) row) d in

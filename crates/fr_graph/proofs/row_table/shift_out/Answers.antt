@@ -17,7 +17,8 @@ loop-place-preserved c =
     let there : 1 + i ≡ c.loop-place.place = omega (arith, low) in
     let rest : i < length (drop 1 old) = omega (arith, length-drop 1 old, low, inside) in
     let read : get_or now c.loop-place.place d ≡ get_or (drop 1 old) i d =
-    shifted_rest old (drop 1 old) i c.loop-place.place d (omega (arith, rest)) (omega arith) ∙ ap (λ k. get_or old k d) (sym there) ∙ sym (get_or-drop 1 old i d) in
+    shifted_rest old (drop 1 old) i c.loop-place.place d (omega (arith, rest)) (omega arith)
+    ∙ ap (λ k. get_or old k d) (sym there) ∙ sym (get_or-drop 1 old i d) in
     record {
       some = omega arith;
       written = rw (c.loop-place.invariant.written, next) (ap (set now i) read ∙ shifted_more old (drop 1 old) i d (omega (arith, low, inside)) rest);

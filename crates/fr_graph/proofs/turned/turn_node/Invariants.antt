@@ -5,4 +5,5 @@ use Rattle.fr_graph.specs.TurnedRows.{ArePartTurned, is_done}
 use Rattle.fr_graph.proofs.turned.turn_node.Given as goal
 
 abbrev pub invariant-loop-place : goal.invariant-loop-place
-invariant-loop-place l = (net : Network) (seen : ℕ → Bool) → seen l.x ≡ false → ArePartTurned net l.counts (is_done l.counts seen) l.fn.rows → IsHalfTurned net l.counts seen l.x l.place l.rows
+invariant-loop-place l = (net : Network) (seen : ℕ → Bool) → seen l.x ≡ false
+    → ArePartTurned net l.counts (is_done l.counts seen) l.fn.rows → IsHalfTurned net l.counts seen l.x l.place l.rows

@@ -18,7 +18,8 @@ pub loop-x-init : goal.loop-x-init
 loop-x-init c = λ net part. none_seen net c.args.turns.now c.args.rows.now part
 
 pub turn_node-requires-clause-node : goal.turn_node-requires-clause-node
-turn_node-requires-clause-node c = rw c.counts.ensures (turned_below c.args.turns.now c.nodes-x-items.result.now c.nodes-x-items.ensures c.loop-x.x-index 0 c.loop-x-test.true)
+turn_node-requires-clause-node c =
+    rw c.counts.ensures (turned_below c.args.turns.now c.nodes-x-items.result.now c.nodes-x-items.ensures c.loop-x.x-index 0 c.loop-x-test.true)
 
 pub turn_node-requires-clause-turned : goal.turn_node-requires-clause-turned
 turn_node-requires-clause-turned c =
@@ -36,9 +37,11 @@ pub loop-x-preserved : goal.loop-x-preserved
 loop-x-preserved c = λ net part.
     let nodes = c.nodes-x-items.result.now in
     let i = c.loop-x.x-index in
-    let turned = c.turn_node.ensures net (stands_before nodes i) (unseen (goal.at.loop-x-preserved c).After-counts) (rw c.counts.ensures (c.loop-x.invariant net part)) in
+    let turned = c.turn_node.ensures net (stands_before nodes i) (unseen (goal.at.loop-x-preserved c).After-counts)
+    (rw c.counts.ensures (c.loop-x.invariant net part)) in
     let next : suc i ≡ i + 1 = omega arith in
-    subst (λ (k : ℕ). ArePartTurned net c.args.turns.now (is_done c.args.turns.now (stands_before nodes k)) c.turn_node.new.rows) next (rw c.counts.ensures at turned)
+    subst (λ (k : ℕ). ArePartTurned net c.args.turns.now (is_done c.args.turns.now (stands_before nodes k))
+    c.turn_node.new.rows) next (rw c.counts.ensures at turned)
 
 pub returns : goal.returns
 returns c = λ net part.

@@ -5,4 +5,5 @@ use Rattle.fr_graph.proofs.turned.turn_rows.Given as goal
 
 -- the nodes that stand before the place in the list are seen to
 abbrev pub invariant-loop-x : goal.invariant-loop-x
-invariant-loop-x l = (net : Network) → ArePartTurned net l.turns none_done l.fn.rows → ArePartTurned net l.turns (is_done l.turns (stands_before l.x-items l.x-index)) l.rows
+invariant-loop-x l = (net : Network) → ArePartTurned net l.turns none_done l.fn.rows
+    → ArePartTurned net l.turns (is_done l.turns (stands_before l.x-items l.x-index)) l.rows

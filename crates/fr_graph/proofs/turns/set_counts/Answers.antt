@@ -21,5 +21,6 @@ loop-x-preserved c =
             let early : j < i = elim (cases_eq j i) [ inl last ↦ absurd (apart (rw last refl)) | inr other ↦ omega (arith, lt, other) ] in
             get_or-set_other counts x (get_or nodes j 0) c.args.count 0 apart ∙ before.these j early
       ];
-      others = λ z out. get_or-set_other counts x z c.args.count 0 (λ same. out i (omega arith) (sym same)) ∙ before.others z (λ j lt. out j (omega (arith, lt)));
+      others = λ z out. get_or-set_other counts x z c.args.count 0 (λ same. out i (omega arith) (sym same))
+          ∙ before.others z (λ j lt. out j (omega (arith, lt)));
     }

@@ -1,4 +1,5 @@
-use Rattle.std.proofs.Common.{List, Option, None, Some, IfSome, Bor, [], ap, arith, decimal, drop, get_or, length, refl, sym, take, ℕ, ◌+◌, ◌++◌, ◌-◌, ◌∙◌, ◌∷◌, ◌≡◌, ◌≤◌}
+use Rattle.std.proofs.Common.{List, Option, None, Some, IfSome, Bor, [], ap, arith, decimal, drop, get_or, length, refl, sym, take, ℕ, ◌+◌, ◌++◌, ◌-◌}
+use Rattle.std.proofs.Common.{◌∙◌, ◌∷◌, ◌≡◌, ◌≤◌}
 use Rattle.std.proofs.lemmas.Fmt.{decimal_digit}
 use Rattle.fr_lines.proofs.FoundBytes.{front_and_rest}
 use Rattle.fr_lines.proofs.fronts.number.Goals as goal
@@ -24,7 +25,8 @@ returns-in-49-to-57 c =
     ∙ ap (λ d. d ∷ behind) glyph ∙ ap (λ digits. digits ++ behind) (sym (decimal_digit start (omega (arith, c.from.ensures)))) in
     go behind (decimal start) said c.more_digits.result c.more_digits.ensures
   where
-    go : {text : List ℕ} (behind digits : List ℕ) → text ≡ digits ++ behind → (found : Option (ℕ × Bor (List ℕ))) → IfSome found (λ next. digits ++ behind ≡ decimal next.0 ++ next.1.now)
+    go : {text : List ℕ} (behind digits : List ℕ) → text ≡ digits ++ behind → (found : Option (ℕ × Bor (List ℕ)))
+        → IfSome found (λ next. digits ++ behind ≡ decimal next.0 ++ next.1.now)
         → IfSome found (λ next. text ≡ decimal next.0 ++ next.1.now)
     go behind digits said None told = told
     go behind digits said (Some next) told = said ∙ told

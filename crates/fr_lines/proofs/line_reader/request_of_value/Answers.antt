@@ -10,7 +10,8 @@ use Rattle.fr_lines.proofs.line_reader.request_of_value.Goals as goal
 pub returns-in_err-whole : goal.returns-in_err-whole
 returns-in_err-whole c =
     let f = c.in_err-whole.field-0.0 in
-    let refused : (f ≡ Memory → ⊥) → reading_of_tokens c.args.reader.now ≡ Err f = λ other. let why = c.in_err-whole.ensures.refused other in reading_of_none _ why.1 ∙ ap Err (sym why.0) in
+    let refused : (f ≡ Memory → ⊥) → reading_of_tokens c.args.reader.now ≡ Err f = λ other. let why =
+    c.in_err-whole.ensures.refused other in reading_of_none _ why.1 ∙ ap Err (sym why.0) in
     search rules
 
 pub returns-then-is_some : goal.returns-then-is_some

@@ -14,7 +14,8 @@ items-preserved g c =
     let x = c.in-Some.item in
     let all : c.push.new.self.items ≡ before ++ x ∷ [] = c.in_ok-push.ensures.items in
     rw (all, ← one_more_before_comma of_one before x) (
-      begins_more _ _ _ (each_before_comma of_one before) (of_one x ++ comma ∷ []) c.items.invariant.0 (begins_more _ _ _ (of_one x) (comma ∷ []) c.in-Some.ensures.read c.in-Some-behind_mark.ensures.read),
+      begins_more _ _ _ (each_before_comma of_one before) (of_one x ++ comma ∷ []) c.items.invariant.0
+          (begins_more _ _ _ (of_one x) (comma ∷ []) c.in-Some.ensures.read c.in-Some-behind_mark.ensures.read),
       Each-snoc g.T.Item.IsSmall before x c.items.invariant.1 c.in-Some.ensures.small,
     )
 
@@ -31,4 +32,5 @@ returns-in-None-clause-ok g c =
       Each-snoc g.T.Item.IsSmall before x c.items.invariant.1 c.in-Some.ensures.small,
     ) in
     rw c.then_some.ensures
-    (if_then_some (λ found. Begins c.args.text.now (list_lexemes of_one found.items ++ token end_array ∷ []) [] × Each g.T.Item.IsSmall found.items) c.ends_list.result c.push.new.self listed)
+    (if_then_some (λ found. Begins c.args.text.now (list_lexemes of_one found.items ++ token end_array ∷ []) []
+    × Each g.T.Item.IsSmall found.items) c.ends_list.result c.push.new.self listed)

@@ -33,5 +33,6 @@ returns-in-Some-number_before c over =
     let end = begins_more _ _ _ (number_lexeme last ∷ token end_array ∷ []) [] c.in-Some-number_before.ensures (c.is_over.ensures.read over) in (
       before ++ last ∷ [],
       Each-snoc IsSmall before last c.numbers.invariant.1 small,
-      rw (← last_before_bracket number_lexemes before last) (begins_more _ _ _ (each_before_comma number_lexemes before) (number_lexeme last ∷ token end_array ∷ []) c.numbers.invariant.2 end),
+      rw (← last_before_bracket number_lexemes before last)
+          (begins_more _ _ _ (each_before_comma number_lexemes before) (number_lexeme last ∷ token end_array ∷ []) c.numbers.invariant.2 end),
     )

@@ -12,7 +12,8 @@ loop-item-init g c = reading_begins g.T.Item.in_data _ _ c.new-items.ensures.ite
 pub loop-item-preserved : goal.loop-item-preserved
 loop-item-preserved g c =
     let l = c.loop-item in
-    let next : IsReadNext g.T.Item.in_data l.items.items (view (get_or c.in-Some.values.now l.item-index c.item-item.result)) c.push_item.new.items.items = rw (← c.item-item.is) c.in_ok-push_item.ensures.ok in
+    let next : IsReadNext g.T.Item.in_data l.items.items
+    (view (get_or c.in-Some.values.now l.item-index c.item-item.result)) c.push_item.new.items.items = rw (← c.item-item.is) c.in_ok-push_item.ensures.ok in
     l.invariant ∙ reading_goes_on g.T.Item.in_data _ _ _ _ _ c.loop-item-test.true next
 
 pub returns-in_default-clause-refused : goal.returns-in_default-clause-refused
@@ -28,4 +29,5 @@ returns-in_err-push_item-clause-refused g c =
     (why.0, ap (option_and_then (read_all g.T.Item.in_data)) (sym c.in-Some.ensures) ∙ l.invariant ∙ ap (option_map (λ more. l.items.items ++ more)) stops))
 
 pub returns-clause-ok : goal.returns-clause-ok
-returns-clause-ok g c = ap (option_and_then (read_all g.T.Item.in_data)) (sym c.in-Some.ensures) ∙ c.loop-item.invariant ∙ reading_ends g.T.Item.in_data _ _ _ c.loop-item-test.false
+returns-clause-ok g c = ap (option_and_then (read_all g.T.Item.in_data)) (sym c.in-Some.ensures) ∙ c.loop-item.invariant
+    ∙ reading_ends g.T.Item.in_data _ _ _ c.loop-item-test.false

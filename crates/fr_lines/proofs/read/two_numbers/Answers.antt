@@ -18,4 +18,5 @@ returns c =
     let u = c.u-item.result in
     let v = c.v-item.result in
     let whole = two_items c.args.items.now u v c.in-len2.len_at_least c.in-len2.len_below c.u-item.is c.v-item.is in
-    sym (ap (λ items. number_pair (map view items)) whole ∙ pair_of u v c.in_ok-number.field-0 c.in_ok-number-2.field-0 (sym c.in_ok-number.ensures) (sym c.in_ok-number-2.ensures))
+    sym (ap (λ items. number_pair (map view items)) whole ∙ pair_of u v c.in_ok-number.field-0 c.in_ok-number-2.field-0
+    (sym c.in_ok-number.ensures) (sym c.in_ok-number-2.ensures))

@@ -19,7 +19,8 @@ decreases-members l = 2 * l.depth + 1
 abbrev pub invariant-items-items : goal.invariant-items-items
 invariant-items-items l =
     (most : ℕ) × (length l.reader ≤ most)
-    × (converted of_items (items (value l.depth) (length l.initial.reader) l.initial.reader) ≡ parse_map (then_items l.found.items) (converted of_items (items (value l.depth) most l.reader)))
+    × (converted of_items (items (value l.depth) (length l.initial.reader) l.initial.reader) ≡ parse_map
+    (then_items l.found.items) (converted of_items (items (value l.depth) most l.reader)))
 
 abbrev pub decreases-items-items : goal.decreases-items-items
 decreases-items-items l = length l.reader
@@ -28,7 +29,9 @@ decreases-items-items l = length l.reader
 abbrev pub invariant-members-members : goal.invariant-members-members
 invariant-members-members l =
     (most : ℕ) × (length l.reader ≤ most)
-    × (converted (λ ms. of_members ms no_members) (members (value l.depth) (length l.initial.reader) l.initial.reader) ≡ converted (λ ms. of_members ms (members_view l.found.entries)) (members (value l.depth) most l.reader))
+    × (converted (λ ms. of_members ms no_members)
+    (members (value l.depth) (length l.initial.reader) l.initial.reader) ≡ converted
+    (λ ms. of_members ms (members_view l.found.entries)) (members (value l.depth) most l.reader))
 
 abbrev pub decreases-members-members : goal.decreases-members-members
 decreases-members-members l = length l.reader

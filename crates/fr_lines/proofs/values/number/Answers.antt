@@ -10,7 +10,8 @@ returns-in-45 c =
     let s = c.as_bytes-bytes.result.now in
     let signed : (get_or s 0 0 == 45) ≡ true = grind arith in
     let read : number_from true (scan (drop 1 s)) ≡ number_of s = rw signed in
-    c.negative.ensures ∙ ap (λ digits. number_from true (scan digits)) (take_all _ (drop 1 s) (omega (arith, length-drop 1 s))) ∙ read ∙ ap number_of c.as_bytes-bytes.ensures.value
+    c.negative.ensures ∙ ap (λ digits. number_from true (scan digits))
+    (take_all _ (drop 1 s) (omega (arith, length-drop 1 s))) ∙ read ∙ ap number_of c.as_bytes-bytes.ensures.value
 
 pub returns-in_default : goal.returns-in_default
 unfolding number_of

@@ -11,4 +11,5 @@ returns c =
     let rest = c.args.rest.now in
     let question = c.args.question in
     rw c.then_some.ensures
-    (if_then_some (λ asked. IsReadAs (letters (word.Ask question)) rest (plain asked)) c.ends_line.result (request.Ask question) (λ over. question_reads rest question (c.ends_line.ensures over)))
+    (if_then_some (λ asked. IsReadAs (letters (word.Ask question)) rest (plain asked)) c.ends_line.result
+    (request.Ask question) (λ over. question_reads rest question (c.ends_line.ensures over)))

@@ -11,5 +11,6 @@ returns-in-Some-2-clause-ok c =
     let n : head.nodes < 2 ^ 32 = grind arith in
     let d : head.dest < 2 ^ 32 = grind arith in
     let links = c.in-Some-2.links.items in
-    let closes : Begins head.items.now (list_lexemes link_lexemes links ++ token end_array ∷ []) [] × Each AreSmall links = rw c.in-Some-2.is at c.in_ok-links.ensures.ok in
+    let closes : Begins head.items.now (list_lexemes link_lexemes links ++ token end_array ∷ []) []
+    × Each AreSmall links = rw c.in-Some-2.is at c.in_ok-links.ensures.ok in
     network_reads _ _ head.nodes head.dest links n d head.ensures closes.0 closes.1

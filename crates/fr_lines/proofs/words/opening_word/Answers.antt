@@ -14,4 +14,5 @@ returns c =
     let found : MatchOption c.strip_prefix.result ((rest : List ℕ) → text ≢ quoted ++ rest) (λ behind. text ≡ quoted ++ behind.now) =
     strip_prefix_is Decides-eqb text quoted c.strip_prefix.result c.strip_prefix.ensures.cases in
     let stands : text ≡ quoted ++ behind = rw c.in_ok-strip_prefix.was at found in
-    opens_with (letters word) _ _ behind (letters_plain word) (letters_ascii word) c.in_ok-behind_mark.ensures.read (sym c.behind_space-quoted.ensures ∙ stands ∙ ap (λ front. front ++ behind) c.quoted.ensures)
+    opens_with (letters word) _ _ behind (letters_plain word) (letters_ascii word) c.in_ok-behind_mark.ensures.read
+    (sym c.behind_space-quoted.ensures ∙ stands ∙ ap (λ front. front ++ behind) c.quoted.ensures)

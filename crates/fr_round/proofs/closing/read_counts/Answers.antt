@@ -13,4 +13,5 @@ loop-i-preserved c =
 
 pub returns : goal.returns
 returns c =
-    copied_all c.loop-i.counts (slots_items c.args.closed.now.words) c.loop-i.i (c.requires.long ∙ sym c.loop-i.auto.counts) (let a = c.loop-i.auto.counts in let b = c.loop-i-test.false in omega arith) c.loop-i.invariant
+    copied_all c.loop-i.counts (slots_items c.args.closed.now.words) c.loop-i.i (c.requires.long ∙ sym c.loop-i.auto.counts)
+    (let a = c.loop-i.auto.counts in let b = c.loop-i-test.false in omega arith) c.loop-i.invariant

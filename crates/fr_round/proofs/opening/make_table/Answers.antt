@@ -12,13 +12,16 @@ use Rattle.fr_round.proofs.opening.make_table.Goals as goal
 pub of_words-requires : goal.of_words-requires
 of_words-requires c =
     let g = c.args.terms.now in
-    subst (λ (ws : List ℕ). KeepsRule {S = Unit {0}} (setup_of g) (opening ws [] (opening_view (setup_of g)))) (sym (c.as_slice.ensures.value ∙ (c.in_ok-words.ensures ∙ ap (λ (n : ℕ). replicate n 0) c.nodes-nodes.ensures.value))) (first_keeps (setup_of g) [] c.requires.net)
+    subst (λ (ws : List ℕ). KeepsRule {S = Unit {0}} (setup_of g) (opening ws [] (opening_view (setup_of g))))
+    (sym (c.as_slice.ensures.value
+    ∙ (c.in_ok-words.ensures ∙ ap (λ (n : ℕ). replicate n 0) c.nodes-nodes.ensures.value))) (first_keeps (setup_of g) [] c.requires.net)
 
 pub loop-number-init : goal.loop-number-init
 loop-number-init c =
     let t = c.in_ok-table.ensures in
     let g = c.args.terms.now in
-    let long : length c.as_slice.result.now ≡ g.net.nodes = ap (λ (l : List ℕ). length l) (c.as_slice.ensures.value ∙ c.in_ok-words.ensures) ∙ (length-replicate c.nodes-nodes.result 0 ∙ c.nodes-nodes.ensures.value) in (
+    let long : length c.as_slice.result.now ≡ g.net.nodes = ap (λ (l : List ℕ). length l) (c.as_slice.ensures.value
+    ∙ c.in_ok-words.ensures) ∙ (length-replicate c.nodes-nodes.result 0 ∙ c.nodes-nodes.ensures.value) in (
       record {
         table = record { key = t.5; words = t.0 ∙ long; slots = t.1 };
         seat_table = t.2;
@@ -33,8 +36,14 @@ split_seat-seat-requires c =
     let d = c.loop-number.invariant.0 in
     let v = c.loop-number.opening.me.0 in
     let few : 0 < c.in_ok-table.table.shared.table_id.words = let w = d.table.words in let r = c.requires.dest in omega arith in
-    let more : v.next < c.in_ok-table.table.shared.key.workers = let e : v.next ≡ c.loop-number.number = ap (λ (u : View). u.next) d.view in let k : c.in_ok-table.table.shared.key.workers ≡ c.args.terms.now.workers = ap (λ (z : Terms). z.workers) d.table.key in let t = c.loop-number-test.true in omega arith in
-    (d.seat_table, few, splits (setup_of c.in_ok-table.table.shared.key) c.loop-number.opening.id v (ap (λ (u : View). u.opens) d.view) (ap (λ (u : View). u.works) d.view) (ap (λ (u : View). u.closes) d.view) more)
+    let more : v.next < c.in_ok-table.table.shared.key.workers = let e : v.next ≡ c.loop-number.number =
+    ap (λ (u : View). u.next) d.view in let k : c.in_ok-table.table.shared.key.workers ≡ c.args.terms.now.workers =
+    ap (λ (z : Terms). z.workers) d.table.key in let t = c.loop-number-test.true in omega arith in (
+      d.seat_table,
+      few,
+      splits (setup_of c.in_ok-table.table.shared.key) c.loop-number.opening.id v
+          (ap (λ (u : View). u.opens) d.view) (ap (λ (u : View). u.works) d.view) (ap (λ (u : View). u.closes) d.view) more,
+    )
 
 pub returns-clause-table : goal.returns-clause-table
 returns-clause-table c = c.loop-number.invariant.0.table

@@ -4,20 +4,23 @@ use Rattle.fr_graph.specs.Rows.{row}
 use Rattle.fr_graph.specs.declared.first.First.{First}
 use Rattle.fr_graph.specs.declared.first.First.TheVariants.{Outward}
 use Rattle.fr_round.specs.Missing.{misses}
-use Rattle.fr_round.proofs.MissingNumbers.{IsLoweredTo, all_counted, all_lowered, begins_to_meet, counted_on, lowered_no, lowered_yes, one_at_most, other_node, room_to_lower}
+use Rattle.fr_round.proofs.MissingNumbers.{IsLoweredTo, all_counted, all_lowered, begins_to_meet, counted_on, lowered_no, lowered_yes, one_at_most}
+use Rattle.fr_round.proofs.MissingNumbers.{other_node, room_to_lower}
 use Rattle.fr_round.proofs.seen.pass_row.Goals as goal
 use Rattle.fr_round.proofs.seen.pass_row.Goals.{then-begins_to_meet, else-begins_to_meet}
 
 pub bounds-counts-at : goal.bounds-counts-at
 bounds-counts-at c =
     let net = c.args.net.now in
-    let e = other_node net.nodes net.links c.args.y c.row-neighbour-items.result.now c.loop-neighbour.neighbour-index c.network_law.ensures.is_net c.row-neighbour-items.ensures c.loop-neighbour-test.true in
+    let e = other_node net.nodes net.links c.args.y c.row-neighbour-items.result.now c.loop-neighbour.neighbour-index
+    c.network_law.ensures.is_net c.row-neighbour-items.ensures c.loop-neighbour-test.true in
     omega (arith, e.0, c.requires.one_each.0)
 
 pub bounds-missing-at : goal.bounds-missing-at
 bounds-missing-at c =
     let net = c.args.net.now in
-    let e = other_node net.nodes net.links c.args.y c.row-neighbour-items.result.now c.loop-neighbour.neighbour-index c.network_law.ensures.is_net c.row-neighbour-items.ensures c.loop-neighbour-test.true in
+    let e = other_node net.nodes net.links c.args.y c.row-neighbour-items.result.now c.loop-neighbour.neighbour-index
+    c.network_law.ensures.is_net c.row-neighbour-items.ensures c.loop-neighbour-test.true in
     omega (arith, e.0, c.loop-neighbour.invariant.lowered.as_many)
 
 pub overflow_sub-missing : goal.overflow_sub-missing
@@ -27,12 +30,15 @@ overflow_sub-missing c =
     let had : ℕ = slice_index counts c.args.y in
     let e = get_or c.row-neighbour-items.result.now c.loop-neighbour.neighbour-index (0, Outward) in
     let begins : begins_to_meet counts had c.args.count e ≡ true = sym c.begins_to_meet.ensures ∙ c.if-begins_to_meet.true in
-    room_to_lower net.nodes net.links c.row-neighbour-items.result.now counts c.loop-neighbour.missing c.args.y c.args.count c.loop-neighbour.neighbour-index c.network_law.ensures.is_net c.row-neighbour-items.ensures c.requires.node c.requires.one_each.0 c.requires.up c.loop-neighbour.invariant.lowered c.loop-neighbour-test.true begins
+    room_to_lower net.nodes net.links c.row-neighbour-items.result.now counts c.loop-neighbour.missing c.args.y c.args.count
+    c.loop-neighbour.neighbour-index c.network_law.ensures.is_net c.row-neighbour-items.ensures c.requires.node
+    c.requires.one_each.0 c.requires.up c.loop-neighbour.invariant.lowered c.loop-neighbour-test.true begins
 
 pub bounds-missing-at-then-begins_to_meet : goal.bounds-missing-at-then-begins_to_meet
 bounds-missing-at-then-begins_to_meet c =
     let net = c.args.net.now in
-    let e = other_node net.nodes net.links c.args.y c.row-neighbour-items.result.now c.loop-neighbour.neighbour-index c.network_law.ensures.is_net c.row-neighbour-items.ensures c.loop-neighbour-test.true in
+    let e = other_node net.nodes net.links c.args.y c.row-neighbour-items.result.now c.loop-neighbour.neighbour-index
+    c.network_law.ensures.is_net c.row-neighbour-items.ensures c.loop-neighbour-test.true in
     omega (arith, e.0, c.loop-neighbour.invariant.lowered.as_many)
 
 pub loop-neighbour-preserved : goal.loop-neighbour-preserved
@@ -48,18 +54,23 @@ loop-neighbour-preserved c =
     let e = get_or list j (0, Outward) in
     let tested : begins_to_meet counts had count e ≡ c.begins_to_meet.result = sym c.begins_to_meet.ensures in
     let missed : misses counts count e ≡ c.is_below.result = sym c.is_below.ensures in
-    let passed = counted_on list counts count c.loop-neighbour.own j c.from-own.result c.is_below.result c.loop-neighbour.invariant.counted c.loop-neighbour-test.true missed c.from-own.ensures in
+    let passed = counted_on list counts count c.loop-neighbour.own j c.from-own.result c.is_below.result
+    c.loop-neighbour.invariant.counted c.loop-neighbour-test.true missed c.from-own.ensures in
     elim c.if-begins_to_meet.branch [
       | then-begins_to_meet w ↦
           let begins : begins_to_meet counts had count e ≡ true = tested ∙ w.if-begins_to_meet.true in
-          let room = room_to_lower net.nodes net.links list counts c.loop-neighbour.missing y count j is_net c.row-neighbour-items.ensures c.requires.node c.requires.one_each.0 c.requires.up c.loop-neighbour.invariant.lowered c.loop-neighbour-test.true begins in record {
+          let room = room_to_lower net.nodes net.links list counts c.loop-neighbour.missing y count j is_net
+          c.row-neighbour-items.ensures c.requires.node c.requires.one_each.0 c.requires.up
+          c.loop-neighbour.invariant.lowered c.loop-neighbour-test.true begins in record {
             lowered = subst (λ (m : List ℕ). IsLoweredTo net.nodes net.links list counts m y count (j + 1)) (sym w.missing-is)
-                (lowered_yes net.nodes net.links list counts c.loop-neighbour.missing y count j is_net c.row-neighbour-items.ensures c.loop-neighbour.invariant.lowered c.loop-neighbour-test.true begins room);
+                (lowered_yes net.nodes net.links list counts c.loop-neighbour.missing y count j is_net
+                c.row-neighbour-items.ensures c.loop-neighbour.invariant.lowered c.loop-neighbour-test.true begins room);
             counted = passed;
           }
       | else-begins_to_meet w ↦ record {
         lowered = subst (λ (m : List ℕ). IsLoweredTo net.nodes net.links list counts m y count (j + 1)) (sym w.missing-is)
-            (lowered_no net.nodes net.links list counts c.loop-neighbour.missing y count j c.loop-neighbour.invariant.lowered c.loop-neighbour-test.true (tested ∙ w.if-begins_to_meet.false));
+            (lowered_no net.nodes net.links list counts c.loop-neighbour.missing y count j
+            c.loop-neighbour.invariant.lowered c.loop-neighbour-test.true (tested ∙ w.if-begins_to_meet.false));
         counted = passed;
       }
     ]
@@ -67,15 +78,28 @@ loop-neighbour-preserved c =
 pub overflow_add-own : goal.overflow_add-own
 overflow_add-own c =
     let net = c.args.net.now in
-    let same : length c.row-neighbour-items.result.now ≡ length (row net.nodes net.links c.args.y) = ap (λ (l : List (ℕ × First)). length l) c.row-neighbour-items.ensures in
-    omega (arith, length-row-le net.nodes net.links c.args.y, same, c.loop-neighbour.invariant.counted.few, c.loop-neighbour-test.true, c.network_law.ensures.limits.nodes_few, one_at_most c.is_below.result c.from-own.result c.from-own.ensures)
+    let same : length c.row-neighbour-items.result.now ≡ length (row net.nodes net.links c.args.y) =
+    ap (λ (l : List (ℕ × First)). length l) c.row-neighbour-items.ensures in
+    omega (
+      arith,
+      length-row-le net.nodes net.links c.args.y,
+      same,
+      c.loop-neighbour.invariant.counted.few,
+      c.loop-neighbour-test.true,
+      c.network_law.ensures.limits.nodes_few,
+      one_at_most c.is_below.result c.from-own.result c.from-own.ensures,
+    )
 
 pub returns-clause-others : goal.returns-clause-others
 returns-clause-others c =
     let net = c.args.net.now in
-    all_lowered net.nodes net.links c.row-neighbour-items.result.now c.args.counts.now c.loop-neighbour.missing c.args.y c.args.count c.loop-neighbour.neighbour-index c.network_law.ensures.is_net c.row-neighbour-items.ensures c.requires.node c.requires.one_each.0 c.requires.up c.loop-neighbour.invariant.lowered c.loop-neighbour-test.false
+    all_lowered net.nodes net.links c.row-neighbour-items.result.now c.args.counts.now c.loop-neighbour.missing c.args.y
+    c.args.count c.loop-neighbour.neighbour-index c.network_law.ensures.is_net c.row-neighbour-items.ensures
+    c.requires.node c.requires.one_each.0 c.requires.up c.loop-neighbour.invariant.lowered c.loop-neighbour-test.false
 
 pub returns-clause-own : goal.returns-clause-own
 returns-clause-own c =
     let net = c.args.net.now in
-    all_counted net.nodes net.links c.row-neighbour-items.result.now c.args.counts.now c.args.y c.args.count c.loop-neighbour.own c.loop-neighbour.neighbour-index c.network_law.ensures.is_net c.row-neighbour-items.ensures c.requires.node c.requires.one_each.0 c.loop-neighbour.invariant.counted c.loop-neighbour-test.false
+    all_counted net.nodes net.links c.row-neighbour-items.result.now c.args.counts.now c.args.y c.args.count
+    c.loop-neighbour.own c.loop-neighbour.neighbour-index c.network_law.ensures.is_net c.row-neighbour-items.ensures
+    c.requires.node c.requires.one_each.0 c.loop-neighbour.invariant.counted c.loop-neighbour-test.false

@@ -12,13 +12,23 @@ load-requires c =
     let q = c.requires in
     let b = setup_of c.args.words.now.terms in
     let there = row_holds b.nodes b.links c.args.seat.now.me.0.node c.args.entry q.entry in
-    let here = subst (λ (f : First). Contains (row b.nodes b.links c.args.seat.now.me.0.node) (c.args.entry.0, f)) c.in-Outward.is q.entry in
-    (q.table.same, omega (arith, q.table.one_each, there.0), loads_along_at (setup_of c.args.words.now.table.shared.key) b c.args.words.now.table.shared.table_id.slots c.args.seat.now.id c.args.seat.now.me c.args.seat.now.me.0.node c.args.seat.now.me.0.count c.args.entry.0 q.call (out_of_row b.nodes b.links c.args.seat.now.me.0.node c.args.entry.0 here))
+    let here = subst (λ (f : First). Contains (row b.nodes b.links c.args.seat.now.me.0.node) (c.args.entry.0, f)) c.in-Outward.is q.entry in (
+      q.table.same,
+      omega (arith, q.table.one_each, there.0),
+      loads_along_at (setup_of c.args.words.now.table.shared.key) b c.args.words.now.table.shared.table_id.slots
+          c.args.seat.now.id c.args.seat.now.me c.args.seat.now.me.0.node c.args.seat.now.me.0.count c.args.entry.0 q.call
+          (out_of_row b.nodes b.links c.args.seat.now.me.0.node c.args.entry.0 here),
+    )
 
 pub load-requires-in-Inward : goal.load-requires-in-Inward
 load-requires-in-Inward c =
     let q = c.requires in
     let b = setup_of c.args.words.now.terms in
     let there = row_holds b.nodes b.links c.args.seat.now.me.0.node c.args.entry q.entry in
-    let here = subst (λ (f : First). Contains (row b.nodes b.links c.args.seat.now.me.0.node) (c.args.entry.0, f)) c.in-Inward.is q.entry in
-    (q.table.same, omega (arith, q.table.one_each, there.0), loads_against_at (setup_of c.args.words.now.table.shared.key) b c.args.words.now.table.shared.table_id.slots c.args.seat.now.id c.args.seat.now.me c.args.seat.now.me.0.node c.args.seat.now.me.0.count c.args.entry.0 q.call (in_of_row b.nodes b.links c.args.seat.now.me.0.node c.args.entry.0 here))
+    let here = subst (λ (f : First). Contains (row b.nodes b.links c.args.seat.now.me.0.node) (c.args.entry.0, f)) c.in-Inward.is q.entry in (
+      q.table.same,
+      omega (arith, q.table.one_each, there.0),
+      loads_against_at (setup_of c.args.words.now.table.shared.key)
+          b c.args.words.now.table.shared.table_id.slots c.args.seat.now.id c.args.seat.now.me c.args.seat.now.me.0.node
+          c.args.seat.now.me.0.count c.args.entry.0 q.call (in_of_row b.nodes b.links c.args.seat.now.me.0.node c.args.entry.0 here),
+    )

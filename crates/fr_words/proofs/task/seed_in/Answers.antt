@@ -6,5 +6,6 @@ use Rattle.fr_words.proofs.task.seed_in.Goals as goal
 
 pub returns : goal.returns
 returns c =
-    number_read _ 64 (λ bs r. ParsesUnsigned 64 10 bs r × ExplainsUnsignedError 10 bs r × HasUnsignedDigitsIfOk bs r) (found_of c.args.options.now) (codes "seed") (λ u x h. h.0)
+    number_read _ 64 (λ bs r. ParsesUnsigned 64 10 bs r × ExplainsUnsignedError 10 bs r × HasUnsignedDigitsIfOk bs r)
+    (found_of c.args.options.now) (codes "seed") (λ u x h. h.0)
     c.get_one.result c.get_one.ensures.none c.get_one.ensures.value

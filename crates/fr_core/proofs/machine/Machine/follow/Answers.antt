@@ -16,8 +16,11 @@ loop-worker-preserved c =
     let old : List Entry = l.entries.items in
     let ks = c.args.schedule.now in
     let longer : c.match-step.entries.items ≡ old ++ option_to_list c.step.result = elim c.match-step.branch [
-      | in-Some+in_ok-push w ↦ ap (λ (v : Vec Entry Global). v.items) w.entries-is ∙ w.in_ok-push.ensures.items ∙ ap (λ (o : Option Entry). old ++ option_to_list o) (sym w.in-Some.is)
-      | in_default w ↦ ap (λ (v : Vec Entry Global). v.items) w.entries-is ∙ sym (append-nil old) ∙ ap (λ (o : Option Entry). old ++ option_to_list o) (sym w.in_default.is)
+      | in-Some+in_ok-push w ↦ ap (λ (v : Vec Entry Global). v.items) w.entries-is ∙ w.in_ok-push.ensures.items
+          ∙ ap (λ (o : Option Entry). old ++ option_to_list o) (sym w.in-Some.is)
+      | in_default w ↦ ap (λ (v : Vec Entry Global). v.items) w.entries-is ∙ sym (append-nil old)
+          ∙ ap (λ (o : Option Entry). old ++ option_to_list o) (sym w.in_default.is)
     ] in
     let way = on_the_way c.args.self.now l.self old (option_to_list c.step.result) ks l.worker-index c.loop-worker-test.true l.invariant c.step.ensures.entry in
-    rw longer (subst (λ (m : MachineView). IsOnTheWay c.args.self.now m (old ++ option_to_list c.step.result) (drop (l.worker-index + 1) ks) ks) (sym c.step.ensures.next) way)
+    rw longer (subst (λ (m : MachineView). IsOnTheWay c.args.self.now m (old ++ option_to_list c.step.result)
+    (drop (l.worker-index + 1) ks) ks) (sym c.step.ensures.next) way)

@@ -6,4 +6,5 @@ pub invariant_of-self-clause-candidates : goal.invariant_of-self-clause-candidat
 invariant_of-self-clause-candidates g c = one_more (IsCandidate g.J.Naming.setup) _ _ _ c.args.x c.push_back.ensures.items c.args.self.now.candidates c.requires
 
 pub invariant_of-self-else-is_ok-clause-candidates : goal.invariant_of-self-else-is_ok-clause-candidates
-invariant_of-self-else-is_ok-clause-candidates g c = one_more (IsCandidate g.J.Naming.setup) _ _ _ c.args.x c.push_back.ensures.items c.args.self.now.candidates c.requires
+invariant_of-self-else-is_ok-clause-candidates g c =
+    one_more (IsCandidate g.J.Naming.setup) _ _ _ c.args.x c.push_back.ensures.items c.args.self.now.candidates c.requires

@@ -10,7 +10,8 @@ invariant_of-self g c = record {
 }
 
 pub invariant_of-self-2-clause-candidates : goal.invariant_of-self-2-clause-candidates
-invariant_of-self-2-clause-candidates g c = (one_less (IsCandidate g.J.Naming.setup) (Some c.in_ok-x.x) _ _ c.in_ok-x.ensures.items c.args.self.now.candidates).0
+invariant_of-self-2-clause-candidates g c =
+    (one_less (IsCandidate g.J.Naming.setup) (Some c.in_ok-x.x) _ _ c.in_ok-x.ensures.items c.args.self.now.candidates).0
 
 pub returns : goal.returns
 returns g c = (one_less (IsCandidate g.J.Naming.setup) (Some c.in_ok-x.x) _ _ c.in_ok-x.ensures.items c.args.self.now.candidates).1

@@ -25,10 +25,12 @@ node_is c = top_is c.args.self.now.path.items (c.len-last.result - 1) c.index-to
 below : (c : After-index-top) → c.index-top.result.now.node < length c.args.rows.now.rows
 below c =
     let s = c.requires.search in
-    let on : get_or (nodes_of c.args.self.now.path.items) (c.len-last.result - 1) 0 < length c.args.self.now.marks.items = s.steps.path_below (c.len-last.result - 1) (omega (arith, full c, length-map c.args.self.now.path.items (λ (s : Step). s.node))) in
+    let on : get_or (nodes_of c.args.self.now.path.items) (c.len-last.result - 1) 0 < length c.args.self.now.marks.items =
+    s.steps.path_below (c.len-last.result - 1) (omega (arith, full c, length-map c.args.self.now.path.items (λ (s : Step). s.node))) in
     omega (arith, on, node_is c, s.one_each)
 
-passed : (c : After-index_mut) (k : ℕ) (d : ℕ × First) → c.index-top.result.now.next ≤ k → k < c.first_not_done-place.result → IsPassed c.args.self.now.marks.items (get_or (row_of c.args.rows.now c.index-top.result.now.node) k d)
+passed : (c : After-index_mut) (k : ℕ) (d : ℕ × First) → c.index-top.result.now.next ≤ k → k < c.first_not_done-place.result
+    → IsPassed c.args.self.now.marks.items (get_or (row_of c.args.rows.now c.index-top.result.now.node) k d)
 passed c = rw (c.row-row.ensures, c.deref.ensures.value) at c.first_not_done-place.ensures.passed
 
 -- the search once the row of the last node was read on
@@ -40,17 +42,24 @@ after c = record {
 }
 
 same : (c : After-index_mut) → ReadsOn c.args.self.now (after c)
-same c = record { marks = refl; path = same_nodes c.args.self.now.path.items (c.len-last.result - 1) c.first_not_done-place.result c.index-top.result.now c.index-top.ensures }
+same c = record {
+  marks = refl;
+  path = same_nodes c.args.self.now.path.items
+      (c.len-last.result - 1) c.first_not_done-place.result c.index-top.result.now c.index-top.ensures;
+}
 
 searched : (c : After-index_mut) → IsSearch c.args.rows.now (after c)
 searched c =
     let s = c.requires.search in
-    let high : c.first_not_done-place.result ≤ length (row_of c.args.rows.now c.index-top.result.now.node) = omega (arith, c.first_not_done-place.ensures.high, ap length c.row-row.ensures) in
+    let high : c.first_not_done-place.result ≤ length (row_of c.args.rows.now c.index-top.result.now.node) =
+    omega (arith, c.first_not_done-place.ensures.high, ap length c.row-row.ensures) in
     record {
       one_each = s.one_each;
       below = s.below;
       steps = rw (same c).path s.steps;
-      read = reads_on c.args.rows.now c.args.self.now.marks.items c.args.self.now.path.items (c.len-last.result - 1) c.first_not_done-place.result c.index-top.result.now (full (goal.at.After-index_mut c).After-index-top) c.index-top.ensures s.read high (passed c);
+      read = reads_on c.args.rows.now c.args.self.now.marks.items c.args.self.now.path.items
+          (c.len-last.result - 1) c.first_not_done-place.result c.index-top.result.now
+          (full (goal.at.After-index_mut c).After-index-top) c.index-top.ensures s.read high (passed c);
       order = s.order;
     }
 
@@ -63,7 +72,8 @@ returns-in_err-head c =
       same = same at.After-index_mut;
       next = tt;
       done = rw (← c.len-last.ensures, node_is at.After-index-top)
-          (read_through c.args.rows.now c.args.self.now.marks.items c.index-top.result.now c.first_not_done-place.result (was at.After-index-top) (passed at.After-index_mut) end.3);
+          (read_through c.args.rows.now c.args.self.now.marks.items c.index-top.result.now c.first_not_done-place.result
+          (was at.After-index-top) (passed at.After-index_mut) end.3);
     }
 
 pub returns : goal.returns
@@ -76,14 +86,17 @@ returns c =
     let seen = rw c.row-row.ensures at c.in_ok-head.ensures.lookup in
     let inside : place < length (row_of table x) = seen.3.0 in
     let read : get_or (row_of table x) place e ≡ e = sym seen.1 in
-    let stops : LeadsToOther c.args.self.now.marks.items e = rw (c.row-row.ensures, read, c.deref.ensures.value) at (c.first_not_done-place.ensures.stops e (rw c.row-row.ensures inside)) in
-    let listed : Contains (row_of table x) (e.0, Outward) = (place, inside, sym (get_or_read (row_of table x) place e inside seen.1 (e.0, Outward)) ∙ entry_is e Outward stops.0) in
+    let stops : LeadsToOther c.args.self.now.marks.items e =
+    rw (c.row-row.ensures, read, c.deref.ensures.value) at (c.first_not_done-place.ensures.stops e (rw c.row-row.ensures inside)) in
+    let listed : Contains (row_of table x) (e.0, Outward) =
+    (place, inside, sym (get_or_read (row_of table x) place e inside seen.1 (e.0, Outward)) ∙ entry_is e Outward stops.0) in
     record {
       search = searched at.After-index_mut;
       same = same at.After-index_mut;
       next = record {
         leads = λ k last.
-            let is_last : k ≡ c.len-last.result - 1 = omega (arith, last, full at.After-index-top, length-map c.args.self.now.path.items (λ (s : Step). s.node)) in
+            let is_last : k ≡ c.len-last.result - 1 =
+            omega (arith, last, full at.After-index-top, length-map c.args.self.now.path.items (λ (s : Step). s.node)) in
             rw (is_last, node_is at.After-index-top) (shown_of_row (length table.rows) table x e.0 (below at.After-index-top) listed);
         below = rw read at (c.requires.search.below x place e inside);
         other = stops.1;

@@ -17,13 +17,15 @@ returns-then-has_met c = record {
 
 pub go_on-requires : goal.go_on-requires
 go_on-requires c =
-    c.in_ok-open.ensures.search c.args.rows.now c.requires.rest.search (λ k full. absurd (omega (arith, full, ap (λ (path : List Step). length (nodes_of path)) c.requires.rest.empty)))
+    c.in_ok-open.ensures.search c.args.rows.now c.requires.rest.search
+    (λ k full. absurd (omega (arith, full, ap (λ (path : List Step). length (nodes_of path)) c.requires.rest.empty)))
 
 pub returns : goal.returns
 returns c =
     let opened = c.in_ok-open.ensures in
     record {
-      on = IfOk-weaker c.go_on.result _ _ (λ back on. record { search = on.search; kept = kept_through opened.kept on.kept; back = on.back }) c.go_on.ensures.on;
+      on = IfOk-weaker c.go_on.result _ _
+          (λ back on. record { search = on.search; kept = kept_through opened.kept on.kept; back = on.back }) c.go_on.ensures.on;
       empty = c.go_on.ensures.empty;
       met = IfOk-weaker c.go_on.result _ _ (λ back on. on.kept.seen c.args.root opened.met) c.go_on.ensures.on;
     }

@@ -32,7 +32,8 @@ loop-root-preserved c =
 pub returns : goal.returns
 returns c =
     let inv = c.loop-root.invariant in
-    let ends = search_ends c.args.nodes c.args.rows.now c.loop-root.self inv.rest (inv.kept.one_each ∙ c.requires.one_each) (λ x l. inv.met x (omega (arith, c.loop-root-test.false, l))) in
+    let ends = search_ends c.args.nodes c.args.rows.now c.loop-root.self inv.rest (inv.kept.one_each ∙ c.requires.one_each)
+    (λ x l. inv.met x (omega (arith, c.loop-root-test.false, l))) in
     record {
       on = record { search = inv.rest.search; kept = inv.kept; back = tt };
       acyclic = ends.0;

@@ -44,7 +44,8 @@ pub returns-in-Some-clause-refused : goal.returns-in-Some-clause-refused
 returns-in-Some-clause-refused c _ =
     let g = shown c.args.self.now in
     let tested = c.in_ok-test_join.ensures in
-    cycle_fault g.nodes g.links c.args.u c.args.v c.in_ok-closed_walk.field-0 c.requires.faultless tested.few tested.nodes (c.in_ok-closed_walk.ensures g.links c.args.v c.args.u (met (goal.at.returns-in-Some-clause-refused c).In-Some))
+    cycle_fault g.nodes g.links c.args.u c.args.v c.in_ok-closed_walk.field-0 c.requires.faultless tested.few tested.nodes
+    (c.in_ok-closed_walk.ensures g.links c.args.v c.args.u (met (goal.at.returns-in-Some-clause-refused c).In-Some))
 
 pub put-requires-clause-link : goal.put-requires-clause-link
 put-requires-clause-link c =
@@ -52,11 +53,13 @@ put-requires-clause-link c =
     subst (λ (m : Network). CanPut m c.args.u c.args.v) (sym (same (goal.at.put-requires-clause-link c).After-make_room).same) record {
       few = tested.few;
       unjoined = tested.nodes;
-      acyclic = no_path_free (shown c.args.self.now).links c.args.u c.args.v c.requires.faultless.is_net.acyclic (rw c.in_default.is at c.in_ok-meeting.ensures.none);
+      acyclic = no_path_free (shown c.args.self.now).links c.args.u c.args.v c.requires.faultless.is_net.acyclic
+          (rw c.in_default.is at c.in_ok-meeting.ensures.none);
     }
 
 pub returns-clause-ok : goal.returns-clause-ok
 returns-clause-ok c =
     let put : IsPut c.args.self.now c.put.new.self c.args.u c.args.v =
-    put_with_room c.args.self.now c.make_room.new.self c.put.new.self c.args.u c.args.v c.requires (same (goal.at.returns-clause-ok c).After-make_room) c.room_law.ensures c.in_ok-test_join.ensures.nodes c.put.ensures.rooms c.put.ensures.put in
+    put_with_room c.args.self.now c.make_room.new.self c.put.new.self c.args.u c.args.v c.requires
+    (same (goal.at.returns-clause-ok c).After-make_room) c.room_law.ensures c.in_ok-test_join.ensures.nodes c.put.ensures.rooms c.put.ensures.put in
     record { graph = c.put.ensures.graph; made = put.made; by = put.by; rooms = put.rooms; back = put.back }

@@ -55,7 +55,8 @@ returns-in-Err-clause-refused c known = record {
   inside = c.loop-at-test.true;
   before = shown c.loop-at.self;
   made = c.loop-at.invariant.made;
-  refused = λ d. subst (λ (e : Edit). IsEditFault (shown c.loop-at.self) e c.in-Err.fault) (get_or_default c.args.edits.now c.loop-at.at _ d c.loop-at-test.true) (c.in-Err.ensures.refused known);
+  refused = λ d. subst (λ (e : Edit). IsEditFault (shown c.loop-at.self) e c.in-Err.fault)
+      (get_or_default c.args.edits.now c.loop-at.at _ d c.loop-at-test.true) (c.in-Err.ensures.refused known);
 }
 
 pub returns-in-Err-clause-unchanged : goal.returns-in-Err-clause-unchanged
@@ -74,7 +75,8 @@ loop-at-preserved c =
     record {
       graph = edited.graph;
       made = rw more (made_next first c.args.edits.now at mid after _ (omega (arith, c.loop-at-test.true)) inv.made edited.made);
-      undo = subst (λ (ds : List Done). AreDone c.edit.new.self first ds after) (sym c.push_reserved.ensures.items) (more_done c.edit.new.self first c.loop-at.all.items mid c.in-Ok.done after kept edited.back edited.by);
+      undo = subst (λ (ds : List Done). AreDone c.edit.new.self first ds after) (sym c.push_reserved.ensures.items)
+          (more_done c.edit.new.self first c.loop-at.all.items mid c.in-Ok.done after kept edited.back edited.by);
       one_each = omega (arith, c.push_reserved.ensures.len, inv.one_each);
       all_room = omega (arith, c.push_reserved.ensures.capacity, inv.all_room);
     }

@@ -64,7 +64,9 @@ pub returns-clause-ok : goal.returns-clause-ok
 returns-clause-ok c =
     let links = (shown c.args.self.now).links in
     let put : IsPut c.args.self.now c.put.new.self c.if-branch.tail.0 c.if-branch.tail.1 =
-    put_with_room c.args.self.now c.make_room.new.self c.put.new.self c.if-branch.tail.0 c.if-branch.tail.1 c.requires (same (goal.at.returns-clause-ok c).After-make_room) c.room_law.ensures (ends (goal.at.returns-clause-ok c).After-make_room) c.put.ensures.rooms c.put.ensures.put in
+    put_with_room c.args.self.now c.make_room.new.self c.put.new.self c.if-branch.tail.0 c.if-branch.tail.1 c.requires
+    (same (goal.at.returns-clause-ok c).After-make_room) c.room_law.ensures
+    (ends (goal.at.returns-clause-ok c).After-make_room) c.put.ensures.rooms c.put.ensures.put in
     record {
       graph = c.put.ensures.graph;
       made = elim c.if-branch.branch [

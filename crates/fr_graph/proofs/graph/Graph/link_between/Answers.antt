@@ -33,7 +33,8 @@ returns-then-w-v-clause-none c =
     let is : c.row-row.result.now ≡ row n links u = c.row-row.ensures in
     let found = rw is at c.place_in_row.ensures in
     let seen = rw is at c.in_ok-w.ensures.lookup in
-    not_joined n links u c.args.v c.place_in_row.result net found.before found.stops (λ d l same. c.if-w-v.true (ap (λ (e : ℕ × First). e.0) (get_or_read (row n links u) c.place_in_row.result c.in_ok-w.field-0.now l seen.1 d) ∙ same))
+    not_joined n links u c.args.v c.place_in_row.result net found.before found.stops
+    (λ d l same. c.if-w-v.true (ap (λ (e : ℕ × First). e.0) (get_or_read (row n links u) c.place_in_row.result c.in_ok-w.field-0.now l seen.1 d) ∙ same))
 
 pub returns-in-Outward-clause-stands : goal.returns-in-Outward-clause-stands
 returns-in-Outward-clause-stands c =

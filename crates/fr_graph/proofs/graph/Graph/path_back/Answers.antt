@@ -14,7 +14,8 @@ use Rattle.fr_graph.proofs.graph.Graph.path_back.Goals as goal
 use Rattle.fr_graph.proofs.graph.Graph.path_back.Goals.{In_ok-meeting}
 
 -- no path leads up
-no_path_up : (links : List (ℕ × ℕ)) (heights : List ℕ) (x y : ℕ) → AreFalling heights links → slice_index heights x < slice_index heights y → ¬ HasPath links x y
+no_path_up : (links : List (ℕ × ℕ)) (heights : List ℕ) (x y : ℕ) → AreFalling heights links
+    → slice_index heights x < slice_index heights y → ¬ HasPath links x y
 no_path_up links heights x y falling below path =
     omega (arith, path_falls links heights (λ u v stands. omega (arith, falling u v stands)) x path.0 path.1.0, ap (slice_index heights) path.1.1)
 
@@ -59,7 +60,8 @@ returns-then-falls-clause-none c =
     let after = c.renew_heights.new.self in
     let same = c.in_ok-renew_heights.ensures.same in
     let falls = c.falls.ensures.0 c.if-falls.true in
-    λ path. absurd (no_path_up (shown after).links after.heights.heights c.args.v c.args.u (same.graph.fit falls.0) falls.1 (subst (λ (m : Network). HasPath m.links c.args.v c.args.u) (sym same.same) path))
+    λ path. absurd (no_path_up (shown after).links after.heights.heights c.args.v c.args.u (same.graph.fit falls.0) falls.1
+    (subst (λ (m : Network). HasPath m.links c.args.v c.args.u) (sym same.same) path))
 
 pub path_between-requires-clause-rows : goal.path_between-requires-clause-rows
 path_between-requires-clause-rows c =
@@ -75,7 +77,8 @@ path_between-requires-clause-rows c =
 found : (c : In_ok-meeting) → IsPathAnswer (shown c.renew_heights.new.self) c.renew_heights.new.self.heights.heights c.args.v c.args.u c.in_ok-meeting.field-0
 found c =
     let after = c.renew_heights.new.self in
-    subst (λ (m : Network). IsPathAnswer m after.heights.heights c.args.v c.args.u c.in_ok-meeting.field-0) (net_shown after c.in_ok-renew_heights.ensures.same.graph) c.in_ok-meeting.ensures
+    subst (λ (m : Network). IsPathAnswer m after.heights.heights c.args.v c.args.u c.in_ok-meeting.field-0)
+    (net_shown after c.in_ok-renew_heights.ensures.same.graph) c.in_ok-meeting.ensures
 
 pub put_between-requires : goal.put_between-requires
 put_between-requires c =
@@ -84,7 +87,8 @@ put_between-requires c =
 
 pub returns-in-Leads-clause-found : goal.returns-in-Leads-clause-found
 returns-in-Leads-clause-found c =
-    subst (λ (m : Network). IsMeeting m.links c.args.v c.args.u c.in-Leads.meeting) c.in_ok-renew_heights.ensures.same.same (rw c.in-Leads.is at (found (goal.at.returns-in-Leads-clause-found c).In_ok-meeting))
+    subst (λ (m : Network). IsMeeting m.links c.args.v c.args.u c.in-Leads.meeting) c.in_ok-renew_heights.ensures.same.same
+    (rw c.in-Leads.is at (found (goal.at.returns-in-Leads-clause-found c).In_ok-meeting))
 
 pub returns-in-Ends-clause-none : goal.returns-in-Ends-clause-none
 returns-in-Ends-clause-none c =
@@ -98,5 +102,7 @@ returns-in-Ends-clause-same c =
     let links = (shown after).links in
     let more = added links c.args.u c.args.v in
     let ends = rw c.in-Ends.is at (found (goal.at.returns-in-Ends-clause-same c).In_ok-meeting) in
-    let fit = fewer_fall more links c.put_between.new.self (λ x y stands. Contains-append_left links ((c.args.u, c.args.v) ∷ []) (x, y) stands) (c.put_between.ensures.fit more ends.1.1) in
-    same_through c.args.self.now after _ same (same_of_heights after c.put_between.new.self (omega (arith, c.put_between.ensures.one_each, same.graph.height_each)) fit same.graph)
+    let fit = fewer_fall more links c.put_between.new.self
+    (λ x y stands. Contains-append_left links ((c.args.u, c.args.v) ∷ []) (x, y) stands) (c.put_between.ensures.fit more ends.1.1) in
+    same_through c.args.self.now after _ same
+    (same_of_heights after c.put_between.new.self (omega (arith, c.put_between.ensures.one_each, same.graph.height_each)) fit same.graph)

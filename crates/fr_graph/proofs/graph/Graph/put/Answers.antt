@@ -35,9 +35,11 @@ returns-clause-graph c =
     let at = goal.at.returns-clause-graph c in
     let links = (shown c.args.self.now).links in
     let graph = c.requires.graph in
-    graph_of _ (added links c.args.tail c.args.head) (clear at.Start) (sym (more at.Start)) (rows at.After-put_in_rows) (ap length c.note_link.ensures.same ∙ graph.height_each) (c.note_link.ensures.fit links graph.fit)
+    graph_of _ (added links c.args.tail c.args.head) (clear at.Start) (sym (more at.Start)) (rows at.After-put_in_rows)
+    (ap length c.note_link.ensures.same ∙ graph.height_each) (c.note_link.ensures.fit links graph.fit)
 
 pub returns-clause-put : goal.returns-clause-put
 returns-clause-put c =
     let at = goal.at.returns-clause-put c in
-    network_of_rows c.args.self.now.nodes (added (shown c.args.self.now).links c.args.tail c.args.head) c.put_in_rows.new.rows (clear at.Start) (rows at.After-put_in_rows)
+    network_of_rows c.args.self.now.nodes (added (shown c.args.self.now).links c.args.tail c.args.head)
+    c.put_in_rows.new.rows (clear at.Start) (rows at.After-put_in_rows)

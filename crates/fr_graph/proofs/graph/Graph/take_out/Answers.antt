@@ -19,7 +19,11 @@ clear : (c : Start) → IsFaultless c.args.self.now.nodes (without c.args.tail c
 clear c = faultless_cut c.args.self.now.nodes (shown c.args.self.now).links c.args.tail c.args.head c.requires.graph.faultless
 
 fewer : (c : Start) → c.args.self.now.link_count ≡ length (without c.args.tail c.args.head (shown c.args.self.now).links) + 1
-fewer c = omega (arith, c.requires.graph.counted, cut_one (shown c.args.self.now).links c.args.tail c.args.head c.requires.graph.faultless.is_net.single c.requires.stands)
+fewer c = omega (
+  arith,
+  c.requires.graph.counted,
+  cut_one (shown c.args.self.now).links c.args.tail c.args.head c.requires.graph.faultless.is_net.single c.requires.stands,
+)
 
 rows : (c : After-cut_from_rows) → AreRows c.args.self.now.nodes (without c.args.tail c.args.head (shown c.args.self.now).links) c.cut_from_rows.new.rows
 rows c = c.cut_from_rows.ensures.rows (shown c.args.self.now) (before (goal.at.After-cut_from_rows c).Start)
@@ -33,10 +37,12 @@ returns-clause-graph c =
     let g = c.args.self.now in
     let links = (shown g).links in
     let rest = without c.args.tail c.args.head links in
-    let fit = fewer_fall links rest g.heights (λ u v. from_filter (λ (l : ℕ × ℕ). not (is_between c.args.tail c.args.head l)) links (u, v)) c.requires.graph.fit in
+    let fit = fewer_fall links rest g.heights
+    (λ u v. from_filter (λ (l : ℕ × ℕ). not (is_between c.args.tail c.args.head l)) links (u, v)) c.requires.graph.fit in
     graph_of _ rest (clear at.Start) (omega (arith, fewer at.Start)) (rows at.After-cut_from_rows) c.requires.graph.height_each fit
 
 pub returns-clause-taken : goal.returns-clause-taken
 returns-clause-taken c =
     let at = goal.at.returns-clause-taken c in
-    network_of_rows c.args.self.now.nodes (without c.args.tail c.args.head (shown c.args.self.now).links) c.cut_from_rows.new.rows (clear at.Start) (rows at.After-cut_from_rows)
+    network_of_rows c.args.self.now.nodes (without c.args.tail c.args.head (shown c.args.self.now).links)
+    c.cut_from_rows.new.rows (clear at.Start) (rows at.After-cut_from_rows)

@@ -27,8 +27,10 @@ returns-then-self-ge-MAX_LINKS-clause-refused c =
 
 pub returns-in-Some-clause-refused : goal.returns-in-Some-clause-refused
 returns-in-Some-clause-refused c =
-    let g = shown c.args.self.now in
-    (limits (goal.at.returns-in-Some-clause-refused c).Else-self-ge-MAX_LINKS, out_of_range_added g.nodes g.links c.args.u c.args.v c.in-Some.x (rw c.in-Some.is at c.first_outside.ensures.found))
+    let g = shown c.args.self.now in (
+      limits (goal.at.returns-in-Some-clause-refused c).Else-self-ge-MAX_LINKS,
+      out_of_range_added g.nodes g.links c.args.u c.args.v c.in-Some.x (rw c.in-Some.is at c.first_outside.ensures.found),
+    )
 
 pub returns-then-u-v-clause-refused : goal.returns-then-u-v-clause-refused
 returns-then-u-v-clause-refused c =
@@ -48,4 +50,10 @@ where_none (Some x) P none holds = absurd (cc)
 pub returns-clause-nodes : goal.returns-clause-nodes
 returns-clause-nodes c =
     let ends = c.in_default.ensures.none.below 0 (0, 0) (omega arith) in
-    record { tail = ends.0; head = ends.1; apart = c.if-u-v.false; free = where_none c.link_between.result _ (sym c.is_some.ensures ∙ c.if-is_some.false) c.link_between.ensures.none }
+    record {
+      tail = ends.0;
+      head = ends.1;
+      apart = c.if-u-v.false;
+      free = where_none c.link_between.result _
+          (sym c.is_some.ensures ∙ c.if-is_some.false) c.link_between.ensures.none;
+    }

@@ -53,7 +53,8 @@ pub find_cycle-requires-clause-one_each : goal.find_cycle-requires-clause-one_ea
 find_cycle-requires-clause-one_each c = (rows_are (goal.at.find_cycle-requires-clause-one_each c).In_ok-rows).one_each
 
 pub find_cycle-requires-clause-below : goal.find_cycle-requires-clause-below
-find_cycle-requires-clause-below c = entries_below c.args.nodes c.args.links.now c.in_ok-rows.rows (rows_are (goal.at.find_cycle-requires-clause-below c).In_ok-rows)
+find_cycle-requires-clause-below c = entries_below c.args.nodes c.args.links.now c.in_ok-rows.rows
+    (rows_are (goal.at.find_cycle-requires-clause-below c).In_ok-rows)
 
 pub returns-in-Walk-clause-refused : goal.returns-in-Walk-clause-refused
 returns-in-Walk-clause-refused c _ =
@@ -80,7 +81,8 @@ faultless c =
     let listed = c.args.links.now in
     let ends = c.in_ok-test_ends.ensures in
     let acyclic = acyclic_fewer (net_in c.in_ok-rows.rows).links listed (λ u v. (same b.In_ok-rows u v).0) (found c).0 in
-    faultless_listed c.args.nodes listed c.in_ok-halves.halves.items ends.limits ends.range ends.clear c.in_ok-halves.ensures.same (halves_are b.After-deref-2).rising acyclic
+    faultless_listed c.args.nodes listed c.in_ok-halves.halves.items ends.limits ends.range ends.clear
+    c.in_ok-halves.ensures.same (halves_are b.After-deref-2).rising acyclic
 
 pub graph_of-requires-clause-links : goal.graph_of-requires-clause-links
 graph_of-requires-clause-links c = let b = goal.at.graph_of-requires-clause-links c in (c.args.links.now, faultless b.In-Order, rows_are b.In_ok-rows, refl)
@@ -89,4 +91,5 @@ pub graph_of-requires-clause-order : goal.graph_of-requires-clause-order
 graph_of-requires-clause-order c = rw c.deref-in-Order.ensures.value (found (goal.at.graph_of-requires-clause-order c).In-Order).1
 
 pub returns-clause-ok : goal.returns-clause-ok
-returns-clause-ok c = let b = goal.at.returns-clause-ok c in c.in_ok-graph_of-in-Order.ensures.shown c.args.links.now (faultless b.In-Order) (rows_are b.In_ok-rows)
+returns-clause-ok c = let b = goal.at.returns-clause-ok c in
+    c.in_ok-graph_of-in-Order.ensures.shown c.args.links.now (faultless b.In-Order) (rows_are b.In_ok-rows)

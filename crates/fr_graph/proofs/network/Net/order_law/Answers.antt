@@ -6,4 +6,5 @@ use Rattle.fr_graph.specs.Order.{AreRising}
 use Rattle.fr_graph.proofs.network.Net.order_law.Goals as goal
 
 pub returns : goal.returns
-returns c = subst (λ (m : Network). AreRising m.links) c.self.view_is (links_rise (shown c.self.inside.graph).links c.self.invariant.sorted c.self.invariant.faultless.is_net.single)
+returns c = subst (λ (m : Network). AreRising m.links) c.self.view_is
+    (links_rise (shown c.self.inside.graph).links c.self.invariant.sorted c.self.invariant.faultless.is_net.single)

@@ -41,10 +41,12 @@ invariant_of-self c =
     let count : c.self.inside.graph.link_count ≡ length (links_at links c.args.turns.now) =
     c.self.invariant.counted ∙ ap (λ (m : Network). length m.links) c.self.view_is ∙ sym (length-links_at links c.args.turns.now c.requires.kept) in
     let fit : Fit links c.self.inside.graph.heights = subst (λ (m : Network). Fit m.links c.self.inside.graph.heights) c.self.view_is c.self.invariant.fit in
-    graph_of _ (links_at links c.args.turns.now) (rw (nodes_are at.After-self) (turned at.After-self)) count (rw (nodes_are at.After-self) (after at.After-turn_rows))
+    graph_of _ (links_at links c.args.turns.now) (rw (nodes_are at.After-self) (turned at.After-self)) count
+    (rw (nodes_are at.After-self) (after at.After-turn_rows))
     (c.raise.ensures.one_each ∙ c.self.invariant.height_each) (c.raise.ensures.fit links fit)
 
 pub returns : goal.returns
 returns c =
     let at = goal.at.returns c in
-    rw (nodes_are at.After-self) (network_of_rows c.args.self.now.nodes (links_at c.args.self.now.links c.args.turns.now) c.turn_rows.new.rows (turned at.After-self) (after at.After-turn_rows))
+    rw (nodes_are at.After-self) (network_of_rows c.args.self.now.nodes (links_at c.args.self.now.links c.args.turns.now)
+    c.turn_rows.new.rows (turned at.After-self) (after at.After-turn_rows))

@@ -12,7 +12,8 @@ use Rattle.fr_graph.specs.declared.path_search.Side.{Side}
 use Rattle.fr_graph.specs.declared.first.First.{First}
 use Rattle.fr_graph.specs.declared.first.First.TheVariants.{Outward}
 use Rattle.fr_graph.proofs.path_search.Side.read_next.Goals as goal
-use Rattle.fr_graph.proofs.path_search.Side.read_next.Goals.{After-goes_on, After-row-row, else-goes_on-via-then-goes_on+else-meet, else-goes_on-via-else-goes_on}
+use Rattle.fr_graph.proofs.path_search.Side.read_next.Goals.{After-goes_on, After-row-row, else-goes_on-via-then-goes_on+else-meet}
+use Rattle.fr_graph.proofs.path_search.Side.read_next.Goals.{else-goes_on-via-else-goes_on}
 
 pub height-own-requires : goal.height-own-requires
 height-own-requires c = omega (arith, next_below c.index-node.result.now c.requires.side c.requires.unread c.index-node.ensures, c.requires.rows.one_each)
@@ -22,7 +23,8 @@ row-row-requires c = next_below c.index-node.result.now c.requires.side c.requir
 
 -- the row that is read is that of a node
 row_is : (c : After-row-row) → c.row-row.result.now ≡ row (net_in c.args.rows.now).nodes (net_in c.args.rows.now).links c.index-node.result.now
-row_is c = c.row-row.ensures ∙ c.requires.rows.shown.rows.shown c.index-node.result.now (next_below c.index-node.result.now c.requires.side c.requires.unread c.index-node.ensures)
+row_is c = c.row-row.ensures ∙ c.requires.rows.shown.rows.shown c.index-node.result.now
+    (next_below c.index-node.result.now c.requires.side c.requires.unread c.index-node.ensures)
 
 pub loop-neighbour-init : goal.loop-neighbour-init
 loop-neighbour-init c = record {
@@ -36,7 +38,13 @@ loop-neighbour-init c = record {
 pub height-height-requires : goal.height-height-requires
 height-height-requires c =
     let net = net_in c.args.rows.now in
-    omega (arith, entry_below net.nodes net.links c.index-node.result.now c.row-row.result.now c.loop-neighbour.neighbour-index (0, Outward) (row_is (goal.at.height-height-requires c).After-row-row) c.loop-neighbour-test.true, c.requires.rows.one_each)
+    omega (
+      arith,
+      entry_below net.nodes net.links c.index-node.result.now c.row-row.result.now
+          c.loop-neighbour.neighbour-index (0, Outward) (row_is (goal.at.height-height-requires c).After-row-row)
+          c.loop-neighbour-test.true,
+      c.requires.rows.one_each,
+    )
 
 -- the entry that is read
 abbrev entry : (c : After-goes_on) → ℕ × First
@@ -48,7 +56,8 @@ height_of c x = slice_index c.args.heights.now.heights x
 below : (c : After-goes_on) → (entry c).0 < (net_in c.args.rows.now).nodes
 below c =
     let net = net_in c.args.rows.now in
-    entry_below net.nodes net.links c.index-node.result.now c.row-row.result.now c.loop-neighbour.neighbour-index (0, Outward) (row_is (goal.at.After-goes_on c).After-row-row) c.loop-neighbour-test.true
+    entry_below net.nodes net.links c.index-node.result.now c.row-row.result.now c.loop-neighbour.neighbour-index
+    (0, Outward) (row_is (goal.at.After-goes_on c).After-row-row) c.loop-neighbour-test.true
 
 unread : (c : After-goes_on) → c.loop-neighbour.self.read < length c.loop-neighbour.self.nodes.items
 unread c = omega (arith, c.loop-neighbour.invariant.same_read, c.loop-neighbour.invariant.more.longer, c.requires.unread)
@@ -59,16 +68,20 @@ step c is =
     let net = net_in c.args.rows.now in
     let f = c.args.self.now.first in
     let x = c.index-node.result.now in
-    let lies : LiesOn f (height_of c x) (height_of c (entry c).0) = rw (c.loop-neighbour.invariant.side.first_is, c.height-own.ensures, c.height-height.ensures) at (c.goes_on.ensures.lies is) in
-    entry_leads_by_height f net.nodes c.args.heights.now.heights net.links x c.row-row.result.now c.loop-neighbour.neighbour-index (0, Outward) c.requires.rows.falling (row_is (goal.at.After-goes_on c).After-row-row) c.loop-neighbour-test.true lies
+    let lies : LiesOn f (height_of c x) (height_of c (entry c).0) =
+    rw (c.loop-neighbour.invariant.side.first_is, c.height-own.ensures, c.height-height.ensures) at (c.goes_on.ensures.lies is) in
+    entry_leads_by_height f net.nodes c.args.heights.now.heights net.links x c.row-row.result.now
+    c.loop-neighbour.neighbour-index (0, Outward) c.requires.rows.falling (row_is (goal.at.After-goes_on c).After-row-row) c.loop-neighbour-test.true lies
 
 -- the node whose row is read stands at its place
 at_read : (c : After-goes_on) → get_or c.loop-neighbour.self.nodes.items c.loop-neighbour.self.read 0 ≡ c.index-node.result.now
 at_read c =
     let inv = c.loop-neighbour.invariant in
-    rw inv.same_read (inv.more.stands c.args.self.now.read c.requires.unread ∙ get_or_default c.args.self.now.nodes.items c.args.self.now.read 0 c.index-node.result.now c.requires.unread ∙ sym c.index-node.ensures)
+    rw inv.same_read (inv.more.stands c.args.self.now.read c.requires.unread
+    ∙ get_or_default c.args.self.now.nodes.items c.args.self.now.read 0 c.index-node.result.now c.requires.unread ∙ sym c.index-node.ensures)
 
-from_read : (c : After-goes_on) → c.goes_on.result ≡ true → LeadsOn c.args.self.now.first (net_in c.args.rows.now).links (get_or c.loop-neighbour.self.nodes.items c.loop-neighbour.self.read 0) (entry c).0
+from_read : (c : After-goes_on) → c.goes_on.result ≡ true → LeadsOn c.args.self.now.first (net_in c.args.rows.now).links
+    (get_or c.loop-neighbour.self.nodes.items c.loop-neighbour.self.read 0) (entry c).0
 from_read c is = rw (at_read c) (step c is)
 
 near : (c : After-goes_on) → c.goes_on.result ≡ true → ¬ IsBeyond c.args.self.now.first c.args.self.now.limit (height_of c (entry c).0)
@@ -77,13 +90,18 @@ near c is =
     rw (inv.side.first_is, inv.side.limit_is, c.height-height.ensures) at (c.goes_on.ensures.within is)
 
 -- where it does not, it leaves the node aside, if the link leads on
-aside : (c : After-goes_on) → ¬ (c.goes_on.result ≡ true) → (entry c).1 ≡ c.args.self.now.first → IsMetOrAside c.args.self.now.first (record c.loop-neighbour.self { edge = c.nearer-edge.result }) c.loop-neighbour.met (entry c).0 (height_of c (entry c).0)
+aside : (c : After-goes_on) → ¬ (c.goes_on.result ≡ true) → (entry c).1 ≡ c.args.self.now.first
+    → IsMetOrAside c.args.self.now.first (record c.loop-neighbour.self { edge = c.nearer-edge.result }) c.loop-neighbour.met
+    (entry c).0 (height_of c (entry c).0)
 aside c other same =
     let net = net_in c.args.rows.now in
     let f = c.args.self.now.first in
     let x = c.index-node.result.now in
-    let leads = entry_leads f net.nodes net.links x c.row-row.result.now c.loop-neighbour.neighbour-index (0, Outward) (row_is (goal.at.After-goes_on c).After-row-row) c.loop-neighbour-test.true same in
-    let lies : LiesOn c.loop-neighbour.self.first c.height-own.result c.height-height.result = rw (c.loop-neighbour.invariant.side.first_is, c.height-own.ensures, c.height-height.ensures) (leads_lies f c.args.heights.now.heights net.links x (entry c).0 c.requires.rows.falling leads) in
+    let leads = entry_leads f net.nodes net.links x c.row-row.result.now c.loop-neighbour.neighbour-index (0, Outward)
+    (row_is (goal.at.After-goes_on c).After-row-row) c.loop-neighbour-test.true same in
+    let lies : LiesOn c.loop-neighbour.self.first c.height-own.result c.height-height.result =
+    rw (c.loop-neighbour.invariant.side.first_is, c.height-own.ensures, c.height-height.ensures)
+    (leads_lies f c.args.heights.now.heights net.links x (entry c).0 c.requires.rows.falling leads) in
     let beyond = c.goes_on.ensures.beyond other lies in
     inr record { beyond = rw c.height-height.ensures at beyond; past = rw c.height-height.ensures at (c.nearer-edge.ensures.past beyond) }
 
@@ -97,7 +115,8 @@ pub returns-then-meet-clause-more : goal.returns-then-meet-clause-more
 returns-then-meet-clause-more c =
     let at = (goal.at.returns-then-meet-clause-more c).After-goes_on in
     let is = c.if-goes_on.true in
-    more_after c.loop-neighbour.invariant.more (side_goes_on (entry at).0 (below at) (unread at) (from_read at is) (near at is) c.meet.ensures.change c.loop-neighbour.invariant.side).1
+    more_after c.loop-neighbour.invariant.more
+    (side_goes_on (entry at).0 (below at) (unread at) (from_read at is) (near at is) c.meet.ensures.change c.loop-neighbour.invariant.side).1
 
 pub returns-then-meet-clause-side : goal.returns-then-meet-clause-side
 returns-then-meet-clause-side c =
@@ -137,7 +156,9 @@ loop-neighbour-preserved c =
             more = more_after inv.more on.1;
             same_read = on.2 ∙ inv.same_read;
             nearer = λ height past. nearer height (inv.nearer height (rw on.3 at past));
-            passed = passed_more heights f (record w.meet.new.self { edge = edge }) w.meet.new.met c.row-row.result.now place (0, Outward) (passed_stays heights c.row-row.result.now place inv.side.first_is (more_by_edges inv.side.first_is nearer on.1) inv.passed) c.loop-neighbour-test.true (λ _. inl met);
+            passed = passed_more heights f (record w.meet.new.self { edge = edge }) w.meet.new.met c.row-row.result.now
+                place (0, Outward) (passed_stays heights c.row-row.result.now place inv.side.first_is
+                (more_by_edges inv.side.first_is nearer on.1) inv.passed) c.loop-neighbour-test.true (λ _. inl met);
           }
       | else-goes_on-via-else-goes_on w ↦
           rw (w.self-is, w.met-is) record {
@@ -145,7 +166,11 @@ loop-neighbour-preserved c =
             more = inv.more;
             same_read = inv.same_read;
             nearer = λ height past. nearer height (inv.nearer height past);
-            passed = passed_more heights f (record c.loop-neighbour.self { edge = edge }) c.loop-neighbour.met c.row-row.result.now place (0, Outward) (passed_stays heights c.row-row.result.now place inv.side.first_is (more_by_edges inv.side.first_is nearer (same_more c.loop-neighbour.self c.loop-neighbour.met)) inv.passed) c.loop-neighbour-test.true (aside at (λ is. cc (is, w.if-goes_on.false)));
+            passed = passed_more heights f (record c.loop-neighbour.self { edge = edge })
+                c.loop-neighbour.met c.row-row.result.now place (0, Outward)
+                (passed_stays heights c.row-row.result.now place inv.side.first_is
+                (more_by_edges inv.side.first_is nearer (same_more c.loop-neighbour.self c.loop-neighbour.met)) inv.passed)
+                c.loop-neighbour-test.true (aside at (λ is. cc (is, w.if-goes_on.false)));
           }
     ]
 
@@ -155,10 +180,14 @@ returns-clause-side c =
     let net = net_in c.args.rows.now in
     let x = c.index-node.result.now in
     let read : Side = record c.loop-neighbour.self { edge = c.loop-neighbour.edge } in
-    let at_read : get_or read.nodes.items read.read 0 ≡ x = rw inv.same_read (inv.more.stands c.args.self.now.read c.requires.unread ∙ get_or_default c.args.self.now.nodes.items c.args.self.now.read 0 x c.requires.unread ∙ sym c.index-node.ensures) in
+    let at_read : get_or read.nodes.items read.read 0 ≡ x =
+    rw inv.same_read (inv.more.stands c.args.self.now.read c.requires.unread
+    ∙ get_or_default c.args.self.now.nodes.items c.args.self.now.read 0 x c.requires.unread ∙ sym c.index-node.ensures) in
     let all : c.loop-neighbour.neighbour-index ≡ length c.row-row.result.now = omega arith in
-    let passed : HasPassed c.args.heights.now.heights c.args.self.now.first read c.loop-neighbour.met (row net.nodes net.links x) (length (row net.nodes net.links x)) = rw (all, row_is (goal.at.returns-clause-side c).After-row-row) at inv.passed in
-    side_reads x c.requires.rows.shown.is_net (omega (arith, inv.same_read, inv.more.longer, c.requires.unread)) at_read passed (side_moves (with_edge_nearer inv.side.first_is inv.nearer) inv.side)
+    let passed : HasPassed c.args.heights.now.heights c.args.self.now.first read c.loop-neighbour.met
+    (row net.nodes net.links x) (length (row net.nodes net.links x)) = rw (all, row_is (goal.at.returns-clause-side c).After-row-row) at inv.passed in
+    side_reads x c.requires.rows.shown.is_net (omega (arith, inv.same_read, inv.more.longer, c.requires.unread))
+    at_read passed (side_moves (with_edge_nearer inv.side.first_is inv.nearer) inv.side)
 
 pub returns-clause-answer : goal.returns-clause-answer
 returns-clause-answer c = ap (λ (k : ℕ). k + 1) c.loop-neighbour.invariant.same_read

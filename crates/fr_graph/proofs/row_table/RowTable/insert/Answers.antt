@@ -13,7 +13,8 @@ at : (c : After-self) → IsRowAt c.self.inside c.args.self.now c.args.x
 at c = row_at c.self.inside c.args.self.now c.args.x c.self.invariant c.self.view_is c.requires.row
 
 row : (c : After-index) → IsPart c.self.inside c.args.self.now c.args.x c.index.result.now.start c.index.result.now.end c.self.inside.entries.items
-row c = part_at c.self.inside c.args.self.now c.args.x c.index.result.now c.self.inside.entries.items c.self.invariant c.self.view_is c.requires.row c.index.ensures refl
+row c = part_at c.self.inside c.args.self.now c.args.x c.index.result.now c.self.inside.entries.items c.self.invariant
+    c.self.view_is c.requires.row c.index.ensures refl
 
 low : (c : After-index) → c.index.result.now.start + c.args.place ≤ c.index.result.now.end
 low c = let r = row c in omega (arith, c.requires.place, r.long, r.low)
@@ -51,10 +52,12 @@ slice_bounds-shift_in-end c =
     search (rules, inside)
 
 -- how long the part is that moves
-part : (c : After-deref_mut) → length (slice_range c.deref_mut.result.now (c.index.result.now.start + c.args.place) (c.index.result.now.end + 1)) ≡ c.index.result.now.end + 1 - (c.index.result.now.start + c.args.place)
+part : (c : After-deref_mut) → length (slice_range c.deref_mut.result.now (c.index.result.now.start + c.args.place)
+    (c.index.result.now.end + 1)) ≡ c.index.result.now.end + 1 - (c.index.result.now.start + c.args.place)
 part c =
     let h = high (goal.at.After-deref_mut c).After-index in
-    length-between c.deref_mut.result.now (c.index.result.now.start + c.args.place) (c.index.result.now.end + 1) (omega (arith, h, ap length c.deref_mut.ensures.value))
+    length-between c.deref_mut.result.now (c.index.result.now.start + c.args.place) (c.index.result.now.end + 1)
+    (omega (arith, h, ap length c.deref_mut.ensures.value))
 
 pub shift_in-requires : goal.shift_in-requires
 shift_in-requires c =
@@ -62,7 +65,8 @@ shift_in-requires c =
     omega (arith, part b.After-deref_mut, low b.After-index)
 
 pub overflow_add-end-2 : goal.overflow_add-end-2
-overflow_add-end-2 c = let h = high (goal.at.overflow_add-end-2 c).After-index in omega (arith, h, c.self.inside.entries.ok.0, c.self.inside.entries.ok.1, c.self.inside.entries.small)
+overflow_add-end-2 c = let h = high (goal.at.overflow_add-end-2 c).After-index in
+    omega (arith, h, c.self.inside.entries.ok.0, c.self.inside.entries.ok.1, c.self.inside.entries.small)
 
 pub index_mut-requires : goal.index_mut-requires
 index_mut-requires c = omega (arith, (at (goal.at.index_mut-requires c).After-self).next, c.self.inside.places.ok.0)
@@ -76,7 +80,8 @@ was_none c =
 counted : (c : After-from) → c.from.result ≤ c.self.inside.empty
 counted c =
     let b = at (goal.at.After-from c).After-self in
-    let none = none_where (row_between c.self.inside c.args.x) (start_of c.self.inside c.args.x) (end_of c.self.inside c.args.x) (omega (arith, ap length b.is_row, b.long, b.low)) in
+    let none = none_where (row_between c.self.inside c.args.x) (start_of c.self.inside c.args.x)
+    (end_of c.self.inside c.args.x) (omega (arith, ap length b.is_row, b.long, b.low)) in
     omega (arith, was_none c, ap weigh none, none_counted c.self.inside c.args.x c.self.invariant b.has)
 
 pub overflow_sub-self : goal.overflow_sub-self
@@ -86,7 +91,9 @@ overflow_sub-self c = counted (goal.at.overflow_sub-self c).After-from
 abbrev after : (c : After-from) → Inside
 after c = record {
   places = with_item c.self.inside.places c.args.x (record { start = c.index.result.now.start; end = c.index.result.now.end + 1 });
-  entries = with_items c.self.inside.entries (put_mid (c.index.result.now.start + c.args.place) (c.index.result.now.end + 1 - (c.index.result.now.start + c.args.place)) c.deref_mut.result.now c.shift_in.new.entries);
+  entries = with_items c.self.inside.entries
+      (put_mid (c.index.result.now.start + c.args.place)
+      (c.index.result.now.end + 1 - (c.index.result.now.start + c.args.place)) c.deref_mut.result.now c.shift_in.new.entries);
   empty = c.self.inside.empty - c.from.result;
 }
 
@@ -105,7 +112,8 @@ shows c =
     (rw (r.start, r.end) at size)
     (rw (part b.After-deref_mut, c.deref_mut.ensures.value, r.start, r.end) at c.shift_in.ensures)
     (rw (r.start, r.end) refl)
-    (part_put t.entries c.deref_mut.result.now new (c.index.result.now.start + p) (c.index.result.now.end + 1 - (c.index.result.now.start + p)) c.deref_mut.ensures.value size (omega (arith, l, h))
+    (part_put t.entries c.deref_mut.result.now new (c.index.result.now.start + p)
+    (c.index.result.now.end + 1 - (c.index.result.now.start + p)) c.deref_mut.ensures.value size (omega (arith, l, h))
     ∙ ap (λ k. put_mid (k + p) (length new) t.entries.items new) r.start)
     (omega (arith, was_none c, counted c))
 

@@ -15,13 +15,22 @@ room_anew-requires c = is_row (goal.at.room_anew-requires c).In-loop-x
 
 pub loop-x-preserved : goal.loop-x-preserved
 loop-x-preserved c =
-    one_more_laid_out c.args.self.now c.args.keeps_room c.loop-x.x c.loop-x.table c.in_ok-table-2.table c.room_anew.result c.loop-x.invariant (is_row (goal.at.loop-x-preserved c).In-loop-x)
-    (c.in_ok-table-2.ensures.rows ∙ ap (λ (row : List (ℕ × First)). c.loop-x.table.rows ++ row ∷ []) c.row_at.ensures) c.in_ok-table-2.ensures.rooms c.room_anew.ensures.room c.room_anew.ensures.kept
+    one_more_laid_out c.args.self.now c.args.keeps_room c.loop-x.x c.loop-x.table c.in_ok-table-2.table c.room_anew.result
+    c.loop-x.invariant (is_row (goal.at.loop-x-preserved c).In-loop-x)
+    (c.in_ok-table-2.ensures.rows ∙ ap (λ (row : List (ℕ × First)). c.loop-x.table.rows ++ row ∷ []) c.row_at.ensures)
+    c.in_ok-table-2.ensures.rooms c.room_anew.ensures.room c.room_anew.ensures.kept
 
 all_laid_out : (c : After-loop-x) → AreLaidOut c.args.self.now c.args.keeps_room (length c.args.self.now.rows) c.loop-x.table
 all_laid_out c =
     let all : c.loop-x.x ≡ length c.args.self.now.rows =
-    omega (arith, c.loop-x-test.false, c.loop-x.auto.x-end, c.len-rows.ensures, c.self.inside.places.ok.0, rows_counted c.self.inside c.args.self.now c.self.view_is) in
+    omega (
+      arith,
+      c.loop-x-test.false,
+      c.loop-x.auto.x-end,
+      c.len-rows.ensures,
+      c.self.inside.places.ok.0,
+      rows_counted c.self.inside c.args.self.now c.self.view_is,
+    ) in
     rw all at c.loop-x.invariant
 
 pub returns-clause-rows : goal.returns-clause-rows

@@ -13,7 +13,8 @@ at : (c : After-self) → IsRowAt c.self.inside c.args.self.now c.args.x
 at c = row_at c.self.inside c.args.self.now c.args.x c.self.invariant c.self.view_is c.requires.row
 
 row : (c : After-index) → IsPart c.self.inside c.args.self.now c.args.x c.index.result.now.start c.index.result.now.end c.self.inside.entries.items
-row c = part_at c.self.inside c.args.self.now c.args.x c.index.result.now c.self.inside.entries.items c.self.invariant c.self.view_is c.requires.row c.index.ensures refl
+row c = part_at c.self.inside c.args.self.now c.args.x c.index.result.now c.self.inside.entries.items c.self.invariant
+    c.self.view_is c.requires.row c.index.ensures refl
 
 low : (c : After-index) → c.index.result.now.start + c.args.place < c.index.result.now.end
 low c = let r = row c in omega (arith, c.requires.place, r.long, r.low)
@@ -47,10 +48,13 @@ slice_bounds-shift_out-end c =
     search (rules, inside)
 
 -- how long the part is that moves
-part : (c : After-deref_mut) → length (slice_range c.deref_mut.result.now (c.index.result.now.start + c.args.place) c.index.result.now.end) ≡ c.index.result.now.end - (c.index.result.now.start + c.args.place)
+part : (c : After-deref_mut) → length
+    (slice_range c.deref_mut.result.now (c.index.result.now.start + c.args.place)
+    c.index.result.now.end) ≡ c.index.result.now.end - (c.index.result.now.start + c.args.place)
 part c =
     let h = (row (goal.at.After-deref_mut c).After-index).high in
-    length-between c.deref_mut.result.now (c.index.result.now.start + c.args.place) c.index.result.now.end (omega (arith, h, ap length c.deref_mut.ensures.value))
+    length-between c.deref_mut.result.now (c.index.result.now.start + c.args.place) c.index.result.now.end
+    (omega (arith, h, ap length c.deref_mut.ensures.value))
 
 pub shift_out-requires : goal.shift_out-requires
 shift_out-requires c =
@@ -84,7 +88,9 @@ overflow_add-self c =
 abbrev after : (c : After-from) → Inside
 after c = record {
   places = with_item c.self.inside.places c.args.x (record { start = c.index.result.now.start; end = c.index.result.now.end - 1 });
-  entries = with_items c.self.inside.entries (put_mid (c.index.result.now.start + c.args.place) (c.index.result.now.end - (c.index.result.now.start + c.args.place)) c.deref_mut.result.now c.shift_out.new.entries);
+  entries = with_items c.self.inside.entries
+      (put_mid (c.index.result.now.start + c.args.place)
+      (c.index.result.now.end - (c.index.result.now.start + c.args.place)) c.deref_mut.result.now c.shift_out.new.entries);
   empty = c.self.inside.empty + c.from.result;
 }
 
@@ -103,9 +109,12 @@ shows c =
     entry_removed t (after c) c.args.self.now x p (end - 1) new c.self.invariant c.self.view_is c.requires.row c.requires.place
     (omega (arith, l, r.end))
     (omega (arith, size, l, r.start))
-    (ap (λ k. take (k - (start_of t x + p) - 1) new) (sym last) ∙ (rw (part b.After-deref_mut, c.deref_mut.ensures.value, r.start) at c.shift_out.ensures.rest) ∙ ap (λ k. drop 1 (slice_range t.entries.items (start_of t x + p) k)) last)
+    (ap (λ k. take (k - (start_of t x + p) - 1) new) (sym last)
+    ∙ (rw (part b.After-deref_mut, c.deref_mut.ensures.value, r.start) at c.shift_out.ensures.rest)
+    ∙ ap (λ k. drop 1 (slice_range t.entries.items (start_of t x + p) k)) last)
     (rw r.start refl)
-    (part_put t.entries c.deref_mut.result.now new (c.index.result.now.start + p) (end - (c.index.result.now.start + p)) c.deref_mut.ensures.value size (omega (arith, l, r.high))
+    (part_put t.entries c.deref_mut.result.now new (c.index.result.now.start + p) (end - (c.index.result.now.start + p))
+    c.deref_mut.ensures.value size (omega (arith, l, r.high))
     ∙ ap (λ k. put_mid (k + p) (length new) t.entries.items new) r.start)
     (ap (λ n. t.empty + n) (is_none c))
 

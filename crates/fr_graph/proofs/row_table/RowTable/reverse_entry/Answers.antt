@@ -11,10 +11,12 @@ use Rattle.fr_graph.proofs.row_table.RowTable.reverse_entry.Goals.{After-deref_m
 
 part : (c : After-deref_mut) → IsPart c.self.inside c.args.self.now c.args.x c.index-place.result.now.start c.index-place.result.now.end c.deref_mut.result.now
 part c =
-    part_at c.self.inside c.args.self.now c.args.x c.index-place.result.now c.deref_mut.result.now c.self.invariant c.self.view_is c.requires.row c.index-place.ensures c.deref_mut.ensures.value
+    part_at c.self.inside c.args.self.now c.args.x c.index-place.result.now c.deref_mut.result.now c.self.invariant
+    c.self.view_is c.requires.row c.index-place.ensures c.deref_mut.ensures.value
 
 pub index-place-requires : goal.index-place-requires
-index-place-requires c = omega (arith, (row_at c.self.inside c.args.self.now c.args.x c.self.invariant c.self.view_is c.requires.row).next, c.self.inside.places.ok.0)
+index-place-requires c = omega
+    (arith, (row_at c.self.inside c.args.self.now c.args.x c.self.invariant c.self.view_is c.requires.row).next, c.self.inside.places.ok.0)
 
 pub offset_bounds-deref_mut-place : goal.offset_bounds-deref_mut-place
 offset_bounds-deref_mut-place c =
@@ -43,14 +45,17 @@ written c = c.reverse_entry.ensures ∙ ap (map (reversed_at c.args.w)) (part (g
 abbrev after : (c : After-reverse_entry) → Inside
 after c = record {
   places = c.self.inside.places;
-  entries = with_items c.self.inside.entries (put_mid c.index-place.result.now.start (c.index-place.result.now.end - c.index-place.result.now.start) c.deref_mut.result.now c.reverse_entry.new.row);
+  entries = with_items c.self.inside.entries
+      (put_mid c.index-place.result.now.start (c.index-place.result.now.end - c.index-place.result.now.start) c.deref_mut.result.now c.reverse_entry.new.row);
   empty = c.self.inside.empty;
 }
 
 shows : (c : After-reverse_entry) → ShowsRowWritten (after c) c.args.self.now c.args.x c.reverse_entry.new.row
 shows c =
-    let long : length c.reverse_entry.new.row ≡ length (row_of c.args.self.now c.args.x) = ap length (written c) ∙ length-map (row_of c.args.self.now c.args.x) (reversed_at c.args.w) in
-    part_rewritten c.self.inside c.args.self.now c.args.x c.index-place.result.now.start c.index-place.result.now.end c.deref_mut.result.now c.reverse_entry.new.row c.self.invariant c.self.view_is c.requires.row
+    let long : length c.reverse_entry.new.row ≡ length (row_of c.args.self.now c.args.x) = ap length (written c)
+    ∙ length-map (row_of c.args.self.now c.args.x) (reversed_at c.args.w) in
+    part_rewritten c.self.inside c.args.self.now c.args.x c.index-place.result.now.start c.index-place.result.now.end
+    c.deref_mut.result.now c.reverse_entry.new.row c.self.invariant c.self.view_is c.requires.row
     (part (goal.at.After-reverse_entry c).After-deref_mut) c.deref_mut.ensures.value long
 
 pub invariant_of-self : goal.invariant_of-self

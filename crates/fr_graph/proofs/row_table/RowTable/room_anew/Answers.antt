@@ -14,7 +14,13 @@ start_is : (c : After-index-2) → c.index-2.result.now.start ≡ start_of c.sel
 start_is c = start_read c.self.inside c.args.x c.index-2.result.now (omega (arith, (place (goal.at.After-index-2 c).After-self).next)) c.index-2.ensures
 
 pub overflow_add-x : goal.overflow_add-x
-overflow_add-x c = omega (arith, (place (goal.at.overflow_add-x c).After-self).next, c.self.inside.places.ok.0, c.self.inside.places.ok.1, c.self.inside.places.small)
+overflow_add-x c = omega (
+  arith,
+  (place (goal.at.overflow_add-x c).After-self).next,
+  c.self.inside.places.ok.0,
+  c.self.inside.places.ok.1,
+  c.self.inside.places.small,
+)
 
 pub index-requires : goal.index-requires
 index-requires c = omega (arith, (place (goal.at.index-requires c).After-self).next, c.self.inside.places.ok.0)

@@ -11,10 +11,12 @@ use Rattle.fr_graph.proofs.row_table.RowTable.turn_row.Goals.{After-deref_mut, A
 
 part : (c : After-deref_mut) → IsPart c.self.inside c.args.self.now c.args.x c.index-place.result.now.start c.index-place.result.now.end c.deref_mut.result.now
 part c =
-    part_at c.self.inside c.args.self.now c.args.x c.index-place.result.now c.deref_mut.result.now c.self.invariant c.self.view_is c.requires.row c.index-place.ensures c.deref_mut.ensures.value
+    part_at c.self.inside c.args.self.now c.args.x c.index-place.result.now c.deref_mut.result.now c.self.invariant
+    c.self.view_is c.requires.row c.index-place.ensures c.deref_mut.ensures.value
 
 pub index-place-requires : goal.index-place-requires
-index-place-requires c = omega (arith, (row_at c.self.inside c.args.self.now c.args.x c.self.invariant c.self.view_is c.requires.row).next, c.self.inside.places.ok.0)
+index-place-requires c = omega
+    (arith, (row_at c.self.inside c.args.self.now c.args.x c.self.invariant c.self.view_is c.requires.row).next, c.self.inside.places.ok.0)
 
 pub offset_bounds-deref_mut-place : goal.offset_bounds-deref_mut-place
 offset_bounds-deref_mut-place c =
@@ -40,14 +42,17 @@ written c = c.turn_row.ensures ∙ ap (map (turned_entry c.args.counts.now c.arg
 abbrev after : (c : After-turn_row) → Inside
 after c = record {
   places = c.self.inside.places;
-  entries = with_items c.self.inside.entries (put_mid c.index-place.result.now.start (c.index-place.result.now.end - c.index-place.result.now.start) c.deref_mut.result.now c.turn_row.new.row);
+  entries = with_items c.self.inside.entries
+      (put_mid c.index-place.result.now.start (c.index-place.result.now.end - c.index-place.result.now.start) c.deref_mut.result.now c.turn_row.new.row);
   empty = c.self.inside.empty;
 }
 
 shows : (c : After-turn_row) → ShowsRowWritten (after c) c.args.self.now c.args.x c.turn_row.new.row
 shows c =
-    let long : length c.turn_row.new.row ≡ length (row_of c.args.self.now c.args.x) = ap length (written c) ∙ length-map (row_of c.args.self.now c.args.x) (turned_entry c.args.counts.now c.args.x) in
-    part_rewritten c.self.inside c.args.self.now c.args.x c.index-place.result.now.start c.index-place.result.now.end c.deref_mut.result.now c.turn_row.new.row c.self.invariant c.self.view_is c.requires.row
+    let long : length c.turn_row.new.row ≡ length (row_of c.args.self.now c.args.x) = ap length (written c)
+    ∙ length-map (row_of c.args.self.now c.args.x) (turned_entry c.args.counts.now c.args.x) in
+    part_rewritten c.self.inside c.args.self.now c.args.x c.index-place.result.now.start c.index-place.result.now.end
+    c.deref_mut.result.now c.turn_row.new.row c.self.invariant c.self.view_is c.requires.row
     (part (goal.at.After-turn_row c).After-deref_mut) c.deref_mut.ensures.value long
 
 pub invariant_of-self : goal.invariant_of-self

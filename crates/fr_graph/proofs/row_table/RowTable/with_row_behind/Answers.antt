@@ -27,9 +27,22 @@ filler c = replicate (c.in_ok-next.next - (c.index.result.now.start + length c.a
 is_none : (c : After-from-empty) → c.from-empty.result ≡ weigh (has_none c.args.row.now)
 is_none c = c.from-empty.ensures ∙ bit_is c.is_empty.result ∙ ap weigh (c.is_empty.ensures ∙ sym (none_is c.args.row.now))
 
-behind : (c : After-from-empty) → IsBehind c.self.inside (record { places = c.push.new.self; entries = c.lay_behind.new.entries; empty = c.self.inside.empty + c.from-empty.result }) c.args.row.now (filler c) c.args.room
+behind : (c : After-from-empty)
+    → IsBehind c.self.inside (record {
+      places = c.push.new.self;
+      entries = c.lay_behind.new.entries;
+      empty =
+          c.self.inside.empty + c.from-empty.result;
+    }) c.args.row.now (filler c) c.args.room
 behind c = record {
-  within = omega (arith, length-replicate {A = ℕ × First} (c.in_ok-next.next - (c.index.result.now.start + length c.args.row.now)) (0, Outward), start_is c, next_is c, c.requires);
+  within = omega (
+    arith,
+    length-replicate {A = ℕ × First}
+        (c.in_ok-next.next - (c.index.result.now.start + length c.args.row.now)) (0, Outward),
+    start_is c,
+    next_is c,
+    c.requires,
+  );
   places = c.in_ok-push.ensures.items ∙ rw (last_is c, start_is c, next_is c) refl;
   entries = c.in_ok-lay_behind.ensures ∙ ap (λ s. take s c.self.inside.entries.items ++ (c.args.row.now ++ filler c)) (start_is c);
   empty = let one : count_by has_none (c.args.row.now ∷ []) ≡ weigh (has_none c.args.row.now) = omega arith in omega (arith, is_none c, one);
@@ -49,14 +62,17 @@ overflow_add-empty c =
     )
 
 pub invariant_of-result : goal.invariant_of-result
-invariant_of-result c = table_behind c.self.inside _ c.args.row.now (filler (goal.at.invariant_of-result c).After-from-empty) c.args.room c.self.invariant (behind (goal.at.invariant_of-result c).After-from-empty)
+invariant_of-result c = table_behind c.self.inside _ c.args.row.now
+    (filler (goal.at.invariant_of-result c).After-from-empty) c.args.room c.self.invariant (behind (goal.at.invariant_of-result c).After-from-empty)
 
 pub returns-clause-rows : goal.returns-clause-rows
 returns-clause-rows c =
     let b = (goal.at.returns-clause-rows c).After-from-empty in
-    rows_behind c.self.inside _ c.args.row.now (filler b) c.args.room c.self.invariant (behind b) ∙ ap (λ (t : Table). t.rows ++ c.args.row.now ∷ []) c.self.view_is
+    rows_behind c.self.inside _ c.args.row.now (filler b) c.args.room c.self.invariant (behind b)
+    ∙ ap (λ (t : Table). t.rows ++ c.args.row.now ∷ []) c.self.view_is
 
 pub returns-clause-rooms : goal.returns-clause-rooms
 returns-clause-rooms c =
     let b = (goal.at.returns-clause-rooms c).After-from-empty in
-    rooms_behind c.self.inside _ c.args.row.now (filler b) c.args.room c.self.invariant (behind b) ∙ ap (λ (t : Table). t.rooms ++ c.args.room ∷ []) c.self.view_is
+    rooms_behind c.self.inside _ c.args.row.now (filler b) c.args.room c.self.invariant (behind b)
+    ∙ ap (λ (t : Table). t.rooms ++ c.args.room ∷ []) c.self.view_is

@@ -13,7 +13,8 @@ count_is c = get_or_default c.self.inside.counts.items c.args.x 0 c.index-count.
 pub push_reserved-requires : goal.push_reserved-requires
 push_reserved-requires c =
     let at = (goal.at.push_reserved-requires c).After-index-count in
-    let left = place_left c.self.inside.counts.items c.self.inside.nodes.items c.args.x c.self.invariant.turned (inside at) (count_is at ∙ c.if-count-eq0.true) in
+    let left = place_left c.self.inside.counts.items c.self.inside.nodes.items c.args.x c.self.invariant.turned (inside at)
+    (count_is at ∙ c.if-count-eq0.true) in
     omega (arith, left, c.self.invariant.room, c.self.inside.nodes.ok.0)
 
 pub invariant_of-self : goal.invariant_of-self
@@ -26,12 +27,14 @@ invariant_of-self c =
     elim c.if-count-eq0.branch [
       | then-count-eq0 w ↦ rw w.self-inside-is (record {
         few = omega (arith, long, c.self.invariant.few);
-        turned = rw w.push_reserved.ensures.items (first_turn counts c.self.inside.nodes.items x more c.self.invariant.turned (inside at) (count_is at ∙ w.if-count-eq0.true) (omega arith));
+        turned = rw w.push_reserved.ensures.items
+            (first_turn counts c.self.inside.nodes.items x more c.self.invariant.turned (inside at) (count_is at ∙ w.if-count-eq0.true) (omega arith));
         room = omega (arith, long, c.self.invariant.room, w.push_reserved.ensures.capacity);
       })
       | else-count-eq0 w ↦ rw w.self-inside-is (record {
         few = omega (arith, long, c.self.invariant.few);
-        turned = further_turn counts c.self.inside.nodes.items x more c.self.invariant.turned (inside at) (omega (arith, count_is at, w.if-count-eq0.false)) (omega arith);
+        turned = further_turn counts c.self.inside.nodes.items x more c.self.invariant.turned (inside at)
+            (omega (arith, count_is at, w.if-count-eq0.false)) (omega arith);
         room = omega (arith, long, c.self.invariant.room);
       })
     ]

@@ -7,13 +7,15 @@ use Rattle.fr_graph.proofs.turns.Turns.set_each.Goals as goal
 use Rattle.fr_graph.proofs.turns.Turns.set_each.Goals.{After-set_counts}
 
 pub set_counts-requires : goal.set_counts-requires
-set_counts-requires c = rw (c.deref.ensures.value, c.deref_mut.ensures.value) (turned_below c.self.inside.counts.items c.self.inside.nodes.items c.self.invariant.turned)
+set_counts-requires c = rw (c.deref.ensures.value, c.deref_mut.ensures.value)
+    (turned_below c.self.inside.counts.items c.self.inside.nodes.items c.self.invariant.turned)
 
 counts_are : (c : After-set_counts) → (with_items c.self.inside.counts c.set_counts.new.counts).items ≡ map (set_to c.args.count) c.self.inside.counts.items
 counts_are c =
     let before = c.self.inside.counts.items in
     let same : length c.set_counts.new.counts ≡ length before = c.set_counts.ensures.one_each ∙ ap length c.deref_mut.ensures.value in
-    let set : AreSet c.self.inside.nodes.items c.args.count before c.set_counts.new.counts = rw (c.deref.ensures.value, c.deref_mut.ensures.value) at c.set_counts.ensures.set in
+    let set : AreSet c.self.inside.nodes.items c.args.count before c.set_counts.new.counts =
+    rw (c.deref.ensures.value, c.deref_mut.ensures.value) at c.set_counts.ensures.set in
     with_items_is c.self.inside.counts c.set_counts.new.counts (same ∙ sym c.self.inside.counts.ok.0)
     ∙ each_set before c.set_counts.new.counts c.self.inside.nodes.items c.args.count c.self.invariant.turned same set
 

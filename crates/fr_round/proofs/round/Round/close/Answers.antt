@@ -23,7 +23,8 @@ load_new_seat-seat-requires c =
 
 pub take_over-requires-clause-own : goal.take_over-requires-clause-own
 take_over-requires-clause-own c =
-    each_weaker (IsOwn c.args.self) (λ (k : Knowledge). k.table ≡ c.self.inside.words.table.shared.table_id) (λ k own. own.table ∙ sym (ap (λ (o : OpenRound). o.table) c.self.view_is)) c.args.workers.items c.requires.own
+    each_weaker (IsOwn c.args.self) (λ (k : Knowledge). k.table ≡ c.self.inside.words.table.shared.table_id)
+    (λ k own. own.table ∙ sym (ap (λ (o : OpenRound). o.table) c.self.view_is)) c.args.workers.items c.requires.own
 
 pub returns-clause-history : goal.returns-clause-history
 returns-clause-history c =
@@ -35,9 +36,13 @@ returns-clause-history c =
     let p = t.new.seat in
     let ks = c.args.workers.items in
     let came = c.load_new_seat-seat.ensures.2 in
-    let counts : (Rattle.std.specs.Vec.with_items w.counts c.read_counts.new.counts).items ≡ slots_items z.words = with_items_is w.counts c.read_counts.new.counts (search rules) ∙ c.read_counts.ensures in
+    let counts : (Rattle.std.specs.Vec.with_items w.counts c.read_counts.new.counts).items ≡ slots_items z.words =
+    with_items_is w.counts c.read_counts.new.counts (search rules) ∙ c.read_counts.ensures in
     let final : Final (Seen (KeepsRule {S = Unit {0}} (setup_of w.words.terms)) p.id p.me.0) (slots_items z.words) (slots_items z.slots) =
-    subst (λ (g : Terms). Final (Seen (KeepsRule {S = Unit {0}} (setup_of g)) p.id p.me.0) (slots_items z.words) (slots_items z.slots)) i.key c.close_with-closed.ensures.values.2 in
-    let all = closes (open_round_of w) ks (slots_items z.words) (slots_items z.slots) p.id p.me.0 t.new.turned.items final (ap (λ (u : View). u.closes) e ∙ ap (λ (u : View). u.closes) came)
-    (ap (λ (u : View). u.taken) e ∙ ap (λ (u : View). u.taken ++ map number_and_known ks) came) (t.ensures.turned ∙ (λ j. i.none_turned j ++ map number_and_turns ks)) in
+    subst (λ (g : Terms). Final (Seen (KeepsRule {S = Unit {0}} (setup_of g)) p.id p.me.0) (slots_items z.words)
+    (slots_items z.slots)) i.key c.close_with-closed.ensures.values.2 in
+    let all = closes (open_round_of w) ks (slots_items z.words) (slots_items z.slots) p.id p.me.0 t.new.turned.items final
+    (ap (λ (u : View). u.closes) e ∙ ap (λ (u : View). u.closes) came)
+    (ap (λ (u : View). u.taken) e ∙ ap (λ (u : View). u.taken ++ map number_and_known ks) came) (t.ensures.turned
+    ∙ (λ j. i.none_turned j ++ map number_and_turns ks)) in
     subst (λ (q : OpenRound × List ℕ). Closes q.0 ks q.1 t.new.turned.items) (λ j. (c.self.view_is j, sym counts j)) all

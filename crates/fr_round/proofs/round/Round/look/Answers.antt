@@ -6,4 +6,8 @@ use Rattle.fr_round.proofs.round.Round.look.Goals as goal
 pub returns-in_err-check_look-clause-refused : goal.returns-in_err-check_look-clause-refused
 returns-in_err-check_look-clause-refused c =
     let told = err_from_is_err_and c.from_residual.result c.from_residual.ensures.1 in
-    rw (told.1, told.2) (subst (λ (o : OpenRound). RefusesLook o.setup c.args.x c.in_err-check_look.field-0.0) c.self.view_is c.in_err-check_look.ensures.refused, refl)
+    rw (told.1, told.2) (
+      subst (λ (o : OpenRound). RefusesLook o.setup c.args.x c.in_err-check_look.field-0.0)
+          c.self.view_is c.in_err-check_look.ensures.refused,
+      refl,
+    )

@@ -8,5 +8,6 @@ load-found-requires c =
     let q = c.requires in (
       q.caller.table.same,
       omega (arith, q.caller.table.one_each, q.node.inside),
-      ends_look_at (setup_of c.args.words.now.table.shared.key) (setup_of c.args.words.now.terms) c.args.words.now.table.shared.table_id.slots c.args.self.now.seat.id c.args.self.now.seat.me c.args.x c.args.c q.call q.node q.met,
+      ends_look_at (setup_of c.args.words.now.table.shared.key) (setup_of c.args.words.now.terms)
+          c.args.words.now.table.shared.table_id.slots c.args.self.now.seat.id c.args.self.now.seat.me c.args.x c.args.c q.call q.node q.met,
     )

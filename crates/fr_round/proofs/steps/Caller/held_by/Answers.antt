@@ -19,22 +19,26 @@ loop-entry-preserved c =
     let step = c.if-not-is_met.ensures.step in
     let other = other_node net.nodes net.links c.args.x list j c.network_law.ensures.is_net c.row-entry-items.ensures c.loop-entry-test.true in
     let same = tested.stays.seat in
-    let enough = subst (λ (l : List (ℕ × First)). bound_of (neighbour_at l j).1 c.args.c ≤ slice_index w'.seen (neighbour_at l j).0) c.row-entry-items.ensures step.0 in
+    let enough = subst (λ (l : List (ℕ × First)). bound_of (neighbour_at l j).1 c.args.c ≤ slice_index w'.seen
+    (neighbour_at l j).0) c.row-entry-items.ensures step.0 in
     record {
       stays = record {
         seat = (same.0 ∙ i.stays.seat.0, same.1 ∙ i.stays.seat.1, same.2 ∙ i.stays.seat.2);
         seen = tested.stays.seen;
       };
-      call = looks_on (setup_of c.args.words.now.terms) c.args.self.now.seat.me.0 c.loop-entry.self.seat.me.0 w' c.args.x c.args.c j (neighbour_at list j).0 i.call step.1 tested.up other.1 enough;
+      call = looks_on (setup_of c.args.words.now.terms) c.args.self.now.seat.me.0 c.loop-entry.self.seat.me.0 w' c.args.x
+          c.args.c j (neighbour_at list j).0 i.call step.1 tested.up other.1 enough;
     }
 
 pub returns-clause-passed : goal.returns-clause-passed
 returns-clause-passed c =
     let net = c.args.words.now.terms.net in
     let i = c.loop-entry.invariant in
-    let whole : length c.row-entry-items.result.now ≡ length (row net.nodes net.links c.args.x) = ap (λ (l : List (ℕ × First)). length l) c.row-entry-items.ensures in
+    let whole : length c.row-entry-items.result.now ≡ length (row net.nodes net.links c.args.x) =
+    ap (λ (l : List (ℕ × First)). length l) c.row-entry-items.ensures in
     record {
       stays = i.stays;
       looking = i.call.looking;
-      met = all_meet (setup_of c.args.words.now.terms) c.args.x c.args.c c.loop-entry.entry-index c.loop-entry.self.seat.me.0.seen c.network_law.ensures.is_net (omega (arith, whole, c.loop-entry-test.false)) i.call.enough;
+      met = all_meet (setup_of c.args.words.now.terms) c.args.x c.args.c c.loop-entry.entry-index
+          c.loop-entry.self.seat.me.0.seen c.network_law.ensures.is_net (omega (arith, whole, c.loop-entry-test.false)) i.call.enough;
     }

@@ -50,12 +50,14 @@ returns c =
     let below = (row_holds net.nodes net.links c.args.x e c.requires.entry).0 in
     let long = c.requires.caller.seen.numbers.one_each in
     let view : length v.seen ≡ length c.args.self.now.seen.counts.items = ap (λ (s : List ℕ). length s) c.requires.caller.seen.counts in
-    let now : slice_index c.raise.new.self.counts.items e.0 ≡ l.result = ap (λ (s : List ℕ). slice_index s e.0) c.raise.ensures.counts ∙ get_or-set_same c.args.self.now.seen.counts.items e.0 l.result 0 (omega arith) in
+    let now : slice_index c.raise.new.self.counts.items e.0 ≡ l.result =
+    ap (λ (s : List ℕ). slice_index s e.0) c.raise.ensures.counts ∙ get_or-set_same c.args.self.now.seen.counts.items e.0 l.result 0 (omega arith) in
     let call = c.requires.call in
     let found = l.result in
     let met = subst (λ (k : ℕ). bound_of e.1 k ≤ found → w ≡ noted v e.0 found) call.count l.ensures.met in
     let missed = subst (λ (p : ℕ × ℕ). found < bound_of e.1 p.1 → EndsCall v p.0 (Held e.0) e.0 found w) (λ i. (call.node i, call.count i)) l.ensures.missed in
-    let held = met_or_held v w c.args.x e c.args.c l.result c.misses-2.result (c.misses-2.ensures ∙ ap (λ (k : ℕ). nat_lt k (bound_of e.1 c.args.c)) now) (omega arith) met missed in
+    let held = met_or_held v w c.args.x e c.args.c l.result c.misses-2.result (c.misses-2.ensures
+    ∙ ap (λ (k : ℕ). nat_lt k (bound_of e.1 c.args.c)) now) (omega arith) met missed in
     record {
       stays = record { seat = l.ensures.same; seen = record { counts = search rules; numbers = c.raise.ensures.counted } };
       up = search rules;

@@ -6,8 +6,10 @@ use Rattle.fr_round.proofs.terms.Terms.check_look.Goals as goal
 pub returns-then-degree-eq0-clause-refused : goal.returns-then-degree-eq0-clause-refused
 returns-then-degree-eq0-clause-refused c =
     let net = c.args.self.now.net in
-    let none : c.degree.result ≡ 0 = grind (arith, nat_tests) in
-    (omega (arith, c.if-x-nodes.false, c.nodes.ensures.value), row_alone net.nodes net.links c.args.x c.nodes.ensures.faultless.is_net (omega (arith, none, c.degree.ensures)))
+    let none : c.degree.result ≡ 0 = grind (arith, nat_tests) in (
+      omega (arith, c.if-x-nodes.false, c.nodes.ensures.value),
+      row_alone net.nodes net.links c.args.x c.nodes.ensures.faultless.is_net (omega (arith, none, c.degree.ensures)),
+    )
 
 pub returns-clause-lookable : goal.returns-clause-lookable
 returns-clause-lookable c =

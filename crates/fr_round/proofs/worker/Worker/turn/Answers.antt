@@ -8,7 +8,8 @@ pub overflow_add-self : goal.overflow_add-self
 overflow_add-self c =
     let setup = ap (λ (k : Knowledge). k.setup) c.self.view_is ∙ c.requires.own.setup in
     let small : c.args.words.now.terms.net.nodes < 2 ^ 32 = search rules in
-    let fits = turned_fits c.args.words.now c.self.inside c.turn_at-reply.new.self c.args.x c.turn_at-reply.result c.self.invariant setup c.turn_at-reply.ensures.made c.network_law.ensures.is_net small in
+    let fits = turned_fits c.args.words.now c.self.inside c.turn_at-reply.new.self c.args.x c.turn_at-reply.result
+    c.self.invariant setup c.turn_at-reply.ensures.made c.network_law.ensures.is_net small in
     omega (arith, fits, c.turns.ensures)
 
 pub returns-clause-learns : goal.returns-clause-learns
