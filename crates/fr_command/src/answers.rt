@@ -7,10 +7,9 @@ ghost use Rattle.fr_route.specs.Answers.{AreAnswers};
 ghost use Rattle.fr_command.specs.InLines.{IsAnsweringFault, IsLineFault};
 ghost use Rattle.fr_command.specs.Outputs.{WritesOutput};
 
-use crate::crew::Crew;
 use crate::fault::run_fault;
 use fr_bytes::{Lines, RunFault, write_whole};
-use fr_crew::Gate;
+use fr_crew::{Crew, Gate};
 use fr_route::{AnswerFault, Session};
 use std::io::Write;
 use std::sync::Wait;

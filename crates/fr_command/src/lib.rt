@@ -10,7 +10,6 @@
 
 mod answers;
 mod conversation;
-mod crew;
 mod entries;
 mod fault;
 pub mod laws;

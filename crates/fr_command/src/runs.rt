@@ -6,9 +6,8 @@ ghost use Rattle.fr_command.specs.Faults.{IsRunFault};
 ghost use Rattle.fr_command.specs.Outputs.{WritesOutput};
 
 use crate::answers::answer_all;
-use crate::crew::Crew;
 use fr_bytes::{RunFault, flush, read_input};
-use fr_crew::{Gate, Plan};
+use fr_crew::{Crew, Gate, Plan};
 use std::alloc::Global;
 use std::io::{Read, Write};
 use std::sync::Wait;

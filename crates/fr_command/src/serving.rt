@@ -11,9 +11,8 @@ ghost use Rattle.fr_command.specs.InLines.{IsLineFault};
 ghost use Rattle.fr_command.specs.InPieces.{IsFrontFault, IsPieceFault};
 
 use crate::conversation::Conversation;
-use crate::crew::Crew;
 use fr_bytes::{MAX_BYTES, PIECE, RunFault, flush, read_piece, write_whole};
-use fr_crew::{Gate, Plan};
+use fr_crew::{Crew, Gate, Plan};
 use std::alloc::Global;
 use std::io::{Read, Write};
 use std::sync::Wait;
