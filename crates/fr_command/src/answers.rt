@@ -34,7 +34,8 @@ pub(crate) fn answer_all<T: Threads + Wait + Sync, W: Write, G: Gate + Sync>(
     Ok(count)
 }
 
-/// Writes the answer to a line, with byte 10 behind it, and tells how many there are: a blank line has none, and any other one.
+/// Writes the answer to a line, with byte 10 behind it, and tells how many there are: a blank line has none, and any
+/// other one.
 fn answer_one<T: Threads + Wait + Sync, W: Write, G: Gate + Sync>(
     crew: &Crew<'_, T, G>,
     session: &mut Session,
