@@ -6,8 +6,8 @@ ghost use Rattle.fr_bytes.specs.declared.fault.RunFault.TheVariants.{Memory};
 use std::alloc::AllocError;
 use thiserror::Error;
 
-/// Why a run, a service, a play or a drawing stopped. Plays and drawings write only at their end, so a fault other than `Write` has
-/// written nothing.
+/// Why a run, a service, a play or a drawing stopped. Plays and drawings write only at their end, so a fault other
+/// than `Write` has written nothing.
 #[derive(Debug, Drop, Error, PartialEq, Eq)]
 pub enum RunFault {
     /// A read failed. A service has written the answers to the lines that had ended, and all others nothing.
@@ -16,15 +16,15 @@ pub enum RunFault {
     /// A write or the flush failed, or a write took no byte. What went out is a beginning of the output.
     #[error("write fault")]
     Write,
-    /// The input has more than [`MAX_BYTES`](crate::MAX_BYTES) bytes, and nothing was written; or one line of a service has, and what it
-    /// wrote is the answers to the lines before that.
+    /// The input has more than [`MAX_BYTES`](crate::MAX_BYTES) bytes, and nothing was written; or one line of a
+    /// service has, and what it wrote is the answers to the lines before that.
     #[error("input too long")]
     TooLong,
     /// A thread could not be started. What was written is the answers to the lines before the one that failed.
     #[error("no thread")]
     Start,
-    /// An allocation was refused. What was written is the answers to the lines before the one that failed, or nothing where the
-    /// input of a run found no room.
+    /// An allocation was refused. What was written is the answers to the lines before the one that failed, or nothing
+    /// where the input of a run found no room.
     #[error("no memory")]
     Memory,
 }

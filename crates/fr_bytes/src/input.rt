@@ -16,9 +16,9 @@ pub const MAX_BYTES: usize = 16_777_216;
 /// How many bytes of an input are asked for at once.
 pub const PIECE: usize = 65_536;
 
-/// All that the reader has, if that is at most [`MAX_BYTES`]; whatever the result, at most one byte more is read. `Read` where a
-/// read failed, `TooLong` where the reader has more, `Memory` where bytes that it gave found no room; never `Write` or `Start`. `O(b)` for b
-/// bytes read.
+/// All that the reader has, if that is at most [`MAX_BYTES`]; whatever the result, at most one byte more is read.
+/// `Read` where a read failed, `TooLong` where the reader has more, `Memory` where bytes that it gave found no room;
+/// never `Write` or `Start`. `O(b)` for b bytes read.
 pub fn read_input<R: Read>(alloc: Global, reader: &mut R) -> Result<Vec<u8>, RunFault>
     ensures ok { IfOk result (λ input. ReadsInput (R.remaining reader.old) (R.remaining reader.new) input.items) }
     ensures limit { ReadsAtMostOneTooMany (R.remaining reader.old) (R.remaining reader.new) }
@@ -53,8 +53,8 @@ fn read_by_pieces<R: Read>(
     Err(RunFault::TooLong)
 }
 
-/// Reads once, into a piece, and tells how many bytes came. Where the piece has room, a read that succeeds brings a byte, or the
-/// reader is at its end; a read that fails is `Read`. It costs what the read does.
+/// Reads once, into a piece, and tells how many bytes came. Where the piece has room, a read that succeeds brings a
+/// byte, or the reader is at its end; a read that fails is `Read`. It costs what the read does.
 pub fn read_piece<R: Read>(reader: &mut R, piece: &mut [u8]) -> Result<usize, RunFault>
     ensures brings { IfOk result (λ count. count ≡ 0 → 0 < length piece.old → IsAtEnd (R.remaining reader.new)) }
     ensures bytes { IfOk result (λ count. Consumes (R.remaining reader.old) (R.remaining reader.new) (take count piece.new)) }

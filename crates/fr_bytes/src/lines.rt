@@ -6,8 +6,8 @@ ghost use Rattle.std.specs.Option.{option_copied, option_map_or};
 ghost use Rattle.std.specs.Iterator.{YieldsFirstRef, item_count};
 ghost use Rattle.fr_bytes.specs.Lines.{lines_of, lines_left};
 
-/// The lines of an input, one after the other. What stands behind the last byte 10 is a line too, empty or not. To go through all is linear
-/// in the input.
+/// The lines of an input, one after the other. What stands behind the last byte 10 is a line too, empty or not. To go
+/// through all is linear in the input.
 #[derive(Drop)]
 pub struct Lines<'a> {
     rest: Option<&'a [u8]>,
@@ -54,7 +54,8 @@ fn line_end(text: &[u8]) -> Option<usize>
     text.iter().position(|byte| *byte == b'\n')
 }
 
-/// How many bytes of a text stand before its first byte 10, which is all of them where there is none. `O(b)` for b of these.
+/// How many bytes of a text stand before its first byte 10, which is all of them where there is none. `O(b)` for b of
+/// these.
 pub fn front_size(text: &[u8]) -> usize
     ensures { result ≡ position_or_len (λ x. x == 10) text.now }
 {

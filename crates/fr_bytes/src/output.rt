@@ -7,8 +7,8 @@ ghost use Rattle.fr_bytes.specs.Bytes.{IsBeginning};
 use crate::fault::RunFault;
 use std::io::Write;
 
-/// Writes all of the bytes. Any error, and a write that takes no byte, is the fault `Write`: what went out is then their beginning. `O(b)`
-/// for b bytes.
+/// Writes all of the bytes. Any error, and a write that takes no byte, is the fault `Write`: what went out is then
+/// their beginning. `O(b)` for b bytes.
 pub fn write_whole<W: Write>(writer: &mut W, bytes: &[u8]) -> Result<(), RunFault>
     ensures ok { OnOk result (Appends (W.contents writer.old) (W.contents writer.new) bytes.now) }
     ensures err { OnErr result ((n : ℕ) × Appends (W.contents writer.old) (W.contents writer.new) (take n bytes.now)) }
@@ -24,8 +24,8 @@ pub fn write_whole<W: Write>(writer: &mut W, bytes: &[u8]) -> Result<(), RunFaul
     Ok(())
 }
 
-/// Writes all of the bytes, and flushes once. Any error, and a write that takes no byte, is the fault `Write`: what went out is then a
-/// beginning of the bytes. `O(b)` for b bytes.
+/// Writes all of the bytes, and flushes once. Any error, and a write that takes no byte, is the fault `Write`: what
+/// went out is then a beginning of the bytes. `O(b)` for b bytes.
 pub fn write_out<W: Write>(writer: &mut W, bytes: &[u8]) -> Result<(), RunFault>
     ensures ok { OnOk result (Appends (W.contents writer.old) (W.contents writer.new) bytes.now) }
     ensures err { OnErr result ((front : List ℕ) × IsBeginning front bytes.now × Appends (W.contents writer.old) (W.contents writer.new) front) }

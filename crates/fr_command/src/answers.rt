@@ -7,10 +7,9 @@ ghost use Rattle.fr_route.specs.Answers.{AreAnswers};
 ghost use Rattle.fr_command.specs.InLines.{IsAnsweringFault, IsLineFault};
 ghost use Rattle.fr_command.specs.Outputs.{WritesOutput};
 
-use crate::crew::Crew;
 use crate::fault::run_fault;
 use fr_bytes::{Lines, RunFault, write_whole};
-use fr_crew::Gate;
+use fr_crew::{Crew, Gate};
 use fr_route::{AnswerFault, Session};
 use std::io::Write;
 use std::sync::Wait;
@@ -35,7 +34,8 @@ pub(crate) fn answer_all<T: Threads + Wait + Sync, W: Write, G: Gate + Sync>(
     Ok(count)
 }
 
-/// Writes the answer to a line, with byte 10 behind it, and tells how many there are: a blank line has none, and any other one.
+/// Writes the answer to a line, with byte 10 behind it, and tells how many there are: a blank line has none, and any
+/// other one.
 fn answer_one<T: Threads + Wait + Sync, W: Write, G: Gate + Sync>(
     crew: &Crew<'_, T, G>,
     session: &mut Session,

@@ -1,4 +1,5 @@
-//! A conversation: the bytes of an input come in pieces that are cut anywhere, and each line is answered once its end has come.
+//! A conversation: the bytes of an input come in pieces that are cut anywhere, and each line is answered once its end
+//! has come.
 
 ghost use Rattle.std.specs.Prelude.{◌≡◌, ◌≢◌, ◌<◌, ◌≤◌, ◌+◌, ◌++◌, ◌↔◌, ◌∷◌, [], length, take, true, IfErr, IfOk, OnOk, OnErr};
 ghost use Rattle.fr_route.specs.Blank.{is_blank as is_blank_line};
@@ -73,11 +74,12 @@ impl Conversation {
         &self.begun
     }
 
-    /// Takes the front of a piece, up to its first byte 10 and with it, and answers the line that ends there; without one, all of the
-    /// piece goes to the line that has begun. Whatever the fault, nothing was taken, and the piece can be handed in again: `TooLong`
-    /// where the line has more than [`MAX_BYTES`] bytes, `Start` where a thread could not be started, which with the budget 0
-    /// never comes, and `Memory` where the line or its answer found no room, which a blank line wants only where it does not end in the
-    /// piece; never `Read` or `Write`. `O(b)` for b bytes taken, and at a line end what [`Session::answer_line`] costs.
+    /// Takes the front of a piece, up to its first byte 10 and with it, and answers the line that ends there; without
+    /// one, all of the piece goes to the line that has begun. Whatever the fault, nothing was taken, and the piece can
+    /// be handed in again: `TooLong` where the line has more than [`MAX_BYTES`] bytes, `Start` where a thread could
+    /// not be started, which with the budget 0 never comes, and `Memory` where the line or its answer found no room,
+    /// which a blank line wants only where it does not end in the piece; never `Read` or `Write`. `O(b)` for b bytes
+    /// taken, and at a line end what [`Session::answer_line`] costs.
     pub fn take<T: Threads + Wait + Sync, G: Gate + Sync>(
         &mut self,
         rt: &T,
@@ -122,8 +124,9 @@ impl Conversation {
         }
     }
 
-    /// Ends the line that has begun, as the end of an input does, and answers it; None where it is blank. Whatever the fault, `Start`
-    /// or `Memory` as [`take`](Conversation::take) has them, nothing has changed. It costs what [`Session::answer_line`] does.
+    /// Ends the line that has begun, as the end of an input does, and answers it; None where it is blank. Whatever the
+    /// fault, `Start` or `Memory` as [`take`](Conversation::take) has them, nothing has changed. It costs what
+    /// [`Session::answer_line`] does.
     pub fn finish<T: Threads + Wait + Sync, G: Gate + Sync>(
         &mut self,
         rt: &T,
@@ -145,7 +148,8 @@ impl Conversation {
         }
     }
 
-    /// Whether the line that has begun goes on with this front of a piece, ends there, is blank, and is no longer than may be.
+    /// Whether the line that has begun goes on with this front of a piece, ends there, is blank, and is no longer than
+    /// may be.
     fn ends_blank(&self, piece: &[u8], front: usize) -> bool
         requires { front ≤ length piece.now }
         ensures { (result ≡ true) ↔ ((front < length piece.now) × (is_blank_line (self.now.begun ++ take front piece.now) ≡ true)

@@ -21,16 +21,17 @@ use fr_words::Draw;
 use std::alloc::{AllocError, Global};
 use std::io::{Read, Write};
 
-/// Reads the whole input, plays the schedule of the draw on the network of the first line that is not blank, writes the
-/// entries, one a line, and then the links and the counts at the end, flushes once, and tells how many entries there are.
-/// Each worker goes through the nodes with links but the destination in rising order, and again from the first, up to as many
-/// as there are steps. Where there is no such line, or it is refused as the first line of a run would be, or is no network,
-/// all that is written is that it is refused. At most one byte past the limit, [`MAX_BYTES`](crate::MAX_BYTES), is read.
+/// Reads the whole input, plays the schedule of the draw on the network of the first line that is not blank, writes
+/// the entries, one a line, and then the links and the counts at the end, flushes once, and tells how many entries
+/// there are. Each worker goes through the nodes with links but the destination in rising order, and again from the
+/// first, up to as many as there are steps. Where there is no such line, or it is refused as the first line of a run
+/// would be, or is no network, all that is written is that it is refused. At most one byte past the limit,
+/// [`MAX_BYTES`](crate::MAX_BYTES), is read.
 ///
-/// `Read` where a read failed, `TooLong` where the input goes past the limit, and `Memory` where no room could be had: then nothing is
-/// written. `Write` where a write or the flush failed: what went out is a beginning of the output. Never `Start`. `O(b)` for b bytes of input, what
-/// [`read_line`] costs for one line, `O(n + m + w s)` for w workers and s steps, `O(d)` an entry, and what [`Net::turned_by`] costs at the
-/// end.
+/// `Read` where a read failed, `TooLong` where the input goes past the limit, and `Memory` where no room could be had:
+/// then nothing is written. `Write` where a write or the flush failed: what went out is a beginning of the output.
+/// Never `Start`. `O(b)` for b bytes of input, what [`read_line`] costs for one line, `O(n + m + w s)` for w workers
+/// and s steps, `O(d)` an entry, and what [`Net::turned_by`] costs at the end.
 pub fn play_drawn<R: Read, W: Write>(
     alloc: Global,
     reader: &mut R,

@@ -11,21 +11,21 @@ ghost use Rattle.fr_command.specs.InLines.{IsLineFault};
 ghost use Rattle.fr_command.specs.InPieces.{IsFrontFault, IsPieceFault};
 
 use crate::conversation::Conversation;
-use crate::crew::Crew;
 use fr_bytes::{MAX_BYTES, PIECE, RunFault, flush, read_piece, write_whole};
-use fr_crew::{Gate, Plan};
+use fr_crew::{Crew, Gate, Plan};
 use std::alloc::Global;
 use std::io::{Read, Write};
 use std::sync::Wait;
 use std::thread::Threads;
 
-/// Answers each line of the input that is not blank, and writes its answer and flushes before it reads on; at the end, what it has
-/// written is what [`run`](crate::run) writes. The input may be of any length, and each of its lines has at most
-/// [`MAX_BYTES`] bytes: `TooLong` comes with the byte that makes one longer, and no byte behind it is read. It waits for the reader,
-/// and for the threads that settle networks, as [`run`](crate::run) does.
+/// Answers each line of the input that is not blank, and writes its answer and flushes before it reads on; at the end,
+/// what it has written is what [`run`](crate::run) writes. The input may be of any length, and each of its lines has
+/// at most [`MAX_BYTES`] bytes: `TooLong` comes with the byte that makes one longer, and no byte behind it is read. It
+/// waits for the reader, and for the threads that settle networks, as [`run`](crate::run) does.
 ///
-/// At `Read` and `TooLong` the lines that had ended are answered, at `Start` and `Memory` those before the one that found no thread or no
-/// room, and at `Write` what went out is a beginning of the output. It costs what `run` does, but room for the longest line and no more.
+/// At `Read` and `TooLong` the lines that had ended are answered, at `Start` and `Memory` those before the one that
+/// found no thread or no room, and at `Write` what went out is a beginning of the output. It costs what `run` does,
+/// but room for the longest line and no more.
 pub fn serve<T: Threads + Wait + Sync, R: Read, W: Write, G: Gate + Sync>(
     rt: &T,
     alloc: Global,

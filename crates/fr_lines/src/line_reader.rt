@@ -22,9 +22,9 @@ use std::str::from_utf8;
 /// How deep arrays and objects may nest, as `serde_json` has it.
 const DEPTH: usize = 127;
 
-/// A reader of many lines. It reads most requests by their bytes. From the first line on that has a sign, a fraction, an exponent, an
-/// escape or an empty list, and from the first that is no request, it keeps the memory that reading takes: a table of 16 KB, and room for
-/// the longest line so far.
+/// A reader of many lines. It reads most requests by their bytes. From the first line on that has a sign, a fraction,
+/// an exponent, an escape or an empty list, and from the first that is no request, it keeps the memory that reading
+/// takes: a table of 16 KB, and room for the longest line so far.
 pub struct LineReader {
     scratch: Option<Box<Scratch>>,
 }
@@ -43,8 +43,8 @@ impl LineReader {
         LineReader { scratch: None }
     }
 
-    /// The request that a line is, as [`read_line`](crate::read_line) tells it, with the same faults; one other than `Memory` is settled
-    /// by the line alone. `O(b)` for a line of b bytes with no object.
+    /// The request that a line is, as [`read_line`](crate::read_line) tells it, with the same faults; one other than
+    /// `Memory` is settled by the line alone. `O(b)` for a line of b bytes with no object.
     pub fn read(&mut self, alloc: Global, line: &[u8]) -> Result<Request, LineFault>
         ensures ok { IfOk result (λ request. reading line.now ≡ Ok (plain request)) }
         ensures refused { IfErr result (λ fault. fault ≢ Memory → reading line.now ≡ Err fault) }
@@ -59,7 +59,8 @@ impl LineReader {
         self.read_tokens(alloc, line)
     }
 
-    /// The request that a line is, by its tokens. It is kept out of the way of other lines, which pay for no locals then.
+    /// The request that a line is, by its tokens. It is kept out of the way of other lines, which pay for no locals
+    /// then.
     #[inline(never)]
     fn read_tokens(&mut self, alloc: Global, line: &[u8]) -> Result<Request, LineFault>
         ensures ok { IfOk result (λ request. reading line.now ≡ Ok (plain request)) }
@@ -100,7 +101,8 @@ fn opens_with_word(line: &[u8]) -> bool {
     }
 }
 
-/// The request that a text is. Where a word seems to open the text and none does, the text is begun again, and read as one value.
+/// The request that a text is. Where a word seems to open the text and none does, the text is begun again, and read as
+/// one value.
 fn request_of_text(alloc: Global, text: &str, scratch: &mut Scratch) -> Result<Request, LineFault>
     ensures { Tells (reading_of_tokens (tokens text.now)) result }
 {

@@ -7,8 +7,8 @@ ghost use Rattle.fr_lines.specs.Requests.{reading};
 
 use crate::fronts::{behind_mark, behind_space, ends_line, is_over, number, number_before};
 
-/// Whether a line is a number, an array of numbers or of nothing, or an object of nothing, its numbers written without signs, fractions
-/// and exponents: JSON, and no request. Of any other line it says nothing.
+/// Whether a line is a number, an array of numbers or of nothing, or an object of nothing, its numbers written without
+/// signs, fractions and exponents: JSON, and no request. Of any other line it says nothing.
 #[inline(never)]
 pub(crate) fn is_no_request(line: &[u8]) -> bool
     ensures { result ≡ true → reading line.now ≡ Err NotRequest }

@@ -12,9 +12,9 @@ use fr_graph::Edit;
 use serde_json::Value;
 use std::alloc::Global;
 
-/// The request that a line is, in JSON with white space wherever JSON has it; `NotJson` or `NotRequest` where it is none, as [`LineFault`]
-/// says, and `Memory` where no room could be had. A fault other than `Memory` is settled by the line alone. `O(b)` for a line of b bytes
-/// with no object.
+/// The request that a line is, in JSON with white space wherever JSON has it; `NotJson` or `NotRequest` where it is
+/// none, as [`LineFault`] says, and `Memory` where no room could be had. A fault other than `Memory` is settled by the
+/// line alone. `O(b)` for a line of b bytes with no object.
 pub fn read_line(alloc: Global, line: &[u8]) -> Result<Request, LineFault>
     ensures ok { IfOk result (λ request. reading line.now ≡ Ok (plain request)) }
     ensures refused { IfErr result (λ fault. fault ≢ Memory → reading line.now ≡ Err fault) }

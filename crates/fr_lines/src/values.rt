@@ -162,7 +162,8 @@ fn negative(bytes: &[u8]) -> Option<Number>
     }
 }
 
-/// The float that is nearest to these digits, where it is finite. No request holds one, so it is kept out of the loops above.
+/// The float that is nearest to these digits, where it is finite. No request holds one, so it is kept out of the loops
+/// above.
 #[inline(never)]
 fn float(sign: bool, bytes: &[u8]) -> Option<Number>
     ensures { option_map number_view result ≡ float_of sign (scan bytes.now) }

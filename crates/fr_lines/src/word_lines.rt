@@ -15,8 +15,8 @@ use crate::words::{EditWord, Word};
 use fr_graph::Edit;
 use std::alloc::Global;
 
-/// The request of a line that this word opens: an arm for each word. A line with signs, fractions, exponents or escapes, or with an empty
-/// list, is `None`, although it may be a request.
+/// The request of a line that this word opens: an arm for each word. A line with signs, fractions, exponents or
+/// escapes, or with an empty list, is `None`, although it may be a request.
 #[inline(always)]
 pub(crate) fn request_after(
     alloc: Global,

@@ -22,9 +22,9 @@ pub enum Picture {
     Turns,
 }
 
-/// Reads the whole input, asks a session each of its lines, writes the picture of the network that they leave, or nothing where
-/// there is none, and flushes once. At most one byte past the limit of 16,777,216 bytes is read. A fault other than `Write` has
-/// written nothing.
+/// Reads the whole input, asks a session each of its lines, writes the picture of the network that they leave, or
+/// nothing where there is none, and flushes once. At most one byte past the limit of 16,777,216 bytes is read. A fault
+/// other than `Write` has written nothing.
 pub fn draw<R: Read, W: Write>(
     alloc: Global,
     reader: &mut R,

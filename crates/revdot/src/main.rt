@@ -1,5 +1,5 @@
-//! The program `revdot`: draws the network that the lines of standard input leave, in Graphviz's language, or tells their story in a
-//! page for a browser.
+//! The program `revdot`: draws the network that the lines of standard input leave, in Graphviz's language, or tells
+//! their story in a page for a browser.
 #![tactic(auto)]
 
 mod asked;
@@ -90,8 +90,8 @@ fn refuse<R: Eprint>(rt: &R, word: Option<String>) {
     };
 }
 
-/// The task of the command line: without a word the network as it stands. The first word that is help, the version or wrong decides,
-/// and else the last word.
+/// The task of the command line: without a word the network as it stands. The first word that is help, the version or
+/// wrong decides, and else the last word.
 fn task_of<R: Env + Alloc<A = Global>>(rt: &R) -> Result<Task, RunFault> {
     let words = match env::args(rt) {
         Ok(words) => words,

@@ -10,10 +10,11 @@ use fr_bytes::{RunFault, read_input, write_out};
 use std::alloc::{AllocError, Global};
 use std::io::{Read, Write};
 
-/// Reads the whole input, asks a session each of its lines, writes the page of the input, which is its story between the two parts
-/// of the viewer, and flushes once. At most one byte past the limit of 16,777,216 bytes is read. A fault other than `Write` has
-/// written nothing. The text is made before any of it is written; a round of up to 256 nodes and 4,096 turns is made once more, each
-/// turn in the time of the nodes and links, and a longer one, or one of more nodes, is told by its size.
+/// Reads the whole input, asks a session each of its lines, writes the page of the input, which is its story between
+/// the two parts of the viewer, and flushes once. At most one byte past the limit of 16,777,216 bytes is read. A fault
+/// other than `Write` has written nothing. The text is made before any of it is written; a round of up to 256 nodes
+/// and 4,096 turns is made once more, each turn in the time of the nodes and links, and a longer one, or one of more
+/// nodes, is told by its size.
 pub fn page<R: Read, W: Write>(
     alloc: Global,
     reader: &mut R,
