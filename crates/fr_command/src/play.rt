@@ -5,6 +5,7 @@ ghost use Rattle.std.specs.Option.{option_copied};
 ghost use Rattle.fr_lines.specs.Requests.{new_network};
 ghost use Rattle.fr_core.specs.Played.{IsPlay};
 ghost use Rattle.fr_route.specs.Blank.{is_blank as is_blank_line};
+ghost use Rattle.fr_route.specs.Refusals.{number_of};
 ghost use Rattle.fr_bytes.specs.Lines.{lines_of};
 ghost use Rattle.fr_bytes.specs.Bytes.{ReadsInput, ReadsAtMostOneTooMany};
 ghost use Rattle.fr_words.specs.Draws.{drawn};
@@ -14,9 +15,9 @@ ghost use Rattle.fr_command.specs.Plays.{targets_for, IsRefusal, IsPlayText, IsP
 use crate::entries::{end_text, push_count, targets_of};
 use fr_bytes::{Lines, RunFault, read_input, write_out};
 use fr_core::{Entry, play};
-use fr_graph::{Net, NetFault};
+use fr_graph::Net;
 use fr_lines::{LineFault, Request, read_line};
-use fr_route::{fault_number, is_blank};
+use fr_route::{Refusal, is_blank};
 use fr_words::Draw;
 use std::alloc::{AllocError, Global};
 use std::io::{Read, Write};
@@ -56,13 +57,13 @@ fn play_input(alloc: Global, input: &[u8], draw: Draw) -> Result<(String, u64), 
     ensures { IfOk result (λ made. IsPlayOutput draw input.now (string_bytes made.0) made.1) }
 {
     let Some(line) = first_asking(input) else {
-        return refusal(alloc, 3);
+        return refusal(alloc, Refusal::NoNetwork);
     };
     match read_line(alloc, line) {
         Ok(Request::Network { nodes, dest, links }) => play_links(alloc, nodes, dest, &links, draw),
-        Ok(_) => refusal(alloc, 3),
-        Err(LineFault::NotJson) => refusal(alloc, 1),
-        Err(LineFault::NotRequest) => refusal(alloc, 2),
+        Ok(_) => refusal(alloc, Refusal::NoNetwork),
+        Err(LineFault::NotJson) => refusal(alloc, Refusal::NotJson),
+        Err(LineFault::NotRequest) => refusal(alloc, Refusal::NotRequest),
         Err(LineFault::Memory) => Err(AllocError),
     }
 }
@@ -79,12 +80,12 @@ fn first_asking(input: &[u8]) -> Option<&[u8]>
     None
 }
 
-/// That the input is refused by this number, with no entry.
-fn refusal(alloc: Global, number: u32) -> Result<(String, u64), AllocError>
-    ensures { IfOk result (λ made. IsRefusal number (string_bytes made.0) made.1) }
+/// That the input is refused, with no entry.
+fn refusal(alloc: Global, refusal: Refusal) -> Result<(String, u64), AllocError>
+    ensures { IfOk result (λ made. IsRefusal (number_of refusal) (string_bytes made.0) made.1) }
 {
     let mut text = String::new(alloc);
-    push_count(&mut text, "refused ", u64::from(number))?;
+    push_count(&mut text, "refused ", u64::from(refusal.number()))?;
     text.push('\n')?;
     Ok((text, 0))
 }
@@ -101,11 +102,13 @@ fn play_links(
 {
     let net = match Net::new(alloc, nodes, links) {
         Ok(net) => net,
-        Err(NetFault::Memory) => return Err(AllocError),
-        Err(fault) => return refusal(alloc, fault_number(&fault)),
+        Err(fault) => return match Refusal::of(&fault) {
+            Some(refused) => refusal(alloc, refused),
+            None => Err(AllocError),
+        },
     };
     if dest >= nodes {
-        return refusal(alloc, 4);
+        return refusal(alloc, Refusal::NoNode);
     }
     play_net(alloc, &net, dest, draw)
 }

@@ -21,7 +21,8 @@ blank_line line now next blank same = of (is_blank line) blank
     of false e = cc
 
 -- the answer to any other, with byte 10 behind it
-pub answered_line : (line text : List ℕ) (now next : Option State) → is_blank line ≡ false → IsLineAnswer now (reading line) text next → AreAnswers now (line ∷ []) (text ++ 10 ∷ []) next
+pub answered_line : (line text : List ℕ) (now next : Option State) → is_blank line ≡ false
+    → IsLineAnswer now (reading line) text next → AreAnswers now (line ∷ []) (text ++ 10 ∷ []) next
 answered_line line text now next asks is = of (is_blank line) asks
   where
     of : (b : Bool) → b ≡ false → MatchBool b (AreAnswers now [] (text ++ 10 ∷ []) next) (Answered now line [] (text ++ 10 ∷ []) next)
@@ -34,14 +35,24 @@ either_way true P Q R S f g h = f h
 either_way false P Q R S f g h = g h
 
 -- the answers to some lines and then to others
-pub answers_append : (s mid last : Option State) (xs ys : List (List ℕ)) (out more : List ℕ) → AreAnswers s xs out mid → AreAnswers mid ys more last → AreAnswers s (xs ++ ys) (out ++ more) last
+pub answers_append : (s mid last : Option State) (xs ys : List (List ℕ)) (out more : List ℕ) → AreAnswers s xs out mid
+    → AreAnswers mid ys more last → AreAnswers s (xs ++ ys) (out ++ more) last
 answers_append s mid last [] ys out more a b =
     let nothing : out ++ more ≡ more = ap (λ (o : List ℕ). o ++ more) a.0 in
     subst (λ (o : List ℕ). AreAnswers s ys o last) (sym nothing) (subst (λ (t : Option State). AreAnswers t ys more last) a.1 b)
 answers_append s mid last (x ∷ xs) ys out more a b =
-    either_way (is_blank x) (AreAnswers s xs out mid) (Answered s x xs out mid) (AreAnswers s (xs ++ ys) (out ++ more) last) (Answered s x (xs ++ ys) (out ++ more) last)
+    either_way (is_blank x) (AreAnswers s xs out mid) (Answered s x xs out mid) (AreAnswers s (xs ++ ys) (out ++ more) last)
+    (Answered s x (xs ++ ys) (out ++ more) last)
     (λ h. answers_append s mid last xs ys out more h b)
-    (λ h. (h.0, h.1, h.2 ++ more, h.3, answers_append h.1 mid last xs ys h.2 more h.4 b, ap (λ (o : List ℕ). o ++ more) h.5 ∙ append_assoc (h.0 ++ 10 ∷ []) h.2 more))
+    (λ h. (
+      h.0,
+      h.1,
+      h.2 ++ more,
+      h.3,
+      answers_append h.1 mid last xs ys h.2 more h.4 b,
+      ap (λ (o : List ℕ). o ++ more) h.5
+          ∙ append_assoc (h.0 ++ 10 ∷ []) h.2 more,
+    ))
     a
 
 unfoldable pub none_asked : (lines : List (List ℕ)) → HasAsked lines lines None []
@@ -52,7 +63,8 @@ none_asked lines = record {
 }
 
 -- one line more is asked
-unfoldable pub asked_more : (lines : List (List ℕ)) (line : List ℕ) (left : List (List ℕ)) (now next : Option State) (answers more : List ℕ) → HasAsked lines (line ∷ left) now answers
+unfoldable pub asked_more : (lines : List (List ℕ)) (line : List ℕ) (left : List (List ℕ)) (now next : Option State)
+    (answers more : List ℕ) → HasAsked lines (line ∷ left) now answers
     → AreAnswers now (line ∷ []) more next → HasAsked lines left next (answers ++ more)
 asked_more lines line left now next answers more h are = record {
   done = h.done ++ line ∷ [];

@@ -42,7 +42,8 @@ made_nodes net [] after made = ap (λ (m : Network). m.nodes) made
 made_nodes net (e ∷ es) after made = made_nodes made.0 es after made.1.1 ∙ edited_nodes net e made.0 made.1.0
 
 -- why the edits are not made: one is refused,
-refused_for : (s : State) (edits : List Edit) (d : ℕ) (refused : EditFault) (fault : NetFault) → refused.fault ≡ fault → (refused.fault ≢ net.Memory → IsBatchFault (net_at s) edits refused) → IsEditingFault s edits d (of_net_fault fault)
+refused_for : (s : State) (edits : List Edit) (d : ℕ) (refused : EditFault) (fault : NetFault) → refused.fault ≡ fault
+    → (refused.fault ≢ net.Memory → IsBatchFault (net_at s) edits refused) → IsEditingFault s edits d (of_net_fault fault)
 refused_for s edits d refused net.TooMany is why = (refused, (why (λ e. absurd cc), sym is))
 refused_for s edits d refused (net.Range x) is why = (refused, (why (λ e. absurd cc), sym is))
 refused_for s edits d refused (net.SelfLink x) is why = (refused, (why (λ e. absurd cc), sym is))
@@ -51,11 +52,13 @@ refused_for s edits d refused (net.Cycle walk) is why = (refused, (why (λ e. ab
 refused_for s edits d refused net.NoLink is why = (refused, (why (λ e. absurd cc), sym is))
 refused_for s edits d refused net.Memory is why = tt
 
-pub refused_fault : (s : State) (edits : List Edit) (d : ℕ) (refused : EditFault) → (refused.fault ≢ net.Memory → IsBatchFault (net_at s) edits refused) → IsEditingFault s edits d (of_net_fault refused.fault)
+pub refused_fault : (s : State) (edits : List Edit) (d : ℕ) (refused : EditFault)
+    → (refused.fault ≢ net.Memory → IsBatchFault (net_at s) edits refused) → IsEditingFault s edits d (of_net_fault refused.fault)
 refused_fault s edits d refused why = refused_for s edits d refused refused.fault refl why
 
 -- or the round on the network that they make does not come to pass
-pub round_fault : (s : State) (edits : List Edit) (net : Network) (d : ℕ) (fault : RouteFault) → d < s.nodes → length edits ≤ most_edits → AreMade (net_at s) edits net → IsOpenFault net.nodes d fault
+pub round_fault : (s : State) (edits : List Edit) (net : Network) (d : ℕ) (fault : RouteFault) → d < s.nodes
+    → length edits ≤ most_edits → AreMade (net_at s) edits net → IsOpenFault net.nodes d fault
     → (IsStill net d → fault ≢ Start) → IsEditingFault s edits d fault
 round_fault s edits net d (Net fault) below few made why moves = absurd why
 round_fault s edits net d Range below few made why moves = omega (arith, below, why, made_nodes (net_at s) edits net made)
@@ -73,7 +76,8 @@ refused_edit s e refused (inl more) = absurd (omega (arith, more.0))
 refused_edit s e refused (inr (few, at)) =
     let first : refused.at ≡ 0 = omega (arith, at.inside) in
     let before : at.before ≡ net_at s = subst (λ (k : ℕ). AreMade (net_at s) (take k (e ∷ [])) at.before) first at.made in
-    let here : IsEditFault at.before e refused.fault = subst (λ (k : ℕ). HoldsAt (λ edit. IsEditFault at.before edit refused.fault) (e ∷ []) k) first at.refused e in
+    let here : IsEditFault at.before e refused.fault =
+    subst (λ (k : ℕ). HoldsAt (λ edit. IsEditFault at.before edit refused.fault) (e ∷ []) k) first at.refused e in
     subst (λ (m : Network). IsEditFault m e refused.fault) before here
 
 pub cut_by : (s : State) (u v : ℕ) → IsBy s (Cut u v) (edit.Cut u v)
@@ -93,8 +97,11 @@ pub add_by : (s : State) (u v : ℕ) → IsBy s (Add u v) (edit.Add u v)
 add_by s u v = record { done = done; undone = undone }
   where
     done : (new : State) → IsEdited s (edit.Add u v ∷ []) s.dest new → IsChanged s (Add u v) new
-    done new (few, (net, ((next, (made, is)), round))) =
-        (made.faultless, round_listed s.nodes s.dest (s.links ++ (u, v) ∷ []) next new made (subst (λ (m : Network). IsRound m.nodes s.dest m.links new) is round))
+    done new (few, (net, ((next, (made, is)), round))) = (
+      made.faultless,
+      round_listed s.nodes s.dest (s.links ++ (u, v) ∷ []) next new made
+          (subst (λ (m : Network). IsRound m.nodes s.dest m.links new) is round),
+    )
 
     undone : (fault : RouteFault) → IsEditingFault s (edit.Add u v ∷ []) s.dest fault → IsRouteFault s (Add u v) fault
     undone (Net fault) (refused, (why, is)) = subst (IsFirstFault s.nodes (s.links ++ (u, v) ∷ [])) (sym is) (refused_edit s (edit.Add u v) refused why)
@@ -115,7 +122,8 @@ join_by s u v = record { done = done; undone = undone }
     undone Memory h = tt
 
 -- a change that is refused for this fault is answered by its text,
-pub refused_change : (s : State) (change : Change) (fault : RouteFault) (text : List ℕ) (next : Option State) → IsRouteFault s change fault → IsRefusalOf fault text → next ≡ Some s → IsAnswer (Some s) (request_of_change change) text next
+pub refused_change : (s : State) (change : Change) (fault : RouteFault) (text : List ℕ) (next : Option State)
+    → IsRouteFault s change fault → IsRefusalOf fault text → next ≡ Some s → IsAnswer (Some s) (request_of_change change) text next
 refused_change s (Cut u v) (Net fault) text next why is n = inl (fault_number fault, (fault, why, refl), is, n)
 refused_change s (Add u v) (Net fault) text next why is n = inl (fault_number fault, (fault, why, refl), is, n)
 refused_change s (Join u v) (Net fault) text next why is n = inl (fault_number fault, (fault, why, refl), is, n)
@@ -130,7 +138,8 @@ refused_change s change Start text next why is n = absurd is
 refused_change s change Memory text next why is n = absurd is
 
 -- and so are edits
-pub refused_edits : (s : State) (edits : List Edit) (d : ℕ) (fault : RouteFault) (text : List ℕ) (next : Option State) → IsEditingFault s edits d fault → IsRefusalOf fault text → next ≡ Some s → IsAnswer (Some s) (make_edits edits) text next
+pub refused_edits : (s : State) (edits : List Edit) (d : ℕ) (fault : RouteFault) (text : List ℕ) (next : Option State)
+    → IsEditingFault s edits d fault → IsRefusalOf fault text → next ≡ Some s → IsAnswer (Some s) (make_edits edits) text next
 refused_edits s edits d (Net fault) text next why is n = inl (fault_number fault, (why.0, why.1.0, ap fault_number why.1.1), is, n)
 refused_edits s edits d Range text next why is n = absurd why
 refused_edits s edits d Start text next why is n = absurd is

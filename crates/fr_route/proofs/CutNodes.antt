@@ -1,5 +1,7 @@
 -- How many nodes are cut off, by their hops, and by the counts of the round and the rows before it.
-use Rattle.std.proofs.Common.{Bool, Contains, List, [], ◌∷◌, add-one, ap, append_assoc, arith, cond, eq-eqb, eqb-true, false, get_or, inl, inr, length, map, ne_eqb, refl, slice_index, sym, suc, true, zero, zero-add, ℕ, ⊎_elim, ◌+◌, ◌++◌, ◌<◌, ◌≤◌, ◌↔◌, ◌∙◌, ◌≡◌, ◌⊎◌, ◌==◌, IsTrue}
+use Rattle.std.proofs.Common.{Bool, Contains, List, [], ◌∷◌, add-one, ap, append_assoc, arith, cond, eq-eqb, eqb-true, false, get_or, inl, inr}
+use Rattle.std.proofs.Common.{length, map, ne_eqb, refl, slice_index, sym, suc, true, zero, zero-add, ℕ, ⊎_elim, ◌+◌, ◌++◌, ◌<◌, ◌≤◌, ◌↔◌, ◌∙◌, ◌≡◌}
+use Rattle.std.proofs.Common.{◌⊎◌, ◌==◌, IsTrue}
 use Rattle.std.specs.List.{All, count_by, filter, range_with_len}
 use Rattle.std.specs.Prelude.{not, ◌&&◌, ◌||◌}
 use Rattle.std.proofs.lemmas.Bool.{and_parts, cases_eq, cases_lt, false≢true}
@@ -19,7 +21,7 @@ use Rattle.fr_core.specs.Settled.{IsSettledCount}
 use Rattle.fr_crew.specs.Settlements.{IsCounted}
 use Rattle.fr_route.proofs.RoundEnds.{alone_cut_off, capped_cut_off, lawful, round_end, round_joined, round_joins, round_net}
 use Rattle.fr_route.proofs.Routing.{route_joined}
-use Rattle.fr_route.proofs.Touched.{into_filter}
+use Rattle.fr_graph.proofs.Lists.{into_filter}
 use Rattle.fr_route.specs.Outcomes.{cut_off_nodes, lone_count, settled_state}
 use Rattle.fr_route.specs.Routes.{IsHop, AreHops, is_cut_off}
 use Rattle.fr_route.specs.States.{State, IsCutOff, IsAfterRound, IsCutCount, IsReport, IsRound}
@@ -69,7 +71,8 @@ count_but p d zero low = absurd (omega arith)
 count_but p d (suc n) low =
     let weight : Bool → ℕ = λ b. cond b 1 0 in
     let whole : count_by p (range_with_len 0 (suc n)) ≡ count_by p (range_with_len 0 n) + weight (p n) = rw add-one at (count-range_more p n) in
-    let parted : count_by (but d p) (range_with_len 0 (suc n)) ≡ count_by (but d p) (range_with_len 0 n) + weight (but d p n) = rw add-one at (count-range_more (but d p) n) in
+    let parted : count_by (but d p) (range_with_len 0 (suc n)) ≡ count_by (but d p) (range_with_len 0 n) + weight
+    (but d p n) = rw add-one at (count-range_more (but d p) n) in
     ⊎_elim
     (λ e.
     let here : weight (but d p n) ≡ 0 = rw (eq-eqb n d e) refl in
@@ -87,12 +90,14 @@ weigh_either false true bar = refl
 weigh_either false false bar = refl
 
 -- of two tests that nothing passes both, either
-count_either : (p q : ℕ → Bool) (n : ℕ) → ((x : ℕ) → x < n → p x ≡ true → q x ≡ true → ⊥) → count_by (λ x. p x || q x) (range_with_len 0 n) ≡ count_by p (range_with_len 0 n) + count_by q (range_with_len 0 n)
+count_either : (p q : ℕ → Bool) (n : ℕ) → ((x : ℕ) → x < n → p x ≡ true → q x ≡ true → ⊥)
+    → count_by (λ x. p x || q x) (range_with_len 0 n) ≡ count_by p (range_with_len 0 n) + count_by q (range_with_len 0 n)
 count_either p q zero bar = refl
 count_either p q (suc n) bar =
     let weight : Bool → ℕ = λ b. cond b 1 0 in
     let either : ℕ → Bool = λ x. p x || q x in
-    let whole : count_by either (range_with_len 0 (suc n)) ≡ count_by either (range_with_len 0 n) + weight (either n) = rw add-one at (count-range_more either n) in
+    let whole : count_by either (range_with_len 0 (suc n)) ≡ count_by either (range_with_len 0 n) + weight (either n) =
+    rw add-one at (count-range_more either n) in
     let left : count_by p (range_with_len 0 (suc n)) ≡ count_by p (range_with_len 0 n) + weight (p n) = rw add-one at (count-range_more p n) in
     let right : count_by q (range_with_len 0 (suc n)) ≡ count_by q (range_with_len 0 n) + weight (q n) = rw add-one at (count-range_more q n) in
     let here : weight (either n) ≡ weight (p n) + weight (q n) = weigh_either (p n) (q n) (bar n (omega arith)) in
@@ -106,7 +111,8 @@ filter-range_more p n =
     ∙ ap (λ (xs : List ℕ). filter p xs ++ cond (p n) (n ∷ []) []) (map-id (range_with_len 0 n)))
 
 -- and so behind others in a list
-pub filtered_more : (p : ℕ → Bool) (n : ℕ) (b : Bool) (before now : List ℕ) → p n ≡ b → now ≡ before ++ filter p (range_with_len 0 n) → now ++ cond b (n ∷ []) [] ≡ before ++ filter p (range_with_len 0 (n + 1))
+pub filtered_more : (p : ℕ → Bool) (n : ℕ) (b : Bool) (before now : List ℕ) → p n ≡ b
+    → now ≡ before ++ filter p (range_with_len 0 n) → now ++ cond b (n ∷ []) [] ≡ before ++ filter p (range_with_len 0 (n + 1))
 filtered_more p n b before now is so_far =
     let last : Bool → List ℕ = λ t. cond t (n ∷ []) [] in
     let so_many : List ℕ = filter p (range_with_len 0 n) in
@@ -143,7 +149,8 @@ alone_just n links net x = (
 )
 
 -- after a round, those nodes are cut off that have turned as often as there are nodes, and those without a link but the destination
-module _ (n d : ℕ) (first : List (ℕ × ℕ)) (s : State) (net : IsNet n first) (below : d < n) (round : IsRound n d first s) (alone : ℕ → Bool) (just : (x : ℕ) → x < n → IsTrue (alone x) ↔ IsAlone first x) where
+module _ (n d : ℕ) (first : List (ℕ × ℕ)) (s : State) (net : IsNet n first) (below : d < n) (round : IsRound n d first s)
+    (alone : ℕ → Bool) (just : (x : ℕ) → x < n → IsTrue (alone x) ↔ IsAlone first x) where
   abbrev capped : ℕ → Bool
   capped x = slice_index s.counts x == n
 
@@ -153,7 +160,8 @@ module _ (n d : ℕ) (first : List (ℕ × ℕ)) (s : State) (net : IsNet n firs
   cut_off_from : (x : ℕ) → x < n → (¬ (x ≡ d) × IsTrue (alone x)) ⊎ (slice_index s.counts x ≡ n) → IsCutOff d s.links x
   cut_off_from x low (inl lone) = alone_cut_off n d first s net below round x lone.0 ((just x low).0 lone.1)
   cut_off_from x low (inr cap) =
-      capped_cut_off n d first s net below round x (λ e. never_capped x (ap (slice_index s.counts) e ∙ (lawful n d first s net below round).destination) cap) cap
+      capped_cut_off n d first s net below round x
+      (λ e. never_capped x (ap (slice_index s.counts) e ∙ (lawful n d first s net below round).destination) cap) cap
 
   cut_off_to : (x : ℕ) → x < n → IsCutOff d s.links x → (¬ (x ≡ d) × IsTrue (alone x)) ⊎ (slice_index s.counts x ≡ n)
   cut_off_to x low cut = go (round.counts.settled x low)
@@ -172,7 +180,8 @@ module _ (n d : ℕ) (first : List (ℕ × ℕ)) (s : State) (net : IsNet n firs
 
   never_both : (x : ℕ) → x < n → but d alone x ≡ true → capped x ≡ true → ⊥
   never_both x low lone cap =
-      never_capped x ((lawful n d first s net below round).alone x ((just x low).0 (and_parts (not (x == d)) (alone x) lone).1)) (eqb-true (slice_index s.counts x) n cap)
+      never_capped x ((lawful n d first s net below round).alone x
+      ((just x low).0 (and_parts (not (x == d)) (alone x) lone).1)) (eqb-true (slice_index s.counts x) n cap)
 
   pub cut_count : IsCutCount n d s.links (count_by (but d alone) (range_with_len 0 n) + count_by (λ count. count == n) s.counts)
   cut_count = record {
@@ -191,7 +200,8 @@ module _ (net : Network) (d : ℕ) (counts : List ℕ) (is : IsNet net.nodes net
 
   -- by the rows before the round
   pub cut_by_rows : IsCutCount net.nodes d (settled_state net d counts).links (lone_count net.nodes net.links d + count_by (λ count. count == net.nodes) counts)
-  cut_by_rows = cut_count net.nodes d net.links (settled_state net d counts) is counted.destination ended (has_no_neighbour net.nodes net.links) (λ x low. alone_just net.nodes net.links is x)
+  cut_by_rows = cut_count net.nodes d net.links (settled_state net d counts) is counted.destination ended
+      (has_no_neighbour net.nodes net.links) (λ x low. alone_just net.nodes net.links is x)
 
 module _ (s : State) (after : IsAfterRound s) where
   -- the nodes with a link that the round cut off are those that have turned as often as there are nodes
@@ -202,12 +212,14 @@ module _ (s : State) (after : IsAfterRound s) where
       (λ l. l)
       (λ past. absurd (omega (arith, is, after.dest, get_or_past s.counts x 0 (omega (arith, past, long)))))
       (cases_lt x s.nodes) in
-      into_filter (λ (y : ℕ). slice_index s.counts y == s.nodes) (range_with_len 0 s.nodes) x (eq-eqb (slice_index s.counts x) s.nodes is)
+      into_filter (λ (y : ℕ). slice_index s.counts y == s.nodes) (range_with_len 0 s.nodes) x
       (x, omega (arith, low, length-range_with_len 0 s.nodes), omega (arith, get_or-range_with_len 0 s.nodes x x low))
+      (eq-eqb (slice_index s.counts x) s.nodes is)
 
   pub cut_below : All (λ (x : ℕ). x < s.nodes) (cut_off_nodes s)
   cut_below = All-filter (λ (x : ℕ). slice_index s.counts x == s.nodes) (λ (x : ℕ). x < s.nodes) (range_with_len 0 s.nodes)
-      (λ k d low. let inside : k < s.nodes = omega (arith, low, length-range_with_len 0 s.nodes) in omega (arith, inside, get_or-range_with_len 0 s.nodes k d inside))
+      (λ k d low. let inside : k < s.nodes = omega (arith, low, length-range_with_len 0 s.nodes) in
+      omega (arith, inside, get_or-range_with_len 0 s.nodes k d inside))
 
   alone_first : (x : ℕ) → x < s.nodes → IsTrue (has_no_neighbour s.nodes s.links x) ↔ IsAlone after.first x
   alone_first x low =
@@ -221,7 +233,8 @@ module _ (s : State) (after : IsAfterRound s) where
       let lone : ℕ = lone_count s.nodes s.links s.dest in
       let capped : ℕ → Bool = λ count. count == s.nodes in
       let listed : count_by capped s.counts ≡ length (cut_off_nodes s) =
-      count_listed capped s.counts s.nodes after.round.counts.one_each ∙ sym (length-filter (λ (x : ℕ). slice_index s.counts x == s.nodes) (range_with_len 0 s.nodes)) in
+      count_listed capped s.counts s.nodes after.round.counts.one_each
+      ∙ sym (length-filter (λ (x : ℕ). slice_index s.counts x == s.nodes) (range_with_len 0 s.nodes)) in
       cut_unique s.nodes s.dest s.links cut (lone + count_by capped s.counts) report.cut_off
       (cut_count s.nodes s.dest after.first s after.is_net after.dest after.round (has_no_neighbour s.nodes s.links) alone_first)
       ∙ ap (λ (k : ℕ). lone + k) listed

@@ -1,5 +1,6 @@
 -- The answer to a request and to lines is determined by the state and the request, and so are hops and reports.
-use Rattle.std.proofs.Common.{◌≡◌, ◌∙◌, ℕ, zero, suc, ◌+◌, ◌<◌, ◌++◌, Bool, true, false, MatchBool, List, [], ◌∷◌, get_or, length, refl, sym, ap, subst, inl, inr, arith, Option, Some, None, Result, Ok, Err}
+use Rattle.std.proofs.Common.{◌≡◌, ◌∙◌, ℕ, zero, suc, ◌+◌, ◌<◌, ◌++◌, Bool, true, false, MatchBool, List, [], ◌∷◌, get_or, length, refl, sym, ap}
+use Rattle.std.proofs.Common.{subst, inl, inr, arith, Option, Some, None, Result, Ok, Err}
 use Rattle.std.proofs.lemmas.List.{ext_get_or}
 use Rattle.std.proofs.lemmas.Option.{slice_get-get_or}
 use Rattle.fr_graph.specs.Batches.{IsBatchFault, IsEditFault}
@@ -44,7 +45,8 @@ one_hop s x hop.CutOff hop.CutOff h g = refl
 pub hops_unique : (s : State) (n : ℕ) (a b : List Hop) → AreHops s n a → AreHops s n b → a ≡ b
 hops_unique s n a b h g = ext_get_or hop.Here a b (h.one_each ∙ sym g.one_each) (λ i low.
     let inside : i < length b = omega (arith, h.one_each, g.one_each) in
-    one_hop s i (get_or a i hop.Here) (get_or b i hop.Here) (h.each i (get_or a i hop.Here) (slice_get-get_or a i hop.Here low)) (g.each i (get_or b i hop.Here) (slice_get-get_or b i hop.Here inside)))
+    one_hop s i (get_or a i hop.Here) (get_or b i hop.Here)
+    (h.each i (get_or a i hop.Here) (slice_get-get_or a i hop.Here low)) (g.each i (get_or b i hop.Here) (slice_get-get_or b i hop.Here inside)))
 
 -- faults of one kind have one number
 number_at : ℕ → ℕ
@@ -67,7 +69,8 @@ one_number n links f g hf hg = number_by_place n links f hf ∙ (ap number_at (f
 -- faults of edits have the numbers of their kinds as well
 edit_number : (net : Network) (e : Edit) (f : NetFault) → IsEditFault net e f → fault_number f ≡ number_at (fault_place f)
 unfolding number_at
-edit_number net (edit.Cut u v) f h = let is = (cut_fault_is net.links u v f h).0 in subst (λ (x : NetFault). fault_number x ≡ number_at (fault_place x)) (sym is) refl
+edit_number net (edit.Cut u v) f h = let is = (cut_fault_is net.links u v f h).0 in
+    subst (λ (x : NetFault). fault_number x ≡ number_at (fault_place x)) (sym is) refl
 edit_number net (edit.Add u v) f h = number_by_place net.nodes (net.links ++ (u, v) ∷ []) f h
 edit_number net (edit.Join u v) f h = number_by_place net.nodes (net.links ++ (u, v) ∷ []) f (as_first net.nodes net.links u v f h)
 
@@ -76,7 +79,8 @@ unfolding number_at
 batch_number net edits f (inl h) = subst (λ (x : NetFault). fault_number x ≡ number_at (fault_place x)) (sym h.2) refl
 batch_number net edits f (inr h) = edit_number h.1.before (get_or edits f.at (edit.Cut 0 0)) f.fault (h.1.refused (edit.Cut 0 0))
 
-one_batch_number : (net : Network) (edits : List Edit) (f g : EditFault) → IsBatchFault net edits f → IsBatchFault net edits g → fault_number f.fault ≡ fault_number g.fault
+one_batch_number : (net : Network) (edits : List Edit) (f g : EditFault) → IsBatchFault net edits f
+    → IsBatchFault net edits g → fault_number f.fault ≡ fault_number g.fault
 one_batch_number net edits f g hf hg = batch_number net edits f hf ∙ (ap number_at (batch_fault_place net edits f g hf hg) ∙ sym (batch_number net edits g hg))
 
 refused_unique : (s : Option State) (r : PlainRequest) (j k : ℕ) → IsRefused s r j → IsRefused s r k → j ≡ k
@@ -172,7 +176,8 @@ answer_unique s r t u p q (inr (m, a, e, l)) (inr (n, b, f, k)) =
     let same : m ≡ n = accepted_unique s r m n a b in
     (text_unique n r t u (subst (λ (z : State). IsText z r t) same e) f, l ∙ (ap (λ (z : State). Some z) same ∙ sym k))
 
-pub line_unique : (s : Option State) (r : Result PlainRequest LineFault) (t u : List ℕ) (p q : Option State) → IsLineAnswer s r t p → IsLineAnswer s r u q → (t ≡ u) × (p ≡ q)
+pub line_unique : (s : Option State) (r : Result PlainRequest LineFault) (t u : List ℕ) (p q : Option State)
+    → IsLineAnswer s r t p → IsLineAnswer s r u q → (t ≡ u) × (p ≡ q)
 line_unique s (Ok r) t u p q a b = answer_unique s r t u p q a b
 line_unique s (Err NotJson) t u p q a b = (a.0 ∙ sym b.0, a.1 ∙ sym b.1)
 line_unique s (Err NotRequest) t u p q a b = (a.0 ∙ sym b.0, a.1 ∙ sym b.1)
@@ -181,13 +186,15 @@ line_unique s (Err LineMemory) t u p q a b = absurd a
 -- the answers to a line that is not blank and to those behind it
 abbrev pub Answered : Option State → List ℕ → List (List ℕ) → List ℕ → Option State → Type 0
 Answered s line rest out last =
-    (text : List ℕ) × (between : Option State) × (more : List ℕ) × IsLineAnswer s (reading line) text between × AreAnswers between rest more last × (out ≡ (text ++ 10 ∷ []) ++ more)
+    (text : List ℕ) × (between : Option State) × (more : List ℕ) × IsLineAnswer s (reading line) text between
+    × AreAnswers between rest more last × (out ≡ (text ++ 10 ∷ []) ++ more)
 
 pub by_blank : (b : Bool) (P Q R S T : Type 0) → (P → R → T) → (Q → S → T) → MatchBool b P Q → MatchBool b R S → T
 by_blank true P Q R S T f g h k = f h k
 by_blank false P Q R S T f g h k = g h k
 
-pub answers_unique : (s : Option State) (lines : List (List ℕ)) (a b : List ℕ) (p q : Option State) → AreAnswers s lines a p → AreAnswers s lines b q → (a ≡ b) × (p ≡ q)
+pub answers_unique : (s : Option State) (lines : List (List ℕ)) (a b : List ℕ) (p q : Option State) → AreAnswers s lines a p
+    → AreAnswers s lines b q → (a ≡ b) × (p ≡ q)
 answers_unique s [] a b p q h k = (h.0 ∙ sym k.0, h.1 ∙ sym k.1)
 answers_unique s (line ∷ rest) a b p q h k =
     by_blank (is_blank line) (AreAnswers s rest a p) (Answered s line rest a p) (AreAnswers s rest b q) (Answered s line rest b q) ((a ≡ b) × (p ≡ q))

@@ -1,5 +1,6 @@
 -- Each line has an answer in each state after a round, and in the state before any.
-use Rattle.std.proofs.Common.{◌≡◌, ℕ, zero, suc, ◌+◌, ◌<◌, ◌++◌, ◌⊎◌, List, [], ◌∷◌, length, ap, arith, inl, inr, refl, subst, ⊎_elim, Option, Some, None, Result}
+use Rattle.std.proofs.Common.{◌≡◌, ℕ, zero, suc, ◌+◌, ◌<◌, ◌++◌, ◌⊎◌, List, [], ◌∷◌, length, ap, arith, inl, inr, refl, subst, ⊎_elim, Option, Some}
+use Rattle.std.proofs.Common.{None, Result}
 use Rattle.std.specs.Prelude.{slice_get, slice_index, ok_or, sum}
 use Rattle.std.proofs.lemmas.Bool.{cases_eq, cases_lt}
 use Rattle.fr_graph.proofs.Building.{faultless_sorted, permuted_net}
@@ -14,10 +15,11 @@ use Rattle.fr_graph.specs.Edits.{IsJoined, IsJoinFault, without}
 use Rattle.fr_graph.specs.Batches.{AreMade, IsEditFault, IsMade, IsRefusedAt}
 use Rattle.fr_graph.specs.Faults.{IsFaultless, IsFirstFault, IsNetworkOf}
 use Rattle.fr_graph.specs.Limits.{most_edits}
-use Rattle.fr_graph.specs.Links.{IsAcyclic, IsNet, Joins, Points}
+use Rattle.fr_graph.specs.Links.{IsAcyclic, IsNet, Points}
 use Rattle.fr_graph.specs.Network.{Network, net_of}
 use Rattle.fr_graph.specs.Order.{in_order}
-use Rattle.fr_lines.specs.Requests.{PlainRequest, new_network, cut_link, add_link, join_nodes, make_edits, move_dest, walk_from, ask, reading, reading_of_value, request_of, value_of_line}
+use Rattle.fr_lines.specs.Requests.{PlainRequest, new_network, cut_link, add_link, join_nodes, make_edits, move_dest, walk_from, ask, reading}
+use Rattle.fr_lines.specs.Requests.{reading_of_value, request_of, value_of_line}
 use Rattle.fr_graph.specs.declared.fault.EditFault.{EditFault}
 use Rattle.fr_graph.specs.declared.fault.NetFault.{NetFault}
 use Rattle.fr_graph.specs.declared.fault.NetFault.TheVariants.{Cycle, Memory, NoLink, Range, SelfLink, TooMany, Twice}
@@ -41,7 +43,7 @@ use Rattle.fr_route.proofs.Changing.{joined_nodes, made_nodes}
 use Rattle.fr_route.proofs.CutNodes.{hops_cut_count}
 use Rattle.fr_route.proofs.FirstFaults.{faultless_or_fault}
 use Rattle.fr_route.proofs.RoundEnds.{capped_cut_off, hop_leads_on, still_cut_off}
-use Rattle.fr_route.proofs.Routing.{cases_points}
+use Rattle.fr_graph.proofs.Neighbours.{cases_joins, cases_points}
 
 -- the state after a round on some network, whose links can be changed
 pub record IsSettledState (s : State) : Type 0 where
@@ -73,12 +75,6 @@ settled_state n d first clear below =
     let round : IsRound n d first s = record { nodes = refl; dest = refl; counts = made.1; links = refl } in
     (s, round, record { first = first; net = clear.is_net; dest = below; round = round; faultless = (made_network n listed turned).1 })
 
-joins_or_not : (links : List (ℕ × ℕ)) (u v : ℕ) → Joins links u v ⊎ ¬ Joins links u v
-joins_or_not links u v = ⊎_elim
-    (λ p. inl (inl p))
-    (λ a. ⊎_elim (λ p. inl (inr p)) (λ b. inr (λ h. ⊎_elim a b h)) (cases_points links v u))
-    (cases_points links u v)
-
 module _ (s : State) (good : IsSettledState s) where
   -- each node has a hop
   hop_of : (x : ℕ) → (hop : Hop) × IsHop s x hop
@@ -88,7 +84,11 @@ module _ (s : State) (good : IsSettledState s) where
       (λ capped. (CutOff, capped_cut_off s.nodes s.dest good.first s good.net good.dest good.round x apart capped))
       (λ free. ⊎_elim
       (λ f. (To f.0, hop_leads_on s.nodes s.dest good.first s good.net good.dest good.round x f.0 apart free (record { link = f.2; least = f.3 })))
-      (λ none. (CutOff, still_cut_off s.nodes s.dest good.first s good.net good.dest good.round x apart (λ w p. none w (link_below s.nodes s.links x w good.faultless.is_net p).1 p)))
+      (λ none. (
+        CutOff,
+        still_cut_off s.nodes s.dest good.first s good.net good.dest good.round x apart
+            (λ w p. none w (link_below s.nodes s.links x w good.faultless.is_net p).1 p),
+      ))
       (cases_below (Points s.links x) (cases_points s.links x) s.nodes))
       (cases_eq (slice_index s.counts x) s.nodes))
       (cases_eq x s.dest)
@@ -114,7 +114,11 @@ module _ (s : State) (good : IsSettledState s) where
       subst (λ (y : ℕ). IsHop s y hop) at (each_from k (suc a) x hop e)
 
   hops : AreHops s s.nodes (hops_from s.nodes 0)
-  hops = record { one_each = long_from s.nodes 0; each = λ x hop e. let at : 0 + x ≡ x = omega arith in subst (λ (y : ℕ). IsHop s y hop) at (each_from s.nodes 0 x hop e) }
+  hops = record {
+    one_each = long_from s.nodes 0;
+    each = λ x hop e. let at : 0 + x ≡ x = omega arith in
+        subst (λ (y : ℕ). IsHop s y hop) at (each_from s.nodes 0 x hop e);
+  }
 
   report_line : (text : List ℕ) × IsReportLine s text
   report_line =
@@ -154,7 +158,7 @@ cut_answer s good u v = ⊎_elim
     let line = report_line new.0 new.2 in
     (line.0, Some new.0, inr (new.0, (joined, new.1), line.1, refl), new.2))
     (λ none. (refusal_text (fault_number NoLink), Some s, inl (fault_number NoLink, (NoLink, none, refl), refl, refl), good))
-    (joins_or_not s.links u v)
+    (cases_joins s.links u v)
 
 add_answer : (s : State) → IsSettledState s → (u v : ℕ) → HasAnswer (Some s) (add_link u v)
 add_answer s good u v = ⊎_elim
@@ -170,7 +174,8 @@ abbrev IsJoinable : ℕ → List (ℕ × ℕ) → ℕ → ℕ → Type 0
 IsJoinable n links u v =
     ((net : Network) × IsJoined n links u v net × IsFaultless net.nodes net.links) ⊎ ((fault : NetFault) × IsJoinFault n links u v fault)
 
-joined_back : (n : ℕ) (links : List (ℕ × ℕ)) (u v : ℕ) → IsFaultless n links → (fault : NetFault) → IsFirstFault n (links ++ (u, v) ∷ []) fault → IsJoinable n links u v
+joined_back : (n : ℕ) (links : List (ℕ × ℕ)) (u v : ℕ) → IsFaultless n links → (fault : NetFault)
+    → IsFirstFault n (links ++ (u, v) ∷ []) fault → IsJoinable n links u v
 joined_back n links u v clear TooMany h = inr (TooMany, h)
 joined_back n links u v clear (Range x) h = inr (Range x, h)
 joined_back n links u v clear (SelfLink x) h = inr (SelfLink x, h)
@@ -208,7 +213,7 @@ edit_made net clear (Cut u v) = ⊎_elim
     let made = made_network net.nodes (without u v net.links) (faultless_cut net.nodes net.links u v clear) in
     inl (net_of net.nodes (without u v net.links), (joined, made.0), made.1))
     (λ none. inr (NoLink, none))
-    (joins_or_not net.links u v)
+    (cases_joins net.links u v)
 edit_made net clear (Add u v) = ⊎_elim
     (λ added.
     let made = made_network net.nodes (net.links ++ (u, v) ∷ []) added in
@@ -224,7 +229,17 @@ edits_made net clear [] = inl (net, refl, clear)
 edits_made net clear (edit ∷ rest) = ⊎_elim
     (λ one. ⊎_elim
     (λ all. inl (all.0, (one.0, (one.1, all.1)), all.2))
-    (λ r. inr (suc r.0, r.1, record { inside = omega (arith, r.2.inside); before = r.2.before; made = (one.0, (one.1, r.2.made)); refused = λ d. r.2.refused d }))
+    (λ r. inr (
+      suc r.0,
+      r.1,
+      record {
+        inside = omega (arith, r.2.inside);
+        before = r.2.before;
+        made =
+            (one.0, (one.1, r.2.made));
+        refused = λ d. r.2.refused d;
+      },
+    ))
     (edits_made one.0 one.2 rest))
     (λ f. inr (0, f.0, record { inside = omega arith; before = net; made = refl; refused = λ d. f.1 }))
     (edit_made net clear edit)

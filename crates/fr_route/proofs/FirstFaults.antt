@@ -1,5 +1,6 @@
 -- Links are faultless or have a first fault.
-use Rattle.std.proofs.Common.{Any, Contains, List, [], ap, arith, count_by, eqb, inl, inr, length, length-append, refl, subst, suc, sym, zero, ℕ, ⊎_elim, ◌++◌, ◌<◌, ◌^◌, ◌∙◌, ◌∷◌, ◌≡◌, ◌≤◌, ◌⊎◌}
+use Rattle.std.proofs.Common.{Any, Contains, List, [], ap, arith, count_by, eqb, inl, inr, length, length-append, refl, subst, suc, sym, zero, ℕ}
+use Rattle.std.proofs.Common.{⊎_elim, ◌++◌, ◌<◌, ◌^◌, ◌∙◌, ◌∷◌, ◌≡◌, ◌≤◌, ◌⊎◌}
 use Rattle.std.proofs.lemmas.Bool.{cases_eq, cases_lt}
 use Rattle.std.specs.List.{IsDistinct}
 use Rattle.std.specs.declared.vec.Vec.{Vec}
@@ -26,7 +27,8 @@ abbrev Begins : List (ℕ × ℕ) → ℕ → ℕ → ℕ × ℕ → Type 0
 Begins links k x l = (l.0 ≡ x) × PathOf links k l.1
 
 begins_or_not : (links : List (ℕ × ℕ)) (k x : ℕ) → ((y : ℕ) → PathOf links k y ⊎ ¬ PathOf links k y) → (l : ℕ × ℕ) → Begins links k x l ⊎ ¬ Begins links k x l
-begins_or_not links k x shorter l = ⊎_elim (λ e. ⊎_elim (λ p. inl (e, p)) (λ none. inr (λ q. none q.1)) (shorter l.1)) (λ ne. inr (λ q. ne q.0)) (cases_eq l.0 x)
+begins_or_not links k x shorter l = ⊎_elim (λ e. ⊎_elim (λ p. inl (e, p)) (λ none. inr (λ q. none q.1)) (shorter l.1))
+    (λ ne. inr (λ q. ne q.0)) (cases_eq l.0 x)
 
 no_first : (links : List (ℕ × ℕ)) (k x : ℕ) → ((l : ℕ × ℕ) → Contains links l → ¬ Begins links k x l) → ¬ PathOf links (suc k) x
 no_first links k x none ([], p, e) = absurd (omega (arith, e))
@@ -43,7 +45,8 @@ path_or_not links zero x = inl ([], tt, refl)
 path_or_not links (suc k) x = one_more links k x (path_or_not links k)
 
 -- the part of a path up to a node on it
-part_to : (links : List (ℕ × ℕ)) (s : ℕ) (vs : List ℕ) (u : ℕ) → IsPath links s vs → Contains vs u → (v : ℕ) × (ws : List ℕ) × IsPath links s (v ∷ ws) × (end_of v ws ≡ u) × (length ws < length vs)
+part_to : (links : List (ℕ × ℕ)) (s : ℕ) (vs : List ℕ) (u : ℕ) → IsPath links s vs → Contains vs u → (v : ℕ) × (ws : List ℕ)
+    × IsPath links s (v ∷ ws) × (end_of v ws ≡ u) × (length ws < length vs)
 part_to links s [] u path h = absurd (Contains-none u h)
 part_to links s (v ∷ vs) u path h = ⊎_elim
     (λ e. (v, [], (path.0, tt), e, omega arith))
@@ -72,15 +75,18 @@ below_of n links u v below p =
 
 path_in_range : (n : ℕ) (links : List (ℕ × ℕ)) → AreBelow n links → (u : ℕ) (vs : List ℕ) → u < n → IsPath links u vs → (q : ℕ) → Contains (u ∷ vs) q → q < n
 path_in_range n links below u [] l path q h = ⊎_elim (λ e. omega (arith, e)) (λ r. absurd (Contains-none q r)) (Contains-cases q u [] h)
-path_in_range n links below u (v ∷ vs) l path q h = ⊎_elim (λ e. omega (arith, e)) (path_in_range n links below v vs (below_of n links u v below path.0).1 path.1 q) (Contains-cases q u (v ∷ vs) h)
+path_in_range n links below u (v ∷ vs) l path q h = ⊎_elim (λ e. omega (arith, e))
+    (path_in_range n links below v vs (below_of n links u v below path.0).1 path.1 q) (Contains-cases q u (v ∷ vs) h)
 
 -- a path and another from its end
-path_on : (links : List (ℕ × ℕ)) (u v : ℕ) (vs ws : List ℕ) → IsPath links u vs → end_of u vs ≡ v → IsPath links v ws → IsPath links u (vs ++ ws) × (end_of u (vs ++ ws) ≡ end_of v ws)
+path_on : (links : List (ℕ × ℕ)) (u v : ℕ) (vs ws : List ℕ) → IsPath links u vs → end_of u vs ≡ v → IsPath links v ws
+    → IsPath links u (vs ++ ws) × (end_of u (vs ++ ws) ≡ end_of v ws)
 path_on links u v [] ws p e q = (subst (λ (z : ℕ). IsPath links z ws) (sym e) q, ap (λ (z : ℕ). end_of z ws) e)
 path_on links u v (w ∷ vs) ws p e q = let rest = path_on links w v vs ws p.1 e q in ((p.0, rest.0), rest.1)
 
 -- round and round
-again : (links : List (ℕ × ℕ)) (u : ℕ) (vs : List ℕ) → IsClosedWalk links u vs → (k : ℕ) → (ws : List ℕ) × IsPath links u ws × (end_of u ws ≡ u) × (k ≤ length ws)
+again : (links : List (ℕ × ℕ)) (u : ℕ) (vs : List ℕ) → IsClosedWalk links u vs → (k : ℕ) → (ws : List ℕ) × IsPath links u ws
+    × (end_of u ws ≡ u) × (k ≤ length ws)
 again links u [] closed k = absurd closed
 again links u (v ∷ vs) closed zero = ([], tt, refl, omega arith)
 again links u (v ∷ vs) closed (suc k) =
@@ -141,13 +147,27 @@ single_or_twice links = ⊎_elim
     (λ s. inr (s.0.0, s.0.1, s.2))
     (λ none. inl (All-from_Contains (λ l. count_by (is_between l.0 l.1) links ≡ 1) links (λ l h.
     ⊎_elim (λ few. omega (arith, few, at_least_one links l h)) (λ many. absurd (none l h many)) (cases_lt (count_by (is_between l.0 l.1) links) 2))))
-    (cases_some (λ (l : ℕ × ℕ). 2 ≤ count_by (is_between l.0 l.1) links) (λ l. ⊎_elim (λ few. inr (λ many. omega (arith, few, many))) inl (cases_lt (count_by (is_between l.0 l.1) links) 2)) links)
+    (cases_some (λ (l : ℕ × ℕ). 2 ≤ count_by (is_between l.0 l.1) links)
+    (λ l. ⊎_elim (λ few. inr (λ many. omega (arith, few, many))) inl (cases_lt (count_by (is_between l.0 l.1) links) 2)) links)
 
 -- a `Vec` of the code with these items, which is what evidence of a closed walk stands in
 vec_with : (items : List ℕ) → length items < 2 ^ 63 → (v : Vec ℕ Global) × (v.items ≡ items)
-vec_with items few = (record { ptr = null_ptr; len = length items; cap = length items; alloc = record { memory = record { seal = tt } }; items = items; ok = (refl, omega arith); small = few }, refl)
+vec_with items few = (
+  record {
+    ptr = null_ptr;
+    len = length items;
+    cap = length items;
+    alloc =
+        record { memory = record { seal = tt } };
+    items = items;
+    ok = (refl, omega arith);
+    small = few;
+  },
+  refl,
+)
 
-module _ (n : ℕ) (links : List (ℕ × ℕ)) (limits : IsWithinLimits n links) (some : 0 < n) (below : AreBelow n links) (no_self : HasNoSelfLink links) (single : AreSingle links) where
+module _ (n : ℕ) (links : List (ℕ × ℕ)) (limits : IsWithinLimits n links) (some : 0 < n) (below : AreBelow n links)
+    (no_self : HasNoSelfLink links) (single : AreSingle links) where
   cycle_stands : ShortCycle links n → (fault : NetFault) × IsFirstFault n links fault
   cycle_stands c =
       let few : length (c.0 ∷ c.1) < 2 ^ 63 = omega (arith, c.3, limits.nodes_few) in

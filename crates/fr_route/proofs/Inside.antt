@@ -20,7 +20,8 @@ module _ (d : ℕ) (turns : List ℕ) (spare : Spare) (hops : Vec Hop Global) (r
   inside : Network → Inside
   inside net = record { net = net; dest = d; turns = turns; spare = spare; hops = hops; room = room; report = report }
 
-  pub sound_after : (net turned : Network) → IsNet net.nodes net.links → IsCounted net.nodes d net.links turns → IsReport (settled_state net d turns) report.turned report.cut
+  pub sound_after : (net turned : Network) → IsNet net.nodes net.links → IsCounted net.nodes d net.links turns
+      → IsReport (settled_state net d turns) report.turned report.cut
       → turned ≡ net_of net.nodes (links_at net.links turns) → AreHops (settled_state net d turns) net.nodes hops.items → room ≡ net.nodes
       → IsSoundRouter (record { net = turned; dest = d; turns = turns; spare = spare; hops = hops; room = room; report = report })
   unfolding inside

@@ -95,21 +95,31 @@ module _ (s : State) (after : IsAfterRound s) where
 
       -- so where its links stayed in the edits, and it was not cut off with a link, it sends on to where it did, unless that node has
       -- turned, or it was or is the destination
-      hop_stands : (x : ℕ) (hop : Hop) → HaveSameAt s.links net.links x → ¬ (x ≡ s.dest) → ¬ (x ≡ d) → ¬ (slice_index s.counts x ≡ s.nodes) → ¬ IsStale (settled_state net d counts) x hop → slice_index counts x ≡ 0 → IsHop s x hop → IsHop (settled_state net d counts) x hop
+      hop_stands : (x : ℕ) (hop : Hop) → HaveSameAt s.links net.links x → ¬ (x ≡ s.dest) → ¬ (x ≡ d)
+          → ¬ (slice_index s.counts x ≡ s.nodes) → ¬ IsStale (settled_state net d counts) x hop → slice_index counts x ≡ 0
+          → IsHop s x hop → IsHop (settled_state net d counts) x hop
       hop_stands x Here same was becomes free fresh rests h = absurd (was h)
       hop_stands x (To y) same was becomes free fresh rests h =
           let link : Points net.links x y = (same.out y).0 h.1.1.link in
           let stays : slice_index counts y ≡ 0 = ⊎_elim
           (λ e. e)
-          (λ some. absurd (fresh (y, (omega (arith, some), inr ((round_joins net.nodes d net.links (settled_state net d counts) left.is_net counted.destination round x y).0 (inl link), refl)))))
+          (λ some. absurd (fresh (
+            y,
+            (
+              omega (arith, some),
+              inr ((round_joins net.nodes d net.links (settled_state net d counts) left.is_net counted.destination round x y).0 (inl link), refl),
+            ),
+          )))
           (cases_eq (slice_index counts y) 0) in
-          hop_leads_on net.nodes d net.links (settled_state net d counts) left.is_net counted.destination round x y becomes (λ e. omega (arith, e, rests, counted.destination))
+          hop_leads_on net.nodes d net.links (settled_state net d counts) left.is_net counted.destination round x y becomes
+          (λ e. omega (arith, e, rests, counted.destination))
           (record { link = still_away x y rests stays link; least = λ w g. h.1.1.least w ((same.out w).1 (was_away x w rests g)) })
       hop_stands x CutOff same was becomes free fresh rests h =
           still_cut_off net.nodes d net.links (settled_state net d counts) left.is_net counted.destination round x becomes
           (λ w g.
           let joins : Joins s.links x w = inl ((same.out w).1 (was_away x w rests g)) in
-          h.1 ((round_joined s.nodes s.dest after.first s after.is_net after.dest after.round x).0 (linked_joined s.nodes s.dest after.first s after.is_net after.dest after.round x w joins free)))
+          h.1 ((round_joined s.nodes s.dest after.first s after.is_net after.dest after.round x).0
+          (linked_joined s.nodes s.dest after.first s after.is_net after.dest after.round x w joins free)))
 
       -- and the hop of each node that cannot move stays right, unless it is stale
       pub unmoved_hops : (hops : List Hop) → AreHops s s.nodes hops → HoldsMoved (settled_state net d counts) hops (movable s d edits)
@@ -118,6 +128,7 @@ module _ (s : State) (after : IsAfterRound s) where
         others = λ x hop at none fresh.
             let un = unmoved x none in
             let not = untouched x un.0 in
-            let rests : slice_index counts x ≡ 0 = ⊎_elim (λ e. e) (λ some. absurd (fresh (x, (omega (arith, some), inl refl)))) (cases_eq (slice_index counts x) 0) in
+            let rests : slice_index counts x ≡ 0 =
+            ⊎_elim (λ e. e) (λ some. absurd (fresh (x, (omega (arith, some), inl refl)))) (cases_eq (slice_index counts x) 0) in
             hop_stands x hop not.2 not.0 not.1 un.1 fresh rests (are.each x hop at);
       }

@@ -1,5 +1,6 @@
 -- Which hops are other ones once some are made anew, and the list that notes where.
-use Rattle.std.proofs.Common.{Contains, false, true, List, [], Some, ap, arith, eqb, get_or, inl, inr, length, length-set, refl, set, slice_get, subst, sym, ℕ, ⊎_elim, ◌++◌, ◌<◌, ◌∙◌, ◌∷◌, ◌≡◌, ◌⊎◌}
+use Rattle.std.proofs.Common.{Contains, false, true, List, [], Some, ap, arith, eqb, get_or, inl, inr, length, length-set, refl, set, slice_get}
+use Rattle.std.proofs.Common.{subst, sym, ℕ, ⊎_elim, ◌++◌, ◌<◌, ◌∙◌, ◌∷◌, ◌≡◌, ◌⊎◌}
 use Rattle.std.specs.List.{IsDistinct, list_any}
 use Rattle.std.specs.Cmp.{nat_eq_equiv}
 use Rattle.std.proofs.lemmas.Bool.{cases_Bool, cases_eq, cases_lt, eqb-true}
@@ -48,13 +49,15 @@ not_any x nodes out = ⊎_elim
     (cases_Bool (list_any (eqb x) nodes))
 
 -- another hop is right for x than stands there
-module _ (s : State) (x : ℕ) (hop : Hop) (right : IsHop s x hop) (old : List Hop) (low : x < length old) (another : ¬ (slice_get old x ≡ Some hop)) (before : List Hop) (nodes : List ℕ) (noted : AreNoted s before old nodes) where
+module _ (s : State) (x : ℕ) (hop : Hop) (right : IsHop s x hop) (old : List Hop) (low : x < length old)
+    (another : ¬ (slice_get old x ≡ Some hop)) (before : List Hop) (nodes : List ℕ) (noted : AreNoted s before old nodes) where
   here : slice_get (set old x hop) x ≡ Some hop
   here = slice_get-get_or (set old x hop) x hop (omega (arith, low, length-set old x hop)) ∙ ap Some (get_or-set_same old x hop hop low)
 
   there : (y : ℕ) → ¬ (y ≡ x) → slice_get (set old x hop) y ≡ slice_get old y
   there y apart = ⊎_elim
-      (λ inside. slice_get-get_or (set old x hop) y hop (omega (arith, inside, length-set old x hop)) ∙ (ap Some (get_or-set_other old x y hop hop apart) ∙ sym (slice_get-get_or old y hop inside)))
+      (λ inside. slice_get-get_or (set old x hop) y hop (omega (arith, inside, length-set old x hop))
+      ∙ (ap Some (get_or-set_other old x y hop hop apart) ∙ sym (slice_get-get_or old y hop inside)))
       (λ past. slice_get_past (set old x hop) y (omega (arith, past, length-set old x hop)) ∙ sym (slice_get_past old y past))
       (cases_lt y (length old))
 
@@ -85,7 +88,8 @@ module _ (s : State) (x : ℕ) (hop : Hop) (right : IsHop s x hop) (old : List H
         (λ it. subst (λ (z : ℕ). (h : Hop) × ((slice_get (set old x hop) z ≡ Some h) × IsHop s z h × ¬ (slice_get before z ≡ Some h))) it
         (hop, (here, right, (λ was. another (noted.others x fresh ∙ was)))))
         (Contains-push_cases nodes x y found);
-    others = λ y out. there y (λ it. out (subst (Contains (nodes ++ x ∷ [])) (sym it) (Contains-push nodes x))) ∙ noted.others y (λ h. out (Contains-append_left nodes (x ∷ []) y h));
+    others = λ y out. there y (λ it. out (subst (Contains (nodes ++ x ∷ [])) (sym it) (Contains-push nodes x)))
+        ∙ noted.others y (λ h. out (Contains-append_left nodes (x ∷ []) y h));
   }
 
 -- the hop of x is made anew and noted

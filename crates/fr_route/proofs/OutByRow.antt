@@ -15,7 +15,8 @@ abbrev pub AreInward : List (ℕ × First) → ℕ → Type 0
 AreInward entries k = (j : ℕ) (d : ℕ × First) → j < k → (get_or entries j d).1 ≡ Inward
 
 module _ (n : ℕ) (links : List (ℕ × ℕ)) (x : ℕ) (net : IsNet n links) where
-  no_later : (k : ℕ) (d : ℕ × First) → k < length (row n links x) → AreInward (row n links x) k → (v : ℕ) → Points links x v → (get_or (row n links x) k d).0 ≤ v
+  no_later : (k : ℕ) (d : ℕ × First) → k < length (row n links x) → AreInward (row n links x) k → (v : ℕ) → Points links x v
+      → (get_or (row n links x) k d).0 ≤ v
   no_later k d inside inward v h =
       let at = row_of_out n links x v net h in
       let here : (j : ℕ) → j < length (row n links x) → get_or (row n links x) j (v, Outward) ≡ (v, Outward) → j ≡ k → (get_or (row n links x) k d).0 ≤ v =
@@ -33,15 +34,19 @@ module _ (n : ℕ) (links : List (ℕ × ℕ)) (x : ℕ) (net : IsNet n links) w
       (cases_eq at.0 k))
       (cases_lt at.0 k)
 
-  least_in_row : (k : ℕ) (d : ℕ × First) → k < length (row n links x) → (get_or (row n links x) k d).1 ≡ Outward → AreInward (row n links x) k → IsNextHop links x (get_or (row n links x) k d).0
+  least_in_row : (k : ℕ) (d : ℕ × First) → k < length (row n links x) → (get_or (row n links x) k d).1 ≡ Outward
+      → AreInward (row n links x) k → IsNextHop links x (get_or (row n links x) k d).0
   least_in_row k d inside out inward = record {
-    link = out_of_row n links x (get_or (row n links x) k d).0 (subst (λ (f : First). Contains (row n links x) ((get_or (row n links x) k d).0, f)) out (Contains-get_or (row n links x) k d inside));
+    link = out_of_row n links x (get_or (row n links x) k d).0
+        (subst (λ (f : First). Contains (row n links x) ((get_or (row n links x) k d).0, f)) out (Contains-get_or (row n links x) k d inside));
     least = no_later k d inside inward;
   }
 
   -- the first entry whose link points away names the next hop
-  pub least_at : (entries : List (ℕ × First)) → entries ≡ row n links x → (k : ℕ) (d : ℕ × First) → k < length entries → (get_or entries k d).1 ≡ Outward → AreInward entries k → IsNextHop links x (get_or entries k d).0
-  least_at entries is = subst (λ (es : List (ℕ × First)). (k : ℕ) (d : ℕ × First) → k < length es → (get_or es k d).1 ≡ Outward → AreInward es k → IsNextHop links x (get_or es k d).0) (sym is) least_in_row
+  pub least_at : (entries : List (ℕ × First)) → entries ≡ row n links x → (k : ℕ) (d : ℕ × First) → k < length entries
+      → (get_or entries k d).1 ≡ Outward → AreInward entries k → IsNextHop links x (get_or entries k d).0
+  least_at entries is = subst (λ (es : List (ℕ × First)). (k : ℕ) (d : ℕ × First) → k < length es
+      → (get_or es k d).1 ≡ Outward → AreInward es k → IsNextHop links x (get_or es k d).0) (sym is) least_in_row
 
   none_in_row : (k : ℕ) → length (row n links x) ≤ k → AreInward (row n links x) k → (w : ℕ) → ¬ Points links x w
   none_in_row k all inward w h =

@@ -22,7 +22,8 @@ order_once old new order is = IsDistinct-from_apart eqb order (λ i j d lt low.
     let at_i : get_or order i d ≡ get_or order i 0 = get_or_default order i d 0 (omega (arith, lt, low)) in
     let at_j : get_or order j d ≡ get_or order j 0 = get_or_default order j d 0 low in
     ⊎_elim
-    (λ t. absurd (before_apart old new (get_or order i 0) (get_or order j 0) (is.sorted i j lt low) (sym at_i ∙ (eqb-true (get_or order i d) (get_or order j d) t ∙ at_j))))
+    (λ t. absurd (before_apart old new (get_or order i 0) (get_or order j 0) (is.sorted i j lt low)
+    (sym at_i ∙ (eqb-true (get_or order i d) (get_or order j d) t ∙ at_j))))
     (λ f. f)
     (cases_Bool (eqb (get_or order i d) (get_or order j d))))
 

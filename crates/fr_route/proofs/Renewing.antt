@@ -30,7 +30,8 @@ renewed_right s hops x hop d right is = record {
 }
 
 -- one after the other
-pub renewed_then : (s : State) (a b c : List Hop) (first then left : ℕ → Hop → Type 0) → AreRenewed s a b first → AreRenewed s b c then → ((x : ℕ) (hop : Hop) → first x hop → then x hop → left x hop) → AreRenewed s a c left
+pub renewed_then : (s : State) (a b c : List Hop) (first then left : ℕ → Hop → Type 0) → AreRenewed s a b first
+    → AreRenewed s b c then → ((x : ℕ) (hop : Hop) → first x hop → then x hop → left x hop) → AreRenewed s a c left
 renewed_then s a b c first then left h g both = record {
   each = λ x hop at. ⊎_elim inl
       (λ was. ⊎_elim inl (λ before. inr (before.0, both x hop before.1 was.1)) (h.each x hop was.0))
@@ -38,14 +39,16 @@ renewed_then s a b c first then left h g both = record {
 }
 
 -- what is left may be said in other words
-pub renewed_as : (s : State) (a b : List Hop) (left other : ℕ → Hop → Type 0) → AreRenewed s a b left → ((x : ℕ) (hop : Hop) → left x hop → other x hop) → AreRenewed s a b other
+pub renewed_as : (s : State) (a b : List Hop) (left other : ℕ → Hop → Type 0) → AreRenewed s a b left
+    → ((x : ℕ) (hop : Hop) → left x hop → other x hop) → AreRenewed s a b other
 renewed_as s a b left other h into = record { each = λ x hop at. ⊎_elim inl (λ was. inr (was.0, into x hop was.1)) (h.each x hop at) }
 
 -- no hop of the first k neighbours in a row sends on to x
 abbrev pub NoneSends : List (ℕ × First) → ℕ → ℕ → ℕ → Hop → Type 0
 NoneSends entries k x y hop = (j : ℕ) (d : ℕ × First) → j < k → (get_or entries j d).0 ≡ y → ¬ (hop ≡ To x)
 
-pub none_more : (entries : List (ℕ × First)) (k : ℕ) (e : ℕ × First) (x y : ℕ) (hop : Hop) → k < length entries → NoneSends entries k x y hop → (y ≡ (get_or entries k e).0 → ¬ (hop ≡ To x)) → NoneSends entries (k + 1) x y hop
+pub none_more : (entries : List (ℕ × First)) (k : ℕ) (e : ℕ × First) (x y : ℕ) (hop : Hop) → k < length entries
+    → NoneSends entries k x y hop → (y ≡ (get_or entries k e).0 → ¬ (hop ≡ To x)) → NoneSends entries (k + 1) x y hop
 none_more entries k e x y hop inside before here j d low is = ⊎_elim
     (λ same.
     let at : (get_or entries k d).0 ≡ y = subst (λ (i : ℕ). (get_or entries i d).0 ≡ y) same is in
@@ -54,7 +57,8 @@ none_more entries k e x y hop inside before here j d low is = ⊎_elim
     (cases_eq j k)
 
 -- where the row of x ends, no neighbour of x is left that sends on to it
-pub none_left : (n : ℕ) (links : List (ℕ × ℕ)) (x : ℕ) (entries : List (ℕ × First)) (k : ℕ) → IsNet n links → entries ≡ row n links x → length entries ≤ k → (y : ℕ) (hop : Hop) → ¬ (y ≡ x) → NoneSends entries k x y hop → ¬ SendsTo links x y hop
+pub none_left : (n : ℕ) (links : List (ℕ × ℕ)) (x : ℕ) (entries : List (ℕ × First)) (k : ℕ) → IsNet n links
+    → entries ≡ row n links x → length entries ≤ k → (y : ℕ) (hop : Hop) → ¬ (y ≡ x) → NoneSends entries k x y hop → ¬ SendsTo links x y hop
 none_left n links x entries k net is past y hop apart none sends = go sends
   where
     from_row : NoneSends (row n links x) k x y hop

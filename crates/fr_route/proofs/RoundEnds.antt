@@ -20,7 +20,8 @@ use Rattle.fr_route.specs.States.{State, IsRound, IsCutOff, state_with}
 use Rattle.fr_route.specs.Routes.{IsNextHop, IsRoute}
 use Rattle.fr_route.proofs.Routing.{joined_next, out_of_joined, route, same_route}
 
-pub round_end : (n d : ℕ) (first : List (ℕ × ℕ)) (counts : List ℕ) (net : Network) → AreSettled n d first counts → net ≡ net_of n (links_at first counts) → IsRound n d first (state_with net d counts)
+pub round_end : (n d : ℕ) (first : List (ℕ × ℕ)) (counts : List ℕ) (net : Network) → AreSettled n d first counts
+    → net ≡ net_of n (links_at first counts) → IsRound n d first (state_with net d counts)
 round_end n d first counts net settled is = record {
   nodes = ap (λ (m : Network). m.nodes) is;
   dest = λ _. d;
@@ -29,14 +30,16 @@ round_end n d first counts net settled is = record {
 }
 
 -- the links as they were listed, in whatever order
-pub round_listed : (n d : ℕ) (listed : List (ℕ × ℕ)) (net : Network) (s : State) → IsNetworkOf n listed net → IsRound net.nodes d net.links s → IsRound n d listed s
+pub round_listed : (n d : ℕ) (listed : List (ℕ × ℕ)) (net : Network) (s : State) → IsNetworkOf n listed net
+    → IsRound net.nodes d net.links s → IsRound n d listed s
 round_listed n d listed net s made round =
     let same : net.nodes ≡ n = ap (λ (m : Network). m.nodes) made.is in
     let back : IsPermutation net.links listed = IsPermutation-sym listed net.links made.same_links in
     record {
       nodes = round.nodes ∙ same;
       dest = round.dest;
-      counts = same_settled net.links listed (same_from_permutation net.links listed back) n d s.counts (subst (λ (m : ℕ). AreSettled m d net.links s.counts) same round.counts);
+      counts = same_settled net.links listed (same_from_permutation net.links listed back) n d s.counts
+          (subst (λ (m : ℕ). AreSettled m d net.links s.counts) same round.counts);
       links = round.links ∙ in_order-links_at net.links listed s.counts back;
     }
 
@@ -66,7 +69,8 @@ module _ (n d : ℕ) (first : List (ℕ × ℕ)) (s : State) (net : IsNet n firs
   pub round_net : IsNet n s.links
   round_net =
       let given : IsNet n (links_at first s.counts) = net_turned n first s.counts lawful.kept net in
-      subst (IsNet n) (sym round.links) (permuted_net n (links_at first s.counts) (in_order (links_at first s.counts)) (in_order_permutes (links_at first s.counts)) given)
+      subst (IsNet n) (sym round.links) (permuted_net n (links_at first s.counts) (in_order (links_at first s.counts))
+      (in_order_permutes (links_at first s.counts)) given)
 
   -- no closed walk stands among them
   pub round_acyclic : IsAcyclic s.links
@@ -103,7 +107,11 @@ module _ (n d : ℕ) (first : List (ℕ × ℕ)) (s : State) (net : IsNet n firs
 
   -- and so is a node from which no link points
   pub still_cut_off : (x : ℕ) → ¬ (x ≡ d) → ((w : ℕ) → ¬ Points s.links x w) → IsCutOff d s.links x
-  still_cut_off x apart none = (apart, λ j. let o = out_of_joined n d first net below s.counts round.counts x ((round_joined x).1 j) apart in none o.0 ((as_given x o.0).0 o.1))
+  still_cut_off x apart none = (
+    apart,
+    λ j. let o = out_of_joined n d first net below s.counts round.counts x
+        ((round_joined x).1 j) apart in none o.0 ((as_given x o.0).0 o.1),
+  )
 
   -- a linked node whose count is below the cap is joined with the destination
   pub linked_joined : (x y : ℕ) → Joins s.links x y → ¬ (slice_index s.counts x ≡ n) → IsJoined first d x
@@ -123,5 +131,6 @@ module _ (n d : ℕ) (first : List (ℕ × ℕ)) (s : State) (net : IsNet n firs
   pub hop_leads_on : (x y : ℕ) → ¬ (x ≡ d) → ¬ (slice_index s.counts x ≡ n) → IsNextHop s.links x y → (rest : List ℕ) × IsRoute s.links d x (y ∷ rest)
   hop_leads_on x y apart free hop =
       let link = (given_back x y).0 hop.link in
-      let r = route n d first net below s.counts round.counts y (joined_next n d first net below s.counts round.counts x y link (linked_joined x y (inl hop.link) free)) in
+      let r = route n d first net below s.counts round.counts y
+      (joined_next n d first net below s.counts round.counts x y link (linked_joined x y (inl hop.link) free)) in
       (r.0, (apart, hop, same_route (links_at first s.counts) s.links as_given d y r.0 r.1))

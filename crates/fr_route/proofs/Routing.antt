@@ -1,15 +1,14 @@
 -- Routes: they are simple paths to the destination, no node has two, and at settled counts just the nodes that are joined
 -- with the destination have one.
-use Rattle.std.proofs.Common.{List, [], ap, ap₂, arith, eqb, inl, inr, length, refl, slice_index, subst, suc, sym, zero, ℕ, ⊎_elim, ◌<◌, ◌∙◌, ◌∷◌, ◌≡◌, ◌⊎◌}
-use Rattle.std.proofs.lemmas.Bool.{cases_Bool, cases_eq, false≢true}
+use Rattle.std.proofs.Common.{List, [], ap, ap₂, arith, eqb, inl, inr, length, refl, slice_index, subst, suc, sym, zero, ℕ, ⊎_elim, ◌<◌, ◌∷◌, ◌≡◌, ◌⊎◌}
+use Rattle.std.proofs.lemmas.Bool.{cases_eq}
 use Rattle.std.specs.List.{IsDistinct}
 use Rattle.fr_graph.proofs.Acyclic.{links_at_acyclic}
 use Rattle.fr_graph.proofs.Giving.{ComesFrom, Points-links_at_from}
 use Rattle.fr_graph.proofs.Linking.{joined_below}
-use Rattle.fr_graph.proofs.Neighbours.{Points-has_link, has_link_true}
 use Rattle.fr_graph.specs.Counts.{links_at}
 use Rattle.fr_graph.specs.Links.{HaveSameLinks, IsAcyclic, IsNet, IsPath, Joins, Points, end_of}
-use Rattle.fr_graph.specs.Rows.{has_link}
+use Rattle.fr_graph.proofs.Neighbours.{cases_points}
 use Rattle.fr_core.proofs.Following.{path_distinct, path_short}
 use Rattle.fr_core.proofs.Joining.{walk_linked}
 use Rattle.fr_core.proofs.Paths.{walk_from_path}
@@ -18,12 +17,6 @@ use Rattle.fr_core.proofs.Unique.{IsLinkedCount, joined_against, joined_along, o
 use Rattle.fr_core.specs.Settled.{AreSettled}
 use Rattle.fr_core.specs.Walks.{IsJoined, IsLeastAway}
 use Rattle.fr_route.specs.Routes.{IsNextHop, IsRoute}
-
-pub cases_points : (links : List (ℕ × ℕ)) (x y : ℕ) → Points links x y ⊎ ¬ Points links x y
-cases_points links x y = ⊎_elim
-    (λ e. inl (Points-has_link links x y e))
-    (λ e. inr (λ h. false≢true (sym e ∙ has_link_true links x y h)))
-    (cases_Bool (has_link links x y))
 
 -- a node from which a link points has a next hop
 next_hop : (links : List (ℕ × ℕ)) (n : ℕ) → ((u v : ℕ) → Points links u v → v < n) → (x y : ℕ) → Points links x y → (z : ℕ) × IsNextHop links x z
@@ -40,7 +33,8 @@ pub route_end : (links : List (ℕ × ℕ)) (d x : ℕ) (ys : List ℕ) → IsRo
 route_end links d x [] r = r
 route_end links d x (y ∷ ys) r = route_end links d y ys r.2
 
-pub route_simple : (links : List (ℕ × ℕ)) (d x : ℕ) (ys : List ℕ) → IsAcyclic links → IsRoute links d x ys → IsPath links x ys × (end_of x ys ≡ d) × IsDistinct eqb (x ∷ ys)
+pub route_simple : (links : List (ℕ × ℕ)) (d x : ℕ) (ys : List ℕ) → IsAcyclic links → IsRoute links d x ys
+    → IsPath links x ys × (end_of x ys ≡ d) × IsDistinct eqb (x ∷ ys)
 route_simple links d x ys acyclic r = let path = route_path links d x ys r in (path, route_end links d x ys r, path_distinct links acyclic x ys path)
 
 pub route_joined : (links : List (ℕ × ℕ)) (d x : ℕ) (ys : List ℕ) → IsRoute links d x ys → IsJoined links d x
@@ -92,7 +86,8 @@ module _ (n d : ℕ) (first : List (ℕ × ℕ)) (net : IsNet n first) (in_range
       go (inr (w, h)) = settled_out n d first net in_range c settled x (least_of (of_linked n d first net in_range c settled x w h)) (λ e. apart (sym e))
 
   -- after k hops the destination is reached, or a path of k links was gone
-  route_by : (k x : ℕ) → IsJoined first d x → ((ys : List ℕ) × IsRoute (links_at first c) d x ys) ⊎ ((vs : List ℕ) × (length vs ≡ k) × IsPath (links_at first c) x vs)
+  route_by : (k x : ℕ) → IsJoined first d x → ((ys : List ℕ) × IsRoute (links_at first c) d x ys)
+      ⊎ ((vs : List ℕ) × (length vs ≡ k) × IsPath (links_at first c) x vs)
   route_by zero x joined = inr ([], refl, tt)
   route_by (suc k) x joined = ⊎_elim
       (λ e. inl ([], e))

@@ -1,5 +1,6 @@
 -- The hops of a settled network as a table: it has no loop, and each hop names a node. Which nodes are told, by such tables.
-use Rattle.std.proofs.Common.{Contains, Err, IfErr, List, Ok, Result, Some, [], ap, arith, get_or, inl, inr, le_refl, length, refl, replicate, slice_get, subst, sym, take, ℕ, ⊎_elim, ◌+◌, ◌++◌, ◌-◌, ◌<◌, ◌≤◌, ◌∙◌, ◌∷◌, ◌≡◌, ◌↔◌}
+use Rattle.std.proofs.Common.{Contains, Err, IfErr, List, Ok, Result, Some, [], ap, arith, get_or, inl, inr, le_refl, length, refl, replicate}
+use Rattle.std.proofs.Common.{slice_get, subst, sym, take, ℕ, ⊎_elim, ◌+◌, ◌++◌, ◌-◌, ◌<◌, ◌≤◌, ◌∙◌, ◌∷◌, ◌≡◌, ◌↔◌}
 use Rattle.std.proofs.Math.ListN.{get_or-append}
 use Rattle.std.proofs.lemmas.Bool.{cases_lt}
 use Rattle.std.proofs.lemmas.List.{get_or-append-add, get_or-replicate, length-append, length-replicate, take_all}
@@ -97,7 +98,8 @@ module _ (s : State) (after : IsAfterRound s) where
       (settled_table s n (hops ++ fill) are_all after enough)
 
 -- the faults of a table that is compared with them
-push_fault_is : (s : State) (hops table : List Hop) → IsAfterRound s → AreHops s s.nodes hops → s.nodes ≤ most_nodes → (fault : TableFault) → IsFaultOf table hops fault → IsPushesFault s table fault
+push_fault_is : (s : State) (hops table : List Hop) → IsAfterRound s → AreHops s s.nodes hops → s.nodes ≤ most_nodes
+    → (fault : TableFault) → IsFaultOf table hops fault → IsPushesFault s table fault
 push_fault_is s hops table after are few Length (inl other) = λ same. other (same ∙ sym are.one_each)
 push_fault_is s hops table after are few Length (inr long) = λ same. omega (arith, long, are.one_each, few)
 push_fault_is s hops table after are few (Range x) (one, inl first) = (one.same ∙ are.one_each, first)
@@ -106,13 +108,15 @@ push_fault_is s hops table after are few (Range x) (one, inr first) =
 push_fault_is s hops table after are few (Loop nodes) h = settled_loop_free s hops after are nodes.items h.1.is_loop
 push_fault_is s hops table after are few Memory h = tt
 
-pub push_fault : {T : Type 0} (s : State) (hops table : List Hop) → IsAfterRound s → AreHops s s.nodes hops → s.nodes ≤ most_nodes → (r : Result T TableFault) → IfErr r (IsFaultOf table hops)
+pub push_fault : {T : Type 0} (s : State) (hops table : List Hop) → IsAfterRound s → AreHops s s.nodes hops
+    → s.nodes ≤ most_nodes → (r : Result T TableFault) → IfErr r (IsFaultOf table hops)
     → IfErr r (IsPushesFault s table)
 push_fault s hops table after are few (Ok nodes) h = h
 push_fault s hops table after are few (Err fault) h = push_fault_is s hops table after are few fault h
 
 -- just the rerouted nodes are told
-pub rerouted_told : (old new : State) (nodes : List ℕ) (x : ℕ) → old.nodes ≡ new.nodes → AreRerouted old new nodes → Contains nodes x ↔ ((x < new.nodes) × IsRerouted old new x)
+pub rerouted_told : (old new : State) (nodes : List ℕ) (x : ℕ) → old.nodes ≡ new.nodes → AreRerouted old new nodes
+    → Contains nodes x ↔ ((x < new.nodes) × IsRerouted old new x)
 rerouted_told old new nodes x same r = (
   λ found.
       let differ = (r.order.these x).0 found in
@@ -129,7 +133,8 @@ rerouted_told old new nodes x same r = (
           another = λ e. differ (was ∙ (ap Some e ∙ sym is));
         },
       ))
-      (λ out. absurd (differ (slice_get_past r.before x (omega (arith, out, r.were.one_each, same)) ∙ sym (slice_get_past r.after x (omega (arith, out, r.are.one_each))))))
+      (λ out. absurd (differ (slice_get_past r.before x (omega (arith, out, r.were.one_each, same))
+      ∙ sym (slice_get_past r.after x (omega (arith, out, r.are.one_each))))))
       (cases_lt x new.nodes),
   λ (below, at). (r.order.these x).1 (λ alike.
       let was = slice_get-get_or r.before x Here (omega (arith, below, r.were.one_each, same)) in

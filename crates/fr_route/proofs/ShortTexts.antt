@@ -8,4 +8,11 @@ pub report_short : (turned cut : ℕ) → turned < 2 ^ 64 → cut < 2 ^ 64 → l
 report_short turned cut t c =
     let first : length (decimal turned) ≤ 20 = length-decimal-le 20 turned (omega arith) (omega (arith, t)) t in
     let second : length (decimal cut) ≤ 20 = length-decimal-le 20 cut (omega arith) (omega (arith, c)) c in
-    omega (arith, first, second, length-append (codes "turned ") (decimal turned ++ (codes " cut " ++ decimal cut)), length-append (decimal turned) (codes " cut " ++ decimal cut), length-append (codes " cut ") (decimal cut))
+    omega (
+      arith,
+      first,
+      second,
+      length-append (codes "turned ") (decimal turned ++ (codes " cut " ++ decimal cut)),
+      length-append (decimal turned) (codes " cut " ++ decimal cut),
+      length-append (codes " cut ") (decimal cut),
+    )

@@ -16,14 +16,16 @@ use Rattle.fr_route.specs.declared.fault.RouteFault.{RouteFault}
 use Rattle.fr_route.specs.declared.fault.RouteFault.TheVariants.{Memory, Net, Range, Start}
 
 -- a refusal leaves the list: of a network,
-pub told_of_network : (s : Option State) (n d : ℕ) (links : List (ℕ × ℕ)) (fault : RouteFault) (text nodes : List ℕ) → IsNewFault n d links fault → IsRefusalOf fault text → IsTold s (new_network n d links) s nodes nodes
+pub told_of_network : (s : Option State) (n d : ℕ) (links : List (ℕ × ℕ)) (fault : RouteFault) (text nodes : List ℕ)
+    → IsNewFault n d links fault → IsRefusalOf fault text → IsTold s (new_network n d links) s nodes nodes
 told_of_network s n d links (Net fault) text nodes why is = inl (fault_number fault, inl (fault, why, refl), refl, refl)
 told_of_network s n d links Range text nodes why is = inl (4, inr (why.0, why.1, refl), refl, refl)
 told_of_network s n d links Start text nodes why is = absurd is
 told_of_network s n d links Memory text nodes why is = absurd is
 
 -- of a change for its fault,
-pub told_of_change : (s : State) (change : Change) (fault : RouteFault) (text : List ℕ) (next : Option State) (before after : List ℕ) → IsRouteFault s change fault → IsRefusalOf fault text → next ≡ Some s → after ≡ before
+pub told_of_change : (s : State) (change : Change) (fault : RouteFault) (text : List ℕ) (next : Option State)
+    (before after : List ℕ) → IsRouteFault s change fault → IsRefusalOf fault text → next ≡ Some s → after ≡ before
     → IsTold (Some s) (request_of_change change) next before after
 told_of_change s (Cut u v) (Net fault) text next before after why is n a = inl (fault_number fault, (fault, why, refl), n, a)
 told_of_change s (Add u v) (Net fault) text next before after why is n a = inl (fault_number fault, (fault, why, refl), n, a)
@@ -39,7 +41,8 @@ told_of_change s change Start text next before after why is n a = absurd is
 told_of_change s change Memory text next before after why is n a = absurd is
 
 -- and of edits for theirs
-pub told_of_edits : (s : State) (edits : List Edit) (d : ℕ) (fault : RouteFault) (text : List ℕ) (next : Option State) (before after : List ℕ) → IsEditingFault s edits d fault → IsRefusalOf fault text → next ≡ Some s → after ≡ before
+pub told_of_edits : (s : State) (edits : List Edit) (d : ℕ) (fault : RouteFault) (text : List ℕ) (next : Option State)
+    (before after : List ℕ) → IsEditingFault s edits d fault → IsRefusalOf fault text → next ≡ Some s → after ≡ before
     → IsTold (Some s) (make_edits edits) next before after
 told_of_edits s edits d (Net fault) text next before after why is n a = inl (fault_number fault, (why.0, why.1.0, ap fault_number why.1.1), n, a)
 told_of_edits s edits d Range text next before after why is n a = absurd why
@@ -61,7 +64,8 @@ told_of_question (Some s) question nodes text (inl h) = inl (h.0, h.1, refl, ref
 told_of_question (Some s) question nodes text (inr h) = inr (h.0, h.1, h.3, refl)
 
 -- a change tells of the nodes that it reroutes
-pub change_tells : (s : State) (change : Change) (new : State) (before after : List ℕ) → AreRerouted s new after → TellsOf (Some s) (request_of_change change) new before after
+pub change_tells : (s : State) (change : Change) (new : State) (before after : List ℕ) → AreRerouted s new after
+    → TellsOf (Some s) (request_of_change change) new before after
 change_tells s (Cut u v) new before after rerouted = rerouted
 change_tells s (Add u v) new before after rerouted = rerouted
 change_tells s (Join u v) new before after rerouted = rerouted

@@ -1,8 +1,9 @@
 -- What edits and a new destination touch: the links of every other node stay as they are, and so does where it sends on to.
-use Rattle.std.proofs.Common.{Bool, Contains, List, [], ap, append_assoc, cond, false, get_or, inl, inr, length, refl, subst, sym, take, true, ℕ, ⊎_elim, ◌+◌, ◌++◌, ◌<◌, ◌↔◌, ◌∙◌, ◌∷◌, ◌≡◌, ◌⊎◌}
+use Rattle.std.proofs.Common.{Bool, Contains, List, [], ap, append_assoc, get_or, inl, inr, length, refl, subst, sym, take, true, ℕ, ⊎_elim, ◌+◌}
+use Rattle.std.proofs.Common.{◌++◌, ◌<◌, ◌↔◌, ◌∙◌, ◌∷◌, ◌≡◌, ◌⊎◌}
 use Rattle.std.specs.Prelude.{not}
-use Rattle.std.specs.List.{All, filter}
-use Rattle.std.proofs.lemmas.Bool.{cases_Bool, false≢true}
+use Rattle.std.specs.List.{All}
+use Rattle.std.proofs.lemmas.Bool.{cases_Bool}
 use Rattle.std.proofs.lemmas.List.{take_more}
 use Rattle.std.proofs.lemmas.List.Elements.{All-cons, All-nil, Contains-append_left, Contains-push, Contains-push_cases}
 use Rattle.fr_graph.specs.Batches.{AreMade, IsMade}
@@ -15,8 +16,9 @@ use Rattle.fr_graph.specs.declared.edit.Edit.{Edit}
 use Rattle.fr_graph.specs.declared.edit.Edit.TheVariants.{Add, Cut, Join}
 use Rattle.fr_graph.proofs.Building.{permuted_net}
 use Rattle.fr_graph.proofs.Editing.{from_filter}
+use Rattle.fr_graph.proofs.Lists.{into_filter}
 use Rattle.fr_graph.proofs.Linking.{joined_below, joined_from, link_below}
-use Rattle.fr_graph.proofs.Members.{Contains-cases, Contains-head, Contains-tail}
+use Rattle.fr_graph.proofs.Members.{Contains-head, Contains-tail}
 use Rattle.fr_graph.proofs.Ordering.{in_order_order}
 use Rattle.fr_core.proofs.SameLinks.{same_from_permutation}
 use Rattle.fr_route.specs.Outcomes.{ends_of}
@@ -41,17 +43,6 @@ listed_at a listed n net x made h =
     let same : HaveSameLinks listed net.links = same_from_permutation listed net.links made.same_links in
     then_at a listed net.links x h (record { out = λ w. same x w; into = λ w. same w x })
 
-keeps_by : {X : Type 0} (b : Bool) (p : X → Bool) (l : X) (ls : List X) (x : X) → b ≡ p l → p x ≡ true → (Contains ls x → Contains (filter p ls) x) → (l ≡ x) ⊎ Contains ls x → Contains (cond b (l ∷ filter p ls) (filter p ls)) x
-keeps_by true p l ls x is kept rest (inl e) = subst (λ y. Contains (l ∷ filter p ls) y) e (Contains-head l (filter p ls))
-keeps_by true p l ls x is kept rest (inr h) = Contains-tail x l (filter p ls) (rest h)
-keeps_by false p l ls x is kept rest (inl e) = absurd (false≢true (is ∙ (ap p e ∙ kept)))
-keeps_by false p l ls x is kept rest (inr h) = rest h
-
--- what passes a test is kept
-pub into_filter : {X : Type 0} (p : X → Bool) (xs : List X) (x : X) → p x ≡ true → Contains xs x → Contains (filter p xs) x
-into_filter p [] x kept h = h
-into_filter p (l ∷ ls) x kept h = keeps_by (p l) p l ls x refl kept (into_filter p ls x kept) (Contains-cases x l ls h)
-
 not_between : (u v : ℕ) (l : ℕ × ℕ) → ¬ (((l.0 ≡ u) × (l.1 ≡ v)) ⊎ ((l.0 ≡ v) × (l.1 ≡ u))) → not (is_between u v l) ≡ true
 not_between u v l none = ⊎_elim (λ e. absurd (none (joined_from u v l e))) (λ e. ap not e) (cases_Bool (is_between u v l))
 
@@ -61,11 +52,11 @@ module _ (links : List (ℕ × ℕ)) (u v x : ℕ) (tail : ¬ (u ≡ x)) (head :
       let kept : ℕ × ℕ → Bool = λ l. not (is_between u v l) in
       record {
         out = λ w. (
-          (λ h. into_filter kept links (x, w) (not_between u v (x, w) (λ j. ⊎_elim (λ e. tail (sym e.0)) (λ e. head (sym e.0)) j)) h),
+          (λ h. into_filter kept links (x, w) h (not_between u v (x, w) (λ j. ⊎_elim (λ e. tail (sym e.0)) (λ e. head (sym e.0)) j))),
           (λ h. from_filter kept links (x, w) h),
         );
         into = λ w. (
-          (λ h. into_filter kept links (w, x) (not_between u v (w, x) (λ j. ⊎_elim (λ e. head (sym e.1)) (λ e. tail (sym e.1)) j)) h),
+          (λ h. into_filter kept links (w, x) h (not_between u v (w, x) (λ j. ⊎_elim (λ e. head (sym e.1)) (λ e. tail (sym e.1)) j))),
           (λ h. from_filter kept links (w, x) h),
         );
       }
@@ -120,7 +111,8 @@ cut_at net u v after is made =
 
 add_at : (net : Network) (u v : ℕ) (after : Network) → IsNetworkOf net.nodes (net.links ++ (u, v) ∷ []) after → IsAt net u v after
 add_at net u v after made =
-    let below : (u < net.nodes) × (v < net.nodes) = link_below net.nodes (net.links ++ (u, v) ∷ []) u v made.faultless.is_net (Contains-push net.links (u, v)) in
+    let below : (u < net.nodes) × (v < net.nodes) =
+    link_below net.nodes (net.links ++ (u, v) ∷ []) u v made.faultless.is_net (Contains-push net.links (u, v)) in
     record {
       keeps = λ x tail head. listed_at net.links (net.links ++ (u, v) ∷ []) net.nodes after x made (add_keeps net.links u v x tail head);
       is_net = network_net net.nodes (net.links ++ (u, v) ∷ []) after made;
@@ -134,7 +126,15 @@ join_at : (net : Network) (u v : ℕ) (after : Network) → IsMade net (Join u v
 join_at net u v after (inl made) = add_at net u v after made
 join_at net u v after (inr made) =
     let turned : IsAt net v u after = add_at net v u after made.1 in
-    record { keeps = λ x tail head. turned.keeps x head tail; is_net = turned.is_net; order = turned.order; nodes = turned.nodes; tail = turned.head; head = turned.tail }
+    record {
+      keeps = λ x tail head. turned.keeps x head tail;
+      is_net = turned.is_net;
+      order = turned.order;
+      nodes =
+          turned.nodes;
+      tail = turned.head;
+      head = turned.tail;
+    }
 
 -- what edits leave: at every node but their ends the links stay, and the ends are nodes
 pub record AreAt (net : Network) (ends : List ℕ) (after : Network) : Type 0 where
@@ -143,7 +143,8 @@ pub record AreAt (net : Network) (ends : List ℕ) (after : Network) : Type 0 wh
   pub is_net : IsNet after.nodes after.links
   pub order : AreInOrder net.links → AreInOrder after.links
 
-at_first : (net : Network) (u v : ℕ) (next : Network) (rest : List ℕ) (after : Network) → IsAt net u v next → AreAt next rest after → AreAt net (u ∷ (v ∷ rest)) after
+at_first : (net : Network) (u v : ℕ) (next : Network) (rest : List ℕ) (after : Network) → IsAt net u v next
+    → AreAt next rest after → AreAt net (u ∷ (v ∷ rest)) after
 at_first net u v next rest after first then = record {
   keeps = λ x none. let parts = apart u v x rest none in then_at net.links next.links after.links x (first.keeps x parts.0 parts.1) (then.keeps x parts.2);
   below =
@@ -174,9 +175,11 @@ ends_push (Add u v ∷ es) e = ap (λ (xs : List ℕ). u ∷ (v ∷ xs)) (ends_p
 ends_push (Join u v ∷ es) e = ap (λ (xs : List ℕ). u ∷ (v ∷ xs)) (ends_push es e)
 
 -- the ends of one edit more
-pub ends_more : (es : List Edit) (k : ℕ) (e : Edit) (nodes : List ℕ) (x y u v : ℕ) → k < length es → ends_of (get_or es k e ∷ []) ≡ u ∷ (v ∷ []) → nodes ≡ x ∷ (y ∷ ends_of (take k es)) → (nodes ++ u ∷ []) ++ v ∷ [] ≡ x ∷ (y ∷ ends_of (take (k + 1) es))
+pub ends_more : (es : List Edit) (k : ℕ) (e : Edit) (nodes : List ℕ) (x y u v : ℕ) → k < length es
+    → ends_of (get_or es k e ∷ []) ≡ u ∷ (v ∷ []) → nodes ≡ x ∷ (y ∷ ends_of (take k es)) → (nodes ++ u ∷ []) ++ v ∷ [] ≡ x ∷ (y ∷ ends_of (take (k + 1) es))
 ends_more es k e nodes x y u v low is so_far =
     let before : List ℕ = ends_of (take k es) in
     let longer : ends_of (take (k + 1) es) ≡ (before ++ u ∷ []) ++ v ∷ [] =
-    ap ends_of (take_more es k e low) ∙ (ends_push (take k es) (get_or es k e) ∙ (ap (λ (ends : List ℕ). before ++ ends) is ∙ sym (append_assoc before (u ∷ []) (v ∷ [])))) in
+    ap ends_of (take_more es k e low)
+    ∙ (ends_push (take k es) (get_or es k e) ∙ (ap (λ (ends : List ℕ). before ++ ends) is ∙ sym (append_assoc before (u ∷ []) (v ∷ [])))) in
     ap (λ (ends : List ℕ). (ends ++ u ∷ []) ++ v ∷ []) so_far ∙ ap (λ (ends : List ℕ). x ∷ (y ∷ ends)) (sym longer)

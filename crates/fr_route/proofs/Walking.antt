@@ -36,7 +36,8 @@ walks_on s x at next nodes w h =
     }
 
 -- where no hop leads on the destination is reached
-pub walk_ends : (s : State) (x at : ℕ) (nodes : List ℕ) → HasWalked s x at nodes → (hop : Hop) → IsHop s at hop → ((next : ℕ) → ¬ (hop ≡ To next)) → (rest : List ℕ) × IsRoute s.links s.dest x rest × (nodes ≡ x ∷ rest)
+pub walk_ends : (s : State) (x at : ℕ) (nodes : List ℕ) → HasWalked s x at nodes → (hop : Hop) → IsHop s at hop
+    → ((next : ℕ) → ¬ (hop ≡ To next)) → (rest : List ℕ) × IsRoute s.links s.dest x rest × (nodes ≡ x ∷ rest)
 walk_ends s x at nodes w Here h none =
     let left_is : w.left ≡ [] = route_unique s.links s.dest at w.left [] w.rest h in
     (w.done, subst (IsRoute s.links s.dest x) (ap (λ (l : List ℕ). w.done ++ l) left_is ∙ append-nil w.done) w.whole, w.front)
@@ -56,5 +57,6 @@ pub walk_short : (s : State) (x at : ℕ) (nodes : List ℕ) → IsNet s.nodes s
 walk_short s x at nodes net below w =
     let short : length (w.done ++ w.left) < s.nodes = path_short s.links s.nodes net.acyclic
     (λ u v h. (All-contains (λ (l : ℕ × ℕ). (l.0 < s.nodes) × (l.1 < s.nodes)) s.links (u, v) net.in_range h).1)
-    x (w.done ++ w.left) (route_in_range s.nodes s.links s.dest x (w.done ++ w.left) net below w.whole) (route_path s.links s.dest x (w.done ++ w.left) w.whole) in
+    x (w.done ++ w.left) (route_in_range s.nodes s.links s.dest x (w.done ++ w.left) net below w.whole)
+    (route_path s.links s.dest x (w.done ++ w.left) w.whole) in
     omega (arith, short, length-append w.done w.left, ap length w.front)

@@ -4,7 +4,8 @@ use Rattle.std.proofs.lemmas.Bool.{cases_eq}
 use Rattle.std.proofs.lemmas.List.{get_or-set_other, get_or-set_same}
 use Rattle.std.proofs.lemmas.Option.{get_or_from_slice_get, slice_get-get_or, slice_get_within}
 
-module _ {X : Type 0} (P : ℕ → X → Type 0) (xs : List X) (i : ℕ) (x : X) (here : P i x) (others : (j : ℕ) (y : X) → ¬ (j ≡ i) → slice_get xs j ≡ Some y → P j y) where
+module _ {X : Type 0} (P : ℕ → X → Type 0) (xs : List X) (i : ℕ) (x : X) (here : P i x) (others : (j : ℕ) (y : X)
+    → ¬ (j ≡ i) → slice_get xs j ≡ Some y → P j y) where
   -- what holds of the written element, and of each other one as it was, holds of each
   pub written : (j : ℕ) (y : X) → slice_get (set xs i x) j ≡ Some y → P j y
   written j y at =

@@ -7,7 +7,7 @@
 //! [`Router::open_alone`], [`Router::change_alone`], [`Session::answer_line_alone`], [`Session::answer_alone`]. The laws of routes
 //! and answers are in [`laws`].
 //!
-//! For those who answer lines in another way there are the parts of an answer: [`is_blank`], [`fault_number`],
+//! For those who answer lines in another way there are the parts of an answer: [`is_blank`], [`Refusal`],
 //! [`links_line`] and [`counts_line`]; for those who change the network of a session with no line at all, [`Session::router_mut`] and
 //! [`Session::put_router`].
 //!
@@ -35,7 +35,7 @@ pub use change::{Change, Report};
 pub use fault::{AnswerFault, RouteFault};
 pub use fr_tables::Hop;
 pub use hops::Walked;
-pub use refusals::{NOT_A_REQUEST, fault_number};
+pub use refusals::{Refusal, fault_number};
 pub use router::Router;
 pub use session::Session;
 pub use texts::{counts_line, links_line};

@@ -6,12 +6,9 @@ ghost use Rattle.fr_route.specs.Refusals.{number_of};
 
 use fr_graph::NetFault;
 
-/// The number by which an answer says that a line is no request.
-pub const NOT_A_REQUEST: u32 = 2;
-
-/// Why a line is refused.
-#[derive(Clone, Copy)]
-pub(crate) enum Refusal {
+/// Why a line is refused. Answers name it by its number, from 1 to 9.
+#[derive(Clone, Copy, Debug, Drop, PartialEq, Eq)]
+pub enum Refusal {
     /// The line is not JSON.
     NotJson,
     /// It is no request.
@@ -33,8 +30,8 @@ pub(crate) enum Refusal {
 }
 
 impl Refusal {
-    /// The refusal of links or of an edit with this fault. Want of memory is none.
-    pub(crate) fn of(fault: &NetFault) -> Option<Refusal>
+    /// The refusal of links or of an edit with this fault. Want of memory is none. `O(1)`.
+    pub fn of(fault: &NetFault) -> Option<Refusal>
         ensures number { IfSome result (λ refusal. fault_number_of fault.now ≡ number_of refusal) }
         ensures none { IfNone result (fault_number_of fault.now ≡ 0) }
     {
@@ -49,13 +46,13 @@ impl Refusal {
         }
     }
 
-    /// The number by which an answer names it.
-    pub(crate) fn number(self) -> u32
+    /// The number by which an answer names it. `O(1)`.
+    pub fn number(self) -> u32
         ensures { result ≡ number_of self }
     {
         match self {
             Refusal::NotJson => 1,
-            Refusal::NotRequest => NOT_A_REQUEST,
+            Refusal::NotRequest => 2,
             Refusal::NoNetwork => 3,
             Refusal::NoNode => 4,
             Refusal::SelfLink => 5,

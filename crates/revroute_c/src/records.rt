@@ -4,7 +4,7 @@ ghost use Rattle.std.specs.Prelude.{◌≡◌, map, position, IfOk};
 ghost use Rattle.revroute_c.specs.Records.{edit_of, is_unknown, link_of};
 
 use fr_graph::Edit;
-use fr_route::{NOT_A_REQUEST, Report};
+use fr_route::Report;
 use std::alloc::{AllocError, Global};
 
 /// A link.
@@ -85,7 +85,7 @@ pub(crate) fn unknown_at(at: usize) -> Refusal
     ensures { result ≡ record { number = 2; u = 0; v = 0; at = at } }
 {
     Refusal {
-        number: NOT_A_REQUEST,
+        number: fr_route::Refusal::NotRequest.number(),
         u: 0,
         v: 0,
         at,

@@ -10,4 +10,5 @@ pub loop-x-preserved : goal.loop-x-preserved
 loop-x-preserved c =
     let s : State = state_after c.args.round.now in
     let x : ℕ = c.loop-x.x in
-    written (λ (y : ℕ) (hop : Hop). y < x + 1 → IsHop s y hop) c.loop-x.hops x c.hop_of.result (λ low. c.hop_of.ensures) (λ y hop apart at low. c.loop-x.invariant y hop at (omega (arith, low, apart)))
+    written (λ (y : ℕ) (hop : Hop). y < x + 1 → IsHop s y hop) c.loop-x.hops x c.hop_of.result (λ low. c.hop_of.ensures)
+    (λ y hop apart at low. c.loop-x.invariant y hop at (omega (arith, low, apart)))

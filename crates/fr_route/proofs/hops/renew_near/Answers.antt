@@ -11,7 +11,8 @@ pub loop-w-init : goal.loop-w-init
 loop-w-init c =
     let s : State = state_after c.args.round.now in
     record {
-      renewed = renewed_as s c.args.hops.now c.renew_one.new.hops (λ y hop. ¬ (y ≡ c.args.x)) (λ y hop. (¬ (y ≡ c.args.x)) × NoneSends c.row-row.result.now 0 c.args.x y hop) c.renew_one.ensures.renewed
+      renewed = renewed_as s c.args.hops.now c.renew_one.new.hops (λ y hop. ¬ (y ≡ c.args.x)) (λ y hop. (¬ (y ≡ c.args.x))
+          × NoneSends c.row-row.result.now 0 c.args.x y hop) c.renew_one.ensures.renewed
           (λ y hop apart. (apart, λ j d low. absurd (omega arith)));
       noted = c.renew_one.ensures.noted;
     }
@@ -19,7 +20,8 @@ loop-w-init c =
 pub renew_sender-requires-clause-node : goal.renew_sender-requires-clause-node
 renew_sender-requires-clause-node c =
     let net = c.args.round.now.net.now in
-    let below : All (λ (e : ℕ × First). e.0 < net.nodes) c.row-row.result.now = subst (λ (es : List (ℕ × First)). All (λ (e : ℕ × First). e.0 < net.nodes) es) (sym c.row-row.ensures) (row_below net.nodes net.links c.args.x) in
+    let below : All (λ (e : ℕ × First). e.0 < net.nodes) c.row-row.result.now =
+    subst (λ (es : List (ℕ × First)). All (λ (e : ℕ × First). e.0 < net.nodes) es) (sym c.row-row.ensures) (row_below net.nodes net.links c.args.x) in
     below c.loop-w.w-index _ c.loop-w-test.true
 
 pub loop-w-preserved : goal.loop-w-preserved
@@ -29,10 +31,12 @@ loop-w-preserved c =
     let k = c.loop-w.w-index in
     let row = c.row-row.result.now in
     record {
-      renewed = renewed_then s c.args.hops.now c.loop-w.hops c.renew_sender.new.hops (λ y hop. (¬ (y ≡ x)) × NoneSends row k x y hop) _ (λ y hop. (¬ (y ≡ x)) × NoneSends row (k + 1) x y hop)
+      renewed = renewed_then s c.args.hops.now c.loop-w.hops c.renew_sender.new.hops (λ y hop. (¬ (y ≡ x))
+          × NoneSends row k x y hop) _ (λ y hop. (¬ (y ≡ x)) × NoneSends row (k + 1) x y hop)
           c.loop-w.invariant.renewed c.renew_sender.ensures.renewed
           (λ y hop before here. (before.0, none_more row k _ x y hop c.loop-w-test.true before.1 here));
-      noted = notes_then s c.args.hops.now c.loop-w.hops c.renew_sender.new.hops c.args.told.now c.loop-w.told c.renew_sender.new.told (c.loop-w.auto.hops ∙ c.renew_one.auto.hops) c.loop-w.invariant.noted c.renew_sender.ensures.noted;
+      noted = notes_then s c.args.hops.now c.loop-w.hops c.renew_sender.new.hops c.args.told.now c.loop-w.told
+          c.renew_sender.new.told (c.loop-w.auto.hops ∙ c.renew_one.auto.hops) c.loop-w.invariant.noted c.renew_sender.ensures.noted;
     }
 
 pub returns-clause-renewed : goal.returns-clause-renewed

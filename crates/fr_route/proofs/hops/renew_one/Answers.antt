@@ -23,12 +23,14 @@ returns-clause-renewed c =
     let s : State = state_after c.args.round.now in
     let hops = c.args.hops.now in
     record {
-      each = written (λ (y : ℕ) (hop : Hop). IsHop s y hop ⊎ ((slice_get hops y ≡ Some hop) × ¬ (y ≡ c.args.x))) hops c.args.x c.hop_of-hop.result (inl c.hop_of-hop.ensures) (λ y hop apart at. inr (at, apart));
+      each = written (λ (y : ℕ) (hop : Hop). IsHop s y hop ⊎ ((slice_get hops y ≡ Some hop) × ¬ (y ≡ c.args.x)))
+          hops c.args.x c.hop_of-hop.result (inl c.hop_of-hop.ensures) (λ y hop apart at. inr (at, apart));
     }
 
 pub returns-clause-noted : goal.returns-clause-noted
 returns-clause-noted c =
     let s : State = state_after c.args.round.now in
-    notes_one s c.args.x c.hop_of-hop.result Here c.args.hops.now c.args.told.now c.note.new.self c.hop_of-hop.ensures (omega (arith, c.requires.one_each, c.requires.node))
+    notes_one s c.args.x c.hop_of-hop.result Here c.args.hops.now c.args.told.now c.note.new.self c.hop_of-hop.ensures
+    (omega (arith, c.requires.one_each, c.requires.node))
     (λ same. false≢true (sym c.if-is_same.false ∙ c.is_same.ensures.1 same))
     c.note.ensures.keeps c.note.ensures.noted

@@ -21,13 +21,15 @@ loop-x-preserved c =
     let moved : List ℕ = c.args.moved.now in
     let k = c.loop-x.x-index in
     record {
-      renewed = renewed_then s c.args.hops.now c.loop-x.hops c.renew_one.new.hops (λ y hop. (j : ℕ) → j < k → ¬ (get_or moved j y ≡ y)) (λ y hop. ¬ (y ≡ get_or moved k 0)) (λ y hop. (j : ℕ) → j < k + 1 → ¬ (get_or moved j y ≡ y))
+      renewed = renewed_then s c.args.hops.now c.loop-x.hops c.renew_one.new.hops (λ y hop. (j : ℕ) → j < k
+          → ¬ (get_or moved j y ≡ y)) (λ y hop. ¬ (y ≡ get_or moved k 0)) (λ y hop. (j : ℕ) → j < k + 1 → ¬ (get_or moved j y ≡ y))
           c.loop-x.invariant.renewed c.renew_one.ensures.renewed
           (λ y hop before apart j low at. ⊎_elim
           (λ e. apart (sym (get_or_default moved k 0 y c.loop-x-test.true ∙ subst (λ (i : ℕ). get_or moved i y ≡ y) e at)))
           (λ other. before j (omega arith) at)
           (cases_eq j k));
-      noted = notes_then s c.args.hops.now c.loop-x.hops c.renew_one.new.hops c.args.told.now c.loop-x.told c.renew_one.new.told c.loop-x.auto.hops c.loop-x.invariant.noted c.renew_one.ensures.noted;
+      noted = notes_then s c.args.hops.now c.loop-x.hops c.renew_one.new.hops c.args.told.now c.loop-x.told
+          c.renew_one.new.told c.loop-x.auto.hops c.loop-x.invariant.noted c.renew_one.ensures.noted;
     }
 
 pub returns-clause-renewed : goal.returns-clause-renewed

@@ -18,7 +18,11 @@ loop-x-init c =
 
 pub renew_near-requires-clause-node : goal.renew_near-requires-clause-node
 renew_near-requires-clause-node c =
-    omega (arith, c.requires.round.round.counts.one_each, turned_below c.args.round.now.turns.now c.nodes-x-items.result.now c.nodes-x-items.ensures c.loop-x.x-index 0 c.loop-x-test.true)
+    omega (
+      arith,
+      c.requires.round.round.counts.one_each,
+      turned_below c.args.round.now.turns.now c.nodes-x-items.result.now c.nodes-x-items.ensures c.loop-x.x-index 0 c.loop-x-test.true,
+    )
 
 pub loop-x-preserved : goal.loop-x-preserved
 loop-x-preserved c =
@@ -28,13 +32,16 @@ loop-x-preserved c =
     let k = c.loop-x.x-index in
     let near = c.renew_near.ensures in
     record {
-      renewed = renewed_then s c.args.hops.now c.loop-x.hops c.renew_near.new.hops (λ y hop. (j : ℕ) → j < k → ¬ SendsTo links (get_or nodes j 0) y hop) (λ y hop. ¬ SendsTo links (get_or nodes k 0) y hop) (λ y hop. (j : ℕ) → j < k + 1 → ¬ SendsTo links (get_or nodes j 0) y hop)
+      renewed = renewed_then s c.args.hops.now c.loop-x.hops c.renew_near.new.hops (λ y hop. (j : ℕ) → j < k
+          → ¬ SendsTo links (get_or nodes j 0) y hop) (λ y hop. ¬ SendsTo links (get_or nodes k 0) y hop) (λ y hop. (j : ℕ)
+          → j < k + 1 → ¬ SendsTo links (get_or nodes j 0) y hop)
           c.loop-x.invariant.renewed near.renewed
           (λ y hop before apart j low. ⊎_elim
           (λ e. subst (λ (i : ℕ). ¬ SendsTo links (get_or nodes i 0) y hop) (sym e) apart)
           (λ other. before j (omega arith))
           (cases_eq j k));
-      noted = notes_then s c.args.hops.now c.loop-x.hops c.renew_near.new.hops c.args.told.now c.loop-x.told c.renew_near.new.told c.loop-x.auto.hops c.loop-x.invariant.noted near.noted;
+      noted = notes_then s c.args.hops.now c.loop-x.hops c.renew_near.new.hops c.args.told.now c.loop-x.told
+          c.renew_near.new.told c.loop-x.auto.hops c.loop-x.invariant.noted near.noted;
     }
 
 pub returns-clause-renewed : goal.returns-clause-renewed

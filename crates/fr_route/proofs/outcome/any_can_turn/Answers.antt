@@ -20,7 +20,12 @@ loop-x-preserved c = λ i less can.
       | inl before ↦ c.loop-x.invariant i before can
       | inr ge ↦
           let e : i ≡ k = omega (arith, less, ge) in
-          absurd (cc (c.can_turn.ensures.1 (subst (λ (j : ℕ). CanTurn c.args.net.now.nodes c.args.dest (moment_of c.args.net.now.links c.args.counts.now) (get_or c.args.among.now j 0)) e can), c.if-can_turn.false))
+          absurd (cc (
+            c.can_turn.ensures.1
+                (subst (λ (j : ℕ). CanTurn c.args.net.now.nodes c.args.dest (moment_of c.args.net.now.links c.args.counts.now)
+                (get_or c.args.among.now j 0)) e can),
+            c.if-can_turn.false,
+          ))
     ]
 
 pub returns : goal.returns
@@ -28,5 +33,6 @@ returns c = (
   λ t. absurd (false≢true t),
   λ (k, x, low, at, can).
       let here : get_or c.args.among.now k 0 ≡ x = get_or_default c.args.among.now k 0 x low ∙ at in
-      absurd (c.loop-x.invariant k (omega (arith, low, c.loop-x-test.false)) (subst (CanTurn c.args.net.now.nodes c.args.dest (moment_of c.args.net.now.links c.args.counts.now)) (sym here) can)),
+      absurd (c.loop-x.invariant k (omega (arith, low, c.loop-x-test.false))
+      (subst (CanTurn c.args.net.now.nodes c.args.dest (moment_of c.args.net.now.links c.args.counts.now)) (sym here) can)),
 )

@@ -12,6 +12,10 @@ loop-x-preserved c =
     let before : List ℕ = c.args.capped.now.items in
     let now : List ℕ = c.loop-x.capped.items in
     elim c.if-counts-x.branch [
-      | then-counts-x+in_ok-push w ↦ rw w.capped-is (w.in_ok-push.ensures.items ∙ filtered_more capped x true before now (eq-eqb (slice_index counts x) nodes (omega (arith, w.if-counts-x.true, c.from-cap.ensures))) c.loop-x.invariant)
-      | else-counts-x w ↦ rw w.capped-is (sym (append-nil now) ∙ filtered_more capped x false before now (ne_eqb (slice_index counts x) nodes (λ e. w.if-counts-x.false (omega (arith, e, c.from-cap.ensures)))) c.loop-x.invariant)
+      | then-counts-x+in_ok-push w ↦ rw w.capped-is (w.in_ok-push.ensures.items
+          ∙ filtered_more capped x true before now
+          (eq-eqb (slice_index counts x) nodes (omega (arith, w.if-counts-x.true, c.from-cap.ensures))) c.loop-x.invariant)
+      | else-counts-x w ↦ rw w.capped-is (sym (append-nil now)
+          ∙ filtered_more capped x false before now
+          (ne_eqb (slice_index counts x) nodes (λ e. w.if-counts-x.false (omega (arith, e, c.from-cap.ensures)))) c.loop-x.invariant)
     ]

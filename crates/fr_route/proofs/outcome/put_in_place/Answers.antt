@@ -15,24 +15,29 @@ turned : (c : After-turn) → c.turn.new.self ≡ net_of c.args.net.now.nodes (l
 turned c = c.turn.ensures.is
 
 -- the hops are made anew in the state after the round
-reached : (c : After-turn) → state_with c.turn.new.self c.args.outcome.now.dest c.args.outcome.now.turns ≡ settled_state c.args.net.now c.args.outcome.now.dest c.args.outcome.now.turns
+reached : (c : After-turn) → state_with c.turn.new.self c.args.outcome.now.dest c.args.outcome.now.turns ≡ settled_state
+    c.args.net.now c.args.outcome.now.dest c.args.outcome.now.turns
 reached c = ap (λ (m : Network). state_with m c.args.outcome.now.dest c.args.outcome.now.turns) (turned c)
 
 pub turn-requires-clause-kept : goal.turn-requires-clause-kept
 turn-requires-clause-kept c =
     let net = c.args.net.now in
-    (settled_lawful net.nodes c.args.outcome.now.dest net.links c.network_law.ensures.is_net c.requires.counted.destination c.args.outcome.now.turns c.requires.counted.settled).kept
+    (settled_lawful net.nodes c.args.outcome.now.dest net.links c.network_law.ensures.is_net c.requires.counted.destination
+    c.args.outcome.now.turns c.requires.counted.settled).kept
 
 pub renew_hops-requires-clause-round : goal.renew_hops-requires-clause-round
 renew_hops-requires-clause-round c =
-    subst IsAfterRound (sym (reached (goal.at.renew_hops-requires-clause-round c).After-turn)) (after_outcome c.args.net.now c.args.outcome.now.dest c.args.outcome.now.turns c.network_law.ensures.is_net c.requires.counted)
+    subst IsAfterRound (sym (reached (goal.at.renew_hops-requires-clause-round c).After-turn))
+    (after_outcome c.args.net.now c.args.outcome.now.dest c.args.outcome.now.turns c.network_law.ensures.is_net c.requires.counted)
 
 pub renew_hops-requires-clause-one_each : goal.renew_hops-requires-clause-one_each
-renew_hops-requires-clause-one_each c = c.requires.one_each ∙ ap (λ (m : Network). m.nodes) (sym (turned (goal.at.renew_hops-requires-clause-one_each c).After-turn))
+renew_hops-requires-clause-one_each c = c.requires.one_each
+    ∙ ap (λ (m : Network). m.nodes) (sym (turned (goal.at.renew_hops-requires-clause-one_each c).After-turn))
 
 pub renew_hops-requires-clause-moved : goal.renew_hops-requires-clause-moved
 renew_hops-requires-clause-moved c =
-    subst (λ (s : State). HoldsMoved s c.args.hops.now c.args.moved.now) (sym (reached (goal.at.renew_hops-requires-clause-moved c).After-turn)) c.requires.moved
+    subst (λ (s : State). HoldsMoved s c.args.hops.now c.args.moved.now)
+    (sym (reached (goal.at.renew_hops-requires-clause-moved c).After-turn)) c.requires.moved
 
 pub returns-clause-hops : goal.returns-clause-hops
 returns-clause-hops c =

@@ -11,15 +11,27 @@ pub overflow_add-result : goal.overflow_add-result
 overflow_add-result c =
     let net = c.args.net.now in
     let counts_are = ap length c.counts.ensures in
-    omega (arith, c.alone_nodes.ensures, c.capped_nodes.ensures, count-range-le (but c.args.dest (has_no_neighbour net.nodes net.links)) 0 net.nodes, count_by-le-length (λ count. count == c.nodes.result) c.counts.result.now, counts_are, c.requires.settled.one_each, c.nodes.ensures.value, c.nodes.type_inv)
+    omega (
+      arith,
+      c.alone_nodes.ensures,
+      c.capped_nodes.ensures,
+      count-range-le (but c.args.dest (has_no_neighbour net.nodes net.links)) 0 net.nodes,
+      count_by-le-length (λ count. count == c.nodes.result) c.counts.result.now,
+      counts_are,
+      c.requires.settled.one_each,
+      c.nodes.ensures.value,
+      c.nodes.type_inv,
+    )
 
 pub returns : goal.returns
 returns c =
     let net = c.args.net.now in
     let known = c.network_law.ensures in
     let fits : sum c.args.turns.now < 2 ^ 64 =
-    lawful_sum_fits net.nodes c.args.dest net.links c.args.turns.now known.limits.nodes_few (settled_lawful net.nodes c.args.dest net.links known.is_net c.requires.destination c.args.turns.now c.requires.settled) in
+    lawful_sum_fits net.nodes c.args.dest net.links c.args.turns.now known.limits.nodes_few
+    (settled_lawful net.nodes c.args.dest net.links known.is_net c.requires.destination c.args.turns.now c.requires.settled) in
     record {
       turns = omega (arith, c.total-turned.ensures, fits);
-      cut_off = rw (c.alone_nodes.ensures, c.capped_nodes.ensures, c.nodes.ensures.value, c.counts.ensures) (cut_by_rows net c.args.dest c.args.turns.now known.is_net c.requires);
+      cut_off = rw (c.alone_nodes.ensures, c.capped_nodes.ensures, c.nodes.ensures.value, c.counts.ensures)
+          (cut_by_rows net c.args.dest c.args.turns.now known.is_net c.requires);
     }

@@ -1,4 +1,5 @@
-use Rattle.std.proofs.Common.{Err, List, Ok, OnOk, Result, ap, append_assoc, arith, decimal, if◌then◌else◌, string_bytes, sym, ℕ, ◌++◌, ◌+◌, ◌<◌, ◌∙◌, ◌∷◌, ◌≡◌, []}
+use Rattle.std.proofs.Common.{Err, List, Ok, OnOk, Result, ap, append_assoc, arith, decimal, if◌then◌else◌, string_bytes, sym, ℕ, ◌++◌, ◌+◌, ◌<◌, ◌∙◌}
+use Rattle.std.proofs.Common.{◌∷◌, ◌≡◌, []}
 use Rattle.std.proofs.lemmas.Fmt.{decimal_digit}
 use Rattle.std.specs.Result.{is_ok}
 use Rattle.std.specs.Char.{encode_utf8}

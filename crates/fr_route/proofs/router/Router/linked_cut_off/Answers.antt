@@ -17,4 +17,5 @@ overflow_sub-result c = omega (arith, parted (goal.at.overflow_sub-result c).Aft
 
 pub returns : goal.returns
 returns c =
-    subst (λ (now : State). c.self.inside.report.cut - c.alone_nodes.result ≡ length (cut_off_nodes now)) c.self.view_is (omega (arith, parted (goal.at.returns c).After-alone_nodes))
+    subst (λ (now : State). c.self.inside.report.cut - c.alone_nodes.result ≡ length (cut_off_nodes now)) c.self.view_is
+    (omega (arith, parted (goal.at.returns c).After-alone_nodes))

@@ -23,17 +23,20 @@ hops-smaller c =
     let net : IsNet c.args.self.now.nodes c.args.self.now.links = subst (λ (s : State). IsNet s.nodes s.links) c.self.view_is c.network_law.ensures.is_net in
     let below : c.args.self.now.dest < c.args.self.now.nodes = subst (λ (s : State). s.dest < s.nodes) c.self.view_is c.self.invariant.dest in
     let items : c.push-in-To.new.self.items ≡ c.hops.route.items ++ c.in-To.next ∷ [] = c.in_ok-push-2.ensures.items in
-    let short = walk_short c.args.self.now c.args.x c.in-To.next (c.hops.route.items ++ c.in-To.next ∷ []) net below (walks_on c.args.self.now c.args.x c.hops.at c.in-To.next c.hops.route.items c.hops.invariant c.in-To.ensures) in
+    let short = walk_short c.args.self.now c.args.x c.in-To.next (c.hops.route.items ++ c.in-To.next ∷ []) net below
+    (walks_on c.args.self.now c.args.x c.hops.at c.in-To.next c.hops.route.items c.hops.invariant c.in-To.ensures) in
     let longer : length c.push-in-To.new.self.items ≡ length c.hops.route.items + 1 = ap length items ∙ length_push c.hops.route.items c.in-To.next in
     omega (arith, short, longer, length_push c.hops.route.items c.in-To.next)
 
 pub hops-preserved : goal.hops-preserved
 hops-preserved c =
     let items : c.push-in-To.new.self.items ≡ c.hops.route.items ++ c.in-To.next ∷ [] = c.in_ok-push-2.ensures.items in
-    subst (HasWalked c.args.self.now c.args.x c.in-To.next) (sym items) (walks_on c.args.self.now c.args.x c.hops.at c.in-To.next c.hops.route.items c.hops.invariant c.in-To.ensures)
+    subst (HasWalked c.args.self.now c.args.x c.in-To.next) (sym items)
+    (walks_on c.args.self.now c.args.x c.hops.at c.in-To.next c.hops.route.items c.hops.invariant c.in-To.ensures)
 
 pub returns : goal.returns
 returns c = record {
-  walked = walk_ends c.args.self.now c.args.x c.hops.at c.hops.route.items c.hops.invariant c.next_hop-in-hops.result c.next_hop-in-hops.ensures (λ next. c.in_default.not-To next);
+  walked = walk_ends c.args.self.now c.args.x c.hops.at c.hops.route.items c.hops.invariant c.next_hop-in-hops.result
+      c.next_hop-in-hops.ensures (λ next. c.in_default.not-To next);
   memory = tt;
 }

@@ -6,13 +6,15 @@ use Rattle.fr_route.proofs.settling.Asking.answer.Goals as goal
 pub returns-in-Ok : goal.returns-in-Ok
 returns-in-Ok g c =
     let accepted = rw c.deref.ensures.value at c.in-Ok.ensures.accepted in
-    rw c.in-Network.is (network_put _ c.args.told.now c.args.session.now c.in-Network.nodes c.in-Network.dest c.in-Network.links.items c.in-Ok.router c.put.result c.put.new.self c.put.new.told
+    rw c.in-Network.is (network_put _ c.args.told.now c.args.session.now c.in-Network.nodes c.in-Network.dest
+    c.in-Network.links.items c.in-Ok.router c.put.result c.put.new.self c.put.new.told
     accepted c.put.ensures.text c.put.ensures.told c.put.ensures.unchanged c.put.ensures.short c.put.ensures.memory)
 
 pub returns-in-Err : goal.returns-in-Err
 returns-in-Err g c =
     let why = rw c.deref.ensures.value at c.in-Err.ensures.refused in
-    rw c.in-Network.is (network_refused _ c.args.told.now c.args.session.now c.in-Network.nodes c.in-Network.dest c.in-Network.links.items c.in-Err.fault c.refusal.result
+    rw c.in-Network.is (network_refused _ c.args.told.now c.args.session.now c.in-Network.nodes c.in-Network.dest
+    c.in-Network.links.items c.in-Err.fault c.refusal.result
     why c.in-Err.ensures.no_start c.refusal.ensures.text c.refusal.ensures.start)
 
 pub returns-in-Cut : goal.returns-in-Cut
@@ -32,8 +34,10 @@ returns-in-Batch g c = rw c.in-Batch.is (rw c.deref-in-Batch.ensures.value at c.
 
 pub returns-in-Walk : goal.returns-in-Walk
 returns-in-Walk g c =
-    rw c.in-Walk.is (unchanging _ c.args.told.now c.args.session.now _ c.walk.result (told_of_walk c.args.session.now c.in-Walk.x (nodes_told c.args.told.now)) c.walk.ensures.text c.walk.ensures.memory)
+    rw c.in-Walk.is (unchanging _ c.args.told.now c.args.session.now _ c.walk.result
+    (told_of_walk c.args.session.now c.in-Walk.x (nodes_told c.args.told.now)) c.walk.ensures.text c.walk.ensures.memory)
 
 pub returns-in-Ask : goal.returns-in-Ask
 returns-in-Ask g c =
-    rw c.in-Ask.is (unchanging _ c.args.told.now c.args.session.now _ c.tell.result (told_of_question c.args.session.now c.in-Ask.question (nodes_told c.args.told.now)) c.tell.ensures.text c.tell.ensures.memory)
+    rw c.in-Ask.is (unchanging _ c.args.told.now c.args.session.now _ c.tell.result
+    (told_of_question c.args.session.now c.in-Ask.question (nodes_told c.args.told.now)) c.tell.ensures.text c.tell.ensures.memory)

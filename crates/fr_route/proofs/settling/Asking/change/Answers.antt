@@ -22,7 +22,8 @@ returns-in-Add g c =
     let v = c.in-Add.v in
     let by = add_by s u v in
     rw c.in-Add.is
-    (tried_as _ (edit_of s (edit.Add u v)) (change_of s (Add u v)) _ s c.args.told.now c.edit_one-in-Add.result c.edit_one-in-Add.new.router c.edit_one-in-Add.new.told
+    (tried_as _ (edit_of s (edit.Add u v)) (change_of s (Add u v)) _ s c.args.told.now c.edit_one-in-Add.result
+    c.edit_one-in-Add.new.router c.edit_one-in-Add.new.told
     by.done by.undone c.edit_one-in-Add.ensures)
 
 pub returns-in-Join : goal.returns-in-Join
@@ -32,5 +33,6 @@ returns-in-Join g c =
     let v = c.in-Join.v in
     let by = join_by s u v in
     rw c.in-Join.is
-    (tried_as _ (edit_of s (edit.Join u v)) (change_of s (Join u v)) _ s c.args.told.now c.edit_one-in-Join.result c.edit_one-in-Join.new.router c.edit_one-in-Join.new.told
+    (tried_as _ (edit_of s (edit.Join u v)) (change_of s (Join u v)) _ s c.args.told.now c.edit_one-in-Join.result
+    c.edit_one-in-Join.new.router c.edit_one-in-Join.new.told
     by.done by.undone c.edit_one-in-Join.ensures)

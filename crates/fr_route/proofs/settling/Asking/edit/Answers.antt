@@ -40,8 +40,11 @@ now_is : (g : Over) (c : After-router g) → state_of c.router.inside ≡ c.args
 now_is g c = c.router.view_is
 
 -- the nodes from which the round begins are those that can move
-from_movable : (g : Over) (c : After-as_slice-from g) → c.as_slice-from.result.now ≡ movable (state_of c.router.inside) c.args.revision.now.dest c.args.revision.now.edits.now
-from_movable g c = c.as_slice-from.ensures.value ∙ subst (λ (now : State). c.in_ok-movable.movable.items ≡ movable now c.args.revision.now.dest c.args.revision.now.edits.now) (sym c.router.view_is) c.in_ok-movable.ensures.movable
+from_movable : (g : Over) (c : After-as_slice-from g)
+    → c.as_slice-from.result.now ≡ movable (state_of c.router.inside) c.args.revision.now.dest c.args.revision.now.edits.now
+from_movable g c = c.as_slice-from.ensures.value
+    ∙ subst (λ (now : State). c.in_ok-movable.movable.items ≡ movable now c.args.revision.now.dest
+    c.args.revision.now.edits.now) (sym c.router.view_is) c.in_ok-movable.ensures.movable
 
 in_range : (g : Over) (c : After-router g) → c.args.revision.now.dest < (state_of c.router.inside).nodes
 in_range g c = subst (λ (now : State). c.args.revision.now.dest < now.nodes) (sym (now_is g c)) c.requires.node
@@ -66,7 +69,8 @@ edit_if-requires g c = record {
           let below = in_range g at.After-router in
           let nodes = made_nodes c.router.inside.net c.args.revision.now.edits.now made.now is in (
             omega (arith, below, nodes),
-            subst (HoldsSinks made.now c.args.revision.now.dest) (sym (from_movable g at.After-as_slice-from)) (movable_sinks s c.router.invariant.round c.args.revision.now.edits.now made.now c.args.revision.now.dest below is),
+            subst (HoldsSinks made.now c.args.revision.now.dest) (sym (from_movable g at.After-as_slice-from))
+                (movable_sinks s c.router.invariant.round c.args.revision.now.edits.now made.now c.args.revision.now.dest below is),
           ),
     ),
   );
@@ -122,14 +126,16 @@ put_in_place-requires-clause-one_each g c =
 same_dest : (g : Over) (c : In_ok-outcome g) → c.in_ok-outcome.outcome.dest ≡ c.args.revision.now.dest
 same_dest g c = (outcome_is g c).dest
 
-with_dest : (g : Over) (c : In_ok-outcome g) (hops : List Hop) → AreHops (settled_state c.edit_if.new.self c.in_ok-outcome.outcome.dest c.in_ok-outcome.outcome.turns) c.edit_if.new.self.nodes hops
+with_dest : (g : Over) (c : In_ok-outcome g) (hops : List Hop)
+    → AreHops (settled_state c.edit_if.new.self c.in_ok-outcome.outcome.dest c.in_ok-outcome.outcome.turns) c.edit_if.new.self.nodes hops
     → AreHops (settled_state c.edit_if.new.self c.args.revision.now.dest c.in_ok-outcome.outcome.turns) c.edit_if.new.self.nodes hops
 with_dest g c hops = subst (λ (d : ℕ). AreHops (settled_state c.edit_if.new.self d c.in_ok-outcome.outcome.turns) c.edit_if.new.self.nodes hops) (same_dest g c)
 
 pub put_in_place-requires-clause-counted : goal.put_in_place-requires-clause-counted
 put_in_place-requires-clause-counted g c =
     let at = (goal.at.put_in_place-requires-clause-counted g c).In_ok-outcome in
-    subst (λ (d : ℕ). IsCounted c.edit_if.new.self.nodes d c.edit_if.new.self.links c.in_ok-outcome.outcome.turns) (sym (same_dest g at)) (outcome_is g at).counts
+    subst (λ (d : ℕ). IsCounted c.edit_if.new.self.nodes d c.edit_if.new.self.links c.in_ok-outcome.outcome.turns)
+    (sym (same_dest g at)) (outcome_is g at).counts
 
 pub put_in_place-requires-clause-moved : goal.put_in_place-requires-clause-moved
 put_in_place-requires-clause-moved g c =
@@ -140,7 +146,8 @@ put_in_place-requires-clause-moved g c =
     let hops : AreHops s s.nodes c.deref_mut.result.now = rw c.deref_mut.ensures.value c.router.invariant.hops in
     subst (λ (d : ℕ). HoldsMoved (settled_state net d counts) c.deref_mut.result.now c.as_slice-from.result.now) (sym (same_dest g at.In_ok-outcome))
     (subst (HoldsMoved (settled_state net c.args.revision.now.dest counts) c.deref_mut.result.now) (sym (from_movable g at.After-as_slice-from))
-    (unmoved_hops s c.router.invariant.round c.args.revision.now.edits.now net c.args.revision.now.dest (in_range g at.After-router) (edits_made g at.In_ok-outcome) counts (outcome_is g at.In_ok-outcome).counts c.deref_mut.result.now hops))
+    (unmoved_hops s c.router.invariant.round c.args.revision.now.edits.now net c.args.revision.now.dest
+    (in_range g at.After-router) (edits_made g at.In_ok-outcome) counts (outcome_is g at.In_ok-outcome).counts c.deref_mut.result.now hops))
 
 pub put_in_order-requires-clause-table : goal.put_in_order-requires-clause-table
 put_in_order-requires-clause-table g c =
@@ -154,14 +161,18 @@ put_in_order-requires-clause-table g c =
     let as_many : length c.put_in_place.new.hops ≡ length c.router.inside.hops.items =
     omega (arith, c.put_in_place.ensures.hops.one_each, nodes, c.router.invariant.hops.one_each) in
     let put : c.deref.result.now ≡ c.put_in_place.new.hops = c.deref.ensures.value ∙ items_put c.router.inside.hops c.put_in_place.new.hops as_many in
-    let hops : AreHops after net.nodes c.deref.result.now = subst (AreHops after net.nodes) (sym put) (with_dest g at.In_ok-outcome c.put_in_place.new.hops c.put_in_place.ensures.hops) in
-    let round : IsAfterRound after = after_outcome net c.args.revision.now.dest counts (made_net s c.args.revision.now.edits.now net c.router.invariant.round made) (outcome_is g at.In_ok-outcome).counts in
+    let hops : AreHops after net.nodes c.deref.result.now = subst (AreHops after net.nodes) (sym put)
+    (with_dest g at.In_ok-outcome c.put_in_place.new.hops c.put_in_place.ensures.hops) in
+    let round : IsAfterRound after = after_outcome net c.args.revision.now.dest counts
+    (made_net s c.args.revision.now.edits.now net c.router.invariant.round made) (outcome_is g at.In_ok-outcome).counts in
     (settled_in_range after c.deref.result.now round hops, settled_loop_free after c.deref.result.now round hops)
 
 -- whoever is told has the nodes with another hop
-others_told : (g : Over) (c : After-put_in_place g) → IsListing c.args.told.now → AreOthers c.deref_mut.result.now c.put_in_place.new.hops (nodes_told c.put_in_place.new.told)
+others_told : (g : Over) (c : After-put_in_place g) → IsListing c.args.told.now
+    → AreOthers c.deref_mut.result.now c.put_in_place.new.hops (nodes_told c.put_in_place.new.told)
 others_told g c listing =
-    let before : AreHops (state_of c.router.inside) (state_of c.router.inside).nodes c.deref_mut.result.now = rw c.deref_mut.ensures.value c.router.invariant.hops in
+    let before : AreHops (state_of c.router.inside) (state_of c.router.inside).nodes c.deref_mut.result.now =
+    rw c.deref_mut.ensures.value c.router.invariant.hops in
     let places = c.in_ok-make_room.ensures.room listing in
     c.put_in_place.ensures.told.others (subst (λ (n : ℕ). HasPlaces n c.make_room.new.self) (omega (arith, before.one_each, c.nodes.ensures.value)) places)
 
@@ -169,14 +180,16 @@ pub put_in_order-requires-clause-others : goal.put_in_order-requires-clause-othe
 put_in_order-requires-clause-others g c =
     let at = goal.at.put_in_order-requires-clause-others g c in
     let s : State = state_of c.router.inside in
-    let nodes : c.edit_if.new.self.nodes ≡ s.nodes = made_nodes c.router.inside.net c.args.revision.now.edits.now c.edit_if.new.self (edits_made g at.In_ok-outcome) in
+    let nodes : c.edit_if.new.self.nodes ≡ s.nodes =
+    made_nodes c.router.inside.net c.args.revision.now.edits.now c.edit_if.new.self (edits_made g at.In_ok-outcome) in
     let as_many : length c.put_in_place.new.hops ≡ length c.router.inside.hops.items =
     omega (arith, c.put_in_place.ensures.hops.one_each, nodes, c.router.invariant.hops.one_each) in
     let put : c.deref.result.now ≡ c.put_in_place.new.hops = c.deref.ensures.value ∙ items_put c.router.inside.hops c.put_in_place.new.hops as_many in (
       c.deref_mut.result.now,
       λ listing.
           let was = c.make_room.ensures.keeps.listing (c.put_in_place.ensures.told.keeps.listing listing) in
-          subst (λ (hops : List Hop). AreOthers c.deref_mut.result.now hops (nodes_told c.put_in_place.new.told)) (sym put) (others_told g at.After-put_in_place was),
+          subst (λ (hops : List Hop). AreOthers c.deref_mut.result.now hops (nodes_told c.put_in_place.new.told)) (sym put)
+          (others_told g at.After-put_in_place was),
     )
 
 pub invariant_of-router-2 : goal.invariant_of-router-2
@@ -190,12 +203,15 @@ invariant_of-router-2 g c =
     let nodes : net.nodes ≡ c.router.inside.net.nodes = made_nodes c.router.inside.net c.args.revision.now.edits.now net made in
     let same : length c.put_in_place.new.hops ≡ vec_len c.router.inside.hops =
     omega (arith, c.put_in_place.ensures.hops.one_each, nodes, c.router.invariant.hops.one_each, c.router.inside.hops.ok.0) in
-    let items : (with_items c.router.inside.hops c.put_in_place.new.hops).items ≡ c.put_in_place.new.hops = with_items_is c.router.inside.hops c.put_in_place.new.hops same in
+    let items : (with_items c.router.inside.hops c.put_in_place.new.hops).items ≡ c.put_in_place.new.hops =
+    with_items_is c.router.inside.hops c.put_in_place.new.hops same in
     rw c.keep_turns.ensures
-    (sound_after c.args.revision.now.dest counts c.keep_turns.new.spare (with_items c.router.inside.hops c.put_in_place.new.hops) c.put_in_order.new.room c.in_ok-outcome.outcome.report net c.put_in_place.new.net
+    (sound_after c.args.revision.now.dest counts c.keep_turns.new.spare
+    (with_items c.router.inside.hops c.put_in_place.new.hops) c.put_in_order.new.room c.in_ok-outcome.outcome.report net c.put_in_place.new.net
     (made_net s c.args.revision.now.edits.now net c.router.invariant.round made)
     outcome.counts outcome.report c.put_in_place.ensures.net
-    (subst (AreHops (settled_state net c.args.revision.now.dest counts) net.nodes) (sym items) (with_dest g at.In_ok-outcome c.put_in_place.new.hops c.put_in_place.ensures.hops))
+    (subst (AreHops (settled_state net c.args.revision.now.dest counts) net.nodes) (sym items)
+    (with_dest g at.In_ok-outcome c.put_in_place.new.hops c.put_in_place.ensures.hops))
     (c.put_in_order.ensures.kept ∙ (c.router.invariant.room ∙ sym nodes)))
 
 pub returns : goal.returns
@@ -216,12 +232,16 @@ returns g c =
     let as_many : s.nodes ≡ c.args.router.now.nodes = ap (λ (now : State). now.nodes) (now_is g at.After-router) in
     let here : AreMade (net_at c.args.router.now) edits net = subst (λ (now : State). AreMade (net_at now) edits net) (now_is g at.After-router) made in
     rw (c.keep_turns.ensures, c.put_in_place.ensures.net) (record {
-      made = (c.in_ok-outcome.ensures.few, (net, (here, ended net d c.in_ok-outcome.outcome.turns (made_net s edits net c.router.invariant.round made) outcome.counts)));
+      made = (
+        c.in_ok-outcome.ensures.few,
+        (net, (here, ended net d c.in_ok-outcome.outcome.turns (made_net s edits net c.router.invariant.round made) outcome.counts)),
+      );
       told_of = (c.in_ok-outcome.outcome.report, outcome.report, search rules);
       rerouted = λ listing.
           let others = others_told g at.After-put_in_place listing in
           let places = c.put_in_place.ensures.told.keeps.places c.nodes.result (c.in_ok-make_room.ensures.room listing) in
-          let put : c.deref.result.now ≡ c.put_in_place.new.hops = c.deref.ensures.value ∙ items_put c.router.inside.hops c.put_in_place.new.hops (omega (arith, hops.one_each, c.router.invariant.hops.one_each)) in
+          let put : c.deref.result.now ≡ c.put_in_place.new.hops = c.deref.ensures.value
+          ∙ items_put c.router.inside.hops c.put_in_place.new.hops (omega (arith, hops.one_each, c.router.invariant.hops.one_each)) in
           let one_length : length c.deref_mut.result.now ≡ length c.put_in_place.new.hops = omega (arith, before.one_each, hops.one_each) in
           let order : IsPushOrder c.deref_mut.result.now c.put_in_place.new.hops (nodes_told c.put_in_order.new.self) =
           (rw put at c.put_in_order.ensures.order) c.deref_mut.result.now one_length (listing_has c.nodes.result c.put_in_place.new.told places) others in
