@@ -5,7 +5,8 @@ ghost use Rattle.std.specs.Prelude.{◌≡◌, IfSome, replicate};
 use crate::telling::Answer;
 use fr_core::{Entry, Machine, Target, check_run, play};
 use fr_crew::{
-    OpenGate, Plan, Settled, live_walk, settle, settle_alone, settled_counts, settled_counts_alone,
+    Crew, OpenGate, Plan, Settled, live_walk, settle, settle_alone, settled_counts,
+    settled_counts_alone,
 };
 use fr_net::{
     Edit, LineFault, LineReader, Net, NetFault, NotEdited, Question, Request, Turns, read_line,
@@ -495,9 +496,14 @@ fn counted<R: Threads + Wait + Sync + Alloc<A = Global> + Eprint>(
     net: &Net,
 ) {
     let plan = Plan::new(3, 0, 1000).unwrap();
+    let crew = Crew {
+        rt,
+        alloc: rt.alloc(),
+        plan: &plan,
+        gate: &OpenGate,
+    };
     if let Some(turns) = unturned(rt, answer, net) {
-        let counted = settled_counts(rt, rt.alloc(), net, 0, None, &plan, &OpenGate, turns);
-        put_counted(rt, answer, counted);
+        put_counted(rt, answer, settled_counts(&crew, net, 0, None, turns));
     }
 }
 

@@ -1,7 +1,9 @@
 -- What is tried may be said in other words.
-use Rattle.std.proofs.Common.{Err, Ok, Result}
+use Rattle.std.proofs.Common.{[], ◌∷◌, ◌≡◌, Err, Ok, Result, subst, ℕ}
+use Rattle.fr_graph.specs.declared.edit.Edit.{Edit}
+use Rattle.fr_route.specs.Outcomes.{IsEdited, IsEditingFault}
 use Rattle.fr_route.specs.States.{State}
-use Rattle.fr_route.specs.Tries.{IsTried, Trial}
+use Rattle.fr_route.specs.Tries.{IsTried, Trial, edit_of}
 use Rattle.fr_route.specs.declared.change.Report.{Report}
 use Rattle.fr_route.specs.declared.fault.RouteFault.{RouteFault}
 use Rattle.fr_route.specs.declared.told.Told.{Told}
@@ -28,3 +30,13 @@ tried_as never trial other Tells s told (Err fault) next more made undone is = r
   untold = is.untold;
   no_start = is.no_start;
 }
+
+-- one edit toward the destination as it is
+pub edit_as : {T : Type 0} (never : Type 0) (edit : Edit) (d : ℕ) (other : Trial) (Tells : Report → T → Type 0) (s : State) (told : Told)
+    (answer : Result T RouteFault) (next : State) (more : Told)
+    → ((new : State) → IsEdited s (edit ∷ []) s.dest new → other.Made new)
+    → ((fault : RouteFault) → IsEditingFault s (edit ∷ []) s.dest fault → other.Undone fault)
+    → d ≡ s.dest → IsTried never (edit_of s edit d) Tells s told answer next more → IsTried never other Tells s told answer next more
+edit_as never edit d other Tells s told answer next more made undone here is =
+    tried_as never (edit_of s edit s.dest) other Tells s told answer next more made undone
+    (subst (λ (at : ℕ). IsTried never (edit_of s edit at) Tells s told answer next more) here is)

@@ -1,5 +1,5 @@
 -- What a router makes of edits or of a change, whatever the way by which it is settled.
-use Rattle.std.specs.Prelude.{◌≡◌, ◌≢◌, [], ◌∷◌, Result, IfOk, IfErr, OnErr}
+use Rattle.std.specs.Prelude.{◌≡◌, ◌≢◌, ℕ, [], ◌∷◌, Result, IfOk, IfErr, OnErr}
 use Rattle.fr_graph.specs.declared.edit.Edit.{Edit}
 use Rattle.fr_route.specs.Changes.{IsChanged, IsRouteFault}
 use Rattle.fr_route.specs.Listing.{IsListing, nodes_told}
@@ -25,12 +25,9 @@ revision_of s revision = record {
   Undone = IsEditingFault s revision.edits.now revision.dest;
 }
 
--- one edit, toward the destination as it is
-abbrev pub edit_of : State → Edit → Trial
-edit_of s edit = record {
-  Made = IsEdited s (edit ∷ []) s.dest;
-  Undone = IsEditingFault s (edit ∷ []) s.dest;
-}
+-- one edit, and a destination after it
+abbrev pub edit_of : State → Edit → ℕ → Trial
+edit_of s edit d = record { Made = IsEdited s (edit ∷ []) d; Undone = IsEditingFault s (edit ∷ []) d }
 
 -- a change
 abbrev pub change_of : State → Change → Trial

@@ -10,7 +10,7 @@ ghost use Rattle.fr_route.specs.States.{IsRound, IsReport};
 ghost use Rattle.fr_route.specs.Routes.{IsHop, AreHops, IsWalked};
 ghost use Rattle.fr_route.specs.Changes.{IsOpenFault, IsChanged, IsRouteFault, IsStill};
 ghost use Rattle.fr_route.specs.Reroutes.{ArePushes, AreReplaced, IsPushesFault, TellsRerouted};
-ghost use Rattle.fr_route.specs.Tries.{IsTried, change_of, edit_of, revision_of};
+ghost use Rattle.fr_route.specs.Tries.{IsTried, change_of, revision_of};
 ghost use Rattle.fr_route.specs.Outcomes.{IsEditingFault, IsOutcome, IsRoundFault, IsSettledTable, cut_off_nodes, movable};
 
 use crate::change::{Change, Report};
@@ -86,12 +86,21 @@ impl<'a, F: Fn(&Net, u32, Option<&[u32]>, Turns) -> Result<Turns, CrewFault>> As
         requires tells { K.IsAlwaysCallable tell.now }
         ensures { IsTried (NeverStarts F.post self.now.settle.now) (change_of router.old change.now) (λ report told. K.post tell.now report (Ok told)) router.old told.old result router.new told.new }
     {
-        let here = router.dest;
+        let dest = router.dest();
         match change {
-            Change::Cut { u, v } => self.edit_one(router, Edit::Cut { u: *u, v: *v }, tell, told),
-            Change::Add { u, v } => self.edit_one(router, Edit::Add { u: *u, v: *v }, tell, told),
-            Change::Join { u, v } => self.edit_one(router, Edit::Join { u: *u, v: *v }, tell, told),
-            Change::Batch(edits) => self.edit(router, &Revision { edits, dest: here }, tell, told),
+            Change::Cut { u, v } => {
+                let edits = &[Edit::Cut { u: *u, v: *v }];
+                self.edit(router, &Revision { edits, dest }, tell, told)
+            }
+            Change::Add { u, v } => {
+                let edits = &[Edit::Add { u: *u, v: *v }];
+                self.edit(router, &Revision { edits, dest }, tell, told)
+            }
+            Change::Join { u, v } => {
+                let edits = &[Edit::Join { u: *u, v: *v }];
+                self.edit(router, &Revision { edits, dest }, tell, told)
+            }
+            Change::Batch(edits) => self.edit(router, &Revision { edits, dest }, tell, told),
             Change::Destination { dest } => {
                 if *dest >= router.net.nodes() {
                     return Err(RouteFault::Range);
@@ -107,30 +116,6 @@ impl<'a, F: Fn(&Net, u32, Option<&[u32]>, Turns) -> Result<Turns, CrewFault>> As
                 )
             }
         }
-    }
-
-    /// Makes this edit where the network stands, and settles it anew toward its destination.
-    fn edit_one<T, K: Fn(Report) -> Result<T, AllocError>>(
-        &self,
-        router: &mut Router,
-        edit: Edit,
-        tell: &K,
-        told: &mut Told,
-    ) -> Result<T, RouteFault>
-        requires settles { Settles F.pre F.post self.now.settle.now }
-        requires tells { K.IsAlwaysCallable tell.now }
-        ensures { IsTried (NeverStarts F.post self.now.settle.now) (edit_of router.old edit) (λ report told. K.post tell.now report (Ok told)) router.old told.old result router.new told.new }
-    {
-        let dest = router.dest;
-        self.edit(
-            router,
-            &Revision {
-                edits: &[edit],
-                dest,
-            },
-            tell,
-            told,
-        )
     }
 
     /// Makes these edits where the network stands, and settles it anew toward the destination after them.

@@ -9,7 +9,7 @@ use crate::crews::{named_plan, plan};
 use crate::fault::Fault;
 use crate::values::{named, network, number, small_number, word};
 use fr_core::is_sink;
-use fr_crew::{Gate, OpenGate, Plan, settled_counts, settled_counts_alone};
+use fr_crew::{Crew, Gate, OpenGate, Plan, settled_counts, settled_counts_alone};
 use fr_net::{Net, Turns};
 use serde_json::Value;
 use std::alloc::Global;
@@ -83,7 +83,13 @@ fn counted<R: Threads + Wait + Sync + Alloc<A = Global>, G: Gate + Sync>(
 ) -> Result<Turns, Fault> {
     let from = candidates(rt.alloc(), net, dest, word)?;
     let none = none_yet(rt.alloc(), net)?;
-    Ok(settled_counts(rt, rt.alloc(), net, dest, from.as_deref(), plan, gate, none)?)
+    let crew = Crew {
+        rt,
+        alloc: rt.alloc(),
+        plan,
+        gate,
+    };
+    Ok(settled_counts(&crew, net, dest, from.as_deref(), none)?)
 }
 
 /// `["counts", nodes, destination, links, "sinks" or "all", workers, budget]`: the settled counts, from the sinks or from all nodes,

@@ -1,8 +1,8 @@
-use Rattle.fr_route.specs.Tries.{change_of, edit_of}
+use Rattle.fr_route.specs.Tries.{change_of}
 use Rattle.fr_graph.specs.declared.edit.Edit.TheVariants as edit
 use Rattle.fr_route.specs.declared.change.Change.TheVariants.{Add, Cut, Join}
 use Rattle.fr_route.proofs.Changing.{add_by, cut_by, join_by}
-use Rattle.fr_route.proofs.Tried.{tried_as}
+use Rattle.fr_route.proofs.Tried.{edit_as}
 use Rattle.fr_route.proofs.settling.Asking.change.Goals as goal
 
 pub returns-in-Cut : goal.returns-in-Cut
@@ -12,8 +12,8 @@ returns-in-Cut g c =
     let v = c.in-Cut.v in
     let by = cut_by s u v in
     rw c.in-Cut.is
-    (tried_as _ (edit_of s (edit.Cut u v)) (change_of s (Cut u v)) _ s c.args.told.now c.edit_one.result c.edit_one.new.router c.edit_one.new.told
-    by.done by.undone c.edit_one.ensures)
+    (edit_as _ (edit.Cut u v) c.dest-dest.result (change_of s (Cut u v)) _ s c.args.told.now c.edit.result c.edit.new.router c.edit.new.told
+    by.done by.undone c.dest-dest.ensures.value c.edit.ensures)
 
 pub returns-in-Add : goal.returns-in-Add
 returns-in-Add g c =
@@ -22,9 +22,9 @@ returns-in-Add g c =
     let v = c.in-Add.v in
     let by = add_by s u v in
     rw c.in-Add.is
-    (tried_as _ (edit_of s (edit.Add u v)) (change_of s (Add u v)) _ s c.args.told.now c.edit_one-in-Add.result
-    c.edit_one-in-Add.new.router c.edit_one-in-Add.new.told
-    by.done by.undone c.edit_one-in-Add.ensures)
+    (edit_as _ (edit.Add u v) c.dest-dest.result (change_of s (Add u v)) _ s c.args.told.now c.edit-in-Add.result
+    c.edit-in-Add.new.router c.edit-in-Add.new.told
+    by.done by.undone c.dest-dest.ensures.value c.edit-in-Add.ensures)
 
 pub returns-in-Join : goal.returns-in-Join
 returns-in-Join g c =
@@ -33,6 +33,6 @@ returns-in-Join g c =
     let v = c.in-Join.v in
     let by = join_by s u v in
     rw c.in-Join.is
-    (tried_as _ (edit_of s (edit.Join u v)) (change_of s (Join u v)) _ s c.args.told.now c.edit_one-in-Join.result
-    c.edit_one-in-Join.new.router c.edit_one-in-Join.new.told
-    by.done by.undone c.edit_one-in-Join.ensures)
+    (edit_as _ (edit.Join u v) c.dest-dest.result (change_of s (Join u v)) _ s c.args.told.now c.edit-in-Join.result
+    c.edit-in-Join.new.router c.edit-in-Join.new.told
+    by.done by.undone c.dest-dest.ensures.value c.edit-in-Join.ensures)
