@@ -1,5 +1,6 @@
 -- Which lines end in the bytes of an input, and what has begun behind the last of them.
-use Rattle.std.proofs.Common.{◌≡◌, ◌∙◌, ℕ, ◌+◌, ◌<◌, ◌≤◌, ◌==◌, Bool, true, false, List, [], ◌∷◌, ◌++◌, length, get_or, take, refl, sym, ap, subst, Option, Some, None, not, unwrap_or, ⊎_elim, arith}
+use Rattle.std.proofs.Common.{◌≡◌, ◌∙◌, ℕ, ◌+◌, ◌<◌, ◌≤◌, ◌==◌, Bool, true, false, List, [], ◌∷◌, ◌++◌, length, get_or, take, refl, sym, ap, subst}
+use Rattle.std.proofs.Common.{Option, Some, None, not, unwrap_or, ⊎_elim, arith}
 use Rattle.std.proofs.lemmas.Bool.{cases_lt}
 use Rattle.std.proofs.lemmas.Grind.{common_steps, take_at_read}
 use Rattle.std.proofs.lemmas.List.{same_from_push, take_all}
@@ -40,10 +41,12 @@ parted_first x xs begun within cut alone short goes_on = record {
   cut = slice_split-cons_no ends_line x xs within ∙ ap (onto_first x) cut;
   alone = slice_split-cons_no ends_line x begun within ∙ ap (onto_first x) alone;
   short = omega (arith, short);
-  goes_on = λ ys. slice_split-cons_no ends_line x (xs ++ ys) within ∙ (ap (onto_first x) (goes_on ys) ∙ sym (slice_split-cons_no ends_line x (begun ++ ys) within));
+  goes_on = λ ys. slice_split-cons_no ends_line x (xs ++ ys) within
+      ∙ (ap (onto_first x) (goes_on ys) ∙ sym (slice_split-cons_no ends_line x (begun ++ ys) within));
 }
 
-parted_later : (x : ℕ) (xs line begun : List ℕ) (ended : List (List ℕ)) → ends_line x ≡ false → lines_of xs ≡ (line ∷ ended) ++ begun ∷ [] → lines_of begun ≡ begun ∷ []
+parted_later : (x : ℕ) (xs line begun : List ℕ) (ended : List (List ℕ)) → ends_line x ≡ false
+    → lines_of xs ≡ (line ∷ ended) ++ begun ∷ [] → lines_of begun ≡ begun ∷ []
     → length begun ≤ length xs → ((ys : List ℕ) → lines_of (xs ++ ys) ≡ (line ∷ ended) ++ lines_of (begun ++ ys)) → Parted (x ∷ xs)
 parted_later x xs line begun ended within cut alone short goes_on = record {
   ended = (x ∷ line) ∷ ended;
@@ -54,7 +57,8 @@ parted_later x xs line begun ended within cut alone short goes_on = record {
   goes_on = λ ys. slice_split-cons_no ends_line x (xs ++ ys) within ∙ ap (onto_first x) (goes_on ys);
 }
 
-parted_on : (x : ℕ) (xs : List ℕ) (ended : List (List ℕ)) (begun : List ℕ) → ends_line x ≡ false → lines_of xs ≡ ended ++ begun ∷ [] → lines_of begun ≡ begun ∷ []
+parted_on : (x : ℕ) (xs : List ℕ) (ended : List (List ℕ)) (begun : List ℕ) → ends_line x ≡ false
+    → lines_of xs ≡ ended ++ begun ∷ [] → lines_of begun ≡ begun ∷ []
     → length begun ≤ length xs → ((ys : List ℕ) → lines_of (xs ++ ys) ≡ ended ++ lines_of (begun ++ ys)) → Parted (x ∷ xs)
 parted_on x xs [] begun within cut alone short goes_on = parted_first x xs begun within cut alone short goes_on
 parted_on x xs (line ∷ ended) begun within cut alone short goes_on = parted_later x xs line begun ended within cut alone short goes_on
@@ -103,11 +107,13 @@ begun_later x begun alone = of (ends_line x) refl
     of true at_end = let two = sym (slice_split-cons_yes ends_line x begun at_end) ∙ alone in cc
     of false within =
         let rest = parted begun in
-        let one : onto_first x (rest.ended ++ rest.begun ∷ []) ≡ (x ∷ begun) ∷ [] = ap (onto_first x) (sym rest.cut) ∙ (sym (slice_split-cons_no ends_line x begun within) ∙ alone) in
+        let one : onto_first x (rest.ended ++ rest.begun ∷ []) ≡ (x ∷ begun) ∷ [] = ap (onto_first x) (sym rest.cut)
+        ∙ (sym (slice_split-cons_no ends_line x begun within) ∙ alone) in
         (within, rest.cut ∙ only rest.ended rest.begun one)
 
 -- where a line has begun, the first line of the bytes behind it goes on with it
-pub line_goes_on : (begun piece front : List ℕ) (behind : List (List ℕ)) → lines_of begun ≡ begun ∷ [] → lines_of piece ≡ front ∷ behind → lines_of (begun ++ piece) ≡ (begun ++ front) ∷ behind
+pub line_goes_on : (begun piece front : List ℕ) (behind : List (List ℕ)) → lines_of begun ≡ begun ∷ []
+    → lines_of piece ≡ front ∷ behind → lines_of (begun ++ piece) ≡ (begun ++ front) ∷ behind
 line_goes_on [] piece front behind alone lines = lines
 line_goes_on (x ∷ begun) piece front behind alone lines =
     let later = begun_later x begun alone in
@@ -141,7 +147,8 @@ first_line_is xs =
     (cases_lt (position_or_len ends_line xs) (length xs))
 
 -- with the byte 10 it has ended
-pub first_line_ends : (xs : List ℕ) → position_or_len ends_line xs < length xs → lines_of (take (position_or_len ends_line xs + 1) xs) ≡ before_first ends_line xs ∷ [] ∷ []
+pub first_line_ends : (xs : List ℕ) → position_or_len ends_line xs < length xs
+    → lines_of (take (position_or_len ends_line xs + 1) xs) ≡ before_first ends_line xs ∷ [] ∷ []
 first_line_ends xs some =
     let front = before_first ends_line xs in
     let byte = get_or xs (position_or_len ends_line xs) 0 in

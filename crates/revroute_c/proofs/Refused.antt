@@ -13,7 +13,8 @@ use Rattle.revroute_c.specs.declared.records.Refusal.{Refusal}
 
 -- the refusal of a fault among few edits, with the nodes of the edit at its place
 pub edit_refused : (net : Network) (edits : List LinkEdit) (f : EditFault) (other : LinkEdit) (nodes : ℕ × ℕ) (r : Refusal) → length edits ≤ most_edits
-    → IsBatchFault net (map edit_of edits) f → nodes ≡ nodes_of_edit (get_or edits f.at other) f.fault → r ≡ refusal_at f.at f.fault nodes → IsEditRefused net edits r
+    → IsBatchFault net (map edit_of edits) f → nodes ≡ nodes_of_edit (get_or edits f.at other) f.fault
+    → r ≡ refusal_at f.at f.fault nodes → IsEditRefused net edits r
 edit_refused net edits f other nodes r few fault named is = ⊎_elim
     (λ many. absurd (omega (arith, many.0, length-map edits edit_of, few)))
     (λ one. record {

@@ -1,6 +1,7 @@
 use Rattle.std.proofs.Common.{◌≡◌, ◌∙◌, ◌||◌, ap, false}
 use Rattle.std.proofs.lemmas.Result.{IfOk-weaker}
-use Rattle.clap.specs.Simple.{app_of, rule_of, with_rule}
+use Rattle.clap.specs.Simple.{app_of, with_rule}
+use Rattle.clap.specs.Words.{rule_of}
 use Rattle.clap.specs.Words.{AddsArg}
 use Rattle.clap.specs.declared.builder.command.Command.TheViews.{out-Command}
 use Rattle.fr_words.proofs.command.with_option.Goals as goal

@@ -7,7 +7,8 @@ use Rattle.revroute_c.specs.Pieces.{EndsLine, IsWantedAtEnd}
 use Rattle.revroute_c.specs.declared.statuses.TheConstants.{BEGUN}
 use Rattle.revroute_c.proofs.pieces.take_front.Goals as goal
 
-wanted_at_end : (s : Option State) (begun piece line : List ℕ) (room size count : ℕ) → EndsLine begun piece line count → IsWanted s line room size → IsWantedAtEnd s begun piece room size
+wanted_at_end : (s : Option State) (begun piece line : List ℕ) (room size count : ℕ) → EndsLine begun piece line count
+    → IsWanted s line room size → IsWantedAtEnd s begun piece room size
 wanted_at_end s begun piece line room size count ends = ⊎_elim
     (λ least. inl least)
     (λ long. inr (record { line = line; count = count; ends = ends; answer = long.1 }))
