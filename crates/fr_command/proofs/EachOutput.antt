@@ -8,7 +8,8 @@ use Rattle.fr_route.specs.Answers.{AreAnswers}
 use Rattle.fr_command.specs.Outputs.{IsOutput}
 use Rattle.fr_route.proofs.Determined.{Answered}
 
-either : (b : Bool) (P Q : List ℕ → Option State → Type 0) → (out : List ℕ) × (last : Option State) × P out last → (out : List ℕ) × (last : Option State) × Q out last
+either : (b : Bool) (P Q : List ℕ → Option State → Type 0) → (out : List ℕ) × (last : Option State) × P out last
+    → (out : List ℕ) × (last : Option State) × Q out last
     → (out : List ℕ) × (last : Option State) × MatchBool b (P out last) (Q out last)
 either true P Q p q = p
 either false P Q p q = q

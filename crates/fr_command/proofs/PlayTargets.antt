@@ -1,5 +1,7 @@
 -- Which nodes a play turns, again and again.
-use Rattle.std.proofs.Common.{◌≡◌, ◌∙◌, ℕ, zero, suc, ◌+◌, ◌*◌, ◌-◌, ◌%◌, ◌<◌, ◌==◌, ◌&&◌, ◌||◌, Bool, true, false, cond, not, List, [], ◌∷◌, ◌++◌, length, get_or, take, map, refl, sym, ap, subst, inl, inr, arith, ⊎_elim, length-append, append-nil, eq-eqb, ne_eqb, eqb-true}
+use Rattle.std.proofs.Common.{◌≡◌, ◌∙◌, ℕ, zero, suc, ◌+◌, ◌*◌, ◌-◌, ◌%◌, ◌<◌, ◌==◌, ◌&&◌, ◌||◌, Bool, true, false, cond, not, List, [], ◌∷◌, ◌++◌}
+use Rattle.std.proofs.Common.{length, get_or, take, map, refl, sym, ap, subst, inl, inr, arith, ⊎_elim, length-append, append-nil, eq-eqb, ne_eqb}
+use Rattle.std.proofs.Common.{eqb-true}
 use Rattle.std.specs.List.{repeat}
 use Rattle.std.proofs.Math.Nat.{zero-mul, suc-mul, mod-eq_of_lt, mod-eq-sub-mod, le-mul_of_pos_right}
 use Rattle.std.proofs.Math.ListN.{get_or-append}
@@ -85,12 +87,14 @@ alone_by_row n links x net none = unlinked (is_linked links x) refl
     unlinked false e = e
 
 -- one node more
-one_node_seen : (d : ℕ) (links : List (ℕ × ℕ)) (x : ℕ) (b : Bool) → (not (x == d) && is_linked links x) ≡ b → turnable_nodes (x + 1) d links ≡ turnable_nodes x d links ++ cond b (x ∷ []) []
+one_node_seen : (d : ℕ) (links : List (ℕ × ℕ)) (x : ℕ) (b : Bool) → (not (x == d) && is_linked links x) ≡ b
+    → turnable_nodes (x + 1) d links ≡ turnable_nodes x d links ++ cond b (x ∷ []) []
 one_node_seen d links x b is =
     sym (filtered_more (λ y. not (y == d) && is_linked links y) x b [] (turnable_nodes x d links) is refl)
 
 -- which has links and is not the destination,
-pub wanted_node : (d : ℕ) (links : List (ℕ × ℕ)) (x : ℕ) → ¬ (x ≡ d) → is_linked links x ≡ true → turnable_nodes (x + 1) d links ≡ turnable_nodes x d links ++ x ∷ []
+pub wanted_node : (d : ℕ) (links : List (ℕ × ℕ)) (x : ℕ) → ¬ (x ≡ d) → is_linked links x ≡ true
+    → turnable_nodes (x + 1) d links ≡ turnable_nodes x d links ++ x ∷ []
 wanted_node d links x other linked = one_node_seen d links x true (both (x == d) (is_linked links x) (ne_eqb x d other) linked)
   where
     both : (a b : Bool) → a ≡ false → b ≡ true → (not a && b) ≡ true

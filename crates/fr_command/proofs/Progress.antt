@@ -1,5 +1,6 @@
 -- How far the answering of an input has come.
-use Rattle.std.proofs.Common.{◌≡◌, ◌∙◌, ℕ, ◌+◌, ◌≤◌, ◌==◌, Bool, true, false, cond, not, List, [], ◌∷◌, ◌++◌, length, take, Option, Some, None, append-nil, refl, sym, ap, subst, arith}
+use Rattle.std.proofs.Common.{◌≡◌, ◌∙◌, ℕ, ◌+◌, ◌≤◌, ◌==◌, Bool, true, false, cond, not, List, [], ◌∷◌, ◌++◌, length, take, Option, Some, None}
+use Rattle.std.proofs.Common.{append-nil, refl, sym, ap, subst, arith}
 use Rattle.std.specs.Prelude.{slice_get}
 use Rattle.std.proofs.lemmas.List.Splits.{length-slice_split}
 use Rattle.std.proofs.lemmas.List.Sums.{count_by-le-length, sum_by-append, sum_by-cons}
@@ -31,7 +32,8 @@ pub record HasAnswered (whole : List ℕ) (left : List (List ℕ)) (now : Option
 few_lines : (whole : List ℕ) → length (lines_of whole) ≤ length whole + 1
 few_lines whole = omega (arith, length-slice_split (λ x. x == 10) whole, count_by-le-length (λ x. x == 10) whole)
 
-pub at_start : (whole : List ℕ) (left : List (List ℕ)) (now : Option State) (old : Option (List ℕ)) → left ≡ lines_of whole → now ≡ None → HasAnswered whole left now old old 0
+pub at_start : (whole : List ℕ) (left : List (List ℕ)) (now : Option State) (old : Option (List ℕ)) → left ≡ lines_of whole
+    → now ≡ None → HasAnswered whole left now old old 0
 unfolding none_asked
 at_start whole left now old all none = rw (all, none) record {
   out = [];
@@ -55,13 +57,16 @@ slice_get-at [] y ys = refl
 slice_get-at (x ∷ xs) y ys = slice_get-at xs y ys
 
 -- the next line is the first of those that are left
-pub next_line : (whole line : List ℕ) (all left : List (List ℕ)) (now : Option State) (old mid : Option (List ℕ)) (count : ℕ) → all ≡ line ∷ left → HasAnswered whole all now old mid count
+pub next_line : (whole line : List ℕ) (all left : List (List ℕ)) (now : Option State) (old mid : Option (List ℕ))
+    (count : ℕ) → all ≡ line ∷ left → HasAnswered whole all now old mid count
     → HasAnswered whole (line ∷ left) now old mid count
 next_line whole line all left now old mid count is h = subst (λ (ls : List (List ℕ)). HasAnswered whole ls now old mid count) is h
 
-module _ (whole line : List ℕ) (left : List (List ℕ)) (now : Option State) (old mid : Option (List ℕ)) (count : ℕ) (h : HasAnswered whole (line ∷ left) now old mid count) where
+module _ (whole line : List ℕ) (left : List (List ℕ)) (now : Option State) (old mid : Option (List ℕ)) (count : ℕ)
+    (h : HasAnswered whole (line ∷ left) now old mid count) where
   -- one line more is answered, or was blank
-  pub one_line_more : (next : Option State) (new : Option (List ℕ)) (out : List ℕ) (answered : ℕ) → answered ≡ cond (not (is_blank line)) 1 0 → AreAnswers now (line ∷ []) out next → Appends mid new out
+  pub one_line_more : (next : Option State) (new : Option (List ℕ)) (out : List ℕ) (answered : ℕ)
+      → answered ≡ cond (not (is_blank line)) 1 0 → AreAnswers now (line ∷ []) out next → Appends mid new out
       → HasAnswered whole left next old new (count + answered)
   unfolding asked_more
   one_line_more next new out answered asks are more = record {
@@ -76,7 +81,8 @@ module _ (whole line : List ℕ) (left : List (List ℕ)) (now : Option State) (
   stops_writing : (new : Option (List ℕ)) → BeginsAnswer now line mid new → WritesBeginning whole old new
   stops_writing new part =
       let more_asked = asked_more (lines_of whole) line left now part.last h.out part.answer h.asked part.are_answers in
-      let front : take (length more_asked.done) (lines_of whole) ≡ more_asked.done = ap (take (length more_asked.done)) more_asked.cut ∙ take-append_seam more_asked.done left in
+      let front : take (length more_asked.done) (lines_of whole) ≡ more_asked.done =
+      ap (take (length more_asked.done)) more_asked.cut ∙ take-append_seam more_asked.done left in
       let answers : AreAnswers None (take (length more_asked.done) (lines_of whole)) (h.out ++ part.answer) part.last =
       subst (λ (ls : List (List ℕ)). AreAnswers None ls (h.out ++ part.answer) part.last) (sym front) more_asked.are_answers in
       let begins : IsBeginning (h.out ++ part.out) (h.out ++ part.answer) = begins_behind h.out part.out part.answer part.begins in
@@ -86,7 +92,8 @@ module _ (whole line : List ℕ) (left : List (List ℕ)) (now : Option State) (
         out = h.out ++ part.out;
         output = all.1;
         only = λ other is. output_unique whole other all.0 is all.1;
-        begins = begins-trans (h.out ++ part.out) (h.out ++ part.answer) all.0 begins (output_begins_with whole (h.out ++ part.answer) all.0 (length more_asked.done) part.last answers all.1);
+        begins = begins-trans (h.out ++ part.out) (h.out ++ part.answer) all.0 begins
+            (output_begins_with whole (h.out ++ part.answer) all.0 (length more_asked.done) part.last answers all.1);
         writes = Appends-trans old mid new h.out part.out h.writes part.writes;
       }
 
@@ -95,7 +102,8 @@ module _ (whole line : List ℕ) (left : List (List ℕ)) (now : Option State) (
   stops_at_line new asks kept =
       let done = h.asked.done in
       let front : take (length done) (lines_of whole) ≡ done = rw h.asked.cut (take-append_seam done (line ∷ left)) in
-      let answers : AreAnswers None (take (length done) (lines_of whole)) h.out now = subst (λ (ls : List (List ℕ)). AreAnswers None ls h.out now) (sym front) h.asked.are_answers in
+      let answers : AreAnswers None (take (length done) (lines_of whole)) h.out now =
+      subst (λ (ls : List (List ℕ)). AreAnswers None ls h.out now) (sym front) h.asked.are_answers in
       record {
         place = length done;
         line = line;
@@ -118,7 +126,8 @@ module _ (whole line : List ℕ) (left : List (List ℕ)) (now : Option State) (
   line_failed new Memory why = stops_at_line new why.0 why.1
 
 -- no line is left
-pub all_answered : (whole : List ℕ) (now : Option State) (old new : Option (List ℕ)) (count : ℕ) → HasAnswered whole [] now old new count → WritesOutput whole old new count
+pub all_answered : (whole : List ℕ) (now : Option State) (old new : Option (List ℕ)) (count : ℕ)
+    → HasAnswered whole [] now old new count → WritesOutput whole old new count
 all_answered whole now old new count h =
     let all : h.asked.done ≡ lines_of whole = sym (h.asked.cut ∙ append-nil h.asked.done) in
     let output : IsOutput whole h.out = (now, subst (λ (ls : List (List ℕ)). AreAnswers None ls h.out now) all h.asked.are_answers) in
@@ -131,7 +140,8 @@ all_answered whole now old new count h =
     }
 
 -- the whole was answered, and what came then wrote nothing
-pub output_begins : (whole : List ℕ) (old mid new : Option (List ℕ)) (count : ℕ) → WritesOutput whole old mid count → Keeps mid new → WritesBeginning whole old new
+pub output_begins : (whole : List ℕ) (old mid new : Option (List ℕ)) (count : ℕ) → WritesOutput whole old mid count
+    → Keeps mid new → WritesBeginning whole old new
 output_begins whole old mid new count w kept = record {
   whole = w.out;
   out = w.out;

@@ -1,5 +1,6 @@
 -- How far an input was served.
-use Rattle.std.proofs.Common.{◌≡◌, ◌≢◌, ◌∙◌, ℕ, ◌+◌, ◌<◌, ◌≤◌, List, [], ◌∷◌, ◌++◌, length, take, drop, take-append-drop, length-append, append_assoc, append-nil, refl, sym, ap, subst, Option, true, false, not, arith}
+use Rattle.std.proofs.Common.{◌≡◌, ◌≢◌, ◌∙◌, ℕ, ◌+◌, ◌<◌, ◌≤◌, List, [], ◌∷◌, ◌++◌, length, take, drop, take-append-drop, length-append, append_assoc}
+use Rattle.std.proofs.Common.{append-nil, refl, sym, ap, subst, Option, true, false, not, arith}
 use Rattle.std.proofs.Math.Seq.{take-add}
 use Rattle.std.proofs.lemmas.List.{take-append-le}
 use Rattle.std.proofs.lemmas.List.Folds.{length-prefix_len}
@@ -47,7 +48,8 @@ says_kept first last xs u v w h kept = record {
 }
 
 -- all that was written is a beginning too
-pub says_begins : (first last : Talk) (piece : List ℕ) (done : ℕ) (u v : Option (List ℕ)) → Says first (take done piece) last u v → BeginsInPiece first piece u v
+pub says_begins : (first last : Talk) (piece : List ℕ) (done : ℕ) (u v : Option (List ℕ))
+    → Says first (take done piece) last u v → BeginsInPiece first piece u v
 says_begins first last piece done u v h = record {
   count = done;
   new = last;
@@ -128,14 +130,17 @@ nothing_served r u talk same = record {
 }
 
 -- a read brought no byte
-pub read_nothing : (r s t : Option (List ℕ)) (bytes piece : List ℕ) (count : ℕ) → count ≡ 0 → Consumes r s bytes → Consumes s t (take count piece) → Consumes r t bytes
+pub read_nothing : (r s t : Option (List ℕ)) (bytes piece : List ℕ) (count : ℕ) → count ≡ 0 → Consumes r s bytes
+    → Consumes s t (take count piece) → Consumes r t bytes
 read_nothing r s t bytes piece count none h k =
     let both : Consumes r t (bytes ++ []) = Consumes-trans r s t bytes [] h (subst (λ (n : ℕ). Consumes s t (take n piece)) none k) in
     subst (λ (l : List ℕ). Consumes r t l) (append-nil bytes) both
 
 -- or some, to the front of the room for a piece
-pub read_on : (r s t : Option (List ℕ)) (bytes piece room : List ℕ) (count : ℕ) → count ≤ length piece → Consumes r s bytes → Consumes s t (take count piece) → Consumes r t (bytes ++ take count (piece ++ room))
-read_on r s t bytes piece room count few h k = Consumes-trans r s t bytes (take count (piece ++ room)) h (subst (λ (l : List ℕ). Consumes s t l) (sym (take-append-le count piece room few)) k)
+pub read_on : (r s t : Option (List ℕ)) (bytes piece room : List ℕ) (count : ℕ) → count ≤ length piece → Consumes r s bytes
+    → Consumes s t (take count piece) → Consumes r t (bytes ++ take count (piece ++ room))
+read_on r s t bytes piece room count few h k = Consumes-trans r s t bytes (take count (piece ++ room)) h
+    (subst (λ (l : List ℕ). Consumes s t l) (sym (take-append-le count piece room few)) k)
 
 module _ (bytes : List ℕ) (talk : Talk) (u v : Option (List ℕ)) (h : Says silence bytes talk u v) where
   -- the answers to the lines before the one that has begun
@@ -151,7 +156,8 @@ module _ (bytes : List ℕ) (talk : Talk) (u v : Option (List ℕ)) (h : Says si
   }
 
   -- the end of the input ended that line, and its answer was written,
-  pub output_written : (last : Talk) (text : List ℕ) (w : Option (List ℕ)) → Ends talk text last → Appends v w text → WritesOutput bytes u w (asking_count (lines_of bytes))
+  pub output_written : (last : Talk) (text : List ℕ) (w : Option (List ℕ)) → Ends talk text last → Appends v w text
+      → WritesOutput bytes u w (asking_count (lines_of bytes))
   output_written last text w end more =
       let output = output_ends bytes h.text text talk last h.takes end in
       record {
@@ -183,7 +189,14 @@ module _ (bytes : List ℕ) (talk : Talk) (u v : Option (List ℕ)) (h : Says si
   end_failed r s w Write reads why = (bytes, reads, output_begun w why)
   end_failed r s w TooLong reads why = absurd why
   end_failed r s w Start reads why = (bytes, talk.begun, reads, before_begun w why.1, why.0)
-  end_failed r s w Memory reads why = (bytes, talk.begun, reads, before_begun w why.1, blank_or_some talk.begun why.0, λ blank. let bad : true ≡ false = sym blank ∙ why.0 in cc)
+  end_failed r s w Memory reads why = (
+    bytes,
+    talk.begun,
+    reads,
+    before_begun w why.1,
+    blank_or_some talk.begun why.0,
+    λ blank. let bad : true ≡ false = sym blank ∙ why.0 in cc,
+  )
 
   module _ (piece : List ℕ) (w : Option (List ℕ)) where
     -- the answer to a piece behind was begun,
@@ -191,9 +204,11 @@ module _ (bytes : List ℕ) (talk : Talk) (u v : Option (List ℕ)) (h : Says si
     piece_begun k =
         let output = each_output (bytes ++ piece) in
         let front = take k.count piece in
-        let whole : bytes ++ piece ≡ (bytes ++ front) ++ drop k.count piece = sym (append_assoc bytes front (drop k.count piece) ∙ ap (λ (l : List ℕ). bytes ++ l) (take-append-drop k.count piece)) in
+        let whole : bytes ++ piece ≡ (bytes ++ front) ++ drop k.count piece =
+        sym (append_assoc bytes front (drop k.count piece) ∙ ap (λ (l : List ℕ). bytes ++ l) (take-append-drop k.count piece)) in
         let takes = takes_on silence talk k.new bytes front h.text k.whole h.takes k.takes in
-        let stands = answer_stands (bytes ++ front) (drop k.count piece) (h.text ++ k.whole) output.0 k.new takes (subst (λ (l : List ℕ). IsOutput l output.0) whole output.1) in
+        let stands = answer_stands (bytes ++ front) (drop k.count piece) (h.text ++ k.whole) output.0 k.new takes
+        (subst (λ (l : List ℕ). IsOutput l output.0) whole output.1) in
         record {
           whole = output.0;
           out = h.text ++ k.out;
@@ -211,7 +226,8 @@ module _ (bytes : List ℕ) (talk : Talk) (u v : Option (List ℕ)) (h : Says si
           let front = take k.count piece in
           let rest = drop k.count piece in
           let said = says_on silence talk new bytes front u v w h k.says in
-          let whole : bytes ++ piece ≡ (bytes ++ front) ++ rest = sym (append_assoc bytes front rest ∙ ap (λ (l : List ℕ). bytes ++ l) (take-append-drop k.count piece)) in
+          let whole : bytes ++ piece ≡ (bytes ++ front) ++ rest =
+          sym (append_assoc bytes front rest ∙ ap (λ (l : List ℕ). bytes ++ l) (take-append-drop k.count piece)) in
           let first = first_line_is rest in
           let onward = lines_go_on (bytes ++ front) new.begun said.takes.ended said.takes.cut rest in
           let alone = begun_alone (bytes ++ front) new.begun said.takes.ended said.takes.cut in
@@ -237,11 +253,19 @@ module _ (bytes : List ℕ) (talk : Talk) (u v : Option (List ℕ)) (h : Says si
           let short = begun_short (talk.begun ++ front) new.begun k.says.takes.ended k.says.takes.cut in
           let parts : length front + length rest ≡ length piece = sym (length-append front rest) ∙ ap length (take-append-drop k.count piece) in
           let bound : length new.begun + length rest ≤ most_bytes + 1 = omega (arith, length-append talk.begun front) in
-          let one : lines_of rest ≡ rest ∷ [] = one_line rest (omega (arith, length-append new.begun (before_first ends_line rest), length-prefix_len (λ x. not (ends_line x)) rest)) in
+          let one : lines_of rest ≡ rest ∷ [] =
+          one_line rest (omega (arith, length-append new.begun (before_first ends_line rest), length-prefix_len (λ x. not (ends_line x)) rest)) in
           let last : Talk = record { state = new.state; begun = new.begun ++ rest } in
           let tail : Says new rest last w w = record { text = []; takes = takes_none new last rest alone one refl refl; writes = Appends-nil w } in
           let said = says_on silence talk last bytes (front ++ rest) u v w h (says_on talk new last front rest v w w k.says tail) in
-          let exact : length (new.begun ++ rest) ≡ most_bytes + 1 = omega (arith, length-append new.begun rest, length-append new.begun (before_first ends_line rest), length-prefix_len (λ x. not (ends_line x)) rest, prefix_len-le-length (λ x. not (ends_line x)) rest) in
+          let exact : length (new.begun ++ rest) ≡ most_bytes + 1 =
+          omega (
+            arith,
+            length-append new.begun rest,
+            length-append new.begun (before_first ends_line rest),
+            length-prefix_len (λ x. not (ends_line x)) rest,
+            prefix_len-le-length (λ x. not (ends_line x)) rest,
+          ) in
           (last, subst (λ (l : List ℕ). Says silence (bytes ++ l) last u w) (take-append-drop k.count piece) said, exact)
 
     -- the piece was not answered to its end

@@ -28,7 +28,8 @@ takes_on first mid last xs ys p q h k =
 pub takes_unique : (old : Talk) (bytes p q : List ℕ) (a b : Talk) → Takes old bytes p a → Takes old bytes q b → (p ≡ q) × (a ≡ b)
 takes_unique old bytes p q a b h k =
     let same = same_from_push h.ended k.ended a.begun b.begun (sym h.cut ∙ k.cut) in
-    let answers = answers_unique old.state h.ended p q a.state b.state h.are_answers (subst (λ (ls : List (List ℕ)). AreAnswers old.state ls q b.state) (sym same.0) k.are_answers) in
+    let answers = answers_unique old.state h.ended p q a.state b.state h.are_answers
+    (subst (λ (ls : List (List ℕ)). AreAnswers old.state ls q b.state) (sym same.0) k.are_answers) in
     (answers.0, λ i. record { state = answers.1 i; begun = same.1 i })
 
 pub each_taken : (bytes : List ℕ) → (text : List ℕ) × (talk : Talk) × Takes silence bytes text talk
@@ -53,7 +54,8 @@ output_ends bytes text more talk last h end =
     (last.state, subst (λ (ls : List (List ℕ)). AreAnswers None ls (text ++ more) last.state) (sym h.cut) all)
 
 -- bytes with no end go to the line that has begun
-pub takes_none : (old new : Talk) (bytes : List ℕ) → lines_of old.begun ≡ old.begun ∷ [] → lines_of bytes ≡ bytes ∷ [] → new.begun ≡ old.begun ++ bytes → new.state ≡ old.state → Takes old bytes [] new
+pub takes_none : (old new : Talk) (bytes : List ℕ) → lines_of old.begun ≡ old.begun ∷ [] → lines_of bytes ≡ bytes ∷ []
+    → new.begun ≡ old.begun ++ bytes → new.state ≡ old.state → Takes old bytes [] new
 takes_none old new bytes alone one begun state = record {
   ended = [];
   cut = line_goes_on old.begun bytes bytes [] alone one ∙ ap (λ (l : List ℕ). l ∷ []) (sym begun);
@@ -61,7 +63,8 @@ takes_none old new bytes alone one begun state = record {
 }
 
 -- bytes that end it have its answer
-pub takes_line : (old held new : Talk) (bytes front text : List ℕ) → lines_of old.begun ≡ old.begun ∷ [] → lines_of bytes ≡ front ∷ [] ∷ [] → held.begun ≡ old.begun ++ front → held.state ≡ old.state
+pub takes_line : (old held new : Talk) (bytes front text : List ℕ) → lines_of old.begun ≡ old.begun ∷ []
+    → lines_of bytes ≡ front ∷ [] ∷ [] → held.begun ≡ old.begun ++ front → held.state ≡ old.state
     → Ends held text new → Takes old bytes text new
 takes_line old held new bytes front text alone ended begun state end = record {
   ended = held.begun ∷ [];

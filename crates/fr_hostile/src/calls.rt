@@ -277,10 +277,10 @@ fn request<R: Alloc<A = Global> + Eprint>(rt: &R, answer: &mut Answer) {
     put_request(rt, answer, read_line(rt.alloc(), NETWORK_LINE));
 }
 
-/// Two lines by one reader, which has its table already when it reads the second.
+/// Two lines by one reader, which has its table already when it reads the second. The first is not read by its bytes.
 fn lines_read<R: Alloc<A = Global> + Eprint>(rt: &R, answer: &mut Answer) {
     let mut reader = LineReader::new();
-    put_request(rt, answer, reader.read(rt.alloc(), br#"["walk", 3]"#));
+    put_request(rt, answer, reader.read(rt.alloc(), br#"["w\u0061lk", 3]"#));
     put_request(rt, answer, reader.read(rt.alloc(), NETWORK_LINE));
 }
 

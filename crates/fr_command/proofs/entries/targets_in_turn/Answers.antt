@@ -8,4 +8,5 @@ returns-then-is_empty c = c.new-turns.ensures.items ∙ sym (no_turns c.args.mos
 pub loop-place-preserved : goal.loop-place-preserved
 loop-place-preserved c =
     c.in_ok-push.ensures.items
-    ∙ one_more_turn c.args.most c.args.nodes.now c.loop-place.place c.loop-place.turns.items c.loop-place-test.true (some_nodes c.args.nodes.now c.if-is_empty.ensures) c.loop-place.invariant
+    ∙ one_more_turn c.args.most c.args.nodes.now c.loop-place.place c.loop-place.turns.items c.loop-place-test.true
+    (some_nodes c.args.nodes.now c.if-is_empty.ensures) c.loop-place.invariant

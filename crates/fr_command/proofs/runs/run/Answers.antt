@@ -15,7 +15,8 @@ returns-in_err-flush-clause-fault g c =
     let why = IsRunFault (g.R.Read.remaining c.args.reader.now) (g.R.Read.remaining c.read_input.new.reader) old new in
     let exit = c.from_residual-in_err-flush in
     handed_on exit.result c.in_err-flush.field-0.0 why exit.ensures.1
-    (subst why (sym c.in_err-flush.ensures.kind) (bytes, c.in_ok-input.ensures.ok, output_begins bytes old mid new c.in_ok-count.count made c.flush.ensures.kept))
+    (subst why (sym c.in_err-flush.ensures.kind)
+    (bytes, c.in_ok-input.ensures.ok, output_begins bytes old mid new c.in_ok-count.count made c.flush.ensures.kept))
 
 pub returns-clause-ok : goal.returns-clause-ok
 returns-clause-ok g c =

@@ -25,11 +25,13 @@ loop-done-preserved g c =
     let count : ℕ = c.in_ok-count.count in
     let size : count ≡ line_size (drop done piece) = rw (rest_is piece done) at c.in_ok-count.ensures.count in
     let more = rw (rest_is piece done) at c.in_ok-count.ensures.ok in
-    let said = says_on c.args.conversation.now c.loop-done.conversation c.answer_front.new.conversation (take done piece) (take count (drop done piece)) (g.W.Write.contents c.args.writer.now)
+    let said = says_on c.args.conversation.now c.loop-done.conversation c.answer_front.new.conversation (take done piece)
+    (take count (drop done piece)) (g.W.Write.contents c.args.writer.now)
     (g.W.Write.contents c.loop-done.writer) (g.W.Write.contents c.answer_front.new.writer) c.loop-done.invariant.says more in
     record {
       in_range = omega (arith, size, length-drop done piece);
-      says = subst (λ (l : List ℕ). Says c.args.conversation.now l c.answer_front.new.conversation (g.W.Write.contents c.args.writer.now) (g.W.Write.contents c.answer_front.new.writer))
+      says = subst (λ (l : List ℕ). Says c.args.conversation.now l c.answer_front.new.conversation
+          (g.W.Write.contents c.args.writer.now) (g.W.Write.contents c.answer_front.new.writer))
           (sym (take-add done count piece)) said;
     }
 
@@ -50,9 +52,11 @@ pub returns-clause-ok : goal.returns-clause-ok
 returns-clause-ok g c =
     let piece : List ℕ = c.args.piece.now in
     let all : take c.loop-done.done piece ≡ piece = take_all c.loop-done.done piece (omega arith) in
-    let said = says_kept c.args.conversation.now c.loop-done.conversation (take c.loop-done.done piece) (g.W.Write.contents c.args.writer.now) (g.W.Write.contents c.loop-done.writer)
+    let said = says_kept c.args.conversation.now c.loop-done.conversation (take c.loop-done.done piece)
+    (g.W.Write.contents c.args.writer.now) (g.W.Write.contents c.loop-done.writer)
     (g.W.Write.contents c.flush.new.writer) c.loop-done.invariant.says c.flush.ensures.kept in
-    on_ok c.flush.result _ (subst (λ (l : List ℕ). Says c.args.conversation.now l c.loop-done.conversation (g.W.Write.contents c.args.writer.now) (g.W.Write.contents c.flush.new.writer)) all said)
+    on_ok c.flush.result _ (subst (λ (l : List ℕ). Says c.args.conversation.now l c.loop-done.conversation
+    (g.W.Write.contents c.args.writer.now) (g.W.Write.contents c.flush.new.writer)) all said)
 
 pub returns-clause-fault : goal.returns-clause-fault
 returns-clause-fault g c =

@@ -18,15 +18,26 @@ reads-init g c = record {
 pub returns-then-count-eq0-clause-ok : goal.returns-then-count-eq0-clause-ok
 returns-then-count-eq0-clause-ok g c =
     let h = c.reads.invariant.served in
-    let reads = read_nothing (g.R.Read.remaining c.args.reader.now) (g.R.Read.remaining c.reads.reader) (g.R.Read.remaining c.read_piece.new.reader) h.bytes c.read_piece.new.piece c.in_ok-count.count c.if-count-eq0.true h.reads c.in_ok-count.ensures.bytes in
+    let reads = read_nothing (g.R.Read.remaining c.args.reader.now) (g.R.Read.remaining c.reads.reader)
+    (g.R.Read.remaining c.read_piece.new.reader) h.bytes c.read_piece.new.piece c.in_ok-count.count c.if-count-eq0.true
+    h.reads c.in_ok-count.ensures.bytes in
     let some : 0 < length (take c.min-room.result c.reads.piece) =
-    omega (arith, c.min-room.ensures, c.begun.ensures.within, ap length c.begun.ensures.line, length-take c.min-room.result c.reads.piece, c.reads.invariant.long) in
+    omega (
+      arith,
+      c.min-room.ensures,
+      c.begun.ensures.within,
+      ap length c.begun.ensures.line,
+      length-take c.min-room.result c.reads.piece,
+      c.reads.invariant.long,
+    ) in
     on_ok_weaker c.answer_end.result
-    (λ (end : (text : List ℕ) × Ends c.reads.conversation text c.answer_end.new.conversation × Appends (g.W.Write.contents c.reads.writer) (g.W.Write.contents c.answer_end.new.writer) text). (
+    (λ (end : (text : List ℕ) × Ends c.reads.conversation text c.answer_end.new.conversation
+    × Appends (g.W.Write.contents c.reads.writer) (g.W.Write.contents c.answer_end.new.writer) text). (
       h.bytes,
       reads,
       c.in_ok-count.ensures.brings c.if-count-eq0.true some,
-      output_written h.bytes c.reads.conversation (g.W.Write.contents c.args.writer.now) (g.W.Write.contents c.reads.writer) h.says c.answer_end.new.conversation end.0 (g.W.Write.contents c.answer_end.new.writer) end.1 end.2,
+      output_written h.bytes c.reads.conversation (g.W.Write.contents c.args.writer.now) (g.W.Write.contents c.reads.writer)
+          h.says c.answer_end.new.conversation end.0 (g.W.Write.contents c.answer_end.new.writer) end.1 end.2,
     ))
     c.answer_end.ensures.ok
 
@@ -37,7 +48,8 @@ returns-then-count-eq0-clause-fault g c =
     let s = g.R.Read.remaining c.read_piece.new.reader in
     let u = g.W.Write.contents c.args.writer.now in
     let w = g.W.Write.contents c.answer_end.new.writer in
-    let reads = read_nothing r (g.R.Read.remaining c.reads.reader) s h.bytes c.read_piece.new.piece c.in_ok-count.count c.if-count-eq0.true h.reads c.in_ok-count.ensures.bytes in
+    let reads = read_nothing r (g.R.Read.remaining c.reads.reader) s h.bytes c.read_piece.new.piece c.in_ok-count.count
+    c.if-count-eq0.true h.reads c.in_ok-count.ensures.bytes in
     let v = g.W.Write.contents c.reads.writer in
     let talk = c.reads.conversation in
     IfErr-weaker c.answer_end.result (IsLineFault talk.state talk.begun v w) (IsServeFault r s u w)
@@ -49,16 +61,27 @@ reads-preserved g c =
     let room : List ℕ = drop c.min-room.result c.reads.piece in
     let piece : List ℕ = take c.in_ok-count.count (c.read_piece.new.piece ++ room) in
     let few : c.in_ok-count.count ≤ length c.read_piece.new.piece = omega (arith, c.in_ok-count.ensures.bound, c.read_piece.auto.piece) in
-    let reads = read_on (g.R.Read.remaining c.args.reader.now) (g.R.Read.remaining c.reads.reader) (g.R.Read.remaining c.read_piece.new.reader) h.bytes c.read_piece.new.piece room c.in_ok-count.count few h.reads c.in_ok-count.ensures.bytes in
-    let served : HasServed (g.R.Read.remaining c.args.reader.now) (g.R.Read.remaining c.read_piece.new.reader) (g.W.Write.contents c.args.writer.now) (g.W.Write.contents c.answer_piece.new.writer) c.answer_piece.new.conversation =
+    let reads = read_on (g.R.Read.remaining c.args.reader.now) (g.R.Read.remaining c.reads.reader)
+    (g.R.Read.remaining c.read_piece.new.reader) h.bytes c.read_piece.new.piece room c.in_ok-count.count few h.reads c.in_ok-count.ensures.bytes in
+    let served : HasServed (g.R.Read.remaining c.args.reader.now) (g.R.Read.remaining c.read_piece.new.reader)
+    (g.W.Write.contents c.args.writer.now) (g.W.Write.contents c.answer_piece.new.writer) c.answer_piece.new.conversation =
     record {
       bytes = h.bytes ++ piece;
       reads = reads;
-      says = says_on silence c.reads.conversation c.answer_piece.new.conversation h.bytes piece (g.W.Write.contents c.args.writer.now) (g.W.Write.contents c.reads.writer) (g.W.Write.contents c.answer_piece.new.writer) h.says c.in_ok-answer_piece.ensures.ok;
+      says = says_on silence c.reads.conversation c.answer_piece.new.conversation h.bytes piece
+          (g.W.Write.contents c.args.writer.now) (g.W.Write.contents c.reads.writer)
+          (g.W.Write.contents c.answer_piece.new.writer) h.says c.in_ok-answer_piece.ensures.ok;
     } in
     record {
       served = served;
-      long = omega (arith, length-append c.read_piece.new.piece room, c.read_piece.auto.piece, length-take c.min-room.result c.reads.piece, length-drop c.min-room.result c.reads.piece, c.reads.invariant.long);
+      long = omega (
+        arith,
+        length-append c.read_piece.new.piece room,
+        c.read_piece.auto.piece,
+        length-take c.min-room.result c.reads.piece,
+        length-drop c.min-room.result c.reads.piece,
+        c.reads.invariant.long,
+      );
     }
 
 pub returns-in_err-answer_piece-clause-fault : goal.returns-in_err-answer_piece-clause-fault
@@ -69,9 +92,18 @@ returns-in_err-answer_piece-clause-fault g c =
     let room : List ℕ = drop c.min-room.result c.reads.piece in
     let piece : List ℕ = take c.in_ok-count.count (c.read_piece.new.piece ++ room) in
     let few : c.in_ok-count.count ≤ length c.read_piece.new.piece = omega (arith, c.in_ok-count.ensures.bound, c.read_piece.auto.piece) in
-    let reads = read_on r (g.R.Read.remaining c.reads.reader) s h.bytes c.read_piece.new.piece room c.in_ok-count.count few h.reads c.in_ok-count.ensures.bytes in
+    let reads = read_on r (g.R.Read.remaining c.reads.reader) s h.bytes c.read_piece.new.piece room c.in_ok-count.count few
+    h.reads c.in_ok-count.ensures.bytes in
     let short : length c.reads.conversation.begun + length piece ≤ most_bytes + 1 =
-    omega (arith, c.in_ok-count.ensures.bound, c.min-room.ensures, c.begun.ensures.within, ap length c.begun.ensures.line, length-take c.in_ok-count.count (c.read_piece.new.piece ++ room), length-take c.min-room.result c.reads.piece) in
+    omega (
+      arith,
+      c.in_ok-count.ensures.bound,
+      c.min-room.ensures,
+      c.begun.ensures.within,
+      ap length c.begun.ensures.line,
+      length-take c.in_ok-count.count (c.read_piece.new.piece ++ room),
+      length-take c.min-room.result c.reads.piece,
+    ) in
     let u = g.W.Write.contents c.args.writer.now in
     let w = g.W.Write.contents c.answer_piece.new.writer in
     let fault = c.in_err-answer_piece.field-0.0 in

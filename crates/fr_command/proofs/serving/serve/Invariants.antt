@@ -5,6 +5,7 @@ use Rattle.fr_command.proofs.serving.serve.Given as goal
 
 abbrev pub invariant-reads : goal.invariant-reads
 invariant-reads g l = record {
-  served : HasServed (g.R.Read.remaining l.fn.reader) (g.R.Read.remaining l.reader) (g.W.Write.contents l.fn.writer) (g.W.Write.contents l.writer) l.conversation;
+  served : HasServed (g.R.Read.remaining l.fn.reader) (g.R.Read.remaining l.reader) (g.W.Write.contents l.fn.writer)
+      (g.W.Write.contents l.writer) l.conversation;
   long : length l.piece ≡ PIECE;
 }

@@ -9,7 +9,8 @@ use Rattle.fr_command.proofs.Served.{text_begun, end_begun}
 use Rattle.fr_command.proofs.serving.write_answer.Goals as goal
 
 -- a beginning of an answer that there is
-begins_answer : {Z : Type 0} (answer : Option (String Z)) (text : String Z) (out : List ℕ) → answer ≡ Some text → IsBeginning out (string_bytes text ++ 10 ∷ []) → IsBeginning out (text_of answer)
+begins_answer : {Z : Type 0} (answer : Option (String Z)) (text : String Z) (out : List ℕ) → answer ≡ Some text
+    → IsBeginning out (string_bytes text ++ 10 ∷ []) → IsBeginning out (text_of answer)
 begins_answer answer text out is begins = rw is begins
 
 pub returns-in_err-write_whole-clause-err : goal.returns-in_err-write_whole-clause-err
@@ -28,6 +29,7 @@ returns-clause-err g c =
     let out : List ℕ = text ++ take part.0 (10 ∷ []) in (
       out,
       begins_answer c.args.answer c.in-Some.text out c.in-Some.is (end_begun text (10 ∷ []) part.0),
-      Appends-trans (g.W.Write.contents c.args.writer.now) (g.W.Write.contents c.write_whole.new.writer) (g.W.Write.contents c.write_whole-2.new.writer) text (take part.0 (10 ∷ [])) whole part.1,
+      Appends-trans (g.W.Write.contents c.args.writer.now) (g.W.Write.contents c.write_whole.new.writer)
+          (g.W.Write.contents c.write_whole-2.new.writer) text (take part.0 (10 ∷ [])) whole part.1,
     ))
     c.write_whole-2.ensures.err

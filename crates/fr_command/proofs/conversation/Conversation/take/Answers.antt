@@ -1,4 +1,5 @@
-use Rattle.std.proofs.Common.{◌≡◌, ◌∙◌, ◌+◌, ◌<◌, ◌≤◌, ◌++◌, ◌∷◌, [], Bool, List, ℕ, false, true, length, length-append, not, take, refl, ap, sym, subst, arith, ⊎_elim}
+use Rattle.std.proofs.Common.{◌≡◌, ◌∙◌, ◌+◌, ◌<◌, ◌≤◌, ◌++◌, ◌∷◌, [], Bool, List, ℕ, false, true, length, length-append, not, take, refl, ap, sym}
+use Rattle.std.proofs.Common.{subst, arith, ⊎_elim}
 use Rattle.std.proofs.lemmas.Bool.{cases_lt}
 use Rattle.std.proofs.lemmas.List.Sums.{prefix_len-le-length}
 use Rattle.std.specs.List.{before_first, position_or_len}
@@ -24,7 +25,11 @@ blank_goes_on : (begun piece : List ℕ) (end : ℕ) (found : Bool) → end ≡ 
     → ((end < length piece) × (is_blank (begun ++ take end piece) ≡ true) × (length (begun ++ take end piece) ≤ most_bytes) → found ≡ true)
     → length begun + length (take end piece) ≤ most_bytes → is_blank (begun ++ before_first ends_line piece) ≡ true → lines_of piece ≡ piece ∷ []
 blank_goes_on begun piece end found is missed all short blank = ⊎_elim
-    (λ some. let yes = all (some, subst (λ (n : ℕ). is_blank (begun ++ take n piece) ≡ true) (sym is) blank, omega (arith, short, length-append begun (take end piece))) in
+    (λ some. let yes = all (
+      some,
+      subst (λ (n : ℕ). is_blank (begun ++ take n piece) ≡ true) (sym is) blank,
+      omega (arith, short, length-append begun (take end piece)),
+    ) in
     let bad : false ≡ true = sym missed ∙ yes in cc)
     (λ none. one_line piece (omega (arith, is, none)))
     (cases_lt end (length piece))
@@ -44,7 +49,8 @@ not_held begun piece end found Memory is missed all why = (
 )
 
 pub hold-requires : goal.hold-requires
-hold-requires g c = subst (λ (n : ℕ). lines_of (take n c.args.piece.now) ≡ take n c.args.piece.now ∷ []) (sym c.front_size-end.ensures) (front_alone c.args.piece.now)
+hold-requires g c = subst (λ (n : ℕ). lines_of (take n c.args.piece.now) ≡ take n c.args.piece.now ∷ [])
+    (sym c.front_size-end.ensures) (front_alone c.args.piece.now)
 
 pub ends_blank-requires : goal.ends_blank-requires
 ends_blank-requires g c = omega (arith, c.front_size-end.ensures, prefix_len-le-length (λ x. not (ends_line x)) c.args.piece.now)
@@ -58,7 +64,8 @@ returns-then-ends_blank-clause-takes g c =
     let new : Talk = record { state = c.self.inside.session; begun = c.clear.new.self.items } in
     let blank = c.ends_blank.ensures.0 c.if-ends_blank.true in
     let alone = subst (λ (t : Talk). lines_of t.begun ≡ t.begun ∷ []) c.self.view_is c.self.invariant.0 in
-    let ended = subst (λ (n : ℕ). lines_of (take (n + 1) piece) ≡ take n piece ∷ [] ∷ []) (sym c.front_size-end.ensures) (first_line_ends piece (omega (arith, blank.0, c.front_size-end.ensures))) in
+    let ended = subst (λ (n : ℕ). lines_of (take (n + 1) piece) ≡ take n piece ∷ [] ∷ []) (sym c.front_size-end.ensures)
+    (first_line_ends piece (omega (arith, blank.0, c.front_size-end.ensures))) in
     takes_line old held new (take (end + 1) piece) (take end piece) [] alone ended refl refl
     (blank_ends held new blank.1 (ap (λ (t : Talk). t.state) c.self.view_is) c.clear.ensures.items)
 
@@ -68,7 +75,8 @@ returns-in_err-hold-clause-fault g c =
     let piece : List ℕ = c.args.piece.now in
     let fault = c.in_err-hold.field-0.0 in
     handed_on c.from_residual.result fault (IsTakeFault (carried old piece) piece) c.from_residual.ensures.1
-    (not_held old.begun piece c.front_size-end.result c.ends_blank.result fault c.front_size-end.ensures c.if-ends_blank.false c.ends_blank.ensures.1 c.in_err-hold.ensures.fault)
+    (not_held old.begun piece c.front_size-end.result c.ends_blank.result fault c.front_size-end.ensures
+    c.if-ends_blank.false c.ends_blank.ensures.1 c.in_err-hold.ensures.fault)
 
 pub returns-then-end-piece-clause-takes : goal.returns-then-end-piece-clause-takes
 returns-then-end-piece-clause-takes g c =
@@ -84,6 +92,8 @@ returns-in-Ok-clause-takes g c =
     let piece : List ℕ = c.args.piece.now in
     let end : ℕ = c.front_size-end.result in
     let alone = subst (λ (t : Talk). lines_of t.begun ≡ t.begun ∷ []) c.self.view_is c.self.invariant.0 in
-    let ended = subst (λ (n : ℕ). lines_of (take (n + 1) piece) ≡ take n piece ∷ [] ∷ []) (sym c.front_size-end.ensures) (first_line_ends piece (omega (arith, prefix_len-le-length (λ x. not (ends_line x)) piece))) in
+    let ended = subst (λ (n : ℕ). lines_of (take (n + 1) piece) ≡ take n piece ∷ [] ∷ []) (sym c.front_size-end.ensures)
+    (first_line_ends piece (omega (arith, prefix_len-le-length (λ x. not (ends_line x)) piece))) in
     let held = c.in_ok-hold.ensures.ok in
-    takes_line c.args.self.now c.hold.new.self c.finish.new.self (take (end + 1) piece) (take end piece) (text_of c.in-Ok.answer) alone ended held.0 held.1 c.in-Ok.ensures.ends
+    takes_line c.args.self.now c.hold.new.self c.finish.new.self (take (end + 1) piece) (take end piece)
+    (text_of c.in-Ok.answer) alone ended held.0 held.1 c.in-Ok.ensures.ends
