@@ -274,14 +274,14 @@ fn tell_not_edited<R: Eprint>(rt: &R, answer: &mut Answer, fault: NotEdited<Allo
 }
 
 fn request<R: Alloc<A = Global> + Eprint>(rt: &R, answer: &mut Answer) {
-    put_request(rt, answer, read_line(rt.alloc(), NETWORK_LINE));
+    put_read_line(rt, answer, read_line(rt.alloc(), NETWORK_LINE));
 }
 
 /// Two lines by one reader, which has its table already when it reads the second. The first is not read by its bytes.
 fn lines_read<R: Alloc<A = Global> + Eprint>(rt: &R, answer: &mut Answer) {
     let mut reader = LineReader::new();
-    put_request(rt, answer, reader.read(rt.alloc(), br#"["w\u0061lk", 3]"#));
-    put_request(rt, answer, reader.read(rt.alloc(), NETWORK_LINE));
+    put_read_line(rt, answer, reader.read(rt.alloc(), br#"["w\u0061lk", 3]"#));
+    put_read_line(rt, answer, reader.read(rt.alloc(), NETWORK_LINE));
 }
 
 /// Puts the links of a request behind the answer.
@@ -293,7 +293,7 @@ fn put_links(answer: &mut Answer, links: &[(u32, u32)]) {
 }
 
 /// Puts the node of a walk or the links of a network behind the answer.
-fn put_request<R: Alloc<A = Global> + Eprint>(
+fn put_read_line<R: Alloc<A = Global> + Eprint>(
     rt: &R,
     answer: &mut Answer,
     read: Result<Request, LineFault>,

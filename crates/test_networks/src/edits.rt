@@ -8,7 +8,7 @@ use fr_net::{Edit, EditFault, Net, NetFault, NotEdited};
 use serde_json::Value;
 
 /// Answers what is asked of edits of a network. Whether it is that.
-pub fn answer_of(answer: &mut Answer, net: &mut Net, asked: &str, given: &[Value]) -> bool {
+pub fn answer_about(answer: &mut Answer, net: &mut Net, asked: &str, given: &[Value]) -> bool {
     match (asked, given) {
         ("edits", [edits]) => several(answer, net, edits),
         ("edit_if", [edits, most]) => in_place(answer, net, edits, most),

@@ -19,14 +19,14 @@ use serde_json::Value;
 /// Answers where a link points, if it is asked. Whether it is.
 pub fn answer(answer: &mut Answer, asked: &str, given: &[Value]) -> bool {
     match (asked, given) {
-        ("sense", [first, x, w]) => tell_sense(answer, first, x, w),
+        ("sense", [first, x, w]) => put_sense(answer, first, x, w),
         _ => return false,
     }
     true
 }
 
 /// Answers what is asked of the counts of a network. Whether it is that. The destination is node 0, but where steps name another.
-pub fn answer_of(answer: &mut Answer, net: &Net, asked: &str, given: &[Value]) -> bool {
+pub fn answer_about(answer: &mut Answer, net: &Net, asked: &str, given: &[Value]) -> bool {
     match (asked, given) {
         ("finish_turns", []) => finished(answer, net, true),
         ("turn_count", []) => finished(answer, net, false),
@@ -39,7 +39,7 @@ pub fn answer_of(answer: &mut Answer, net: &Net, asked: &str, given: &[Value]) -
     true
 }
 
-fn tell_sense(answer: &mut Answer, first: &Value, x: &Value, w: &Value) {
+fn put_sense(answer: &mut Answer, first: &Value, x: &Value, w: &Value) {
     let (x, w) = (count(answer, x), count(answer, w));
     match word(answer, first) {
         "outward" => answer.put(&sense(First::Outward, x, w)),

@@ -7,7 +7,7 @@ use fr_net::Net;
 use serde_json::Value;
 
 /// Answers what is asked of a history, the counts that it leads to, or the first entry that is not legal. Whether it is that.
-pub fn answer_of(answer: &mut Answer, net: &Net, asked: &str, given: &[Value]) -> bool {
+pub fn answer_about(answer: &mut Answer, net: &Net, asked: &str, given: &[Value]) -> bool {
     match (asked, given) {
         ("history", [dest, entries]) => history(answer, net, dest, entries),
         _ => return false,

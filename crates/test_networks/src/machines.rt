@@ -12,7 +12,7 @@ use std::alloc::Global;
 
 /// Answers what is asked of a machine on a network, with its destination, the targets of each worker, and the worker of each step.
 /// Whether it is that.
-pub fn answer_of(answer: &mut Answer, net: &Net, asked: &str, given: &[Value]) -> bool {
+pub fn answer_about(answer: &mut Answer, net: &Net, asked: &str, given: &[Value]) -> bool {
     match (asked, given) {
         ("play", [dest, targets, order]) => played(answer, net, dest, targets, order),
         ("by_hand", [dest, targets, order]) => by_hand(answer, net, dest, targets, order),

@@ -74,7 +74,7 @@ fn answer_word(answer: &mut Answer, reader: &mut LineReader, asked: &str, given:
     match given {
         _ if is_known => {}
         [nodes, links, given @ ..] => match network(answer, nodes, links) {
-            Ok(net) => answer_of(answer, net, asked, given),
+            Ok(net) => answer_about(answer, net, asked, given),
             Err(fault) => tell_fault(answer, fault),
         },
         _ => answer.refuse(),
@@ -82,12 +82,12 @@ fn answer_word(answer: &mut Answer, reader: &mut LineReader, asked: &str, given:
 }
 
 /// Answers what a word asks of a network.
-fn answer_of(answer: &mut Answer, mut net: Net, asked: &str, given: &[Value]) {
-    let is_known = networks::answer_of(answer, &net, asked, given)
-        || finishing::answer_of(answer, &net, asked, given)
-        || machines::answer_of(answer, &net, asked, given)
-        || histories::answer_of(answer, &net, asked, given)
-        || edits::answer_of(answer, &mut net, asked, given);
+fn answer_about(answer: &mut Answer, mut net: Net, asked: &str, given: &[Value]) {
+    let is_known = networks::answer_about(answer, &net, asked, given)
+        || finishing::answer_about(answer, &net, asked, given)
+        || machines::answer_about(answer, &net, asked, given)
+        || histories::answer_about(answer, &net, asked, given)
+        || edits::answer_about(answer, &mut net, asked, given);
     if !is_known {
         answer.refuse();
     }

@@ -22,7 +22,7 @@ pub fn answer(answer: &mut Answer, asked: &str, given: &[Value]) -> bool {
 }
 
 /// Answers what is asked of a network. Whether it is that.
-pub fn answer_of(answer: &mut Answer, net: &Net, asked: &str, given: &[Value]) -> bool {
+pub fn answer_about(answer: &mut Answer, net: &Net, asked: &str, given: &[Value]) -> bool {
     match (asked, given) {
         ("rows", []) => rows(answer, net),
         ("copied", []) => copied(answer, net),
