@@ -4,14 +4,16 @@ use Rattle.std.proofs.lemmas.List.Splits.{length-slice_split}
 use Rattle.std.proofs.lemmas.List.Sums.{count_by-le-length}
 use Rattle.fr_route.specs.States.{State}
 use Rattle.fr_bytes.specs.Lines.{lines_of}
-use Rattle.std.specs.Prelude.{Result, Ok, Err, OnOk, codes}
+use Rattle.std.specs.Prelude.{Err, Ok, codes}
 use Rattle.fr_lines.specs.declared.requests.Question.TheVariants.{Links, Counts, Hops}
-use Rattle.fr_lines.specs.Requests.{reading}
-use Rattle.fr_route.specs.Answers.{IsLineAnswer}
+use Rattle.fr_lines.specs.declared.requests.LineFault.{LineFault}
+use Rattle.fr_lines.specs.Requests.{PlainRequest, reading}
+use Rattle.fr_route.specs.Answers.{IsAnswer, IsLineAnswer}
 use Rattle.fr_route.specs.Blank.{is_blank}
-use Rattle.fr_route.specs.Told.{IsLineTold}
+use Rattle.fr_route.specs.Texts.{refusal_text}
+use Rattle.fr_route.specs.Told.{IsTold}
 use Rattle.revdot.specs.Asked.{asked_text}
-use Rattle.revdot.specs.Stories.{AreBlocks, AreSettledLines, IsAnswerLine, IsAnswered, IsBlock, IsRoundStory, IsStory, IsTurnByTurn, answer_text, beginning_text, is_short, most_told_turns, net_text, nodes_line, reports_round}
+use Rattle.revdot.specs.Stories.{AreBlocks, AreSettledLines, IsAnswerLine, IsAnswered, IsBlock, IsRoundStory, IsStory, IsTurnByTurn, beginning_text, is_short, most_told_turns, net_text, nodes_line, number_text, reports_round}
 use Rattle.revdot.specs.Strips.{AreAllTurns, beginning}
 use Rattle.revdot.proofs.Beginnings.{begins}
 
@@ -109,27 +111,15 @@ round_told s session turns settled rerouted old one two more new some short are_
     let in_session = subst (λ (t : Option State). IsRoundStory true t rerouted (net ++ rest)) some story in
     (net ++ rest, in_session, three old net (beginning_text s turns) (settled ++ pushes) one two new e f end)
 
--- what two facts of a good end make
-pub on_ok_both : {T E P Q R : Type 0} (r : Result T E) → (P → Q → R) → OnOk r P → OnOk r Q → OnOk r R
-on_ok_both (Ok x) f p q = f p q
-on_ok_both (Err e) f p q = q
-
-asked : (blank : Bool) (P Q : Type 0) → blank ≡ false → Q → MatchBool blank P Q
-asked false P Q e q = q
-asked true P Q e q = absurd (true_is_not_false e)
-  where
-    true_is_not_false : true ≡ false → ⊥
-    true_is_not_false e = cc
-
--- what is told of an answer, and of its round, behind one another
-pub line_told : (s next : Option State) (number : ℕ) (line answer rerouted told old one new : List ℕ)
-    → is_blank line ≡ false → IsLineAnswer s (reading line) answer next → IsLineTold s (reading line) next [] rerouted
-    → IsRoundStory (reports_round answer) next rerouted told
-    → one ≡ old ++ (answer_text number answer ++ asked_text (reading line)) → new ≡ one ++ told
-    → (block : List ℕ) × IsBlock s number line block next × (new ≡ old ++ block)
-line_told s next number line answer rerouted told old one new asks is_answer are_rerouted of_round e f =
-    let first = answer_text number answer ++ asked_text (reading line) in
-    let block : IsAnswered s number line (first ++ told) next = record {
+-- the answer to a request, what it asks, and its round, one after the other
+pub answered_told : (s next : Option State) (request : PlainRequest) (answer rerouted told old one two new : List ℕ)
+    → IsAnswer s request answer next → IsTold s request next [] rerouted → IsRoundStory (reports_round answer) next rerouted told
+    → one ≡ old ++ (answer ++ codes "\n") → two ≡ one ++ asked_text (Ok request) → new ≡ two ++ told
+    → (out : List ℕ) × IsAnswered s (Ok request) out next × (new ≡ old ++ out)
+answered_told s next request answer rerouted told old one two new is_answer are_rerouted of_round e f g =
+    let line = answer ++ codes "\n" in
+    let asked = asked_text (Ok request) in
+    let answered : IsAnswered s (Ok request) (line ++ (asked ++ told)) next = record {
       answer = answer;
       is_answer = is_answer;
       rerouted = rerouted;
@@ -138,4 +128,22 @@ line_told s next number line answer rerouted told old one new asks is_answer are
       of_round = of_round;
       text = refl;
     } in
-    (first ++ told, asked (is_blank line) ((first ++ told ≡ []) × (next ≡ s)) (IsAnswered s number line (first ++ told) next) asks block, f ∙ (ap (λ (t : List ℕ). t ++ told) e ∙ append_assoc old first told))
+    (line ++ (asked ++ told), answered, three old line asked told one two new e f g)
+
+-- the number of a line that is no request, and its refusal
+pub refused_told : (s : Option State) (fault : LineFault) (why number : ℕ) (line old one new : List ℕ)
+    → is_blank line ≡ false → reading line ≡ Err fault → IsLineAnswer s (Err fault) (refusal_text why) s
+    → one ≡ old ++ number_text number → new ≡ one ++ (refusal_text why ++ codes "\n")
+    → (block : List ℕ) × IsBlock s number line block s × (new ≡ old ++ block)
+refused_told s fault why number line old one new asks reads is_answer e f =
+    let out = refusal_text why ++ codes "\n" in
+    let answered : IsAnswered s (Err fault) out s = record {
+      answer = refusal_text why;
+      is_answer = is_answer;
+      rerouted = [];
+      are_rerouted = (refl, refl);
+      told = [];
+      of_round = refl;
+      text = sym (append-nil out);
+    } in
+    (number_text number ++ out, rw (asks, reads) (out, answered, refl), f ∙ (ap (λ (t : List ℕ). t ++ out) e ∙ append_assoc old (number_text number) out))

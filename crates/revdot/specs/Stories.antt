@@ -1,7 +1,8 @@
 -- The story of an input: the answer to each line, and each round turn by turn, with the nodes that get new hops.
-use Rattle.std.specs.Prelude.{◌≡◌, ℕ, ◌+◌, nat_le, eqb, ◌&&◌, Bool, true, false, List, [], ◌∷◌, ◌++◌, Option, Some, None, MatchBool, codes, decimal, sum}
+use Rattle.std.specs.Prelude.{◌≡◌, ℕ, ◌+◌, nat_le, eqb, ◌&&◌, Bool, true, false, List, [], ◌∷◌, ◌++◌, Option, Some, None, Result, MatchBool, codes, decimal, sum}
 use Rattle.std.specs.List.{starts_with}
-use Rattle.fr_lines.specs.Requests.{ask, reading}
+use Rattle.fr_lines.specs.Requests.{PlainRequest, ask, reading}
+use Rattle.fr_lines.specs.declared.requests.LineFault.{LineFault}
 use Rattle.fr_lines.specs.declared.requests.Question.{Question}
 use Rattle.fr_lines.specs.declared.requests.Question.TheVariants.{Links, Counts, Hops}
 use Rattle.fr_route.specs.Answers.{IsAnswer, IsLineAnswer}
@@ -75,23 +76,24 @@ IsRoundStory false s rerouted told = told ≡ []
 abbrev pub reports_round : List ℕ → Bool
 reports_round answer = starts_with eqb answer (codes "turned")
 
--- the number of a line, and its answer
-abbrev pub answer_text : ℕ → List ℕ → List ℕ
-answer_text number answer = codes "line " ++ (decimal number ++ (codes "\n" ++ (answer ++ codes "\n")))
-
--- what is told of a line that is not blank: its answer, what it asks, and its round, if it makes one
-pub record IsAnswered (s : Option State) (number : ℕ) (line block : List ℕ) (next : Option State) : Type 0 where
+-- what is told of a line that is not blank, behind its number: its answer, what it asks, and its round, if it makes one
+pub record IsAnswered (s : Option State) (asked : Result PlainRequest LineFault) (out : List ℕ) (next : Option State) : Type 0 where
   pub answer : List ℕ
-  pub is_answer : IsLineAnswer s (reading line) answer next
+  pub is_answer : IsLineAnswer s asked answer next
   pub rerouted : List ℕ
-  pub are_rerouted : IsLineTold s (reading line) next [] rerouted
+  pub are_rerouted : IsLineTold s asked next [] rerouted
   pub told : List ℕ
   pub of_round : IsRoundStory (reports_round answer) next rerouted told
-  pub text : block ≡ (answer_text number answer ++ asked_text (reading line)) ++ told
+  pub text : out ≡ (answer ++ codes "\n") ++ (asked_text asked ++ told)
+
+abbrev pub number_text : ℕ → List ℕ
+number_text number = codes "line " ++ (decimal number ++ codes "\n")
 
 -- what is told of a line, and the state after it: a blank line has no answer
 abbrev pub IsBlock : Option State → ℕ → List ℕ → List ℕ → Option State → Type 0
-IsBlock s number line block next = MatchBool (is_blank line) ((block ≡ []) × (next ≡ s)) (IsAnswered s number line block next)
+IsBlock s number line block next =
+    MatchBool (is_blank line) ((block ≡ []) × (next ≡ s))
+    ((told : List ℕ) × IsAnswered s (reading line) told next × (block ≡ number_text number ++ told))
 
 -- what is told of lines, of which the first has this number
 abbrev pub AreBlocks : Option State → ℕ → List (List ℕ) → List ℕ → Type 0
