@@ -1,5 +1,5 @@
 -- How far the story of an input has been told.
-use Rattle.std.proofs.Common.{◌≡◌, ◌∙◌, ℕ, ◌+◌, ◌≤◌, ◌==◌, List, [], ◌∷◌, ◌++◌, length, ap, append_assoc, append-nil, arith, Option, None, Some, Bool, true, false, MatchBool, refl, subst, sym}
+use Rattle.std.proofs.Common.{◌≡◌, ◌∙◌, ℕ, ◌+◌, ◌≤◌, ◌==◌, List, [], ◌∷◌, ◌++◌, length, ap, append_assoc, append-nil, arith, Option, None, Some, true, false, refl, subst, sym}
 use Rattle.std.proofs.lemmas.List.Splits.{length-slice_split}
 use Rattle.std.proofs.lemmas.List.Sums.{count_by-le-length}
 use Rattle.fr_route.specs.States.{State}
@@ -13,7 +13,7 @@ use Rattle.fr_route.specs.Blank.{is_blank}
 use Rattle.fr_route.specs.Texts.{refusal_text}
 use Rattle.fr_route.specs.Told.{IsTold}
 use Rattle.revdot.specs.Asked.{asked_text}
-use Rattle.revdot.specs.Stories.{AreBlocks, AreSettledLines, IsAnswerLine, IsAnswered, IsBlock, IsRoundStory, IsStory, IsTurnByTurn, beginning_text, is_short, most_told_turns, net_text, nodes_line, number_text, reports_round}
+use Rattle.revdot.specs.Stories.{AreBlocks, AreSettledLines, IsAnswerLine, IsAnswered, IsBlock, IsRoundStory, IsStory, IsTurnByTurn, answer_text, beginning_text, is_short, most_told_turns, net_text, nodes_line, reports_round}
 use Rattle.revdot.specs.Strips.{AreAllTurns, beginning}
 use Rattle.revdot.proofs.Beginnings.{begins}
 
@@ -22,13 +22,6 @@ three : (old a b c one two new : List ℕ) → one ≡ old ++ a → two ≡ one 
 three old a b c one two new e f g =
     g ∙ (ap (λ (t : List ℕ). t ++ c) (f ∙ (ap (λ (t : List ℕ). t ++ b) e ∙ append_assoc old a b))
     ∙ (append_assoc old (a ++ b) c ∙ ap (λ (t : List ℕ). old ++ t) (append_assoc a b c)))
-
-short_told : (short : Bool) (P Q : Type 0) → short ≡ true → P → MatchBool short P Q
-short_told true P Q e p = p
-short_told false P Q e p = absurd (false_is_not_true e)
-  where
-    false_is_not_true : false ≡ true → ⊥
-    false_is_not_true e = cc
 
 -- this was told of so many lines, and the story is that and whatever is to be told of those that are left
 pub record HasTold (whole : List ℕ) (left : List (List ℕ)) (now : Option State) (number : ℕ) (old new : List ℕ) : Type 0 where
@@ -106,20 +99,17 @@ round_told s session turns settled rerouted old one two more new some short are_
       settled = subst (λ (t : Option State). AreSettledLines t settled) (sym some) are;
       text = refl;
     } in
-    let whole = short_told (is_short s) (IsTurnByTurn s rerouted rest) (rest ≡ codes "omitted\n") short told in
-    let story : IsRoundStory true (Some s) rerouted (net ++ rest) = (rest, whole, refl) in
+    let story : IsRoundStory true (Some s) rerouted (net ++ rest) = (rest, rw short told, refl) in
     let in_session = subst (λ (t : Option State). IsRoundStory true t rerouted (net ++ rest)) some story in
     (net ++ rest, in_session, three old net (beginning_text s turns) (settled ++ pushes) one two new e f end)
 
 -- the answer to a request, what it asks, and its round, one after the other
-pub answered_told : (s next : Option State) (request : PlainRequest) (answer rerouted told old one two new : List ℕ)
+pub answered_told : (s next : Option State) (number : ℕ) (request : PlainRequest) (answer rerouted told old one two new : List ℕ)
     → IsAnswer s request answer next → IsTold s request next [] rerouted → IsRoundStory (reports_round answer) next rerouted told
-    → one ≡ old ++ (answer ++ codes "\n") → two ≡ one ++ asked_text (Ok request) → new ≡ two ++ told
-    → (out : List ℕ) × IsAnswered s (Ok request) out next × (new ≡ old ++ out)
-answered_told s next request answer rerouted told old one two new is_answer are_rerouted of_round e f g =
-    let line = answer ++ codes "\n" in
-    let asked = asked_text (Ok request) in
-    let answered : IsAnswered s (Ok request) (line ++ (asked ++ told)) next = record {
+    → one ≡ old ++ answer_text number answer → two ≡ one ++ asked_text (Ok request) → new ≡ two ++ told
+    → (block : List ℕ) × IsAnswered s number (Ok request) block next × (new ≡ old ++ block)
+answered_told s next number request answer rerouted told old one two new is_answer are_rerouted of_round e f g =
+    let answered : IsAnswered s number (Ok request) (answer_text number answer ++ (asked_text (Ok request) ++ told)) next = record {
       answer = answer;
       is_answer = is_answer;
       rerouted = rerouted;
@@ -128,22 +118,17 @@ answered_told s next request answer rerouted told old one two new is_answer are_
       of_round = of_round;
       text = refl;
     } in
-    (line ++ (asked ++ told), answered, three old line asked told one two new e f g)
+    (_, answered, three old (answer_text number answer) (asked_text (Ok request)) told one two new e f g)
 
--- the number of a line that is no request, and its refusal
-pub refused_told : (s : Option State) (fault : LineFault) (why number : ℕ) (line old one new : List ℕ)
-    → is_blank line ≡ false → reading line ≡ Err fault → IsLineAnswer s (Err fault) (refusal_text why) s
-    → one ≡ old ++ number_text number → new ≡ one ++ (refusal_text why ++ codes "\n")
-    → (block : List ℕ) × IsBlock s number line block s × (new ≡ old ++ block)
-refused_told s fault why number line old one new asks reads is_answer e f =
-    let out = refusal_text why ++ codes "\n" in
-    let answered : IsAnswered s (Err fault) out s = record {
-      answer = refusal_text why;
-      is_answer = is_answer;
-      rerouted = [];
-      are_rerouted = (refl, refl);
-      told = [];
-      of_round = refl;
-      text = sym (append-nil out);
-    } in
-    (number_text number ++ out, rw (asks, reads) (out, answered, refl), f ∙ (ap (λ (t : List ℕ). t ++ out) e ∙ append_assoc old (number_text number) out))
+-- the answer to a line that is no request
+pub refused_told : (s : Option State) (fault : LineFault) (why number : ℕ) (line : List ℕ) → is_blank line ≡ false → reading line ≡ Err fault
+    → IsLineAnswer s (Err fault) (refusal_text why) s → IsBlock s number line (answer_text number (refusal_text why)) s
+refused_told s fault why number line asks reads is_answer = rw (asks, reads) record {
+  answer = refusal_text why;
+  is_answer = is_answer;
+  rerouted = [];
+  are_rerouted = (refl, refl);
+  told = [];
+  of_round = refl;
+  text = sym (append-nil (answer_text number (refusal_text why)));
+}

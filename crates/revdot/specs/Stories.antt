@@ -76,24 +76,23 @@ IsRoundStory false s rerouted told = told ≡ []
 abbrev pub reports_round : List ℕ → Bool
 reports_round answer = starts_with eqb answer (codes "turned")
 
--- what is told of a line that is not blank, behind its number: its answer, what it asks, and its round, if it makes one
-pub record IsAnswered (s : Option State) (asked : Result PlainRequest LineFault) (out : List ℕ) (next : Option State) : Type 0 where
+-- the number of a line, and its answer
+abbrev pub answer_text : ℕ → List ℕ → List ℕ
+answer_text number answer = codes "line " ++ (decimal number ++ (codes "\n" ++ (answer ++ codes "\n")))
+
+-- what is told of a line that is not blank: its answer, what it asks, and its round, if it makes one
+pub record IsAnswered (s : Option State) (number : ℕ) (asked : Result PlainRequest LineFault) (block : List ℕ) (next : Option State) : Type 0 where
   pub answer : List ℕ
   pub is_answer : IsLineAnswer s asked answer next
   pub rerouted : List ℕ
   pub are_rerouted : IsLineTold s asked next [] rerouted
   pub told : List ℕ
   pub of_round : IsRoundStory (reports_round answer) next rerouted told
-  pub text : out ≡ (answer ++ codes "\n") ++ (asked_text asked ++ told)
-
-abbrev pub number_text : ℕ → List ℕ
-number_text number = codes "line " ++ (decimal number ++ codes "\n")
+  pub text : block ≡ answer_text number answer ++ (asked_text asked ++ told)
 
 -- what is told of a line, and the state after it: a blank line has no answer
 abbrev pub IsBlock : Option State → ℕ → List ℕ → List ℕ → Option State → Type 0
-IsBlock s number line block next =
-    MatchBool (is_blank line) ((block ≡ []) × (next ≡ s))
-    ((told : List ℕ) × IsAnswered s (reading line) told next × (block ≡ number_text number ++ told))
+IsBlock s number line block next = MatchBool (is_blank line) ((block ≡ []) × (next ≡ s)) (IsAnswered s number (reading line) block next)
 
 -- what is told of lines, of which the first has this number
 abbrev pub AreBlocks : Option State → ℕ → List (List ℕ) → List ℕ → Type 0

@@ -1,10 +1,10 @@
 //! The story of an input: the answer to each line, and each round turn by turn, with the nodes that get new hops.
 
-ghost use Rattle.std.specs.Prelude.{◌≡◌, ◌++◌, ℕ, List, Ok, OnOk, codes, string_bytes};
+ghost use Rattle.std.specs.Prelude.{◌≡◌, ◌++◌, ℕ, List, Ok, OnOk, string_bytes};
 ghost use Rattle.fr_lines.specs.Requests.{plain};
 ghost use Rattle.fr_route.specs.Refusals.{number_of};
 ghost use Rattle.fr_route.specs.Texts.{refusal_text};
-ghost use Rattle.revdot.specs.Stories.{IsAnswered, IsBlock, IsStory};
+ghost use Rattle.revdot.specs.Stories.{IsAnswered, IsBlock, IsStory, answer_text};
 
 use crate::asked::push_asked;
 use crate::rounds::push_round;
@@ -41,37 +41,37 @@ fn push_line(
     if is_blank(line) {
         return Ok(());
     }
-    writeln!(story, "line {number}")?;
     match read_line(alloc, line) {
-        Ok(request) => push_answered(story, alloc, session, &request),
-        Err(LineFault::NotJson) => push_refusal(story, Refusal::NotJson),
-        Err(LineFault::NotRequest) => push_refusal(story, Refusal::NotRequest),
+        Ok(request) => push_answered(story, alloc, session, number, &request),
+        Err(LineFault::NotJson) => push_refusal(story, number, Refusal::NotJson),
+        Err(LineFault::NotRequest) => push_refusal(story, number, Refusal::NotRequest),
         Err(LineFault::Memory) => Err(AllocError),
     }
 }
 
-/// Adds the answer to a line that is no request.
-fn push_refusal(story: &mut String, refusal: Refusal) -> Result<(), AllocError>
-    ensures { OnOk result (string_bytes story.new ≡ string_bytes story.old ++ (refusal_text (number_of refusal) ++ codes "\n")) }
+/// Adds the number of a line that is no request, and its answer.
+fn push_refusal(story: &mut String, number: u64, refusal: Refusal) -> Result<(), AllocError>
+    ensures { OnOk result (string_bytes story.new ≡ string_bytes story.old ++ answer_text number (refusal_text (number_of refusal))) }
 {
-    writeln!(story, "refused {}", refusal.number())
+    writeln!(story, "line {number}\nrefused {}", refusal.number())
 }
 
-/// Adds the answer to a request, what it asks, and its round, if it makes one.
+/// Adds the number of a line, the answer to its request, what it asks, and its round, if it makes one.
 fn push_answered(
     story: &mut String,
     alloc: Global,
     session: &mut Session,
+    number: u64,
     request: &Request,
 ) -> Result<(), AllocError>
-    ensures { OnOk result ((told : List ℕ) × IsAnswered session.old (Ok (plain request.now)) told session.new
-        × (string_bytes story.new ≡ string_bytes story.old ++ told)) }
+    ensures { OnOk result ((block : List ℕ) × IsAnswered session.old number (Ok (plain request.now)) block session.new
+        × (string_bytes story.new ≡ string_bytes story.old ++ block)) }
 {
     let mut rerouted = Vec::new(alloc);
     let Ok(answer) = session.answer_telling_alone(alloc, request, &mut rerouted) else {
         return Err(AllocError);
     };
-    writeln!(story, "{answer}")?;
+    writeln!(story, "line {number}\n{answer}")?;
     push_asked(story, request)?;
     if answer.starts_with("turned") {
         push_round(story, alloc, session, &rerouted)
