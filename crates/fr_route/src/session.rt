@@ -9,7 +9,7 @@ ghost use Rattle.fr_route.specs.Blank.{is_blank as is_blank_line};
 ghost use Rattle.fr_route.specs.Answers.{IsAccepted, IsAnswer, IsLineAnswer, IsReportLine, MayStartFor, MayStartForLine};
 ghost use Rattle.fr_route.specs.Listing.{IsListing, nodes_told};
 ghost use Rattle.fr_route.specs.Sessions.{IsAnswered, IsLineAnswered};
-ghost use Rattle.fr_route.specs.Told.{TellsOfLine};
+ghost use Rattle.fr_route.specs.Told.{IsTold, TellsOfLine};
 ghost use Rattle.fr_route.specs.Reroutes.{AreReplaced};
 ghost use Rattle.fr_route.specs.Texts.{longest_report, refusal_text};
 ghost use Rattle.fr_route.specs.Faults.{of_route_fault};
@@ -225,6 +225,30 @@ impl Session {
         .answer(self, request, &mut Told::Nobody)
     }
 
+    /// The same, and tells in a list of the caller's which nodes the request reroutes, as [`Session::answer_line_telling_alone`] does of a
+    /// line. It costs the same, by the calls of the router that tell.
+    pub fn answer_telling_alone(
+        &mut self,
+        alloc: Global,
+        request: &Request,
+        rerouted: &mut Vec<u32>,
+    ) -> Result<String, AnswerFault>
+        ensures text { IfOk result (λ text. IsAnswer self.old (plain request.now) (string_bytes text) self.new) }
+        ensures told { IfOk result (λ _. IsTold self.old (plain request.now) self.new rerouted.old.items rerouted.new.items) }
+        ensures unchanged { OnErr result ((self.new ≡ self.old) × (rerouted.new.items ≡ rerouted.old.items)) }
+        ensures short { IfOk result (λ text. ((self.new ≡ self.old) × (rerouted.new.items ≡ rerouted.old.items)) ⊎ (length (string_bytes text) ≤ longest_report)) }
+        ensures no_start { IfErr result (λ fault. fault ≢ Start) }
+    {
+        let mut told = Told::taken(rerouted, alloc);
+        let answer = Asking::new(
+            alloc,
+            &|net, dest, from, turns| settled_counts_alone(net, dest, from, turns),
+        )
+        .answer(self, request, &mut told);
+        *rerouted = told.into_list(alloc);
+        answer
+    }
+
     /// Puts a router in place, once the line that reports its round is made, and tells which nodes have another hop if that is asked.
     fn put(&mut self, alloc: Global, router: Router, told: &mut Told) -> Result<String, AnswerFault>
         ensures text { IfOk result (λ text. IsReportLine router (string_bytes text) × (self.new ≡ Some router)) }
@@ -257,8 +281,9 @@ impl Session {
         }
     }
 
-    /// Answers a question, once there is a network.
-    fn tell(&self, alloc: Global, question: Question) -> Result<String, AnswerFault>
+    /// The answer to a question, as [`Session::answer`] gives it, which changes nothing. `Memory` is its only fault. `O(b)` for b bytes of
+    /// answer.
+    pub fn tell(&self, alloc: Global, question: Question) -> Result<String, AnswerFault>
         ensures text { IfOk result (λ text. IsAnswer self.now (ask question) (string_bytes text) self.now) }
         ensures memory { IfErr result (λ fault. fault ≡ Memory) }
     {
