@@ -51,7 +51,8 @@ fn push_line(
 
 /// Adds the number of a line that is no request, and its answer.
 fn push_refusal(story: &mut String, number: u64, refusal: Refusal) -> Result<(), AllocError>
-    ensures { OnOk result (string_bytes story.new ≡ string_bytes story.old ++ answer_text number (refusal_text (number_of refusal))) }
+    ensures { OnOk result (string_bytes story.new
+        ≡ string_bytes story.old ++ answer_text number (refusal_text (number_of refusal))) }
 {
     writeln!(story, "line {number}\nrefused {}", refusal.number())
 }
