@@ -281,8 +281,9 @@ impl Session {
         }
     }
 
-    /// Answers a question, once there is a network.
-    fn tell(&self, alloc: Global, question: Question) -> Result<String, AnswerFault>
+    /// The answer to a question, as [`Session::answer`] gives it, which changes nothing. `Memory` is its only fault. `O(b)` for b bytes of
+    /// answer.
+    pub fn tell(&self, alloc: Global, question: Question) -> Result<String, AnswerFault>
         ensures text { IfOk result (λ text. IsAnswer self.now (ask question) (string_bytes text) self.now) }
         ensures memory { IfErr result (λ fault. fault ≡ Memory) }
     {

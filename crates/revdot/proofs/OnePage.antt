@@ -1,7 +1,8 @@
 -- The page of an input is determined by the input.
 use Rattle.std.proofs.Common.{◌≡◌, ◌∙◌, ℕ, ◌+◌, Bool, true, false, List, [], ◌∷◌, ◌++◌, Option, None, Some, MatchBool, ap, subst, sym}
-use Rattle.std.specs.Prelude.{codes}
-use Rattle.fr_lines.specs.Requests.{ask, reading}
+use Rattle.std.specs.Prelude.{Result, codes}
+use Rattle.fr_lines.specs.Requests.{PlainRequest, ask, reading}
+use Rattle.fr_lines.specs.declared.requests.LineFault.{LineFault}
 use Rattle.fr_lines.specs.declared.requests.Question.{Question}
 use Rattle.fr_lines.specs.declared.requests.Question.TheVariants.{Links, Counts, Hops}
 use Rattle.fr_route.specs.Blank.{is_blank}
@@ -52,27 +53,27 @@ round_story_unique true (Some s) rerouted a b h k =
 round_story_unique true None rerouted a b h k = h ∙ sym k
 round_story_unique false s rerouted a b h k = h ∙ sym k
 
-answered_unique : (s : Option State) (number : ℕ) (line a b : List ℕ) (p q : Option State) → IsAnswered s number line a p → IsAnswered s number line b q → (a ≡ b) × (p ≡ q)
-answered_unique s number line a b p q h k =
-    let one = line_unique s (reading line) h.answer k.answer p q h.is_answer k.is_answer in
-    let are_rerouted = subst (λ (t : Option State). IsLineTold s (reading line) t [] h.rerouted) one.1 h.are_rerouted in
-    let same : h.rerouted ≡ k.rerouted =
-    line_told_unique s (reading line) q [] h.rerouted k.rerouted are_rerouted k.are_rerouted in
-    let of_round : IsRoundStory (reports_round k.answer) q k.rerouted h.told =
-    subst (λ (t : List ℕ). IsRoundStory (reports_round k.answer) q t h.told) same
-    (subst (λ (t : Option State). IsRoundStory (reports_round k.answer) t h.rerouted h.told) one.1
-    (subst (λ (t : List ℕ). IsRoundStory (reports_round t) p h.rerouted h.told) one.0 h.of_round)) in
-    let told : h.told ≡ k.told =
-    round_story_unique (reports_round k.answer) q k.rerouted h.told k.told of_round k.of_round in
-    let texts : (answer_text number h.answer ++ asked_text (reading line)) ++ h.told ≡ (answer_text number k.answer ++ asked_text (reading line)) ++ k.told = (λ i. (answer_text number (one.0 i) ++ asked_text (reading line)) ++ told i) in
+answered_unique : (s : Option State) (number : ℕ) (asked : Result PlainRequest LineFault) (a b : List ℕ) (p q : Option State)
+    → IsAnswered s number asked a p → IsAnswered s number asked b q → (a ≡ b) × (p ≡ q)
+answered_unique s number asked a b p q h k =
+    let one = line_unique s asked h.answer k.answer p q h.is_answer k.is_answer in
+    let are_rerouted = subst (λ (t : Option State). IsLineTold s asked t [] h.rerouted) one.1 h.are_rerouted in
+    let same : h.rerouted ≡ k.rerouted = line_told_unique s asked q [] h.rerouted k.rerouted are_rerouted k.are_rerouted in
+    let of_round : IsRoundStory (reports_round k.answer) q k.rerouted h.told = rw (← one.0, ← one.1, ← same) h.of_round in
+    let told : h.told ≡ k.told = round_story_unique (reports_round k.answer) q k.rerouted h.told k.told of_round k.of_round in
+    let texts : answer_text number h.answer ++ (asked_text asked ++ h.told) ≡ answer_text number k.answer ++ (asked_text asked ++ k.told) =
+    (λ i. answer_text number (one.0 i) ++ (asked_text asked ++ told i)) in
     (h.text ∙ (texts ∙ sym k.text), one.1)
 
 block_unique : (s : Option State) (number : ℕ) (line a b : List ℕ) (p q : Option State) → IsBlock s number line a p → IsBlock s number line b q → (a ≡ b) × (p ≡ q)
 block_unique s number line a b p q h k = of (is_blank line) h k
   where
-    of : (blank : Bool) → MatchBool blank ((a ≡ []) × (p ≡ s)) (IsAnswered s number line a p) → MatchBool blank ((b ≡ []) × (q ≡ s)) (IsAnswered s number line b q) → (a ≡ b) × (p ≡ q)
+    IsOf : Bool → List ℕ → Option State → Type 0
+    IsOf blank out next = MatchBool blank ((out ≡ []) × (next ≡ s)) (IsAnswered s number (reading line) out next)
+
+    of : (blank : Bool) → IsOf blank a p → IsOf blank b q → (a ≡ b) × (p ≡ q)
     of true h k = (h.0 ∙ sym k.0, h.1 ∙ sym k.1)
-    of false h k = answered_unique s number line a b p q h k
+    of false h k = answered_unique s number (reading line) a b p q h k
 
 blocks_unique : (s : Option State) (number : ℕ) (lines : List (List ℕ)) (a b : List ℕ) → AreBlocks s number lines a → AreBlocks s number lines b → a ≡ b
 blocks_unique s number [] a b h k = h ∙ sym k

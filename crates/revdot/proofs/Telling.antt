@@ -1,15 +1,17 @@
 -- How far the story of an input has been told.
-use Rattle.std.proofs.Common.{◌≡◌, ◌∙◌, ℕ, ◌+◌, ◌≤◌, ◌==◌, List, [], ◌∷◌, ◌++◌, length, ap, append_assoc, append-nil, arith, Option, None, Some, Bool, true, false, MatchBool, refl, subst, sym}
+use Rattle.std.proofs.Common.{◌≡◌, ◌∙◌, ℕ, ◌+◌, ◌≤◌, ◌==◌, List, [], ◌∷◌, ◌++◌, length, ap, append_assoc, append-nil, arith, Option, None, Some, true, false, refl, subst, sym}
 use Rattle.std.proofs.lemmas.List.Splits.{length-slice_split}
 use Rattle.std.proofs.lemmas.List.Sums.{count_by-le-length}
 use Rattle.fr_route.specs.States.{State}
 use Rattle.fr_bytes.specs.Lines.{lines_of}
-use Rattle.std.specs.Prelude.{Result, Ok, Err, OnOk, codes}
+use Rattle.std.specs.Prelude.{Err, Ok, codes}
 use Rattle.fr_lines.specs.declared.requests.Question.TheVariants.{Links, Counts, Hops}
-use Rattle.fr_lines.specs.Requests.{reading}
-use Rattle.fr_route.specs.Answers.{IsLineAnswer}
+use Rattle.fr_lines.specs.declared.requests.LineFault.{LineFault}
+use Rattle.fr_lines.specs.Requests.{PlainRequest, reading}
+use Rattle.fr_route.specs.Answers.{IsAnswer, IsLineAnswer}
 use Rattle.fr_route.specs.Blank.{is_blank}
-use Rattle.fr_route.specs.Told.{IsLineTold}
+use Rattle.fr_route.specs.Texts.{refusal_text}
+use Rattle.fr_route.specs.Told.{IsTold}
 use Rattle.revdot.specs.Asked.{asked_text}
 use Rattle.revdot.specs.Stories.{AreBlocks, AreSettledLines, IsAnswerLine, IsAnswered, IsBlock, IsRoundStory, IsStory, IsTurnByTurn, answer_text, beginning_text, is_short, most_told_turns, net_text, nodes_line, reports_round}
 use Rattle.revdot.specs.Strips.{AreAllTurns, beginning}
@@ -20,13 +22,6 @@ three : (old a b c one two new : List ℕ) → one ≡ old ++ a → two ≡ one 
 three old a b c one two new e f g =
     g ∙ (ap (λ (t : List ℕ). t ++ c) (f ∙ (ap (λ (t : List ℕ). t ++ b) e ∙ append_assoc old a b))
     ∙ (append_assoc old (a ++ b) c ∙ ap (λ (t : List ℕ). old ++ t) (append_assoc a b c)))
-
-short_told : (short : Bool) (P Q : Type 0) → short ≡ true → P → MatchBool short P Q
-short_told true P Q e p = p
-short_told false P Q e p = absurd (false_is_not_true e)
-  where
-    false_is_not_true : false ≡ true → ⊥
-    false_is_not_true e = cc
 
 -- this was told of so many lines, and the story is that and whatever is to be told of those that are left
 pub record HasTold (whole : List ℕ) (left : List (List ℕ)) (now : Option State) (number : ℕ) (old new : List ℕ) : Type 0 where
@@ -104,32 +99,17 @@ round_told s session turns settled rerouted old one two more new some short are_
       settled = subst (λ (t : Option State). AreSettledLines t settled) (sym some) are;
       text = refl;
     } in
-    let whole = short_told (is_short s) (IsTurnByTurn s rerouted rest) (rest ≡ codes "omitted\n") short told in
-    let story : IsRoundStory true (Some s) rerouted (net ++ rest) = (rest, whole, refl) in
+    let story : IsRoundStory true (Some s) rerouted (net ++ rest) = (rest, rw short told, refl) in
     let in_session = subst (λ (t : Option State). IsRoundStory true t rerouted (net ++ rest)) some story in
     (net ++ rest, in_session, three old net (beginning_text s turns) (settled ++ pushes) one two new e f end)
 
--- what two facts of a good end make
-pub on_ok_both : {T E P Q R : Type 0} (r : Result T E) → (P → Q → R) → OnOk r P → OnOk r Q → OnOk r R
-on_ok_both (Ok x) f p q = f p q
-on_ok_both (Err e) f p q = q
-
-asked : (blank : Bool) (P Q : Type 0) → blank ≡ false → Q → MatchBool blank P Q
-asked false P Q e q = q
-asked true P Q e q = absurd (true_is_not_false e)
-  where
-    true_is_not_false : true ≡ false → ⊥
-    true_is_not_false e = cc
-
--- what is told of an answer, and of its round, behind one another
-pub line_told : (s next : Option State) (number : ℕ) (line answer rerouted told old one new : List ℕ)
-    → is_blank line ≡ false → IsLineAnswer s (reading line) answer next → IsLineTold s (reading line) next [] rerouted
-    → IsRoundStory (reports_round answer) next rerouted told
-    → one ≡ old ++ (answer_text number answer ++ asked_text (reading line)) → new ≡ one ++ told
-    → (block : List ℕ) × IsBlock s number line block next × (new ≡ old ++ block)
-line_told s next number line answer rerouted told old one new asks is_answer are_rerouted of_round e f =
-    let first = answer_text number answer ++ asked_text (reading line) in
-    let block : IsAnswered s number line (first ++ told) next = record {
+-- the answer to a request, what it asks, and its round, one after the other
+pub answered_told : (s next : Option State) (number : ℕ) (request : PlainRequest) (answer rerouted told old one two new : List ℕ)
+    → IsAnswer s request answer next → IsTold s request next [] rerouted → IsRoundStory (reports_round answer) next rerouted told
+    → one ≡ old ++ answer_text number answer → two ≡ one ++ asked_text (Ok request) → new ≡ two ++ told
+    → (block : List ℕ) × IsAnswered s number (Ok request) block next × (new ≡ old ++ block)
+answered_told s next number request answer rerouted told old one two new is_answer are_rerouted of_round e f g =
+    let answered : IsAnswered s number (Ok request) (answer_text number answer ++ (asked_text (Ok request) ++ told)) next = record {
       answer = answer;
       is_answer = is_answer;
       rerouted = rerouted;
@@ -138,4 +118,17 @@ line_told s next number line answer rerouted told old one new asks is_answer are
       of_round = of_round;
       text = refl;
     } in
-    (first ++ told, asked (is_blank line) ((first ++ told ≡ []) × (next ≡ s)) (IsAnswered s number line (first ++ told) next) asks block, f ∙ (ap (λ (t : List ℕ). t ++ told) e ∙ append_assoc old first told))
+    (_, answered, three old (answer_text number answer) (asked_text (Ok request)) told one two new e f g)
+
+-- the answer to a line that is no request
+pub refused_told : (s : Option State) (fault : LineFault) (why number : ℕ) (line : List ℕ) → is_blank line ≡ false → reading line ≡ Err fault
+    → IsLineAnswer s (Err fault) (refusal_text why) s → IsBlock s number line (answer_text number (refusal_text why)) s
+refused_told s fault why number line asks reads is_answer = rw (asks, reads) record {
+  answer = refusal_text why;
+  is_answer = is_answer;
+  rerouted = [];
+  are_rerouted = (refl, refl);
+  told = [];
+  of_round = refl;
+  text = sym (append-nil (answer_text number (refusal_text why)));
+}

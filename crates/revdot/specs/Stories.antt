@@ -1,7 +1,8 @@
 -- The story of an input: the answer to each line, and each round turn by turn, with the nodes that get new hops.
-use Rattle.std.specs.Prelude.{◌≡◌, ℕ, ◌+◌, nat_le, eqb, ◌&&◌, Bool, true, false, List, [], ◌∷◌, ◌++◌, Option, Some, None, MatchBool, codes, decimal, sum}
+use Rattle.std.specs.Prelude.{◌≡◌, ℕ, ◌+◌, nat_le, eqb, ◌&&◌, Bool, true, false, List, [], ◌∷◌, ◌++◌, Option, Some, None, Result, MatchBool, codes, decimal, sum}
 use Rattle.std.specs.List.{starts_with}
-use Rattle.fr_lines.specs.Requests.{ask, reading}
+use Rattle.fr_lines.specs.Requests.{PlainRequest, ask, reading}
+use Rattle.fr_lines.specs.declared.requests.LineFault.{LineFault}
 use Rattle.fr_lines.specs.declared.requests.Question.{Question}
 use Rattle.fr_lines.specs.declared.requests.Question.TheVariants.{Links, Counts, Hops}
 use Rattle.fr_route.specs.Answers.{IsAnswer, IsLineAnswer}
@@ -80,18 +81,18 @@ abbrev pub answer_text : ℕ → List ℕ → List ℕ
 answer_text number answer = codes "line " ++ (decimal number ++ (codes "\n" ++ (answer ++ codes "\n")))
 
 -- what is told of a line that is not blank: its answer, what it asks, and its round, if it makes one
-pub record IsAnswered (s : Option State) (number : ℕ) (line block : List ℕ) (next : Option State) : Type 0 where
+pub record IsAnswered (s : Option State) (number : ℕ) (asked : Result PlainRequest LineFault) (block : List ℕ) (next : Option State) : Type 0 where
   pub answer : List ℕ
-  pub is_answer : IsLineAnswer s (reading line) answer next
+  pub is_answer : IsLineAnswer s asked answer next
   pub rerouted : List ℕ
-  pub are_rerouted : IsLineTold s (reading line) next [] rerouted
+  pub are_rerouted : IsLineTold s asked next [] rerouted
   pub told : List ℕ
   pub of_round : IsRoundStory (reports_round answer) next rerouted told
-  pub text : block ≡ (answer_text number answer ++ asked_text (reading line)) ++ told
+  pub text : block ≡ answer_text number answer ++ (asked_text asked ++ told)
 
 -- what is told of a line, and the state after it: a blank line has no answer
 abbrev pub IsBlock : Option State → ℕ → List ℕ → List ℕ → Option State → Type 0
-IsBlock s number line block next = MatchBool (is_blank line) ((block ≡ []) × (next ≡ s)) (IsAnswered s number line block next)
+IsBlock s number line block next = MatchBool (is_blank line) ((block ≡ []) × (next ≡ s)) (IsAnswered s number (reading line) block next)
 
 -- what is told of lines, of which the first has this number
 abbrev pub AreBlocks : Option State → ℕ → List (List ℕ) → List ℕ → Type 0

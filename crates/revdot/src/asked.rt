@@ -1,29 +1,19 @@
-//! What a story tells of a line: what it asked.
+//! What a story tells of a request: what it asks.
 
-ghost use Rattle.std.specs.Prelude.{◌≡◌, ◌++◌, OnOk, codes, decimal, string_bytes};
-ghost use Rattle.fr_lines.specs.Requests.{plain, reading};
+ghost use Rattle.std.specs.Prelude.{◌≡◌, ◌++◌, Ok, OnOk, codes, decimal, string_bytes};
+ghost use Rattle.fr_lines.specs.Requests.{plain};
 ghost use Rattle.fr_route.specs.Texts.{spaced_links};
 ghost use Rattle.revdot.specs.Asked.{asked_text, edit_text, pair_text, question_text, request_text, spaced_edits};
 
 use crate::rounds::push_links;
 use fr_graph::Edit;
-use fr_lines::{LineFault, Question, Request, read_line};
-use std::alloc::{AllocError, Global};
+use fr_lines::{Question, Request};
+use std::alloc::AllocError;
 use std::fmt::Write;
 
-/// Adds what a line asks, by words and numbers; nothing where it is no request.
-pub fn push_asked(story: &mut String, alloc: Global, line: &[u8]) -> Result<(), AllocError>
-    ensures { OnOk result (string_bytes story.new ≡ string_bytes story.old ++ asked_text (reading line.now)) }
-{
-    match read_line(alloc, line) {
-        Ok(request) => push_asks(story, &request),
-        Err(LineFault::Memory) => Err(AllocError),
-        Err(LineFault::NotJson | LineFault::NotRequest) => Ok(()),
-    }
-}
-
-fn push_asks(story: &mut String, request: &Request) -> Result<(), AllocError>
-    ensures { OnOk result (string_bytes story.new ≡ string_bytes story.old ++ (codes "asks " ++ (request_text (plain request.now) ++ codes "\n"))) }
+/// Adds what a line asks, by words and numbers.
+pub fn push_asked(story: &mut String, request: &Request) -> Result<(), AllocError>
+    ensures { OnOk result (string_bytes story.new ≡ string_bytes story.old ++ asked_text (Ok (plain request.now))) }
 {
     story.push_str("asks ")?;
     push_request(story, request)?;

@@ -1,15 +1,13 @@
 //! What a story tells of a round: how it began, its turns one by one, what it left, and the nodes that get new hops.
 
-ghost use Rattle.std.specs.Prelude.{◌≡◌, ◌++◌, ℕ, List, true, Some, IfOk, OnOk, codes, decimal, length, string_bytes};
-ghost use Rattle.fr_lines.specs.Requests.{ask};
-ghost use Rattle.fr_route.specs.Answers.{IsAnswer};
+ghost use Rattle.std.specs.Prelude.{◌≡◌, ◌++◌, ℕ, List, true, IfOk, OnOk, codes, decimal, length, string_bytes};
 ghost use Rattle.revdot.specs.Replays.{IsReplay, moment_of};
 ghost use Rattle.revdot.specs.Strips.{AreAllTurns, beginning};
 ghost use Rattle.fr_route.specs.Texts.{spaced, spaced_links};
 ghost use Rattle.revdot.specs.Stories.{IsRoundStory, AreSettledLines, IsAnswerLine, beginning_text, first_text, is_short, most_told_turns, net_text, nodes_line};
 
 use crate::turns::Replay;
-use fr_lines::{Question, Request};
+use fr_lines::Question;
 use fr_route::{Router, Session};
 use std::alloc::{AllocError, Global};
 use std::fmt::Write;
@@ -24,12 +22,11 @@ const MOST_TURNS: u64 = 4_096;
 pub fn push_round(
     story: &mut String,
     alloc: Global,
-    session: &mut Session,
+    session: &Session,
     rerouted: &[u32],
 ) -> Result<(), AllocError>
-    ensures told { OnOk result ((told : List ℕ) × IsRoundStory true session.old rerouted.now told
+    ensures { OnOk result ((told : List ℕ) × IsRoundStory true session.now rerouted.now told
         × (string_bytes story.new ≡ string_bytes story.old ++ told)) }
-    ensures same { OnOk result (session.new ≡ session.old) }
 {
     let Some(router) = session.router() else {
         return Ok(());
@@ -131,11 +128,10 @@ fn turns_of(alloc: Global, router: &Router, mut replay: Replay) -> Result<Vec<u3
 fn push_settled_lines(
     story: &mut String,
     alloc: Global,
-    session: &mut Session,
+    session: &Session,
 ) -> Result<(), AllocError>
-    ensures told { OnOk result ((told : List ℕ) × AreSettledLines session.old told
+    ensures { OnOk result ((told : List ℕ) × AreSettledLines session.now told
         × (string_bytes story.new ≡ string_bytes story.old ++ told)) }
-    ensures same { OnOk result (session.new ≡ session.old) }
 {
     push_answer_to(story, alloc, session, Question::Links)?;
     push_answer_to(story, alloc, session, Question::Counts)?;
@@ -146,25 +142,14 @@ fn push_settled_lines(
 fn push_answer_to(
     story: &mut String,
     alloc: Global,
-    session: &mut Session,
+    session: &Session,
     question: Question,
 ) -> Result<(), AllocError>
-    ensures told { OnOk result ((asked : List ℕ) × IsAnswerLine session.old question asked
-        × (string_bytes story.new ≡ string_bytes story.old ++ asked)) }
-    ensures same { OnOk result (session.new ≡ session.old) }
+    ensures { OnOk result ((answer : List ℕ) × IsAnswerLine session.now question answer
+        × (string_bytes story.new ≡ string_bytes story.old ++ answer)) }
 {
-    let answer = answer_to(alloc, session, question)?;
-    story.push_str(&answer)?;
-    story.push_str("\n")
-}
-
-/// The answer of a session to a question.
-fn answer_to(alloc: Global, session: &mut Session, question: Question) -> Result<String, AllocError>
-    ensures text { IfOk result (λ text. IsAnswer session.old (ask question) (string_bytes text) session.old) }
-    ensures same { OnOk result (session.new ≡ session.old) }
-{
-    let Ok(answer) = session.answer_alone(alloc, &Request::Ask(question)) else {
+    let Ok(answer) = session.tell(alloc, question) else {
         return Err(AllocError);
     };
-    Ok(answer)
+    writeln!(story, "{answer}")
 }

@@ -1,17 +1,16 @@
 //! The story of an input: the answer to each line, and each round turn by turn, with the nodes that get new hops.
 
-ghost use Rattle.std.specs.Prelude.{◌≡◌, ◌++◌, ℕ, List, IfNone, IfOk, IfSome, OnOk, false, true, codes, string_bytes};
-ghost use Rattle.fr_lines.specs.Requests.{ask, reading};
-ghost use Rattle.fr_route.specs.Answers.{IsAnswer, IsLineAnswer};
-ghost use Rattle.fr_route.specs.Blank.{is_blank};
-ghost use Rattle.fr_route.specs.Told.{IsLineTold};
-ghost use Rattle.revdot.specs.Asked.{asked_text};
-ghost use Rattle.revdot.specs.Stories.{IsBlock, IsRoundStory, IsStory, answer_text, reports_round as reports_a_round};
+ghost use Rattle.std.specs.Prelude.{◌≡◌, ◌++◌, ℕ, List, Ok, OnOk, string_bytes};
+ghost use Rattle.fr_lines.specs.Requests.{plain};
+ghost use Rattle.fr_route.specs.Refusals.{number_of};
+ghost use Rattle.fr_route.specs.Texts.{refusal_text};
+ghost use Rattle.revdot.specs.Stories.{IsAnswered, IsBlock, IsStory, answer_text};
 
 use crate::asked::push_asked;
 use crate::rounds::push_round;
 use fr_bytes::Lines;
-use fr_route::Session;
+use fr_lines::{LineFault, Request, read_line};
+use fr_route::{Refusal, Session, is_blank};
 use std::alloc::{AllocError, Global};
 use std::fmt::Write;
 
@@ -39,79 +38,45 @@ fn push_line(
     ensures { OnOk result ((block : List ℕ) × IsBlock session.old number line.now block session.new
         × (string_bytes story.new ≡ string_bytes story.old ++ block)) }
 {
-    let mut rerouted = Vec::new(alloc);
-    let Some(answer) = answer_to(alloc, session, line, &mut rerouted)? else {
+    if is_blank(line) {
         return Ok(());
-    };
-    push_answered(story, alloc, number, &answer, line)?;
-    push_report(story, alloc, session, &answer, &rerouted)
-}
-
-/// The answer to a line, if it is not blank. The nodes that the line reroutes are then in the list.
-fn answer_to(
-    alloc: Global,
-    session: &mut Session,
-    line: &[u8],
-    rerouted: &mut Vec<u32>,
-) -> Result<Option<String>, AllocError>
-    ensures blank { IfOk result (λ answer. IfNone answer ((is_blank line.now ≡ true) × (session.new ≡ session.old))) }
-    ensures text { IfOk result (λ answer. IfSome answer (λ text. (is_blank line.now ≡ false)
-        × IsLineAnswer session.old (reading line.now) (string_bytes text) session.new)) }
-    ensures told { IfOk result (λ answer. IfSome answer (λ _.
-        IsLineTold session.old (reading line.now) session.new rerouted.old.items rerouted.new.items)) }
-{
-    match session.answer_line_telling_alone(alloc, line, rerouted) {
-        Ok(answer) => Ok(answer),
-        Err(_) => Err(AllocError),
+    }
+    match read_line(alloc, line) {
+        Ok(request) => push_answered(story, alloc, session, number, &request),
+        Err(LineFault::NotJson) => push_refusal(story, number, Refusal::NotJson),
+        Err(LineFault::NotRequest) => push_refusal(story, number, Refusal::NotRequest),
+        Err(LineFault::Memory) => Err(AllocError),
     }
 }
 
-/// Adds the number of a line, its answer, and what it asked.
+/// Adds the number of a line that is no request, and its answer.
+fn push_refusal(story: &mut String, number: u64, refusal: Refusal) -> Result<(), AllocError>
+    ensures { OnOk result (string_bytes story.new
+        ≡ string_bytes story.old ++ answer_text number (refusal_text (number_of refusal))) }
+{
+    writeln!(story, "line {number}\nrefused {}", refusal.number())
+}
+
+/// Adds the number of a line, the answer to its request, what it asks, and its round, if it makes one.
 fn push_answered(
     story: &mut String,
     alloc: Global,
-    number: u64,
-    answer: &str,
-    line: &[u8],
-) -> Result<(), AllocError>
-    ensures { OnOk result (string_bytes story.new ≡ string_bytes story.old ++ (answer_text number answer.now ++ asked_text (reading line.now))) }
-{
-    push_answer(story, number, answer)?;
-    push_asked(story, alloc, line)
-}
-
-/// Adds the number of a line and its answer.
-fn push_answer(story: &mut String, number: u64, answer: &str) -> Result<(), AllocError>
-    ensures { OnOk result (string_bytes story.new ≡ string_bytes story.old ++ answer_text number answer.now) }
-{
-    writeln!(story, "line {number}")?;
-    story.push_str(answer)?;
-    story.push_str("\n")
-}
-
-/// Adds what is told of a round, where the answer reports one.
-fn push_report(
-    story: &mut String,
-    alloc: Global,
     session: &mut Session,
-    answer: &str,
-    rerouted: &[u32],
+    number: u64,
+    request: &Request,
 ) -> Result<(), AllocError>
-    ensures told { OnOk result ((told : List ℕ)
-        × IsRoundStory (reports_a_round answer.now) session.old rerouted.now told
-        × (string_bytes story.new ≡ string_bytes story.old ++ told)) }
-    ensures same { OnOk result (session.new ≡ session.old) }
+    ensures { OnOk result ((block : List ℕ) × IsAnswered session.old number (Ok (plain request.now)) block session.new
+        × (string_bytes story.new ≡ string_bytes story.old ++ block)) }
 {
-    if reports_round(answer) {
-        push_round(story, alloc, session, rerouted)
+    let mut rerouted = Vec::new(alloc);
+    let Ok(answer) = session.answer_telling_alone(alloc, request, &mut rerouted) else {
+        return Err(AllocError);
+    };
+    writeln!(story, "line {number}\n{answer}")?;
+    push_asked(story, request)?;
+    if answer.starts_with("turned") {
+        push_round(story, alloc, session, &rerouted)
     } else {
         Ok(())
     }
-}
-
-/// Whether an answer reports a round: its first word is `turned`.
-fn reports_round(answer: &str) -> bool
-    ensures { result ≡ reports_a_round answer.now }
-{
-    answer.starts_with("turned")
 }
