@@ -7,7 +7,7 @@
 //! [`Router::open_alone`], [`Router::change_alone`], [`Session::answer_line_alone`], [`Session::answer_alone`]. The laws of routes
 //! and answers are in [`laws`].
 //!
-//! For those who answer lines in another way there are the parts of an answer: [`is_blank`], [`Refusal`],
+//! For those who answer lines in another way there are the parts of an answer: [`is_blank`], [`Refusal`], [`fault_number`],
 //! [`links_line`] and [`counts_line`]; for those who change the network of a session with no line at all, [`Session::router_mut`] and
 //! [`Session::put_router`].
 //!

@@ -307,7 +307,8 @@ impl Router {
     /// does the router.
     ///
     /// The list gets room for all nodes before anything is changed, and keeps it: so a caller that hands in the same list each
-    /// time pays for that once. It costs what `change` does, and `O(n)` more where it tells more than one node.
+    /// time pays for that once. It costs what `change` does, and where it tells more than one node, what
+    /// [`PushRoom::order`](fr_tables::PushRoom::order) does: little for a few, at most `O(n)`.
     pub fn change_telling<R: Threads + Wait + Sync, G: Gate + Sync>(
         &mut self,
         crew: &Crew<'_, R, G>,
@@ -334,7 +335,7 @@ impl Router {
     }
 
     /// The same on the thread that calls, with no crew: it starts no thread, waits for nobody, and never answers `Start`. It costs
-    /// what `change_alone` does, and `O(n)` more where it tells more than one node.
+    /// what `change_alone` does, and for the list what `change_telling` does.
     pub fn change_telling_alone(
         &mut self,
         alloc: Global,

@@ -283,7 +283,7 @@ impl Session {
 
     /// The answer to a question, as [`Session::answer`] gives it, which changes nothing. `Memory` is its only fault. `O(b)` for b bytes of
     /// answer.
-    pub fn tell(&self, alloc: Global, question: Question) -> Result<String, AnswerFault>
+    pub fn answer_question(&self, alloc: Global, question: Question) -> Result<String, AnswerFault>
         ensures text { IfOk result (λ text. IsAnswer self.now (ask question) (string_bytes text) self.now) }
         ensures memory { IfErr result (λ fault. fault ≡ Memory) }
     {
@@ -423,7 +423,7 @@ impl<'a, F: Fn(&Net, u32, Option<&[u32]>, Turns) -> Result<Turns, CrewFault>> As
                 self.change_session(session, Change::Destination { dest: *dest }, told)
             }
             Request::Walk { x } => session.walk(self.alloc, *x),
-            Request::Ask(question) => session.tell(self.alloc, *question),
+            Request::Ask(question) => session.answer_question(self.alloc, *question),
         }
     }
 

@@ -1,5 +1,6 @@
 -- How far a session has been asked the lines of an input.
-use Rattle.std.proofs.Common.{◌≡◌, ℕ, true, false, List, [], ◌∷◌, ◌++◌, Option, Some, None, Global, String, string_bytes, IfSome, IfNone, append-nil, subst, sym, ◌∙◌}
+use Rattle.std.proofs.Common.{◌≡◌, ℕ, true, false, List, [], ◌∷◌, ◌++◌, Option, Some, None, Global, String, string_bytes, IfSome, IfNone, append-nil}
+use Rattle.std.proofs.Common.{subst, sym, ◌∙◌}
 use Rattle.fr_lines.specs.Requests.{reading}
 use Rattle.fr_route.specs.Answers.{IsLineAnswer, AreAnswers}
 use Rattle.fr_route.specs.Blank.{is_blank}
@@ -17,7 +18,8 @@ at_start whole left now all none = rw (all, none) ([], none_asked (lines_of whol
 
 -- what a session answers to one line
 pub answer_of : (line : List ℕ) (now next : Option State) (answer : Option (String Global)) → IfNone answer ((is_blank line ≡ true) × (next ≡ now))
-    → IfSome answer (λ text. (is_blank line ≡ false) × IsLineAnswer now (reading line) (string_bytes text) next) → (text : List ℕ) × AreAnswers now (line ∷ []) text next
+    → IfSome answer (λ text. (is_blank line ≡ false) × IsLineAnswer now (reading line) (string_bytes text) next)
+    → (text : List ℕ) × AreAnswers now (line ∷ []) text next
 answer_of line now next None blank told = ([], blank_line line now next blank.0 blank.1)
 answer_of line now next (Some text) blank told = (string_bytes text ++ 10 ∷ [], answered_line line (string_bytes text) now next told.0 told.1)
 

@@ -41,7 +41,8 @@ module _ (n d : ℕ) (first : List (ℕ × ℕ)) (s : State) (net : IsNet n firs
       let a = m.0.0 in
       let b = m.0.1 in
       let at : Points s.links a b = m.1 in
-      let given : Points (links_at first s.counts) a b = out_of_order (links_at first s.counts) (a, b) (subst (λ (ls : List (ℕ × ℕ)). Points ls a b) round.links at) in
+      let given : Points (links_at first s.counts) a b = out_of_order (links_at first s.counts) (a, b)
+      (subst (λ (ls : List (ℕ × ℕ)). Points ls a b) round.links at) in
       elim (Points-links_at_from first s.counts a b given) [
         | inl same ↦ subst (Contains first) (sym (first-same s.counts a b (sym same.1)) ∙ m.2) same.0
         | inr turned ↦ subst (Contains first) (sym (first-turned s.counts a b (λ e. omega (arith, e, turned.1))) ∙ m.2) turned.0
@@ -59,7 +60,8 @@ module _ (n d : ℕ) (first : List (ℕ × ℕ)) (s : State) (net : IsNet n firs
         | inr turned ↦
             let given : Points (links_at first s.counts) v u = Points-links_at_back first s.counts v u (inr (has, turned)) in
             let at : Points s.links v u = subst (λ (ls : List (ℕ × ℕ)). Points ls v u) (sym round.links) (into_order (links_at first s.counts) (v, u) given) in
-            subst (Contains (map (first_link s.counts) s.links)) (first-turned s.counts v u (λ e. omega (arith, e, turned))) (contains_map (first_link s.counts) s.links (v, u) at)
+            subst (Contains (map (first_link s.counts) s.links)) (first-turned s.counts v u (λ e. omega (arith, e, turned)))
+            (contains_map (first_link s.counts) s.links (v, u) at)
       ]
 
   pub begins : HaveSameLinks (map (first_link s.counts) s.links) first

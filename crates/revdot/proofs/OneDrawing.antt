@@ -66,13 +66,15 @@ turns_unique n d k m (x ∷ xs) (y ∷ ys) p q g h =
     ap (λ (z : ℕ). z ∷ xs) (sym e) ∙ ap (λ (zs : List ℕ). y ∷ zs) rest
 
 pub all_turns_unique : (most n d : ℕ) (m : Moment) (xs ys : List ℕ) → AreAllTurns most n d m xs → AreAllTurns most n d m ys → xs ≡ ys
-all_turns_unique most n d m xs ys p q = turns_unique n d most m xs ys p.turns q.turns (record { few = p.few; all = p.all }) (record { few = q.few; all = q.all })
+all_turns_unique most n d m xs ys p q = turns_unique n d most m xs ys p.turns q.turns (record { few = p.few; all = p.all })
+    (record { few = q.few; all = q.all })
 
 strip_unique : (s : State) (a b : List ℕ) → IsStripOf s a → IsStripOf s b → a ≡ b
 strip_unique s a b p q =
     let turns : p.turns ≡ q.turns = all_turns_unique most_turns s.nodes s.dest (beginning s) p.turns q.turns p.are_all q.are_all in
     let last : p.last ≡ q.last = graph_unique s p.last q.last p.settled q.settled in
-    let texts : turns_text s (beginning s) 1 p.turns ++ p.last ≡ turns_text s (beginning s) 1 q.turns ++ q.last = (λ i. turns_text s (beginning s) 1 (turns i) ++ last i) in
+    let texts : turns_text s (beginning s) 1 p.turns ++ p.last ≡ turns_text s (beginning s) 1 q.turns ++ q.last =
+    (λ i. turns_text s (beginning s) 1 (turns i) ++ last i) in
     p.text ∙ (texts ∙ sym q.text)
 
 picture_unique : (picture : Picture) (last : Option State) (a b : List ℕ) → IsPictureOf picture last a → IsPictureOf picture last b → a ≡ b

@@ -13,7 +13,8 @@ use Rattle.fr_route.specs.Told.{IsLineTold}
 use Rattle.fr_bytes.specs.Lines.{lines_of}
 use Rattle.revdot.specs.Pages.{IsPage}
 use Rattle.revdot.specs.Asked.{asked_text}
-use Rattle.revdot.specs.Stories.{AreBlocks, AreSettledLines, IsAnswerLine, IsAnswered, IsBlock, IsRoundStory, IsToldRound, IsTurnByTurn, answer_text, beginning_text, is_short, most_told_turns, net_text, nodes_line, reports_round}
+use Rattle.revdot.specs.Stories.{AreBlocks, AreSettledLines, IsAnswerLine, IsAnswered, IsBlock, IsRoundStory, IsToldRound, IsTurnByTurn, answer_text}
+use Rattle.revdot.specs.Stories.{beginning_text, is_short, most_told_turns, net_text, nodes_line, reports_round}
 use Rattle.revdot.specs.Strips.{beginning}
 use Rattle.revdot.proofs.OneDrawing.{all_turns_unique}
 
@@ -65,7 +66,8 @@ answered_unique s number asked a b p q h k =
     (λ i. answer_text number (one.0 i) ++ (asked_text asked ++ told i)) in
     (h.text ∙ (texts ∙ sym k.text), one.1)
 
-block_unique : (s : Option State) (number : ℕ) (line a b : List ℕ) (p q : Option State) → IsBlock s number line a p → IsBlock s number line b q → (a ≡ b) × (p ≡ q)
+block_unique : (s : Option State) (number : ℕ) (line a b : List ℕ) (p q : Option State) → IsBlock s number line a p
+    → IsBlock s number line b q → (a ≡ b) × (p ≡ q)
 block_unique s number line a b p q h k = of (is_blank line) h k
   where
     IsOf : Bool → List ℕ → Option State → Type 0

@@ -1,5 +1,6 @@
 -- Sinks, by the ends of links.
-use Rattle.std.proofs.Common.{◌≡◌, ◌≢◌, ◌∙◌, ℕ, ◌+◌, ◌<◌, ◌==◌, ◌||◌, ⊎_elim, Bool, true, false, List, ap, length, length-set, get_or, set, slice_index_or, take, refl, subst, sym, arith, eq-eqb, eqb-true, ne_eqb}
+use Rattle.std.proofs.Common.{◌≡◌, ◌≢◌, ◌∙◌, ℕ, ◌+◌, ◌<◌, ◌==◌, ◌||◌, ⊎_elim, Bool, true, false, List, ap, length, length-set, get_or, set}
+use Rattle.std.proofs.Common.{slice_index_or, take, refl, subst, sym, arith, eq-eqb, eqb-true, ne_eqb}
 use Rattle.std.proofs.Math.Bool.{or-false, or-true}
 use Rattle.std.proofs.lemmas.Bool.{cases_eq}
 use Rattle.std.proofs.lemmas.List.{get_or-set_other, get_or-set_same, get_or_default}
@@ -10,7 +11,8 @@ use Rattle.fr_graph.specs.Turn.{IsSink}
 use Rattle.revdot.specs.Ends.{HaveEnds}
 
 -- the marks of the ends of one link more
-marked_more : (end_of : ℕ × ℕ → ℕ) (n k t : ℕ) (marks : List Bool) (links : List (ℕ × ℕ)) (d : ℕ × ℕ) → length marks ≡ n → k < length links → end_of (get_or links k d) ≡ t
+marked_more : (end_of : ℕ × ℕ → ℕ) (n k t : ℕ) (marks : List Bool) (links : List (ℕ × ℕ)) (d : ℕ × ℕ) → length marks ≡ n
+    → k < length links → end_of (get_or links k d) ≡ t
     → ((x : ℕ) → x < n → slice_index_or marks x false ≡ list_any (λ (l : ℕ × ℕ). end_of l == x) (take k links))
     → (x : ℕ) → x < n → slice_index_or (set marks t true) x false ≡ list_any (λ (l : ℕ × ℕ). end_of l == x) (take (k + 1) links)
 marked_more end_of n k t marks links d long inside is before x low =
@@ -28,7 +30,8 @@ marked_more end_of n k t marks links d long inside is before x low =
     (cases_eq x t)
 
 -- and of both its ends
-pub ends_more : (n k t h : ℕ) (tails heads : List Bool) (links : List (ℕ × ℕ)) (d : ℕ × ℕ) → k < length links → get_or links k d ≡ (t, h) → HaveEnds n tails heads (take k links) → HaveEnds n (set tails t true) (set heads h true) (take (k + 1) links)
+pub ends_more : (n k t h : ℕ) (tails heads : List Bool) (links : List (ℕ × ℕ)) (d : ℕ × ℕ) → k < length links
+    → get_or links k d ≡ (t, h) → HaveEnds n tails heads (take k links) → HaveEnds n (set tails t true) (set heads h true) (take (k + 1) links)
 ends_more n k t h tails heads links d inside is ends = record {
   tails_long = length-set tails t true ∙ ends.tails_long;
   heads_long = length-set heads h true ∙ ends.heads_long;
@@ -37,7 +40,8 @@ ends_more n k t h tails heads links d inside is ends = record {
 }
 
 -- a mark as it is read
-pub mark_at : (marks : List Bool) (x n : ℕ) (read mark : Bool) → length marks ≡ n → x < n → read ≡ get_or marks x read → read ≡ mark → slice_index_or marks x false ≡ mark
+pub mark_at : (marks : List Bool) (x n : ℕ) (read mark : Bool) → length marks ≡ n → x < n → read ≡ get_or marks x read
+    → read ≡ mark → slice_index_or marks x false ≡ mark
 mark_at marks x n read mark long low is e =
     let inside : x < length marks = omega (arith, long, low) in
     get_or_default marks x false read inside ∙ (sym is ∙ e)

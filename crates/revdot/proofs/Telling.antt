@@ -1,5 +1,6 @@
 -- How far the story of an input has been told.
-use Rattle.std.proofs.Common.{◌≡◌, ◌∙◌, ℕ, ◌+◌, ◌≤◌, ◌==◌, List, [], ◌∷◌, ◌++◌, length, ap, append_assoc, append-nil, arith, Option, None, Some, true, false, refl, subst, sym}
+use Rattle.std.proofs.Common.{◌≡◌, ◌∙◌, ℕ, ◌+◌, ◌≤◌, ◌==◌, List, [], ◌∷◌, ◌++◌, length, ap, append_assoc, append-nil, arith, Option, None, Some, true}
+use Rattle.std.proofs.Common.{false, refl, subst, sym}
 use Rattle.std.proofs.lemmas.List.Splits.{length-slice_split}
 use Rattle.std.proofs.lemmas.List.Sums.{count_by-le-length}
 use Rattle.fr_route.specs.States.{State}
@@ -13,7 +14,8 @@ use Rattle.fr_route.specs.Blank.{is_blank}
 use Rattle.fr_route.specs.Texts.{refusal_text}
 use Rattle.fr_route.specs.Told.{IsTold}
 use Rattle.revdot.specs.Asked.{asked_text}
-use Rattle.revdot.specs.Stories.{AreBlocks, AreSettledLines, IsAnswerLine, IsAnswered, IsBlock, IsRoundStory, IsStory, IsTurnByTurn, answer_text, beginning_text, is_short, most_told_turns, net_text, nodes_line, reports_round}
+use Rattle.revdot.specs.Stories.{AreBlocks, AreSettledLines, IsAnswerLine, IsAnswered, IsBlock, IsRoundStory, IsStory, IsTurnByTurn, answer_text}
+use Rattle.revdot.specs.Stories.{beginning_text, is_short, most_told_turns, net_text, nodes_line, reports_round}
 use Rattle.revdot.specs.Strips.{AreAllTurns, beginning}
 use Rattle.revdot.proofs.Beginnings.{begins}
 
@@ -34,7 +36,8 @@ pub record HasTold (whole : List ℕ) (left : List (List ℕ)) (now : Option Sta
 few_lines : (whole : List ℕ) → length (lines_of whole) ≤ length whole + 1
 few_lines whole = omega (arith, length-slice_split (λ x. x == 10) whole, count_by-le-length (λ x. x == 10) whole)
 
-pub at_start : (whole : List ℕ) (left : List (List ℕ)) (now : Option State) (old : List ℕ) → left ≡ lines_of whole → now ≡ None → HasTold whole left now 0 old old
+pub at_start : (whole : List ℕ) (left : List (List ℕ)) (now : Option State) (old : List ℕ) → left ≡ lines_of whole
+    → now ≡ None → HasTold whole left now 0 old old
 at_start whole left now old all none = rw (all, none) record {
   told = [];
   text = sym (append-nil old);
@@ -43,12 +46,14 @@ at_start whole left now old all none = rw (all, none) record {
 }
 
 -- the next line is the first of those that are left
-pub next_line : (whole line : List ℕ) (all left : List (List ℕ)) (now : Option State) (number : ℕ) (old new : List ℕ) → all ≡ line ∷ left → HasTold whole all now number old new
+pub next_line : (whole line : List ℕ) (all left : List (List ℕ)) (now : Option State) (number : ℕ) (old new : List ℕ)
+    → all ≡ line ∷ left → HasTold whole all now number old new
     → HasTold whole (line ∷ left) now number old new
 next_line whole line all left now number old new is h = subst (λ (ls : List (List ℕ)). HasTold whole ls now number old new) is h
 
 -- one line more is told
-pub one_line_more : (whole line : List ℕ) (left : List (List ℕ)) (now next : Option State) (number : ℕ) (old new newer block : List ℕ) → HasTold whole (line ∷ left) now number old new
+pub one_line_more : (whole line : List ℕ) (left : List (List ℕ)) (now next : Option State) (number : ℕ)
+    (old new newer block : List ℕ) → HasTold whole (line ∷ left) now number old new
     → IsBlock now (number + 1) line block next → newer ≡ new ++ block → HasTold whole left next (number + 1) old newer
 one_line_more whole line left now next number old new newer block h is text = record {
   told = h.told ++ block;
@@ -65,7 +70,8 @@ all_told whole left now number old new none h =
     (h.told ++ [], h.rest [] last, h.text ∙ ap (λ (t : List ℕ). old ++ t) (sym (append-nil h.told)))
 
 -- the three answers behind one another
-pub settled_told : (s : Option State) (links counts hops old one two new : List ℕ) → IsAnswerLine s Links links → IsAnswerLine s Counts counts → IsAnswerLine s Hops hops
+pub settled_told : (s : Option State) (links counts hops old one two new : List ℕ) → IsAnswerLine s Links links
+    → IsAnswerLine s Counts counts → IsAnswerLine s Hops hops
     → one ≡ old ++ links → two ≡ one ++ counts → new ≡ two ++ hops → (out : List ℕ) × AreSettledLines s out × (new ≡ old ++ out)
 settled_told s links counts hops old one two new are_links are_counts are_hops e f g =
     let lines : AreSettledLines s (links ++ (counts ++ hops)) = record {

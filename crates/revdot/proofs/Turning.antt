@@ -1,5 +1,7 @@
 -- How far the turns of a round have come.
-use Rattle.std.proofs.Common.{Err, IfOk, IfSome, MatchOption, None, Ok, Option, Result, Some, ◌^◌, ◌≤◌, ◌⊎◌, ◌≡◌, ◌∙◌, ℕ, ◌+◌, ◌<◌, List, [], ◌∷◌, ◌++◌, drop, length, map, slice_index, ap, append_assoc, append-nil, length-append, eq-eqb, ne_eqb, ◌==◌, Bool, true, false, cond, refl, subst, sym, take, arith, inl, inr}
+use Rattle.std.proofs.Common.{Err, IfOk, IfSome, MatchOption, None, Ok, Option, Result, Some, ◌^◌, ◌≤◌, ◌⊎◌, ◌≡◌, ◌∙◌, ℕ, ◌+◌, ◌<◌, List, [], ◌∷◌}
+use Rattle.std.proofs.Common.{◌++◌, drop, length, map, slice_index, ap, append_assoc, append-nil, length-append, eq-eqb, ne_eqb, ◌==◌, Bool, true}
+use Rattle.std.proofs.Common.{false, cond, refl, subst, sym, take, arith, inl, inr}
 use Rattle.std.proofs.lemmas.List.{length-map}
 use Rattle.std.proofs.lemmas.List.Elements.{All-map, All-weaker}
 use Rattle.std.proofs.lemmas.Bool.{cases_eq, cond-false, cond-true}
@@ -34,11 +36,13 @@ after_more : (m : Moment) (xs : List ℕ) (x : ℕ) → after_turns m (xs ++ x �
 after_more m [] x = refl
 after_more m (y ∷ ys) x = after_more (after_turn m y) ys x
 
-text_more : (s : State) (m : Moment) (k : ℕ) (xs : List ℕ) (x : ℕ) → turns_text s m k (xs ++ x ∷ []) ≡ turns_text s m k xs ++ turn_text s (after_turns m xs) (k + length xs) x
+text_more : (s : State) (m : Moment) (k : ℕ) (xs : List ℕ) (x : ℕ)
+    → turns_text s m k (xs ++ x ∷ []) ≡ turns_text s m k xs ++ turn_text s (after_turns m xs) (k + length xs) x
 text_more s m k [] x = append-nil (turn_text s m k x) ∙ ap (λ (j : ℕ). turn_text s m j x) (omega arith)
 text_more s m k (y ∷ ys) x =
     let later : k + 1 + length ys ≡ k + length (y ∷ ys) = omega arith in
-    ap (λ (t : List ℕ). turn_text s m k y ++ t) (text_more s (after_turn m y) (k + 1) ys x ∙ ap (λ (j : ℕ). turns_text s (after_turn m y) (k + 1) ys ++ turn_text s (after_turns (after_turn m y) ys) j x) later)
+    ap (λ (t : List ℕ). turn_text s m k y ++ t) (text_more s (after_turn m y) (k + 1) ys x
+    ∙ ap (λ (j : ℕ). turns_text s (after_turn m y) (k + 1) ys ++ turn_text s (after_turns (after_turn m y) ys) j x) later)
     ∙ sym (append_assoc (turn_text s m k y) (turns_text s (after_turn m y) (k + 1) ys) (turn_text s (after_turns (after_turn m y) ys) (k + length (y ∷ ys)) x))
 
 turned-below : (n x : ℕ) (l : ℕ × ℕ) → (l.0 < n) × (l.1 < n) → ((turned_link x l).0 < n) × ((turned_link x l).1 < n)
@@ -56,7 +60,8 @@ first-below n counts l h = by (slice_index counts l.0 == slice_index counts l.1)
     by true = h
     by false = (h.1, h.0)
 
-below_map : (n : ℕ) (f : ℕ × ℕ → ℕ × ℕ) → ((l : ℕ × ℕ) → (l.0 < n) × (l.1 < n) → ((f l).0 < n) × ((f l).1 < n)) → (links : List (ℕ × ℕ)) → AreBelow n links → AreBelow n (map f links)
+below_map : (n : ℕ) (f : ℕ × ℕ → ℕ × ℕ) → ((l : ℕ × ℕ) → (l.0 < n) × (l.1 < n) → ((f l).0 < n) × ((f l).1 < n))
+    → (links : List (ℕ × ℕ)) → AreBelow n links → AreBelow n (map f links)
 below_map n f each links below =
     All-map (λ (l : ℕ × ℕ). (l.0 < n) × (l.1 < n)) f links
     (All-weaker (λ (l : ℕ × ℕ). (l.0 < n) × (l.1 < n)) (λ (l : ℕ × ℕ). ((f l).0 < n) × ((f l).1 < n)) each links below)
@@ -83,7 +88,8 @@ at_start s replay old is first = record {
 }
 
 -- one turn more
-module _ (s : State) (number : ℕ) (replay after : Replay) (x : ℕ) (next : IsNext s.nodes s.dest (moment_of replay) x) (turned : moment_of after ≡ after_turn (moment_of replay) x)
+module _ (s : State) (number : ℕ) (replay after : Replay) (x : ℕ) (next : IsNext s.nodes s.dest (moment_of replay) x)
+    (turned : moment_of after ≡ after_turn (moment_of replay) x)
     (kept : (s : State) → IsReplay s replay → IsReplay s after) where
   pub one_more_turned : (turns : List ℕ) → HaveTurned s number turns replay → HaveTurned s (number + 1) (turns ++ x ∷ []) after
   one_more_turned turns h = record {
@@ -94,7 +100,8 @@ module _ (s : State) (number : ℕ) (replay after : Replay) (x : ℕ) (next : Is
   }
 
   -- it is drawn, too
-  pub one_turn_more : (old new more : List ℕ) → HasTurned s number replay old new → more ≡ new ++ turn_text s (moment_of replay) (number + 1) x → HasTurned s (number + 1) after old more
+  pub one_turn_more : (old new more : List ℕ) → HasTurned s number replay old new
+      → more ≡ new ++ turn_text s (moment_of replay) (number + 1) x → HasTurned s (number + 1) after old more
   one_turn_more old new more h text = record {
     turns = h.turns ++ x ∷ [];
     have = one_more_turned h.turns h.have;
@@ -104,7 +111,8 @@ module _ (s : State) (number : ℕ) (replay after : Replay) (x : ℕ) (next : Is
         ap (λ (m : Moment). turn_text s m (1 + length h.turns) x) h.have.now ∙ ap (λ (k : ℕ). turn_text s (moment_of replay) k x) place in
         text ∙ (ap (λ (t : List ℕ). t ++ turn_text s (moment_of replay) (number + 1) x) h.text
         ∙ (append_assoc old (turns_text s (beginning s) 1 h.turns) (turn_text s (moment_of replay) (number + 1) x)
-        ∙ ap (λ (t : List ℕ). old ++ t) (ap (λ (t : List ℕ). turns_text s (beginning s) 1 h.turns ++ t) (sym last) ∙ sym (text_more s (beginning s) 1 h.turns x))));
+        ∙ ap (λ (t : List ℕ). old ++ t) (ap (λ (t : List ℕ). turns_text s (beginning s) 1 h.turns ++ t) (sym last)
+        ∙ sym (text_more s (beginning s) 1 h.turns x))));
   }
 
 -- no turn is left, or the most were made
@@ -120,7 +128,8 @@ all_turned most s number turns replay h few end = record {
 }
 
 -- the next to turn has not turned often yet
-pub next_is_few : {E : Type 0} (n d : ℕ) (m : Moment) (r : Result (Option ℕ) E) → n < 2 ^ 32 → IfOk r (λ next. MatchOption next (NoneCanTurn n d m) (IsNext n d m))
+pub next_is_few : {E : Type 0} (n d : ℕ) (m : Moment) (r : Result (Option ℕ) E) → n < 2 ^ 32
+    → IfOk r (λ next. MatchOption next (NoneCanTurn n d m) (IsNext n d m))
     → IfOk r (λ next. IfSome next (λ x. slice_index m.counts x < 2 ^ 32))
 next_is_few n d m (Ok None) small is = tt
 next_is_few n d m (Ok (Some x)) small is = let cap = is.can.below_cap in omega arith

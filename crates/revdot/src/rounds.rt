@@ -148,7 +148,7 @@ fn push_answer_to(
     ensures { OnOk result ((answer : List ℕ) × IsAnswerLine session.now question answer
         × (string_bytes story.new ≡ string_bytes story.old ++ answer)) }
 {
-    let Ok(answer) = session.tell(alloc, question) else {
+    let Ok(answer) = session.answer_question(alloc, question) else {
         return Err(AllocError);
     };
     writeln!(story, "{answer}")

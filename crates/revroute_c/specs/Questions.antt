@@ -44,10 +44,10 @@ pub record AreHopNumbers (s : State) (numbers : List ℕ) : Type 0 where
 abbrev pub AreHopsWritten : State → List ℕ → List ℕ → Type 0
 AreHopsWritten s before after = (numbers : List ℕ) × (AreHopNumbers s numbers × IsWritten numbers before after)
 
--- these numbers are one for each node
-abbrev pub AreOnePerNode : Option State → List ℕ → Type 0
-AreOnePerNode None numbers = ⊥
-AreOnePerNode (Some s) numbers = length numbers ≡ s.nodes
+-- there are as many numbers as nodes
+abbrev pub AreAsManyAsNodes : Option State → List ℕ → Type 0
+AreAsManyAsNodes None numbers = ⊥
+AreAsManyAsNodes (Some s) numbers = length numbers ≡ s.nodes
 
 -- these numbers are how often each node turned in the last round
 abbrev pub AreCounts : Option State → List ℕ → Type 0

@@ -84,4 +84,5 @@ pub record AnswersLine (line : List ℕ) (old new : Held) (o : Outcome) : Type 0
 -- a call answers the line, and leaves the one that has begun
 pub record AnswersApart (line : List ℕ) (old new : Held) (o : Outcome) : Type 0 where
   pub answers : AnswersLine line old new o
+  -- the bytes of a line that has begun stay
   pub begun : new.begun ≡ old.begun

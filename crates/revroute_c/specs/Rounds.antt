@@ -52,6 +52,7 @@ pub record BeginsRound
   pub refused : o.status ≡ REVROUTE_REFUSED → IsRefused o.refusal_after
   pub unchanged : ¬ (o.status ≡ REVROUTE_ANSWERED) → (new ≡ old) × (o.round_after ≡ o.round_before)
   pub unrefused : ¬ (o.status ≡ REVROUTE_REFUSED) → o.refusal_after ≡ o.refusal_before
+  -- the bytes of a line that has begun stay
   pub begun : new.begun ≡ old.begun
 
 -- the first step of a walk

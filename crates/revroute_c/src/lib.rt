@@ -12,7 +12,7 @@ ghost use Rattle.revroute_c.specs.ClosedWalks.{HasNoWalkOfChange, HasNoWalkOfNet
 ghost use Rattle.revroute_c.specs.ClosedWalks.{IsWalkOfChange, IsWalkOfNetwork};
 ghost use Rattle.revroute_c.specs.Lending.{held_by, IsUnchanged};
 ghost use Rattle.revroute_c.specs.Pieces.{TakesPiece};
-ghost use Rattle.revroute_c.specs.Questions.{AreCounts, AreEnds, AreHopsWritten, AreOnePerNode};
+ghost use Rattle.revroute_c.specs.Questions.{AreCounts, AreEnds, AreHopsWritten, AreAsManyAsNodes};
 ghost use Rattle.revroute_c.specs.Questions.{HasNoRoute, IsRouteFrom, TellsHop};
 ghost use Rattle.revroute_c.specs.Records.{AreKnown, edit_of, link_of};
 ghost use Rattle.revroute_c.specs.Replies.{outcome, AnswersApart, AnswersLine, GivesList, IsWritten};
@@ -326,7 +326,7 @@ pub extern "C" fn revroute_next_hop(handle: &mut Handle, node: u32) -> u32
 #[unsafe(no_mangle)]
 pub extern "C" fn revroute_next_hops(handle: &mut Handle, hops: &mut [u32], size: &mut usize) -> u32
     ensures same { IsUnchanged handle.old handle.new }
-    ensures gives { GivesList (AreOnePerNode handle.old.session) (outcome result hops.old hops.new size.new) }
+    ensures gives { GivesList (AreAsManyAsNodes handle.old.session) (outcome result hops.old hops.new size.new) }
     ensures hops { result ≡ REVROUTE_ANSWERED → IfSome handle.old.session (λ s. AreHopsWritten s hops.old hops.new) }
     ensures no_network { (result ≡ REVROUTE_NO_NETWORK) ↔ (handle.old.session ≡ None) }
     ensures status { (result ≡ REVROUTE_ANSWERED) ⊎ (result ≡ REVROUTE_TOO_SHORT) ⊎ (result ≡ REVROUTE_NO_NETWORK) }

@@ -3,7 +3,7 @@
 ghost use Rattle.std.specs.Prelude.{◌≡◌, ◌<◌, ◌≤◌, ◌⊎◌, ◌↔◌, length, None, IfOk, IfSome};
 ghost use Rattle.fr_route.specs.States.{IsReport};
 ghost use Rattle.revroute_c.specs.Questions.{number_of, AreCounts, AreEnds, AreHopNumbers, AreHopsWritten};
-ghost use Rattle.revroute_c.specs.Questions.{AreOnePerNode, HasNoRoute, IsHopNumber, IsRouteFrom, TellsHop, ends};
+ghost use Rattle.revroute_c.specs.Questions.{AreAsManyAsNodes, HasNoRoute, IsHopNumber, IsRouteFrom, TellsHop, ends};
 ghost use Rattle.revroute_c.specs.Replies.{outcome, GivesList};
 
 use crate::replies::hand_out;
@@ -84,7 +84,7 @@ pub(crate) fn hop_in(session: &Session, node: u32) -> u32
 /// Writes where each node sends on to, if there is a network. `size` has to be 0.
 pub(crate) fn hops_in(session: &Session, hops: &mut [u32], size: &mut usize) -> u32
     requires { size.old ≡ 0 }
-    ensures gives { GivesList (AreOnePerNode session.now) (outcome result hops.old hops.new size.new) }
+    ensures gives { GivesList (AreAsManyAsNodes session.now) (outcome result hops.old hops.new size.new) }
     ensures hops { result ≡ ANSWERED → IfSome session.now (λ s. AreHopsWritten s hops.old hops.new) }
     ensures no_network { (result ≡ NO_NETWORK) ↔ (session.now ≡ None) }
     ensures status { (result ≡ ANSWERED) ⊎ (result ≡ TOO_SHORT) ⊎ (result ≡ NO_NETWORK) }

@@ -21,4 +21,5 @@ returns-clause-fault g c =
     let out = string_bytes c.in_ok-text.text in
     let drawing : IsDrawing picture bytes out = rw c.deref.ensures.value at c.in_ok-text.ensures in
     let one : IsOne (IsDrawing picture) bytes out = record { is = drawing; only = λ other is. drawing_unique picture bytes other out is drawing } in
-    text_begun (IsDrawing picture) bytes out _ _ _ _ c.in_ok-input.ensures.ok one c.write_out.result (rw c.as_bytes.ensures.value at c.write_out.ensures.err) c.write_out.ensures.kind
+    text_begun (IsDrawing picture) bytes out _ _ _ _ c.in_ok-input.ensures.ok one c.write_out.result
+    (rw c.as_bytes.ensures.value at c.write_out.ensures.err) c.write_out.ensures.kind

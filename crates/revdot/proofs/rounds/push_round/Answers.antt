@@ -8,7 +8,8 @@ pub returns : goal.returns
 returns c =
     let s = c.in-Some.router.now in
     let nodes : c.nodes.result ≡ s.nodes = c.nodes.ensures.value ∙ c.net.ensures.nodes in
-    let net : string_bytes c.push_net.new.story ≡ string_bytes c.args.story.now ++ net_text s.nodes s.dest = rw (nodes, c.dest.ensures.value) at c.in_ok-push_net.ensures in
+    let net : string_bytes c.push_net.new.story ≡ string_bytes c.args.story.now ++ net_text s.nodes s.dest =
+    rw (nodes, c.dest.ensures.value) at c.in_ok-push_net.ensures in
     let short : is_short s ≡ true = sym c.is_short_round.ensures ∙ c.if-not-is_short_round.false in
     let turns = c.in_ok-push_beginning.ensures in
     let settled = c.in_ok-push_settled_lines.ensures in

@@ -11,4 +11,5 @@ loop-turn-preserved c =
     let s = c.args.router.now in
     let before = c.loop-turn.replay in
     let next : IsNext s.nodes s.dest (moment_of before) c.in-Some.x = rw c.in-Some.is at c.in_ok-x.ensures.next in
-    rw c.in_ok-push.ensures.items (one_more_turned s c.loop-turn.turn before c.turn.new.self c.in-Some.x next c.turn.ensures.turned c.turn.ensures.replay c.loop-turn.turns.items c.loop-turn.invariant)
+    rw c.in_ok-push.ensures.items (one_more_turned s c.loop-turn.turn before c.turn.new.self c.in-Some.x next
+    c.turn.ensures.turned c.turn.ensures.replay c.loop-turn.turns.items c.loop-turn.invariant)

@@ -5,7 +5,8 @@ use Rattle.revdot.proofs.standing.session_after.Goals as goal
 
 pub loop-line-init : goal.loop-line-init
 loop-line-init c =
-    let all : lines_left c.into_iter-line-iterator.result ≡ lines_of c.args.input.now = ap lines_left c.into_iter-line-iterator.ensures.into_iter_gives ∙ c.new-line-items.ensures in
+    let all : lines_left c.into_iter-line-iterator.result ≡ lines_of c.args.input.now =
+    ap lines_left c.into_iter-line-iterator.ensures.into_iter_gives ∙ c.new-line-items.ensures in
     at_start c.args.input.now (lines_left c.into_iter-line-iterator.result) c.new-session.result all c.new-session.ensures
 
 pub loop-line-preserved : goal.loop-line-preserved

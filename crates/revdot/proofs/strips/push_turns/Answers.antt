@@ -20,5 +20,9 @@ pub returns-in_default : goal.returns-in_default
 returns-in_default c =
     let s = c.args.router.now in
     let now = c.loop-turn in
-    let none : NoneCanTurn s.nodes s.dest (moment_of now.replay) = rw c.in_default.is at c.in_ok-node.ensures.next in
-    (now.invariant.turns, all_turned most_turns s now.turn now.invariant.turns now.replay now.invariant.have (omega (arith, c.loop-turn-test.true)) (inr none), now.invariant.text)
+    let none : NoneCanTurn s.nodes s.dest (moment_of now.replay) = rw c.in_default.is at c.in_ok-node.ensures.next in (
+      now.invariant.turns,
+      all_turned most_turns s now.turn now.invariant.turns now.replay now.invariant.have
+          (omega (arith, c.loop-turn-test.true)) (inr none),
+      now.invariant.text,
+    )

@@ -5,7 +5,9 @@ use Rattle.fr_core.specs.Legal.{CanTurn}
 use Rattle.revdot.specs.Strips.{moment}
 use Rattle.revdot.proofs.Sinks.{mark_at, sink, tail_is_none, no_head_is_none}
 use Rattle.revdot.proofs.turns.next_to_turn.Goals as goal
-use Rattle.revdot.proofs.turns.next_to_turn.Goals.{else-x-dest-via-then-x-dest+then-index+then-not-index+else-counts-place, else-x-dest-via-then-x-dest+then-index+else-not-index, else-x-dest-via-then-x-dest+else-index, else-x-dest-via-else-x-dest}
+use Rattle.revdot.proofs.turns.next_to_turn.Goals.{else-x-dest-via-then-x-dest+then-index+then-not-index+else-counts-place}
+use Rattle.revdot.proofs.turns.next_to_turn.Goals.{else-x-dest-via-then-x-dest+then-index+else-not-index, else-x-dest-via-then-x-dest+else-index}
+use Rattle.revdot.proofs.turns.next_to_turn.Goals.{else-x-dest-via-else-x-dest}
 
 pub returns-then-counts-place-clause-next : goal.returns-then-counts-place-clause-next
 returns-then-counts-place-clause-next c =
@@ -40,9 +42,15 @@ loop-x-preserved c = λ x below can.
           let same : x ≡ c.loop-x.x = omega (arith, below, ge) in
           let here : CanTurn n d m c.loop-x.x = subst (CanTurn n d m) same can in
           elim c.else-x-dest.branch [
-            | else-x-dest-via-then-x-dest+then-index+then-not-index+else-counts-place w ↦ absurd (omega (arith, here.below_cap, w.if-counts-place.false, w.from.ensures))
-            | else-x-dest-via-then-x-dest+then-index+else-not-index w ↦ absurd (tail_is_none n y tails heads c.args.links.now ends c.loop-x-test.true (mark_at tails y n w.index-then-index.result.now true ends.tails_long c.loop-x-test.true w.index-then-index.ensures w.if-not-index.false) here.sink)
-            | else-x-dest-via-then-x-dest+else-index w ↦ absurd (no_head_is_none n y tails heads c.args.links.now ends c.loop-x-test.true (mark_at heads y n w.index.result.now false ends.heads_long c.loop-x-test.true w.index.ensures w.if-index.false) here.sink)
+            | else-x-dest-via-then-x-dest+then-index+then-not-index+else-counts-place w ↦ absurd
+                (omega (arith, here.below_cap, w.if-counts-place.false, w.from.ensures))
+            | else-x-dest-via-then-x-dest+then-index+else-not-index w ↦ absurd
+                (tail_is_none n y tails heads c.args.links.now ends c.loop-x-test.true
+                (mark_at tails y n w.index-then-index.result.now true ends.tails_long c.loop-x-test.true
+                w.index-then-index.ensures w.if-not-index.false) here.sink)
+            | else-x-dest-via-then-x-dest+else-index w ↦ absurd
+                (no_head_is_none n y tails heads c.args.links.now ends c.loop-x-test.true
+                (mark_at heads y n w.index.result.now false ends.heads_long c.loop-x-test.true w.index.ensures w.if-index.false) here.sink)
             | else-x-dest-via-else-x-dest w ↦ absurd (here.not_destination w.if-x-dest.false)
           ]
     ]

@@ -39,5 +39,5 @@ returns-in-Walk g c =
 
 pub returns-in-Ask : goal.returns-in-Ask
 returns-in-Ask g c =
-    rw c.in-Ask.is (unchanging _ c.args.told.now c.args.session.now _ c.tell.result
-    (told_of_question c.args.session.now c.in-Ask.question (nodes_told c.args.told.now)) c.tell.ensures.text c.tell.ensures.memory)
+    rw c.in-Ask.is (unchanging _ c.args.told.now c.args.session.now _ c.answer_question.result
+    (told_of_question c.args.session.now c.in-Ask.question (nodes_told c.args.told.now)) c.answer_question.ensures.text c.answer_question.ensures.memory)
