@@ -69,8 +69,8 @@ module _ {S : Type 0} where
       let inside = last.in_range x y e in
       omega (arith, last.one_each, r.few)
 
-  pub first_keeps : (n : ℕ) (xs : List S) → n < 4294967296 → KeepsRule n (opening (replicate n 4294967297) xs (first_view n))
-  first_keeps n xs few = record {
+  pub first_keeps : (n : ℕ) → n < 4294967296 → KeepsRule n (opening {S = S} (replicate n 4294967297) [] (first_view n))
+  first_keeps n few = record {
     history = [];
     at = 0;
     few = few;

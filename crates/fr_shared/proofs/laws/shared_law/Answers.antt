@@ -8,7 +8,7 @@ pub returns-clause-history : goal.returns-clause-history
 returns-clause-history c = λ n s r. (r.history, explains n s r)
 
 pub returns-clause-first : goal.returns-clause-first
-returns-clause-first c = λ n few. first_keeps n [] few
+returns-clause-first c = first_keeps
 
 pub returns-clause-kept : goal.returns-clause-kept
 returns-clause-kept c = steps_keep
