@@ -1,0 +1,3 @@
+mod Histories  -- words of hops, and tables after pushes
+mod Pushing  -- the pushes of a push order, one after the other
+mod Keeping  -- each step keeps the rule, and tells what it has to

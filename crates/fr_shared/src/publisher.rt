@@ -1,0 +1,121 @@
+//! The one thread that writes a table.
+
+ghost use Rattle.std.specs.Prelude.{◌≡◌, ◌<◌, ◌++◌, [], ◌∷◌, IfOk, slice_set, true};
+ghost use Rattle.fr_tables.specs.Pushes.{IsPushOrder};
+ghost use Rattle.fr_shared.specs.Histories.{IsHistory, IsTable, StartsWith, push, pushes_of};
+ghost use Rattle.fr_shared.specs.Knowledge.{last_table};
+ghost use Rattle.fr_shared.specs.Inside.{IsSoundPlace};
+
+use crate::opening::Words;
+use crate::reader::Reader;
+use crate::rule::{AddReader, Compare, Meet, Write};
+use crate::view::View;
+use crate::words::word;
+use atomic_table::Seat;
+use fr_tables::Hop;
+use fr_tables::laws::push_law;
+use std::alloc::AllocError;
+use std::marker::Model;
+use std::sync::Arc;
+
+/// Writes a table. Contracts see all its pushes.
+#[derive(Drop)]
+pub struct Publisher {
+    nodes: u32,
+    table: Arc<Words>,
+    seat: Seat<(), View>,
+}
+
+impl Model for Publisher {
+    ghost use Rattle.fr_shared.specs.Knowledge.{Knowledge};
+
+    ghost Value = { Knowledge };
+
+    ghost use Rattle.fr_shared.specs.Inside.{IsSoundPublisher, publisher_knowledge};
+
+    ghost view = { publisher_knowledge };
+
+    ghost invariant = { IsSoundPublisher };
+}
+
+impl Publisher {
+    ghost use Rattle.fr_shared.specs.Knowledge.{knowledge};
+
+    pub(crate) fn new(nodes: u32, table: Arc<Words>, seat: Seat<(), View>) -> Publisher
+        requires { IsSoundPlace true nodes table.value seat }
+        ensures { result ≡ knowledge table.value.shared.table_id nodes seat.me.0.known }
+    {
+        Publisher { nodes, table, seat }
+    }
+
+    /// For how many nodes the table was opened. O(1).
+    pub fn nodes(&self) -> u32
+        ensures { result ≡ self.now.nodes }
+    {
+        self.nodes
+    }
+
+    /// No table before or after any of the pushes has a loop. The function does nothing.
+    pub fn history_law(&self)
+        ensures { IsHistory self.now.nodes self.now.known }
+    {
+        let _nodes = self.nodes;
+    }
+
+    /// Pushes the hops of a new table, node after node in this order: a push order from the table of the last push to
+    /// the new one, as [`known_push_order`](fr_tables::known_push_order) and
+    /// [`PushRoom::order`](fr_tables::PushRoom::order) give it. The new table has to be one without loops, of as many
+    /// nodes as this one. Then no table on the way has a loop, by [`push_law`](fr_tables::laws::push_law).
+    ///
+    /// It makes one store a node. It takes no memory and waits for nobody. O(p) for p nodes.
+    pub fn push_all(&mut self, new: &[Hop], order: &[u32])
+        requires new { IsTable self.old.nodes new.now }
+        requires order { IsPushOrder (last_table self.old) new.now order.now }
+        ensures history { self.new ≡ record self.old { known = self.old.known ++ pushes_of new.now order.now } }
+        ensures table { last_table self.new ≡ new.now }
+    {
+        self.history_law();
+        push_law();
+        for x in order {
+            self.push(*x, new[*x as usize]);
+        }
+    }
+
+    /// Pushes one hop, if the table with it has no loop.
+    fn push(&mut self, x: u32, hop: Hop)
+        requires node { x < self.old.nodes }
+        requires table { IsTable self.old.nodes (slice_set (last_table self.old) x hop) }
+        ensures history { self.new ≡ record self.old { known = self.old.known ++ push x hop ∷ [] } }
+        ensures table { last_table self.new ≡ slice_set (last_table self.old) x hop }
+    {
+        self.table
+            .shared
+            .store::<Write>(&mut self.seat, x as usize, word(hop));
+    }
+
+    /// One more reader, which knows all pushes made so far: it never answers from an earlier table.
+    ///
+    /// `AllocError` only where the table has 2^63 readers already. O(1).
+    pub fn reader(&mut self) -> Result<Reader, AllocError>
+        ensures kept { self.new ≡ self.old }
+        ensures reader { IfOk result (λ reader. reader ≡ self.old) }
+    {
+        let table = Arc::try_clone(&self.table)?;
+        let seat = self.table.shared.split_seat::<AddReader>(&mut self.seat);
+        Ok(Reader::new(self.nodes, table, seat))
+    }
+
+    /// Shows that what a reader of this table knows is a beginning of the publisher's pushes. It changes neither.
+    ///
+    /// It makes three loads. O(1).
+    pub fn meet(&mut self, reader: &mut Reader)
+        requires { reader.old.table ≡ self.old.table }
+        ensures met { StartsWith self.old.known reader.old.known }
+        ensures kept { self.new ≡ self.old }
+        ensures reader_kept { reader.new ≡ reader.old }
+    {
+        let seat = reader.twin();
+        self.table.shared.join_seat::<Meet>(&mut self.seat, seat);
+        self.table.shared.load::<Compare>(&mut self.seat, 0);
+    }
+}

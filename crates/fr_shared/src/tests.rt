@@ -1,0 +1,71 @@
+ghost use Rattle.std.specs.Prelude.{◌≡◌, ◌<◌};
+ghost use Rattle.fr_tables.specs.Pushes.{IsPushOrder};
+ghost use Rattle.fr_shared.specs.Histories.{IsTable};
+ghost use Rattle.fr_shared.specs.Knowledge.{last_table};
+
+use crate::{Publisher, Reader, open};
+use fr_tables::{Hop, push_order};
+use std::test::Fail;
+use std::thread::{Threads, join};
+
+fn push(mut publisher: Publisher, new: &[Hop], order: &[u32]) -> Publisher
+    requires table { IsTable publisher.nodes new.now }
+    requires order { IsPushOrder (last_table publisher) new.now order.now }
+    ensures { result.nodes ≡ publisher.nodes }
+{
+    publisher.push_all(new, order);
+    publisher
+}
+
+/// Whether node 2 is cut off at first, and then sends on to node 1 for ever.
+fn read_often(mut reader: Reader) -> bool
+    requires { 2 < reader.nodes }
+{
+    let mut right = true;
+    let mut is_pushed = false;
+    for _read in 0..10_000u32 {
+        let hop = reader.hop(2);
+        right = right && (hop == Hop::To(1) || (hop == Hop::CutOff && !is_pushed));
+        is_pushed = hop == Hop::To(1);
+    }
+    right
+}
+
+fn read_beside<R: Threads + Sync>(
+    rt: &R,
+    publisher: Publisher,
+    reader: Reader,
+    new: &[Hop],
+    order: &[u32],
+) -> (Publisher, bool)
+    requires table { IsTable publisher.nodes new.now }
+    requires order { IsPushOrder (last_table publisher) new.now order.now }
+    requires node { 2 < reader.nodes }
+    ensures { result.0.nodes ≡ publisher.nodes }
+{
+    join(
+        rt,
+        move || -> Publisher
+            requires { IsTable publisher.nodes new.now × IsPushOrder (last_table publisher) new.now order.now }
+            ensures { result.nodes ≡ publisher.nodes }
+        { push(publisher, new, order) },
+        move || -> bool
+            requires { 2 < reader.nodes }
+        { read_often(reader) },
+    )
+}
+
+#[test]
+fn reads_while_hops_are_pushed(rt: HostRuntime) -> Result<(), Fail> {
+    let (publisher, reader) = open(rt.alloc(), 3)?;
+    let old = [Hop::CutOff, Hop::CutOff, Hop::CutOff];
+    let new = [Hop::Here, Hop::To(0), Hop::To(1)];
+    let order = push_order(rt.alloc(), &old, &new).expect(&rt, "a push order");
+    let (mut publisher, right) = read_beside(&rt, publisher, reader, &new, order.as_slice());
+    assert!(rt; right);
+    let mut other = publisher.reader()?;
+    assert!(rt;
+        other.hop(0) == Hop::Here && other.hop(1) == Hop::To(0) && other.hop(2) == Hop::To(1)
+    );
+    Ok(())
+}
