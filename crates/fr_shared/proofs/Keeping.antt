@@ -16,13 +16,10 @@ use Rattle.fr_shared.specs.Histories.{IsHistory, IsTable, StartsWith, blank, pus
 use Rattle.fr_shared.specs.Rule.{AllFit, KeepsRule, ViewFits, first_view, reader_view, same_view, spent_view, with_met}
 use Rattle.fr_shared.specs.Steps.{compared, looked, written}
 use Rattle.fr_shared.specs.Laws.{Explains, StepsKeepTheRule}
-use Rattle.fr_shared.proofs.Histories.{after_more, blank_is_table, blank_words, hop_again, hop_held, last_is_table, table_held, tables_more}
+use Rattle.fr_shared.proofs.Histories.{after_more, all_known, blank_is_table, blank_words, hop_again, hop_held, last_is_table, table_held, tables_more}
 
 reads : false ≡ true → ⊥
 reads e = true≢false (sym e)
-
-all_known : (h : List Push) → StartsWith h h
-all_known h = ([], sym (append-nil h))
 
 -- one view changes, and the others fit as they are
 fit_set : (h : List Push) (at : ℕ) (views : List View) (id : ℕ) (w : View) → ViewFits h at id w

@@ -4,4 +4,5 @@ pub mod Rule
 pub mod Steps
 pub mod Laws
 pub mod Knowledge
+pub mod Walks
 pub mod Inside
