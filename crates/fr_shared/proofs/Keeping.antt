@@ -1,5 +1,5 @@
 -- Each step keeps the rule, and tells what `specs/Steps.antt` says of it.
-use Rattle.std.proofs.Common.{List, Some, [], ap, append-nil, append_assoc, arith, false, length, map, refl, replicate, set, slice_get, slice_index, subst}
+use Rattle.std.proofs.Common.{List, Some, [], ap, append_assoc, arith, false, length, map, refl, replicate, set, slice_get, slice_index, subst}
 use Rattle.std.proofs.Common.{suc, sym, true, true≢false, zero, ℕ, ⊎_elim, ◌++◌, ◌<◌, ◌∙◌, ◌∷◌, ◌≡◌, ◌≢◌}
 use Rattle.std.proofs.lemmas.List.{get_or-set_same, length-set, map-set, set-get_or}
 use Rattle.std.proofs.lemmas.Option.{slice_get-get_or}

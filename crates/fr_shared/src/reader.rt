@@ -3,7 +3,7 @@
 ghost use Rattle.std.specs.Prelude.{◌≡◌, ◌<◌, false, [], IfOk, slice_get, Some};
 ghost use Rattle.fr_shared.specs.Histories.{IsHistory, StartsWith};
 ghost use Rattle.fr_shared.specs.Knowledge.{last_table};
-ghost use Rattle.fr_shared.specs.Walks.{HasWalked};
+ghost use Rattle.fr_shared.specs.Reading.{HasRead, HasWalked};
 ghost use Rattle.fr_shared.specs.Inside.{IsSoundPlace};
 
 use crate::opening::Words;
@@ -29,7 +29,7 @@ impl Model for Reader {
 
     ghost Value = { Knowledge };
 
-    ghost use Rattle.fr_shared.specs.Walks.{HasWalked};
+    ghost use Rattle.fr_shared.specs.Reading.{HasRead, HasWalked};
     ghost use Rattle.fr_shared.specs.Inside.{IsSoundReader, reader_knowledge};
 
     ghost view = { reader_knowledge };
@@ -68,10 +68,7 @@ impl Reader {
     /// It makes one load. It takes no memory and waits for nobody. O(1).
     pub fn hop(&mut self, x: u32) -> Hop
         requires { x < self.old.nodes }
-        ensures same { self.new ≡ record self.old { known = self.new.known } }
-        ensures grows { StartsWith self.new.known self.old.known }
-        ensures loop_free { IsHistory self.new.nodes self.new.known }
-        ensures answer { slice_get (last_table self.new) x ≡ Some result }
+        ensures { HasRead self.old self.new x result }
     {
         hop_in(self.table.shared.load::<Look>(&mut self.seat, x as usize))
     }

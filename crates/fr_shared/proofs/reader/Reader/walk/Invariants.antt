@@ -1,4 +1,4 @@
-use Rattle.fr_shared.proofs.Walking.{IsUnderWay}
+use Rattle.fr_shared.proofs.Reading.{IsUnderWay}
 use Rattle.fr_shared.proofs.reader.Reader.walk.Given as goal
 
 abbrev pub invariant-loop-step : goal.invariant-loop-step

@@ -1,4 +1,4 @@
--- Walks while hops are pushed.
+-- Walks hop by hop, while hops are pushed.
 use Rattle.std.proofs.Common.{List, Some, [], ap, append-nil, append_assoc, arith, length, length-append, refl, slice_get, subst, sym, ℕ, ⊎_elim, ◌⊎◌, ◌++◌, ◌+◌, ◌<◌, ◌≤◌, ◌∙◌, ◌∷◌, ◌≡◌}
 use Rattle.std.proofs.lemmas.Option.{same_Some}
 use Rattle.fr_tables.specs.Tables.{SendsOn, end_of}
@@ -7,7 +7,7 @@ use Rattle.fr_tables.specs.declared.hop.Hop.TheVariants.{CutOff, Here, To}
 use Rattle.fr_shared.specs.declared.view.Push.{Push}
 use Rattle.fr_shared.specs.Histories.{IsHistory, StartsWith, table_of}
 use Rattle.fr_shared.specs.Knowledge.{Knowledge, last_table}
-use Rattle.fr_shared.specs.Walks.{GoesBy, HasWalked}
+use Rattle.fr_shared.specs.Reading.{GoesBy, HasRead, HasWalked}
 use Rattle.fr_shared.proofs.Histories.{Sends, all_known, last_is_table}
 
 pub starts_after : (last mid first : List Push) → StartsWith last mid → StartsWith mid first → StartsWith last first
@@ -47,28 +47,21 @@ rests hop is y sends = ⊎_elim
     (λ cut. subst (λ (h : Hop). Sends (Some h)) (sym sends ∙ cut) tt)
     is
 
--- what `Reader::hop` tells of a hop read at node `at`
-pub record IsRead (now after : Knowledge) (at : ℕ) (hop : Hop) : Type 0 where
-  pub same : after ≡ record now { known = after.known }
-  pub grows : StartsWith after.known now.known
-  pub loop_free : IsHistory after.nodes after.known
-  pub answer : slice_get (last_table after) at ≡ Some hop
+module _ {old now after : Knowledge} {x at steps : ℕ} {nodes : List ℕ} (way : IsUnderWay old now x at nodes steps) where
+  same_after : {hop : Hop} → HasRead now after at hop → after ≡ record old { known = after.known }
+  same_after read = read.same ∙ ap (λ (k : Knowledge). record k { known = after.known }) way.same
 
-module _ (old now after : Knowledge) (x at : ℕ) (nodes : List ℕ) (steps : ℕ) (way : IsUnderWay old now x at nodes steps) where
-  same_after : (hop : Hop) → IsRead now after at hop → after ≡ record old { known = after.known }
-  same_after hop read = read.same ∙ ap (λ (k : Knowledge). record k { known = after.known }) way.same
+  nodes_after : {hop : Hop} → HasRead now after at hop → after.nodes ≡ old.nodes
+  nodes_after read = ap (λ (k : Knowledge). k.nodes) (same_after read)
 
-  nodes_after : (hop : Hop) → IsRead now after at hop → after.nodes ≡ old.nodes
-  nodes_after hop read = ap (λ (k : Knowledge). k.nodes) (same_after hop read)
-
-  pub walk_goes_on : (y : ℕ) → IsRead now after at (To y) → IsUnderWay old after x y (nodes ++ y ∷ []) (steps + 1)
-  walk_goes_on y read =
-      let are : IsHistory old.nodes after.known = subst (λ (n : ℕ). IsHistory n after.known) (nodes_after (To y) read) read.loop_free in
-      let sends : SendsOn (table_of old.nodes after.known) at y = subst (λ (n : ℕ). SendsOn (table_of n after.known) at y) (nodes_after (To y) read) read.answer in
+  pub walk_goes_on : {y : ℕ} → HasRead now after at (To y) → IsUnderWay old after x y (nodes ++ y ∷ []) (steps + 1)
+  walk_goes_on {y} read =
+      let are : IsHistory old.nodes after.known = subst (λ (n : ℕ). IsHistory n after.known) (nodes_after read) read.loop_free in
+      let sends : SendsOn (table_of old.nodes after.known) at y = subst (λ (n : ℕ). SendsOn (table_of n after.known) at y) (nodes_after read) read.answer in
       let last = last_is_table old.nodes after.known are in
       let low = last.in_range at y sends in
       record {
-        same = same_after (To y) read;
+        same = same_after read;
         grows = starts_after after.known now.known old.known read.grows way.grows;
         goes = goes_more old.nodes old.known x nodes now.known after.known y way.goes read.grows are
             (subst (λ (z : ℕ). SendsOn (table_of old.nodes after.known) z y) (sym way.here) sends);
@@ -77,10 +70,10 @@ module _ (old now after : Knowledge) (x at : ℕ) (nodes : List ℕ) (steps : �
         long = length-append nodes (y ∷ []) ∙ ap (λ (k : ℕ). k + 1) way.long;
       }
 
-  pub walk_ends : (hop : Hop) (limit : ℕ) → (hop ≡ Here) ⊎ (hop ≡ CutOff) → IsRead now after at hop → steps < limit → HasWalked old after x limit nodes
-  walk_ends hop limit is read low = record {
+  pub walk_ends : {hop : Hop} {limit : ℕ} → (hop ≡ Here) ⊎ (hop ≡ CutOff) → HasRead now after at hop → steps < limit → HasWalked old after x limit nodes
+  walk_ends {hop} is read low = record {
     goes = goes_on old.nodes old.known x nodes now.known after.known way.goes read.grows
-        (subst (λ (n : ℕ). IsHistory n after.known) (nodes_after hop read) read.loop_free);
+        (subst (λ (n : ℕ). IsHistory n after.known) (nodes_after read) read.loop_free);
     few = omega (arith, way.long);
     ends = λ _ y sends. rests hop is y (same_Some hop (To y) (sym read.answer ∙ subst (λ (z : ℕ). SendsOn (last_table after) z y) way.here sends));
   }
