@@ -13,7 +13,7 @@ use Rattle.fr_shared.specs.declared.view.Push.{Push}
 use Rattle.fr_shared.specs.declared.view.View.{View}
 use Rattle.fr_shared.specs.Words.{hop_of, word_of}
 use Rattle.fr_shared.specs.Histories.{IsHistory, IsTable, StartsWith, blank, push, table_of}
-use Rattle.fr_shared.specs.Rule.{AllFit, KeepsRule, ViewFits, first_view, reader_view, same_view, spent_view, with_met}
+use Rattle.fr_shared.specs.Rule.{AllFit, KeepsRule, ViewFits, first_view, reader_view, spent_view, with_met}
 use Rattle.fr_shared.specs.Steps.{compared, looked, written}
 use Rattle.fr_shared.specs.Laws.{Explains, StepsKeepTheRule}
 use Rattle.fr_shared.proofs.Histories.{after_more, all_known, blank_is_table, blank_words, hop_again, hop_held, last_is_table, table_held, tables_more}
@@ -155,7 +155,7 @@ module _ {S : Type 0} where
       subst (λ (k : ℕ). Allows {S = S} (KeepsRule k) slots id me x (λ _. word_of hop) (λ _. written (step slots x (word_of hop) 0 none) me (word_of hop))) nodes
       (writes slots id me x hop works (omega arith) (subst (λ (k : ℕ). IsTable k (set (table_of k me.0.known) x hop)) (sym nodes) table))
 
-  pub splits : (n id : ℕ) (v : View) → Splits {S = S} (KeepsRule n) id v (same_view v) (reader_view v)
+  pub splits : (n id : ℕ) (v : View) → Splits {S = S} (KeepsRule n) id v v (reader_view v)
   splits n id v s r here =
       let mine = r.views id v here in
       stays n s (record { words = s.words; homes = s.homes; views = set s.views id v ++ reader_view v ∷ [] }) r refl

@@ -1,5 +1,5 @@
 -- Walks hop by hop, while hops are pushed.
-use Rattle.std.proofs.Common.{List, Some, [], ap, append-nil, append_assoc, arith, length, length-append, refl, slice_get, subst, sym, ℕ, ⊎_elim, ◌⊎◌, ◌++◌, ◌+◌, ◌<◌, ◌≤◌, ◌∙◌, ◌∷◌, ◌≡◌}
+use Rattle.std.proofs.Common.{List, Some, [], ap, append_assoc, arith, length, length-append, refl, subst, sym, ℕ, ⊎_elim, ◌⊎◌, ◌++◌, ◌+◌, ◌<◌, ◌∙◌, ◌∷◌, ◌≡◌}
 use Rattle.std.proofs.lemmas.Option.{same_Some}
 use Rattle.fr_tables.specs.Tables.{SendsOn, end_of}
 use Rattle.fr_tables.specs.declared.hop.Hop.{Hop}

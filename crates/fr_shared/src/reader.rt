@@ -61,9 +61,8 @@ impl Reader {
         let _nodes = self.nodes;
     }
 
-    /// The hop of node `x`, which has to be one of the table: the hop in the last table of a history that goes on from
-    /// what the reader knew. No table of this history has a loop. Two calls can read different tables, so a walk by
-    /// several calls can mix tables.
+    /// The hop of node `x`, which has to be one of the table. It is the hop in the last table of a history that goes on
+    /// from what the reader knew. No table of this history has a loop. Two calls can read different tables.
     ///
     /// It makes one load. It takes no memory and waits for nobody. O(1).
     pub fn hop(&mut self, x: u32) -> Hop
@@ -73,9 +72,9 @@ impl Reader {
         hop_in(self.table.shared.load::<Look>(&mut self.seat, x as usize))
     }
 
-    /// Walks from node `x`, which has to be one of the table, hop by hop: the nodes behind `x`, at most `limit`. The walk
-    /// ends early where a node sends on to none. Each node is the hop of the one before in some table; later steps can
-    /// read later tables, so with pushes meanwhile a node can come twice.
+    /// Walks hop by hop from node `x`, which has to be one of the table, and returns the nodes after `x`, at most
+    /// `limit`. The walk ends early where a node sends on to none. Each node is the hop of the one before in some
+    /// table. Later steps can read later tables, so a node can come twice while hops are pushed.
     ///
     /// `AllocError` where an allocation is refused. It makes one load a step. O(limit).
     pub fn walk(&mut self, alloc: Global, x: u32, limit: u32) -> Result<Vec<u32>, AllocError>
@@ -102,7 +101,8 @@ impl Reader {
     /// A seat that knows what this reader knows.
     pub(crate) fn twin(&mut self) -> Seat<(), View>
         ensures kept { self.new ≡ self.old }
-        ensures seat { (result.table_id ≡ self.old.table) × (result.me.1 ≡ []) × (result.me.0.known ≡ self.old.known) }
+        ensures table { (result.table_id ≡ self.old.table) × (result.me.1 ≡ []) }
+        ensures known { result.me.0.known ≡ self.old.known }
     {
         self.table.shared.split_seat::<AddReader>(&mut self.seat)
     }
