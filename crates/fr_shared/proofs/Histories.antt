@@ -1,5 +1,5 @@
 -- Words of hops, and tables after pushes.
-use Rattle.std.proofs.Common.{Bool, List, Option, Some, None, [], ap, arith, cond, length, lt-ltb, map, nat_eq, refl, replicate, set, slice_get}
+use Rattle.std.proofs.Common.{append-nil, Bool, List, Option, Some, None, [], ap, arith, cond, length, lt-ltb, map, nat_eq, refl, replicate, set, slice_get}
 use Rattle.std.proofs.Common.{slice_index, subst, suc, sym, zero, ℕ, ◌++◌, ◌<◌, ◌∷◌, ◌≡◌}
 use Rattle.std.proofs.lemmas.List.{length-replicate}
 use Rattle.fr_tables.specs.Tables.{IsLoop, SendsOn}
@@ -7,7 +7,7 @@ use Rattle.fr_tables.specs.declared.hop.Hop.{Hop}
 use Rattle.fr_tables.specs.declared.hop.Hop.TheVariants.{Here, To, CutOff}
 use Rattle.fr_shared.specs.declared.view.Push.{Push}
 use Rattle.fr_shared.specs.Words.{hop_of, word_of}
-use Rattle.fr_shared.specs.Histories.{AreAllTables, IsHistory, IsTable, blank, table_after, table_of}
+use Rattle.fr_shared.specs.Histories.{AreAllTables, IsHistory, IsTable, StartsWith, blank, table_after, table_of}
 
 -- Words
 
@@ -34,6 +34,9 @@ table_held (hop ∷ table) low =
 
 -- Histories
 
+pub all_known : (h : List Push) → StartsWith h h
+all_known h = ([], sym (append-nil h))
+
 pub after_more : (table : List Hop) (h : List Push) (p : Push) → table_after table (h ++ p ∷ []) ≡ set (table_after table h) p.node p.hop
 after_more table [] p = refl
 after_more table (q ∷ qs) p = after_more (set table q.node q.hop) qs p
@@ -52,7 +55,7 @@ last_is_table n h are = last_of n (blank n) h are
 
 -- The table in which every node is cut off
 
-abbrev Sends : Option Hop → Type 0
+abbrev pub Sends : Option Hop → Type 0
 Sends None = ⊥
 Sends (Some Here) = ⊥
 Sends (Some (To y)) = Unit {0}

@@ -1,5 +1,5 @@
 -- Each step keeps the rule, and tells what `specs/Steps.antt` says of it.
-use Rattle.std.proofs.Common.{List, Some, [], ap, append-nil, append_assoc, arith, false, length, map, refl, replicate, set, slice_get, slice_index, subst}
+use Rattle.std.proofs.Common.{List, Some, [], ap, append_assoc, arith, false, length, map, refl, replicate, set, slice_get, slice_index, subst}
 use Rattle.std.proofs.Common.{suc, sym, true, true≢false, zero, ℕ, ⊎_elim, ◌++◌, ◌<◌, ◌∙◌, ◌∷◌, ◌≡◌, ◌≢◌}
 use Rattle.std.proofs.lemmas.List.{get_or-set_same, length-set, map-set, set-get_or}
 use Rattle.std.proofs.lemmas.Option.{slice_get-get_or}
@@ -13,16 +13,13 @@ use Rattle.fr_shared.specs.declared.view.Push.{Push}
 use Rattle.fr_shared.specs.declared.view.View.{View}
 use Rattle.fr_shared.specs.Words.{hop_of, word_of}
 use Rattle.fr_shared.specs.Histories.{IsHistory, IsTable, StartsWith, blank, push, table_of}
-use Rattle.fr_shared.specs.Rule.{AllFit, KeepsRule, ViewFits, first_view, reader_view, same_view, spent_view, with_met}
+use Rattle.fr_shared.specs.Rule.{AllFit, KeepsRule, ViewFits, first_view, reader_view, spent_view, with_met}
 use Rattle.fr_shared.specs.Steps.{compared, looked, written}
 use Rattle.fr_shared.specs.Laws.{Explains, StepsKeepTheRule}
-use Rattle.fr_shared.proofs.Histories.{after_more, blank_is_table, blank_words, hop_again, hop_held, last_is_table, table_held, tables_more}
+use Rattle.fr_shared.proofs.Histories.{after_more, all_known, blank_is_table, blank_words, hop_again, hop_held, last_is_table, table_held, tables_more}
 
 reads : false ≡ true → ⊥
 reads e = true≢false (sym e)
-
-all_known : (h : List Push) → StartsWith h h
-all_known h = ([], sym (append-nil h))
 
 -- one view changes, and the others fit as they are
 fit_set : (h : List Push) (at : ℕ) (views : List View) (id : ℕ) (w : View) → ViewFits h at id w
@@ -158,7 +155,7 @@ module _ {S : Type 0} where
       subst (λ (k : ℕ). Allows {S = S} (KeepsRule k) slots id me x (λ _. word_of hop) (λ _. written (step slots x (word_of hop) 0 none) me (word_of hop))) nodes
       (writes slots id me x hop works (omega arith) (subst (λ (k : ℕ). IsTable k (set (table_of k me.0.known) x hop)) (sym nodes) table))
 
-  pub splits : (n id : ℕ) (v : View) → Splits {S = S} (KeepsRule n) id v (same_view v) (reader_view v)
+  pub splits : (n id : ℕ) (v : View) → Splits {S = S} (KeepsRule n) id v v (reader_view v)
   splits n id v s r here =
       let mine = r.views id v here in
       stays n s (record { words = s.words; homes = s.homes; views = set s.views id v ++ reader_view v ∷ [] }) r refl

@@ -1,3 +1,4 @@
 mod Histories  -- words of hops, and tables after pushes
 mod Pushing  -- the pushes of a push order, one after the other
 mod Keeping  -- each step keeps the rule, and tells what it has to
+mod Reading  -- walks hop by hop, while hops are pushed

@@ -16,95 +16,100 @@ use Rattle.fr_shared.specs.Histories.{IsHistory, IsTable, push, pushes_of}
 use Rattle.fr_shared.specs.Knowledge.{Knowledge, last_table}
 use Rattle.fr_shared.proofs.Histories.{last_is_table}
 
--- what `push_all` asks
-pub record CanPush (old : Knowledge) (new : List Hop) (order : List ℕ) : Type 0 where
+-- so many nodes of the order are pushed. The first three fields are what `push_all` asks
+pub record IsPushedTo (old now : Knowledge) (new : List Hop) (order : List ℕ) (i : ℕ) : Type 0 where
   pub old_table : IsTable old.nodes (last_table old)
   pub new_table : IsTable old.nodes new
   pub is_order : IsPushOrder (last_table old) new order
-
--- so many nodes of the order are pushed
-pub record IsPushedTo (old now : Knowledge) (new : List Hop) (order : List ℕ) (i : ℕ) : Type 0 where
   pub history : now ≡ record old { known = old.known ++ pushes_of new (take i order) }
   pub pushed : IsPushed (last_table old) new (take i order) (last_table now)
 
-pub can_push : (old : Knowledge) (new : List Hop) (order : List ℕ) → IsHistory old.nodes old.known → IsTable old.nodes new
-    → IsPushOrder (last_table old) new order → CanPush old new order
-can_push old new order history table is = record { old_table = last_is_table old.nodes old.known history; new_table = table; is_order = is }
-
-pub pushed_none : (old : Knowledge) (new : List Hop) (order : List ℕ) → IsPushedTo old old new order 0
-pushed_none old new order = record {
+pub push_begins : (old : Knowledge) (new : List Hop) (order : List ℕ) → IsHistory old.nodes old.known → IsTable old.nodes new
+    → IsPushOrder (last_table old) new order → IsPushedTo old old new order 0
+push_begins old new order are table is = record {
+  old_table = last_is_table old.nodes old.known are;
+  new_table = table;
+  is_order = is;
   history = ap (λ (h : List Push). record old { known = h }) (sym (append-nil old.known));
   pushed = starts_as_old (last_table old) new;
 }
 
 -- a node of an order is in the tables
-pub node_inside : (old new : List Hop) (order : List ℕ) (i : ℕ) → length old ≡ length new → IsPushOrder old new order → i < length order → get_or order i 0 < length new
+node_inside : (old new : List Hop) (order : List ℕ) (i : ℕ) → length old ≡ length new → IsPushOrder old new order → i < length order
+    → get_or order i 0 < length new
 node_inside old new order i same is low =
     let x : ℕ = get_or order i 0 in
     elim (cases_lt x (length new)) [
       | inl inside ↦ inside
-      | inr out ↦ absurd ((is.these x).0 (i, low, get_or_default order i x 0 low) (slice_get_past old x (omega (arith, out, same)) ∙ sym (slice_get_past new x out)))
+      | inr out ↦ absurd ((is.these x).0 (i, low, get_or_default order i x 0 low)
+          (slice_get_past old x (omega (arith, out, same)) ∙ sym (slice_get_past new x out)))
     ]
 
-pushed_in_range : (old new : List Hop) (nodes : List ℕ) (table : List Hop) → length old ≡ length new → IsInRange old → IsInRange new → IsPushed old new nodes table → IsInRange table
+pushed_in_range : (old new : List Hop) (nodes : List ℕ) (table : List Hop) → length old ≡ length new → IsInRange old → IsInRange new
+    → IsPushed old new nodes table → IsInRange table
 pushed_in_range old new nodes table same old_range new_range pushed x y sends = ⊎_elim
     (λ here. let low = new_range x y (sym (pushed.these x here) ∙ sends) in omega (arith, pushed.one_length, same))
     (λ out. let low = old_range x y (sym (pushed.others x out) ∙ sends) in omega (arith, pushed.one_length))
     (cases_member nodes x)
 
-module _ {old : Knowledge} {new : List Hop} {order : List ℕ} (can : CanPush old new order) where
+module _ {old now : Knowledge} {new : List Hop} {order : List ℕ} {i : ℕ} (done : IsPushedTo old now new order i) where
   one_length : length (last_table old) ≡ length new
-  one_length = can.old_table.one_each ∙ sym can.new_table.one_each
+  one_length = done.old_table.one_each ∙ sym done.new_table.one_each
 
-  pub inside : (i : ℕ) → i < length order → get_or order i 0 < length new
-  inside i low = node_inside (last_table old) new order i one_length can.is_order low
+  same_nodes : now.nodes ≡ old.nodes
+  same_nodes = ap (λ (k : Knowledge). k.nodes) done.history
 
-  next : (now : Knowledge) (i : ℕ) → IsPushedTo old now new order i → i < length order
+  pub inside : i < length order → get_or order i 0 < length new
+  inside low = node_inside (last_table old) new order i one_length done.is_order low
+
+  pub has_word : i < length order → get_or order i 0 < now.nodes
+  has_word low = omega (arith, inside low, same_nodes, done.new_table.one_each)
+
+  next : i < length order
       → IsPushed (last_table old) new (take (i + 1) order) (set (last_table now) (get_or order i 0) (get_or new (get_or order i 0) Here))
-  next now i done low =
+  next low =
       let x : ℕ = get_or order i 0 in
       rw (take_more order i 0 low)
-      (push_is_one_more (last_table old) new (take i order) (last_table now) x (get_or new x Here) one_length (slice_get-get_or new x Here (inside i low)) done.pushed)
+      (push_is_one_more (last_table old) new (take i order) (last_table now) x (get_or new x Here) one_length
+      (slice_get-get_or new x Here (inside low)) done.pushed)
 
   -- the next push makes no loop
-  pub next_table : NeverLoops → (now : Knowledge) (i : ℕ) → IsPushedTo old now new order i → i < length order
+  pub next_table : NeverLoops → i < length order
       → IsTable now.nodes (set (last_table now) (get_or order i 0) (get_or new (get_or order i 0) Here))
-  next_table never now i done low =
+  next_table never low =
       let x : ℕ = get_or order i 0 in
       let table : List Hop = set (last_table now) x (get_or new x Here) in
-      let pushed = next now i done low in
-      let closed : IsClosedDownstream (last_table old) new (take (i + 1) order) = beginning_closed (last_table old) new (take (i + 1) order) (drop (i + 1) order)
-      (subst (IsPushOrder (last_table old) new) (sym (take-append-drop (i + 1) order)) can.is_order) in
+      let nodes : List ℕ = take (i + 1) order in
+      let closed : IsClosedDownstream (last_table old) new nodes = beginning_closed (last_table old) new nodes (drop (i + 1) order)
+      (subst (IsPushOrder (last_table old) new) (sym (take-append-drop (i + 1) order)) done.is_order) in
       record {
-        one_each = pushed.one_length ∙ (can.old_table.one_each ∙ sym (ap (λ (k : Knowledge). k.nodes) done.history));
-        in_range = pushed_in_range (last_table old) new (take (i + 1) order) table one_length can.old_table.in_range can.new_table.in_range pushed;
-        loop_free = never (last_table old) new (take (i + 1) order) table can.old_table.loop_free can.new_table.loop_free closed pushed;
+        one_each = (next low).one_length ∙ (done.old_table.one_each ∙ sym same_nodes);
+        in_range = pushed_in_range (last_table old) new nodes table one_length done.old_table.in_range done.new_table.in_range (next low);
+        loop_free = never (last_table old) new nodes table done.old_table.loop_free done.new_table.loop_free closed (next low);
       }
 
-  pub pushed_more : (now after : Knowledge) (i : ℕ) → IsPushedTo old now new order i → i < length order
+  pub push_goes_on : {after : Knowledge} → i < length order
       → after ≡ record now { known = now.known ++ push (get_or order i 0) (get_or new (get_or order i 0) Here) ∷ [] }
       → last_table after ≡ set (last_table now) (get_or order i 0) (get_or new (get_or order i 0) Here) → IsPushedTo old after new order (i + 1)
-  pushed_more now after i done low is table =
+  push_goes_on low is table =
       let x : ℕ = get_or order i 0 in
       let p : Push = push x (get_or new x Here) in
-      let known : now.known ≡ old.known ++ pushes_of new (take i order) = ap (λ (k : Knowledge). k.known) done.history in
       let pushes : pushes_of new (take (i + 1) order) ≡ pushes_of new (take i order) ++ p ∷ [] =
       ap (pushes_of new) (take_more order i 0 low) ∙ map-append (λ (y : ℕ). push y (get_or new y Here)) (take i order) (x ∷ []) in
       let all : now.known ++ p ∷ [] ≡ old.known ++ pushes_of new (take (i + 1) order) =
-      ap (λ (h : List Push). h ++ p ∷ []) known
+      ap (λ (k : Knowledge). k.known ++ p ∷ []) done.history
       ∙ (append_assoc old.known (pushes_of new (take i order)) (p ∷ [])
       ∙ ap (λ (h : List Push). old.known ++ h) (sym pushes)) in
       record {
-        history = is ∙ (ap (λ (k : Knowledge). record k { known = now.known ++ p ∷ [] }) done.history ∙ ap (λ (h : List Push). record old { known = h }) all);
-        pushed = subst (IsPushed (last_table old) new (take (i + 1) order)) (sym table) (next now i done low);
+        old_table = done.old_table;
+        new_table = done.new_table;
+        is_order = done.is_order;
+        history = is ∙ (ap (λ (k : Knowledge). record k { known = now.known ++ p ∷ [] }) done.history
+            ∙ ap (λ (h : List Push). record old { known = h }) all);
+        pushed = subst (IsPushed (last_table old) new (take (i + 1) order)) (sym table) (next low);
       }
 
   -- after the last push the table is the new one
-  pub pushed_all : (now : Knowledge) (i : ℕ) → IsPushedTo old now new order i → length order ≤ i
-      → (now ≡ record old { known = old.known ++ pushes_of new order }) × (last_table now ≡ new)
-  pushed_all now i done past =
-      let whole : take i order ≡ order = take_all i order past in (
-        done.history ∙ ap (λ (nodes : List ℕ). record old { known = old.known ++ pushes_of new nodes }) whole,
-        ends_as_new (last_table old) new order (last_table now) one_length can.is_order
-            (subst (λ (nodes : List ℕ). IsPushed (last_table old) new nodes (last_table now)) whole done.pushed),
-      )
+  pub push_ends : length order ≤ i → last_table now ≡ new
+  push_ends past = ends_as_new (last_table old) new order (last_table now) one_length done.is_order
+      (subst (λ (nodes : List ℕ). IsPushed (last_table old) new nodes (last_table now)) (take_all i order past) done.pushed)

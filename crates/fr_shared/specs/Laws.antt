@@ -9,7 +9,7 @@ use Rattle.fr_shared.specs.declared.view.Push.{Push}
 use Rattle.fr_shared.specs.declared.view.View.{View}
 use Rattle.fr_shared.specs.Words.{hop_of, word_of}
 use Rattle.fr_shared.specs.Histories.{IsHistory, IsTable, StartsWith, table_of}
-use Rattle.fr_shared.specs.Rule.{KeepsRule, first_view, reader_view, same_view, spent_view, with_met}
+use Rattle.fr_shared.specs.Rule.{KeepsRule, first_view, reader_view, spent_view, with_met}
 use Rattle.fr_shared.specs.Steps.{compared, looked, written}
 
 -- In every state that the rule allows, the hops that the words hold are a table without loops,
@@ -45,7 +45,7 @@ pub record StepsKeepTheRule (n : ℕ) : Type 0 where
       → IsTable n (slice_set (table_of n me.0.known) x hop)
       → Allows (KeepsRule n) slots id me x (λ _. word_of hop) (λ _. written (step slots x (word_of hop) 0 none) me (word_of hop))
   -- a reader more,
-  pub adds : (id : ℕ) (v : View) → Splits {S = Unit {0}} (KeepsRule n) id v (same_view v) (reader_view v)
+  pub adds : (id : ℕ) (v : View) → Splits {S = Unit {0}} (KeepsRule n) id v v (reader_view v)
   -- and how the publisher meets a reader
   pub meets : (id : ℕ) (v : View) (other : ℕ) (w : View) → Joins {S = Unit {0}} (KeepsRule n) id v other w (with_met v w) spent_view
   pub compares : (slots id : ℕ) (me : Me (Unit {0}) View) (x : ℕ) → me.0.writes ≡ true

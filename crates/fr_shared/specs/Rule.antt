@@ -31,9 +31,6 @@ pub record KeepsRule {S : Type 0} (n : ℕ) (s : State S View) : Type 0 where
 abbrev pub first_view : ℕ → View
 first_view n = record { nodes = n; writes = true; known = []; met = [] }
 
-abbrev pub same_view : View → View
-same_view v = v
-
 -- the view of a reader that knows what the seat v knows
 abbrev pub reader_view : View → View
 reader_view v = record { nodes = v.nodes; writes = false; known = v.known; met = [] }

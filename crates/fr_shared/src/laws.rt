@@ -1,6 +1,7 @@
 //! The laws of a shared table: each clause is a law of `specs/Laws.antt`, proved. The function does nothing.
 
-ghost use Rattle.fr_shared.specs.Laws.{EveryStepKeepsTheRule, IsTableAtEachMoment, OneHistoryExplainsAll, RuleHoldsAtFirst};
+ghost use Rattle.fr_shared.specs.Laws.{EveryStepKeepsTheRule, IsTableAtEachMoment};
+ghost use Rattle.fr_shared.specs.Laws.{OneHistoryExplainsAll, RuleHoldsAtFirst};
 
 /// At each moment, whatever the threads do, the words are a table without loops. It is the last table of one history of
 /// pushes. The publisher knows this history, and what each reader knows is a beginning of it. This follows from a rule,

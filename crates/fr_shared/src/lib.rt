@@ -1,8 +1,8 @@
 //! A forwarding table that many threads read while one thread pushes new hops into it. No lock guards it: each node has
 //! one atomic word, which holds its hop.
 //!
-//! [`open`] returns the one [`Publisher`], which alone writes, and a [`Reader`]. Each further thread gets a reader of its
-//! own, by [`Publisher::reader`] or [`Reader::another`]. At each moment the words are a table without loops
+//! [`open`] returns the one [`Publisher`], which alone writes, and a [`Reader`]. Each further thread gets a reader of
+//! its own, by [`Publisher::reader`] or [`Reader::another`]. At each moment the words are a table without loops
 //! ([`shared_law`]).
 //!
 //! Costs are told as read off the code.

@@ -3,6 +3,7 @@
 ghost use Rattle.std.specs.Prelude.{◌≡◌, ◌<◌, false, [], IfOk, slice_get, Some};
 ghost use Rattle.fr_shared.specs.Histories.{IsHistory, StartsWith};
 ghost use Rattle.fr_shared.specs.Knowledge.{last_table};
+ghost use Rattle.fr_shared.specs.Reading.{HasRead, HasWalked};
 ghost use Rattle.fr_shared.specs.Inside.{IsSoundPlace};
 
 use crate::opening::Words;
@@ -11,7 +12,7 @@ use crate::view::View;
 use crate::words::hop_in;
 use atomic_table::Seat;
 use fr_tables::Hop;
-use std::alloc::AllocError;
+use std::alloc::{AllocError, Global};
 use std::marker::Model;
 use std::sync::Arc;
 
@@ -28,6 +29,7 @@ impl Model for Reader {
 
     ghost Value = { Knowledge };
 
+    ghost use Rattle.fr_shared.specs.Reading.{HasRead, HasWalked};
     ghost use Rattle.fr_shared.specs.Inside.{IsSoundReader, reader_knowledge};
 
     ghost view = { reader_knowledge };
@@ -52,25 +54,55 @@ impl Reader {
         self.nodes
     }
 
-    /// The hop of node `x`, which has to be one of the table: the hop in the last table of a history that goes on from
-    /// what the reader knew. No table of this history has a loop. Two calls can read different tables, so a walk by
-    /// several calls can mix tables.
+    /// No table that it knows of has a loop. The function does nothing.
+    pub fn history_law(&self)
+        ensures { IsHistory self.now.nodes self.now.known }
+    {
+        let _nodes = self.nodes;
+    }
+
+    /// The hop of node `x`, which has to be one of the table. It is the hop in the last table of a history that goes on
+    /// from what the reader knew. No table of this history has a loop. Two calls can read different tables.
     ///
     /// It makes one load. It takes no memory and waits for nobody. O(1).
     pub fn hop(&mut self, x: u32) -> Hop
         requires { x < self.old.nodes }
-        ensures same { self.new ≡ record self.old { known = self.new.known } }
-        ensures grows { StartsWith self.new.known self.old.known }
-        ensures loop_free { IsHistory self.new.nodes self.new.known }
-        ensures answer { slice_get (last_table self.new) x ≡ Some result }
+        ensures { HasRead self.old self.new x result }
     {
         hop_in(self.table.shared.load::<Look>(&mut self.seat, x as usize))
+    }
+
+    /// Walks hop by hop from node `x`, which has to be one of the table, and returns the nodes after `x`, at most
+    /// `limit`. The walk ends early where a node sends on to none. Each node is the hop of the one before in some
+    /// table. Later steps can read later tables, so a node can come twice while hops are pushed.
+    ///
+    /// `AllocError` where an allocation is refused. It makes one load a step. O(limit).
+    pub fn walk(&mut self, alloc: Global, x: u32, limit: u32) -> Result<Vec<u32>, AllocError>
+        requires { x < self.old.nodes }
+        ensures same { self.new ≡ record self.old { known = self.new.known } }
+        ensures grows { StartsWith self.new.known self.old.known }
+        ensures walked { IfOk result (λ nodes. HasWalked self.old self.new x limit nodes.items) }
+    {
+        self.history_law();
+        let mut nodes = Vec::new(alloc);
+        let mut at = x;
+        for _step in 0..limit {
+            match self.hop(at) {
+                Hop::To(next) => {
+                    nodes.push(next)?;
+                    at = next;
+                }
+                Hop::Here | Hop::CutOff => return Ok(nodes),
+            }
+        }
+        Ok(nodes)
     }
 
     /// A seat that knows what this reader knows.
     pub(crate) fn twin(&mut self) -> Seat<(), View>
         ensures kept { self.new ≡ self.old }
-        ensures seat { (result.table_id ≡ self.old.table) × (result.me.1 ≡ []) × (result.me.0.known ≡ self.old.known) }
+        ensures table { (result.table_id ≡ self.old.table) × (result.me.1 ≡ []) }
+        ensures known { result.me.0.known ≡ self.old.known }
     {
         self.table.shared.split_seat::<AddReader>(&mut self.seat)
     }

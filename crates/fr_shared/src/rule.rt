@@ -36,9 +36,9 @@ impl Play<(), View> for Write {
 pub struct AddReader;
 
 impl Split<View> for AddReader {
-    ghost use Rattle.fr_shared.specs.Rule.{reader_view, same_view};
+    ghost use Rattle.fr_shared.specs.Rule.{reader_view};
 
-    ghost left = { same_view };
+    ghost left = { λ v. v };
 
     ghost right = { reader_view };
 }
