@@ -77,7 +77,8 @@ module _ {S : Type 0} where
   }
     where
       first_fits : AllFit [] 0 (first_view n ∷ [])
-      first_fits zero v e = subst (ViewFits [] 0 0) (some-injective (first_view n) v e) (record { begins = ([], refl); met = ([], refl); writer = λ _. (refl, refl) })
+      first_fits zero v e = subst (ViewFits [] 0 0) (some-injective (first_view n) v e)
+          (record { begins = ([], refl); met = ([], refl); writer = λ _. (refl, refl) })
       first_fits (suc j) v e = absurd (some-ne-none v (sym e))
 
   looks : (slots id : ℕ) (me : Me S View) (x : ℕ) → x < me.0.nodes

@@ -14,13 +14,15 @@ pub starts_after : (last mid first : List Push) → StartsWith last mid → Star
 starts_after last mid first a b = (b.0 ++ a.0, a.1 ∙ (ap (λ (h : List Push). h ++ a.0) b.1 ∙ append_assoc first b.0 a.0))
 
 -- the last node sends on to one more
-goes_more : (n : ℕ) (known : List Push) (x : ℕ) (ys : List ℕ) (mid after : List Push) (y : ℕ) → GoesBy n known x ys mid → StartsWith after mid → IsHistory n after
+goes_more : (n : ℕ) (known : List Push) (x : ℕ) (ys : List ℕ) (mid after : List Push) (y : ℕ) → GoesBy n known x ys mid
+    → StartsWith after mid → IsHistory n after
     → SendsOn (table_of n after) (end_of x ys) y → GoesBy n known x (ys ++ y ∷ []) after
 goes_more n known x [] mid after y goes on are sends = (after, starts_after after mid known on goes.0, are, sends, (all_known after, are))
 goes_more n known x (z ∷ zs) mid after y goes on are sends = (goes.0, goes.1, goes.2, goes.3, goes_more n goes.0 z zs mid after y goes.4 on are sends)
 
 -- the last node is read, and sends on to none
-goes_on : (n : ℕ) (known : List Push) (x : ℕ) (ys : List ℕ) (mid after : List Push) → GoesBy n known x ys mid → StartsWith after mid → IsHistory n after → GoesBy n known x ys after
+goes_on : (n : ℕ) (known : List Push) (x : ℕ) (ys : List ℕ) (mid after : List Push) → GoesBy n known x ys mid
+    → StartsWith after mid → IsHistory n after → GoesBy n known x ys after
 goes_on n known x [] mid after goes on are = (starts_after after mid known on goes.0, are)
 goes_on n known x (z ∷ zs) mid after goes on are = (goes.0, goes.1, goes.2, goes.3, goes_on n goes.0 z zs mid after goes.4 on are)
 
