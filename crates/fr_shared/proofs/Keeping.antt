@@ -196,6 +196,11 @@ module _ {S : Type 0} where
 pub steps_keep : (n : ℕ) → StepsKeepTheRule n
 steps_keep n = record { load = looks_at n; store = writes_at n; adds = splits n; meets = joins n; compares = compares n }
 
+pub only_first : (n : ℕ) (words : List ℕ) → KeepsRule {S = Unit {0}} n (opening words [] (first_view n)) → words ≡ replicate n 4294967297
+only_first n words r =
+    let none_yet : [] ≡ r.history = ((r.views 0 (first_view n) refl).writer refl).1 in
+    r.words ∙ (ap (λ (h : List Push). map word_of (table_of n h)) (sym none_yet) ∙ sym (blank_words n))
+
 pub explains : (n : ℕ) (s : State (Unit {0}) View) (r : KeepsRule n s) → Explains n s r.history
 explains n s r = record {
   tables = r.tables;

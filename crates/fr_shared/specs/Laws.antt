@@ -30,9 +30,13 @@ pub record Explains (n : ℕ) (s : State (Unit {0}) View) (history : List Push) 
 abbrev pub OneHistoryExplainsAll : Type 0
 OneHistoryExplainsAll = (n : ℕ) (s : State (Unit {0}) View) → KeepsRule n s → (history : List Push) × Explains n s history
 
--- The rule allows the state in which a table is opened: every node is cut off, and the publisher's seat is the only one.
+-- The rule allows the state in which a table is opened: every node is cut off, and the publisher's seat is the only one,
 abbrev pub RuleHoldsAtFirst : Type 0
 RuleHoldsAtFirst = (n : ℕ) → n < 4294967296 → KeepsRule {S = Unit {0}} n (opening (replicate n (word_of CutOff)) [] (first_view n))
+
+-- and no other words when the publisher's seat is the only one and nothing is pushed.
+abbrev pub NoOtherStateIsFirst : Type 0
+NoOtherStateIsFirst = (n : ℕ) (words : List ℕ) → KeepsRule {S = Unit {0}} n (opening words [] (first_view n)) → words ≡ replicate n (word_of CutOff)
 
 -- Each step of a seat leads from states that the rule allows to such states, whatever the other threads do meanwhile, and
 -- tells the seat what `specs/Steps.antt` says of it:
