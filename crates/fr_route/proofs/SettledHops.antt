@@ -62,7 +62,7 @@ settled_in_range s hops after are = (settled_table s s.nodes hops are after (le_
 
 -- the hops of the numbers past the nodes: they are cut off
 module _ (s : State) (after : IsAfterRound s) where
-  outside_cut : (x : ℕ) → s.nodes ≤ x → IsCutOff s.dest s.links x
+  pub outside_cut : (x : ℕ) → s.nodes ≤ x → IsCutOff s.dest s.links x
   outside_cut x out = (
     λ same. omega (arith, same, out, after.dest),
     λ joined.

@@ -6,7 +6,7 @@ ghost use Rattle.fr_crew.specs.Settlements.{CanBegin, HoldsSinks, IsCounted};
 ghost use Rattle.fr_route.specs.Ways.{Settles, NeverStarts};
 ghost use Rattle.fr_route.specs.declared.fault.RouteFault.TheVariants.{Start, Memory};
 ghost use Rattle.fr_route.specs.Listing.{nodes_told};
-ghost use Rattle.fr_route.specs.States.{IsRound, IsReport};
+ghost use Rattle.fr_route.specs.States.{IsAfterRound, IsRound, IsReport};
 ghost use Rattle.fr_route.specs.Routes.{IsHop, AreHops, IsWalked};
 ghost use Rattle.fr_route.specs.Changes.{IsOpenFault, IsChanged, IsRouteFault, IsStill};
 ghost use Rattle.fr_route.specs.Reroutes.{ArePushes, AreReplaced, IsPushesFault, TellsRerouted};
@@ -418,11 +418,19 @@ impl Router {
         self.turns.counts()
     }
 
-    /// Where each node sends on to.
-    pub(crate) fn hops(&self) -> &[Hop]
+    /// Where each node sends on to: a table without loops, by [`hops_law`](crate::laws::hops_law). `O(1)`.
+    pub fn hops(&self) -> &[Hop]
         ensures { AreHops self.now self.now.nodes result.now }
     {
         &self.hops
+    }
+
+    /// The law of a router: its network is as a round left it. It does nothing; a function whose proof needs the law calls it.
+    pub fn state_law(&self)
+        ensures { IsAfterRound self.now }
+    {
+        // A field has to be read, since only then the proof sees the invariant.
+        let _dest = self.dest;
     }
 
     /// Which nodes have another hop than in `before`, the router that this one replaces, in push order: each after those of them on its

@@ -1,0 +1,67 @@
+-- What the calls of a published session answer.
+use Rattle.std.specs.Prelude.{◌≡◌, ◌≢◌, ℕ, ◌≤◌, ◌⊎◌, true, false, length, List, Option, Some, None, Result, String}
+use Rattle.std.specs.Prelude.{IfOk, IfErr, IfSome, IfNone, OnOk, OnErr, string_bytes}
+use Rattle.std.specs.declared.alloc.AllocError.{AllocError}
+use Rattle.std.specs.declared.alloc.Global.{Global}
+use Rattle.fr_lines.specs.Requests.{reading}
+use Rattle.fr_route.specs.Answers.{IsLineAnswer}
+use Rattle.fr_route.specs.Blank.{is_blank}
+use Rattle.fr_route.specs.Changes.{IsChanged, IsRouteFault}
+use Rattle.fr_route.specs.Reroutes.{AreReplaced, AreRerouted}
+use Rattle.fr_route.specs.States.{State, IsReport}
+use Rattle.fr_route.specs.Texts.{longest_report}
+use Rattle.fr_route.specs.Told.{TellsOfLine}
+use Rattle.fr_route.specs.declared.change.Change.{Change}
+use Rattle.fr_route.specs.declared.change.Report.{Report}
+use Rattle.fr_route.specs.declared.fault.AnswerFault.{AnswerFault}
+use Rattle.fr_route.specs.declared.fault.AnswerFault.TheVariants.{Start}
+use Rattle.fr_route.specs.declared.fault.RouteFault.{RouteFault}
+use Rattle.fr_route.specs.declared.fault.RouteFault.TheVariants.{Start as RouteStart}
+use Rattle.fr_published.specs.Published.{Published}
+use Rattle.fr_published.specs.Publishing.{PublishesTo}
+
+-- a line is answered, and what it reroutes is published; a blank one has no answer
+pub record AnswersLine
+    (old : Published) (line : List ℕ) (answer : Result (Option (String Global)) AnswerFault) (new : Published) : Type 0 where
+  pub blank : IfOk answer (λ a. IfNone a ((is_blank line ≡ true) × (new ≡ old)))
+  pub text : IfOk answer (λ a. IfSome a (λ text. (is_blank line ≡ false)
+      × IsLineAnswer old.session (reading line) (string_bytes text) new.session))
+  pub told : TellsOfLine old.session (reading line) answer new.session old.rerouted new.rerouted
+  pub published : PublishesTo old.table new
+  -- an answer that is longer than any report changes nothing
+  pub short : IfOk answer (λ a. IfSome a (λ text. (new ≡ old) ⊎ (length (string_bytes text) ≤ longest_report)))
+  pub unchanged : OnErr answer ((is_blank line ≡ false) × (new ≡ old))
+  pub no_start : IfErr answer (λ fault. fault ≢ Start)
+
+-- the change is made, its round reports this, and tells which nodes it reroutes
+pub record IsMade (old : Published) (change : Change) (report : Report) (new : Published) : Type 0 where
+  pub before : State
+  pub after : State
+  pub was : old.session ≡ Some before
+  pub is : new.session ≡ Some after
+  pub changed : IsChanged before change after
+  pub report_is : IsReport after report.turned report.cut
+  pub rerouted : AreRerouted before after new.rerouted
+
+-- the change is refused for this fault, or there was no memory
+pub record IsNotMade (old : Published) (change : Change) (fault : RouteFault) : Type 0 where
+  pub before : State
+  pub was : old.session ≡ Some before
+  pub fault : IsRouteFault before change fault
+  pub no_start : fault ≢ RouteStart
+
+-- a change of the network is made, and what it reroutes is published; there is no answer just where there is no network
+pub record MakesChange
+    (old : Published) (change : Change) (answer : Option (Result Report RouteFault)) (new : Published) : Type 0 where
+  pub none : IfNone answer ((old.session ≡ None) × (new ≡ old))
+  pub made : IfSome answer (λ a. IfOk a (λ report. IsMade old change report new))
+  pub fault : IfSome answer (λ a. IfErr a (IsNotMade old change))
+  pub unchanged : IfSome answer (λ a. OnErr a (new ≡ old))
+  pub published : PublishesTo old.table new
+
+-- a router takes the place of the one that was there, if any, and what it reroutes is published
+pub record PutsRouter (old : Published) (router : State) (answer : Result (Unit {0}) AllocError) (new : Published) : Type 0 where
+  pub put : OnOk answer (new.session ≡ Some router)
+  pub rerouted : OnOk answer (AreReplaced old.session router new.rerouted)
+  pub published : PublishesTo old.table new
+  pub unchanged : OnErr answer (new ≡ old)

@@ -1,0 +1,4 @@
+pub mod Published
+pub mod Publishing
+pub mod Answers
+pub mod Inside

@@ -1,0 +1,59 @@
+-- What is pushed, and when.
+use Rattle.std.specs.Prelude.{◌≡◌, ℕ, ◌≤◌, ◌⊎◌, ◌++◌, List, [], Option, Some, None, Result, IfOk, IfSome, OnErr, length, slice_index_or}
+use Rattle.fr_graph.specs.Limits.{most_nodes}
+use Rattle.fr_route.specs.Reroutes.{AreHopsIn}
+use Rattle.fr_route.specs.Routes.{AreHops}
+use Rattle.fr_route.specs.States.{State, IsAfterRound}
+use Rattle.fr_tables.specs.Pushes.{IsPushOrder}
+use Rattle.fr_tables.specs.declared.hop.Hop.{Hop}
+use Rattle.fr_tables.specs.declared.hop.Hop.TheVariants.{CutOff}
+use Rattle.fr_shared.specs.Histories.{pushes_of}
+use Rattle.fr_shared.specs.Knowledge.{Knowledge, last_table}
+use Rattle.fr_published.specs.Published.{HasHopsOf, Published}
+
+-- the network of a session is as a round left it, and no larger than may be
+pub record IsSettled (s : State) : Type 0 where
+  pub after : IsAfterRound s
+  pub few : s.nodes ≤ most_nodes
+
+abbrev pub IsSettledSession : Option State → Type 0
+IsSettledSession None = Unit {0}
+IsSettledSession (Some s) = IsSettled s
+
+-- the hops of the network of a session, and of none
+abbrev pub AreHopsOf : Option State → List Hop → Type 0
+AreHopsOf None hops = hops ≡ []
+AreHopsOf (Some s) hops = AreHops s s.nodes hops
+
+-- the hop of node x in a table: one past its end is cut off
+abbrev pub hop_at : List Hop → ℕ → Hop
+hop_at hops x = slice_index_or hops x CutOff
+
+-- these nodes are the push order from a table to the hops of the session
+pub record LeadsTo (k : Knowledge) (s : Option State) (nodes : List ℕ) : Type 0 where
+  pub hops : List Hop
+  pub are : AreHopsIn s most_nodes hops
+  pub order : IsPushOrder (last_table k) hops nodes
+
+-- the table has the hops of the session already, or these nodes lead to them
+pub record CanPublish (k : Knowledge) (s : Option State) (nodes : List ℕ) : Type 0 where
+  pub largest : k.nodes ≡ most_nodes
+  pub can : AreHopsIn s most_nodes (last_table k) ⊎ LeadsTo k s nodes
+
+-- the table after the pushes of these nodes, with the hops that the session has then
+pub record ArePublished (k : Knowledge) (s : Option State) (nodes : List ℕ) (k' : Knowledge) : Type 0 where
+  pub leads : LeadsTo k s nodes
+  pub pushed : k' ≡ record k { known = k.known ++ pushes_of leads.hops nodes }
+
+-- the table has the hops of the session: it had them, and was left, or just these nodes were pushed, in push order
+pub record Publishes (k : Knowledge) (s : Option State) (nodes : List ℕ) (k' : Knowledge) : Type 0 where
+  pub has : HasHopsOf s k'
+  pub by : (k' ≡ k) ⊎ ArePublished k s nodes k'
+
+-- the same where there may be no table
+abbrev pub PublishesIn : Option Knowledge → Option State → List ℕ → Option Knowledge → Type 0
+PublishesIn None s nodes table = table ≡ None
+PublishesIn (Some k) s nodes table = (k' : Knowledge) × (table ≡ Some k') × Publishes k s nodes k'
+
+abbrev pub PublishesTo : Option Knowledge → Published → Type 0
+PublishesTo table new = PublishesIn table new.session new.rerouted new.table

@@ -1,0 +1,94 @@
+//! How the hops of a session are pushed to a table.
+
+ghost use Rattle.std.specs.Prelude.{◌≡◌, IfOk, IfSome};
+ghost use Rattle.std.specs.Option.{option_copied};
+ghost use Rattle.fr_route.specs.Reroutes.{AreReplaced};
+ghost use Rattle.fr_published.specs.Published.{HasHopsOf};
+ghost use Rattle.fr_published.specs.Publishing.{AreHopsOf, CanPublish, IsSettledSession, Publishes, PublishesIn, hop_at};
+
+use fr_graph::MAX_NODES;
+use fr_route::{Hop, Router, Session};
+use fr_shared::{Publisher, open};
+use std::alloc::{AllocError, Global};
+
+/// The network that a session holds is as a round left it. The function does nothing.
+pub(crate) fn session_law(session: &Session)
+    ensures { IsSettledSession session.now }
+{
+    if let Some(router) = session.router() {
+        router.state_law();
+        router.net().network_law();
+    }
+}
+
+/// Which nodes a router reroutes, in the place of the one before it, if any.
+pub(crate) fn replaced(
+    alloc: Global,
+    before: Option<&Router>,
+    router: &Router,
+) -> Result<Vec<u32>, AllocError>
+    ensures { IfOk result (λ nodes. AreReplaced (option_copied before.entry) router.now nodes.items) }
+{
+    match router.changed_since(alloc, before) {
+        Ok(nodes) => Ok(nodes),
+        Err(_) => Err(AllocError),
+    }
+}
+
+/// The hops of the network of a session, if there is one.
+fn hops_in(session: &Session) -> &[Hop]
+    ensures { AreHopsOf session.now result.now }
+{
+    match session.router() {
+        Some(router) => router.hops(),
+        None => &[],
+    }
+}
+
+/// The hop of node `x` in a table: one past its end is cut off.
+fn hop_in(hops: &[Hop], x: u32) -> Hop
+    ensures { result ≡ hop_at hops.now x }
+{
+    hops.get(x as usize).copied().unwrap_or(Hop::CutOff)
+}
+
+/// Brings a table to the hops of a session, by pushes of these nodes in their order. A table that has the hops already is left: then
+/// the nodes were pushed before, or there are none.
+fn bring(publisher: &mut Publisher, session: &Session, rerouted: &[u32])
+    requires settled { IsSettledSession session.now }
+    requires can { CanPublish publisher.old session.now rerouted.now }
+    ensures { Publishes publisher.old session.now rerouted.now publisher.new }
+{
+    let Some(first) = rerouted.first() else {
+        return;
+    };
+    let hops = hops_in(session);
+    if *first >= publisher.nodes() || publisher.hop(*first) == hop_in(hops, *first) {
+        return;
+    }
+    publisher.push_all(hops, rerouted);
+}
+
+/// The same, where there may be no table.
+pub(crate) fn publish(publisher: &mut Option<Publisher>, session: &Session, rerouted: &[u32])
+    requires settled { IsSettledSession session.now }
+    requires can { IfSome publisher.old (λ k. CanPublish k session.now rerouted.now) }
+    ensures { PublishesIn publisher.old session.now rerouted.now publisher.new }
+{
+    if let Some(publisher) = publisher {
+        bring(publisher, session, rerouted);
+    }
+}
+
+/// A table with the hops of a session, for the nodes of the largest network.
+pub(crate) fn opened(alloc: Global, session: &Session) -> Result<Publisher, AllocError>
+    ensures { IfOk result (HasHopsOf session.now) }
+{
+    let (mut publisher, _) = open(alloc, MAX_NODES)?;
+    if let Some(router) = session.router() {
+        let rerouted = replaced(alloc, None, router)?;
+        session_law(session);
+        bring(&mut publisher, session, &rerouted);
+    }
+    Ok(publisher)
+}

@@ -1,0 +1,132 @@
+//! A session whose next hops other threads read.
+
+ghost use Rattle.std.specs.Prelude.{◌≡◌, [], None, Some, IfOk, IfSome, OnErr};
+ghost use Rattle.fr_published.specs.Answers.{AnswersLine, MakesChange, PutsRouter};
+ghost use Rattle.fr_published.specs.Published.{HasHopsOf, published};
+
+use crate::publishing::{opened, publish, replaced, session_law};
+use fr_route::{AnswerFault, Change, Report, RouteFault, Router, Session};
+use fr_shared::{Publisher, Reader};
+use std::alloc::{AllocError, Global};
+use std::marker::Model;
+
+/// A session whose next hops other threads read. Contracts see the state of the session, the nodes that its last accepted round
+/// rerouted, and once there are readers the table with all its pushes.
+#[derive(Drop)]
+pub struct PublishedSession {
+    session: Session,
+    rerouted: Vec<u32>,
+    publisher: Option<Publisher>,
+}
+
+impl Model for PublishedSession {
+    ghost use Rattle.fr_published.specs.Published.{Published};
+
+    ghost Value = { Published };
+
+    ghost use Rattle.fr_published.specs.Inside.{IsInStep, published_in};
+
+    ghost view = { published_in };
+
+    ghost invariant = { IsInStep };
+}
+
+impl PublishedSession {
+    /// A session that holds no network and has no readers. It takes no memory. O(1).
+    pub fn new(alloc: Global) -> PublishedSession
+        ensures { result ≡ published None [] None }
+    {
+        PublishedSession {
+            session: Session::new(),
+            rerouted: Vec::new(alloc),
+            publisher: None,
+        }
+    }
+
+    /// The session, to be asked. O(1).
+    pub fn session(&self) -> &Session
+        ensures { result.now ≡ self.now.session }
+    {
+        &self.session
+    }
+
+    /// The nodes that the last accepted round rerouted, in push order. O(1).
+    pub fn rerouted(&self) -> &[u32]
+        ensures { result.now ≡ self.now.rerouted }
+    {
+        &self.rerouted
+    }
+
+    /// Between two calls the table that readers read has the hops of the session. The function does nothing.
+    pub fn table_law(&self)
+        ensures { IfSome self.now.table (HasHopsOf self.now.session) }
+    {
+        // A field has to be read, since only then the proof sees the invariant.
+        let _rerouted = self.rerouted.len();
+    }
+
+    /// A reader of the hops, which knows all pushes made so far. The first one opens the table, for as many nodes as the largest
+    /// network has, so that the table outlives each network. A number that is no node is cut off in it.
+    ///
+    /// `AllocError` where an allocation is refused: then nothing has changed. O(n) for the first reader, and O(1) for each later one,
+    /// which takes no memory.
+    pub fn reader(&mut self, alloc: Global) -> Result<Reader, AllocError>
+        ensures session { (self.new.session ≡ self.old.session) × (self.new.rerouted ≡ self.old.rerouted) }
+        ensures kept { IfSome self.old.table (λ k. self.new.table ≡ Some k) }
+        ensures reader { IfOk result (λ reader. self.new.table ≡ Some reader) }
+        ensures unchanged { OnErr result (self.new ≡ self.old) }
+    {
+        if let Some(publisher) = &mut self.publisher {
+            return publisher.reader();
+        }
+        let mut publisher = opened(alloc, &self.session)?;
+        let reader = publisher.reader()?;
+        self.publisher = Some(publisher);
+        Ok(reader)
+    }
+
+    /// Answers a line, and tells and publishes what it reroutes, as
+    /// [`answer_line_telling_alone`](fr_route::Session::answer_line_telling_alone) does, with its faults and at its cost. Each push is
+    /// one store.
+    pub fn answer_line(&mut self, alloc: Global, line: &[u8]) -> Result<Option<String>, AnswerFault>
+        ensures { AnswersLine self.old line.now result self.new }
+    {
+        session_law(&self.session);
+        let answer = self
+            .session
+            .answer_line_telling_alone(alloc, line, &mut self.rerouted);
+        session_law(&self.session);
+        publish(&mut self.publisher, &self.session, &self.rerouted);
+        answer
+    }
+
+    /// Changes the network, and tells and publishes what that reroutes, as
+    /// [`change_telling_alone`](fr_route::Router::change_telling_alone) does, with its faults and at its cost. There is no answer where
+    /// there is no network yet.
+    pub fn change(&mut self, alloc: Global, change: Change) -> Option<Result<Report, RouteFault>>
+        ensures { MakesChange self.old change result self.new }
+    {
+        session_law(&self.session);
+        let router = self.session.router_mut()?;
+        let answer = router.change_telling_alone(alloc, change, &mut self.rerouted);
+        session_law(&self.session);
+        publish(&mut self.publisher, &self.session, &self.rerouted);
+        Some(answer)
+    }
+
+    /// Puts a router in the place of the one that was there, if any, and tells and publishes what that reroutes, as
+    /// [`changed_since`](fr_route::Router::changed_since) tells it.
+    ///
+    /// `AllocError` where an allocation is refused: then nothing has changed. O(n) for n nodes of the larger network.
+    pub fn put_router(&mut self, alloc: Global, router: Router) -> Result<(), AllocError>
+        ensures { PutsRouter self.old router result self.new }
+    {
+        session_law(&self.session);
+        let rerouted = replaced(alloc, self.session.router(), &router)?;
+        self.rerouted = rerouted;
+        self.session.put_router(router);
+        session_law(&self.session);
+        publish(&mut self.publisher, &self.session, &self.rerouted);
+        Ok(())
+    }
+}
