@@ -1,5 +1,5 @@
 -- Histories of pushes, and the tables that they make. Tables and loops are those of fr_tables.
-use Rattle.std.specs.Prelude.{◌≡◌, ℕ, List, [], ◌∷◌, ◌++◌, map, length, replicate, slice_index_or, slice_set}
+use Rattle.std.specs.Prelude.{◌≡◌, ℕ, List, [], ◌∷◌, ◌++◌, ◌-◌, map, length, replicate, slice_index_or, slice_set}
 use Rattle.fr_tables.specs.Tables.{IsInRange, IsLoopFree}
 use Rattle.fr_tables.specs.declared.hop.Hop.{Hop}
 use Rattle.fr_tables.specs.declared.hop.Hop.TheVariants.{CutOff, Here}
@@ -10,6 +10,10 @@ pub record IsTable (n : ℕ) (table : List Hop) : Type 0 where
   pub one_each : length table ≡ n
   pub in_range : IsInRange table
   pub loop_free : IsLoopFree table
+
+-- the table for n nodes, where nodes past the end of this one are cut off
+abbrev pub padded : ℕ → List Hop → List Hop
+padded n table = table ++ replicate (n - length table) CutOff
 
 abbrev pub push : ℕ → Hop → Push
 push x hop = record { node = x; hop = hop }

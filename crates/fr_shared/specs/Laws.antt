@@ -10,7 +10,7 @@ use Rattle.fr_shared.specs.declared.view.View.{View}
 use Rattle.fr_shared.specs.Words.{hop_of, word_of}
 use Rattle.fr_shared.specs.Histories.{IsHistory, IsTable, StartsWith, table_of}
 use Rattle.fr_shared.specs.Rule.{KeepsRule, first_view, reader_view, spent_view, with_met}
-use Rattle.fr_shared.specs.Steps.{compared, looked, written}
+use Rattle.fr_shared.specs.Steps.{compared, looked, recalled, written}
 
 -- In every state that the rule allows, the hops that the words hold are a table without loops,
 abbrev pub IsTableAtEachMoment : Type 0
@@ -44,6 +44,9 @@ pub record StepsKeepTheRule (n : ℕ) : Type 0 where
   -- a load,
   pub load : (slots id : ℕ) (me : Me (Unit {0}) View) (x : ℕ) → me.0.nodes ≡ n → x < n
       → Allows (KeepsRule n) slots id me x (λ word. word) (looked (step slots x 0 0 none) me)
+  -- the publisher's load,
+  pub recall : (slots id : ℕ) (me : Me (Unit {0}) View) (x : ℕ) → me.0.nodes ≡ n → me.0.writes ≡ true → x < n
+      → Allows (KeepsRule n) slots id me x (λ word. word) (recalled (step slots x 0 0 none) me)
   -- the publisher's store of a hop with which the table has no loop,
   pub store : (slots id : ℕ) (me : Me (Unit {0}) View) (x : ℕ) (hop : Hop) → me.0.nodes ≡ n → me.0.writes ≡ true → x < n
       → IsTable n (slice_set (table_of n me.0.known) x hop)

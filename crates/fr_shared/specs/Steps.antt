@@ -15,6 +15,11 @@ module _ {S : Type 0} where
       × (slice_get (table_of me.0.nodes me'.0.known) s.word ≡ Some (hop_of found))
       × (me'.1 ≡ me.1)
 
+  -- the publisher's load: the word holds the hop in the table after all pushes
+  abbrev pub recalled : Step S → Me S View → ℕ → Me S View → Type 0
+  recalled s me found me' =
+      (me'.0 ≡ me.0) × (slice_get (table_of me.0.nodes me.0.known) s.word ≡ Some (hop_of found)) × (me'.1 ≡ me.1)
+
   -- a store: one push more is known, and it made the table
   abbrev pub written : Step S → Me S View → ℕ → Me S View → Type 0
   written s me stored me' =

@@ -16,9 +16,11 @@ mod rule;
 #[cfg(test)]
 mod tests;
 mod view;
+mod walks;
 mod words;
 
 pub use laws::shared_law;
 pub use opening::open;
 pub use publisher::Publisher;
 pub use reader::Reader;
+pub use walks::{Walk, WalkEnd};

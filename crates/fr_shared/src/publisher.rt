@@ -1,16 +1,17 @@
 //! The one thread that writes a table.
 
-ghost use Rattle.std.specs.Prelude.{◌≡◌, ◌<◌, ◌++◌, [], ◌∷◌, IfOk, slice_set, true};
+ghost use Rattle.std.specs.Prelude.{◌≡◌, ◌<◌, ◌++◌, [], ◌∷◌, IfOk, Some, slice_get, slice_index_or, slice_set, true};
 ghost use Rattle.fr_tables.specs.Pushes.{IsPushOrder};
-ghost use Rattle.fr_shared.specs.Histories.{IsHistory, IsTable, StartsWith, push, pushes_of};
+ghost use Rattle.fr_tables.specs.declared.hop.Hop.TheVariants.{CutOff};
+ghost use Rattle.fr_shared.specs.Histories.{IsHistory, IsTable, StartsWith, padded, push, pushes_of};
 ghost use Rattle.fr_shared.specs.Knowledge.{last_table};
 ghost use Rattle.fr_shared.specs.Inside.{IsSoundPlace};
 
 use crate::opening::Words;
 use crate::reader::Reader;
-use crate::rule::{AddReader, Compare, Meet, Write};
+use crate::rule::{AddReader, Compare, Meet, Recall, Write};
 use crate::view::View;
-use crate::words::word;
+use crate::words::{hop_in, word};
 use atomic_table::Seat;
 use fr_tables::Hop;
 use fr_tables::laws::push_law;
@@ -62,22 +63,24 @@ impl Publisher {
         let _nodes = self.nodes;
     }
 
-    /// Pushes the hops of a new table, node after node in this order: a push order from the table of the last push to
-    /// the new one, as [`known_push_order`](fr_tables::known_push_order) and
-    /// [`PushRoom::order`](fr_tables::PushRoom::order) give it. The new table has to be one without loops, of as many
-    /// nodes as this one. Then no table on the way has a loop, by [`push_law`](fr_tables::laws::push_law).
+    /// Pushes the hops of a new table, node after node in this order. The new table may have fewer nodes than this one:
+    /// the nodes past its end are cut off.
+    ///
+    /// The new table must have no loop, and the order must be the push order from the table of the last push to the new
+    /// one, as [`known_push_order`](fr_tables::known_push_order) and [`PushRoom::order`](fr_tables::PushRoom::order)
+    /// return it. Then no table on the way has a loop, by [`push_law`](fr_tables::laws::push_law).
     ///
     /// It makes one store a node. It takes no memory and waits for nobody. O(p) for p nodes.
     pub fn push_all(&mut self, new: &[Hop], order: &[u32])
-        requires new { IsTable self.old.nodes new.now }
-        requires order { IsPushOrder (last_table self.old) new.now order.now }
-        ensures history { self.new ≡ record self.old { known = self.old.known ++ pushes_of new.now order.now } }
-        ensures table { last_table self.new ≡ new.now }
+        requires new { IsTable self.old.nodes (padded self.old.nodes new.now) }
+        requires order { IsPushOrder (last_table self.old) (padded self.old.nodes new.now) order.now }
+        ensures history { self.new ≡ record self.old { known = self.old.known ++ pushes_of (padded self.old.nodes new.now) order.now } }
+        ensures table { last_table self.new ≡ padded self.old.nodes new.now }
     {
         self.history_law();
         push_law();
         for x in order {
-            self.push(*x, new[*x as usize]);
+            self.push(*x, hop_at(new, *x));
         }
     }
 
@@ -91,6 +94,17 @@ impl Publisher {
         self.table
             .shared
             .store::<Write>(&mut self.seat, x as usize, word(hop));
+    }
+
+    /// The hop of node `x`, which must be one of the table, after the last push.
+    ///
+    /// It makes one load. It takes no memory and waits for nobody. O(1).
+    pub fn hop(&mut self, x: u32) -> Hop
+        requires { x < self.old.nodes }
+        ensures kept { self.new ≡ self.old }
+        ensures hop { slice_get (last_table self.old) x ≡ Some result }
+    {
+        hop_in(self.table.shared.load::<Recall>(&mut self.seat, x as usize))
     }
 
     /// One more reader, which knows all pushes made so far: it never answers from an earlier table.
@@ -118,4 +132,11 @@ impl Publisher {
         self.table.shared.join_seat::<Meet>(&mut self.seat, seat);
         self.table.shared.load::<Compare>(&mut self.seat, 0);
     }
+}
+
+/// The hop of node `x` in a table. A node past its end is cut off.
+fn hop_at(table: &[Hop], x: u32) -> Hop
+    ensures { result ≡ slice_index_or table.now x CutOff }
+{
+    table.get(x as usize).copied().unwrap_or(Hop::CutOff)
 }

@@ -1,6 +1,6 @@
 //! The threads that read a table.
 
-ghost use Rattle.std.specs.Prelude.{◌≡◌, ◌<◌, false, [], IfOk, slice_get, Some};
+ghost use Rattle.std.specs.Prelude.{◌≡◌, ◌<◌, false, [], IfOk, drop};
 ghost use Rattle.fr_shared.specs.Histories.{IsHistory, StartsWith};
 ghost use Rattle.fr_shared.specs.Knowledge.{last_table};
 ghost use Rattle.fr_shared.specs.Reading.{HasRead, HasWalked};
@@ -9,10 +9,11 @@ ghost use Rattle.fr_shared.specs.Inside.{IsSoundPlace};
 use crate::opening::Words;
 use crate::rule::{AddReader, Look};
 use crate::view::View;
+use crate::walks::Walk;
 use crate::words::hop_in;
 use atomic_table::Seat;
 use fr_tables::Hop;
-use std::alloc::{AllocError, Global};
+use std::alloc::AllocError;
 use std::marker::Model;
 use std::sync::Arc;
 
@@ -72,30 +73,30 @@ impl Reader {
         hop_in(self.table.shared.load::<Look>(&mut self.seat, x as usize))
     }
 
-    /// Walks hop by hop from node `x`, which has to be one of the table, and returns the nodes after `x`, at most
-    /// `limit`. The walk ends early where a node sends on to none. Each node is the hop of the one before in some
-    /// table. Later steps can read later tables, so a node can come twice while hops are pushed.
+    /// Walks hop by hop from node `x`, which must be one of the table. It writes the nodes after `x` to the front of
+    /// `nodes`, and returns how many they are and what ended the walk. The rest of `nodes` is unchanged.
     ///
-    /// `AllocError` where an allocation is refused. It makes one load a step. O(limit).
-    pub fn walk(&mut self, alloc: Global, x: u32, limit: u32) -> Result<Vec<u32>, AllocError>
+    /// Each node is the hop of the one before it in some table. Later steps can read later tables, so a node can come
+    /// more than once while hops are pushed.
+    ///
+    /// It makes one load a step, and one more. It takes no memory and waits for nobody. O(n) for n nodes written.
+    pub fn walk(&mut self, x: u32, nodes: &mut [u32]) -> Walk
         requires { x < self.old.nodes }
         ensures same { self.new ≡ record self.old { known = self.new.known } }
         ensures grows { StartsWith self.new.known self.old.known }
-        ensures walked { IfOk result (λ nodes. HasWalked self.old self.new x limit nodes.items) }
+        ensures walked { HasWalked self.old self.new x nodes.new result }
+        ensures rest { drop result.count nodes.new ≡ drop result.count nodes.old }
     {
         self.history_law();
-        let mut nodes = Vec::new(alloc);
-        let mut at = x;
-        for _step in 0..limit {
-            match self.hop(at) {
-                Hop::To(next) => {
-                    nodes.push(next)?;
-                    at = next;
-                }
-                Hop::Here | Hop::CutOff => return Ok(nodes),
-            }
+        let mut hop = self.hop(x);
+        for count in 0..nodes.len() {
+            let Hop::To(next) = hop else {
+                return Walk::ended(count, hop);
+            };
+            nodes[count] = next;
+            hop = self.hop(next);
         }
-        Ok(nodes)
+        Walk::ended(nodes.len(), hop)
     }
 
     /// A seat that knows what this reader knows.

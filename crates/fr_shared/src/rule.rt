@@ -32,6 +32,15 @@ impl Play<(), View> for Write {
     ghost then = { written };
 }
 
+/// The publisher's load.
+pub struct Recall;
+
+impl Play<(), View> for Recall {
+    ghost use Rattle.fr_shared.specs.Steps.{recalled};
+
+    ghost then = { recalled };
+}
+
 /// A seat for one more reader, which knows what this seat knows.
 pub struct AddReader;
 

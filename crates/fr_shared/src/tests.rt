@@ -3,7 +3,7 @@ ghost use Rattle.fr_tables.specs.Pushes.{IsPushOrder};
 ghost use Rattle.fr_shared.specs.Histories.{IsTable};
 ghost use Rattle.fr_shared.specs.Knowledge.{last_table};
 
-use crate::{Publisher, Reader, open};
+use crate::{Publisher, Reader, Walk, WalkEnd, open};
 use fr_tables::{Hop, push_order};
 use std::test::Fail;
 use std::thread::{Threads, join};
