@@ -3,16 +3,16 @@
 ghost use Rattle.std.specs.Prelude.{◌≡◌};
 ghost use Rattle.revroute_c.specs.Engines.{no_engine};
 
+use fr_published::PublishedSession;
 use fr_route::Session;
 use std::alloc::Global;
 use std::marker::Model;
 
-/// What stands behind a handle: the session, the nodes that its last accepted round rerouted, and the bytes of a line
-/// that has begun.
+/// What stands behind a handle: the session, with the nodes that its last accepted round rerouted and the table of its
+/// readers, and the bytes of a line that has begun.
 #[derive(Drop)]
 pub(crate) struct Engine {
-    pub(crate) session: Session,
-    pub(crate) rerouted: Vec<u32>,
+    pub(crate) published: PublishedSession,
     pub(crate) begun: Vec<u8>,
 }
 
@@ -32,9 +32,14 @@ impl Engine {
         ensures { result ≡ no_engine }
     {
         Engine {
-            session: Session::new(),
-            rerouted: Vec::new(alloc),
+            published: PublishedSession::new(alloc),
             begun: Vec::new(alloc),
         }
+    }
+    /// The session, to be asked.
+    pub(crate) fn session(&self) -> &Session
+        ensures { result.now ≡ self.now.session }
+    {
+        self.published.session()
     }
 }

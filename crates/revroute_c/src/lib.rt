@@ -28,6 +28,8 @@ mod handle;
 mod loose;
 mod pieces;
 mod questions;
+mod reader_handle;
+mod readers;
 mod records;
 mod replies;
 mod rounds;
@@ -41,10 +43,12 @@ use pieces::{finish_line, take_anew, take_front};
 use questions::{
     HOP_OF_NO_NETWORK, counts_in, hop_in, hops_in, links_in, report_in, route_in, size_in,
 };
+use reader_handle::ReaderHandle;
+use readers::{copied, hop_read, reader_anew, reader_in, walk_read};
 use records::{Link, LinkEdit, Refusal, Round, first_unknown, unknown_at};
 use replies::{LEAST_ROOM, hand_out, reply, reply_anew};
 use rounds::{NewNetwork, change_in, move_in, open_anew, open_in};
-use statuses::{BLANK, NO_NETWORK, REFUSED, TOO_SHORT};
+use statuses::{ANSWERED, BLANK, NO_MEMORY, NO_NETWORK, REFUSED, TOO_SHORT};
 use std::alloc::Global;
 use tables::pushes_in;
 
@@ -259,7 +263,7 @@ pub extern "C" fn revroute_closed_walk(
 {
     *size = 0;
     match handle.engine_mut() {
-        Some(engine) => walk_of_change(&engine.session, alloc, edits, nodes, size),
+        Some(engine) => walk_of_change(engine.session(), alloc, edits, nodes, size),
         None => NO_NETWORK,
     }
 }
@@ -315,7 +319,7 @@ pub extern "C" fn revroute_next_hop(handle: &mut Handle, node: u32) -> u32
     ensures same { IsUnchanged handle.old handle.new }
 {
     match handle.engine_mut() {
-        Some(engine) => hop_in(&engine.session, node),
+        Some(engine) => hop_in(engine.session(), node),
         None => HOP_OF_NO_NETWORK,
     }
 }
@@ -333,7 +337,7 @@ pub extern "C" fn revroute_next_hops(handle: &mut Handle, hops: &mut [u32], size
 {
     *size = 0;
     match handle.engine_mut() {
-        Some(engine) => hops_in(&engine.session, hops, size),
+        Some(engine) => hops_in(engine.session(), hops, size),
         None => NO_NETWORK,
     }
 }
@@ -349,7 +353,7 @@ pub extern "C" fn revroute_rerouted(handle: &mut Handle, nodes: &mut [u32], size
     ensures status { (result ≡ REVROUTE_ANSWERED) ⊎ (result ≡ REVROUTE_TOO_SHORT) }
 {
     match handle.engine_mut() {
-        Some(engine) => hand_out(&engine.rerouted, nodes, size),
+        Some(engine) => hand_out(engine.published.rerouted(), nodes, size),
         None => hand_out(&[], nodes, size),
     }
 }
@@ -381,7 +385,7 @@ pub extern "C" fn revroute_pushes(
 {
     *size = 0;
     match handle.engine_mut() {
-        Some(engine) => pushes_in(&engine.session, alloc, table, nodes, size),
+        Some(engine) => pushes_in(engine.session(), alloc, table, nodes, size),
         None => NO_NETWORK,
     }
 }
@@ -397,7 +401,7 @@ pub extern "C" fn revroute_counts(handle: &mut Handle, counts: &mut [u64], size:
 {
     *size = 0;
     match handle.engine_mut() {
-        Some(engine) => counts_in(&engine.session, counts, size),
+        Some(engine) => counts_in(engine.session(), counts, size),
         None => NO_NETWORK,
     }
 }
@@ -427,7 +431,7 @@ pub extern "C" fn revroute_route(
 {
     *size = 0;
     match handle.engine_mut() {
-        Some(engine) => route_in(&engine.session, alloc, node, nodes, size),
+        Some(engine) => route_in(engine.session(), alloc, node, nodes, size),
         None => NO_NETWORK,
     }
 }
@@ -454,7 +458,7 @@ pub extern "C" fn revroute_links(
 {
     *size = 0;
     match handle.engine_mut() {
-        Some(engine) => links_in(&engine.session, alloc, place, size),
+        Some(engine) => links_in(engine.session(), alloc, place, size),
         None => NO_NETWORK,
     }
 }
@@ -472,7 +476,7 @@ pub extern "C" fn revroute_report(handle: &mut Handle, turned: &mut u64, cut_off
     *turned = 0;
     *cut_off = 0;
     match handle.engine_mut() {
-        Some(engine) => report_in(&engine.session, turned, cut_off),
+        Some(engine) => report_in(engine.session(), turned, cut_off),
         None => NO_NETWORK,
     }
 }
@@ -491,7 +495,89 @@ pub extern "C" fn revroute_size(handle: &mut Handle, nodes: &mut u32, links: &mu
     *nodes = 0;
     *links = 0;
     match handle.engine_mut() {
-        Some(engine) => size_in(&engine.session, nodes, links),
+        Some(engine) => size_in(engine.session(), nodes, links),
         None => NO_NETWORK,
     }
+}
+
+/// Opens a reader of the session's hops, which knows all pushes made so far, and puts it into `reader`. One that was
+/// there is closed. From then on each accepted round pushes the changed hops, in push order, before its call returns.
+/// The session can be one that holds no network yet; each node is cut off then. Readers outlive the session, and read
+/// the last hops then.
+///
+/// `NO_MEMORY`: an allocation was refused. The reader is unchanged, and the session answers as before. `O(n)` for the
+/// first reader of a session, and `O(1)` for each later one.
+#[unsafe(no_mangle)]
+pub extern "C" fn revroute_reader_open(alloc: Global, handle: &mut Handle, reader: &mut ReaderHandle) -> u32
+{
+    let opened = match handle.engine_mut() {
+        Some(engine) => reader_in(engine, alloc),
+        None => reader_anew(handle, alloc),
+    };
+    match opened {
+        Ok(opened) => {
+            ReaderHandle::put(reader, alloc, opened);
+            ANSWERED
+        }
+        Err(_) => NO_MEMORY,
+    }
+}
+
+/// Opens one more reader of the same table, for another thread, and puts it into `other`. One that was there is closed.
+/// It knows what `reader` knows.
+///
+/// - `NO_NETWORK`: `reader` is null.
+/// - `NO_MEMORY`: an allocation was refused.
+///
+/// After both `other` is unchanged. `O(1)`.
+#[unsafe(no_mangle)]
+pub extern "C" fn revroute_reader_copy(alloc: Global, reader: &mut ReaderHandle, other: &mut ReaderHandle) -> u32
+{
+    let Some(held) = reader.reader_mut() else {
+        return NO_NETWORK;
+    };
+    let Ok(copy) = copied(held, alloc) else {
+        return NO_MEMORY;
+    };
+    ReaderHandle::put(other, alloc, copy);
+    ANSWERED
+}
+
+/// Where a node sends on to, as [`revroute_next_hop`] answers it, by one load. It waits for nobody, and other threads
+/// may use the session and other readers meanwhile. A number that is no node of the network is cut off, and a number
+/// of 4,096 or more is no node. A null reader answers that there is no network. `O(1)`.
+#[unsafe(no_mangle)]
+pub extern "C" fn revroute_reader_next_hop(reader: &mut ReaderHandle, node: u32) -> u32
+{
+    match reader.reader_mut() {
+        Some(held) => hop_read(held, node),
+        None => HOP_OF_NO_NETWORK,
+    }
+}
+
+/// Walks hop by hop from a node, and writes it and the nodes after it into the front of the place, and how many these
+/// are to `size`. The walk makes one load a node. While hops are pushed, each of them can be of a later table.
+///
+/// - `TOO_SHORT`: the place is full before the walk has ended. `size` is one more than it has room for.
+/// - `NO_ROUTE`: the last node is cut off, or the first is none.
+/// - `NO_NETWORK`: the reader is null.
+///
+/// `size` is 0 after the last two. After each of the three the front of the place has the nodes walked so far. It
+/// takes no memory, and waits for nobody. `O(r)` for r nodes of the walk.
+#[unsafe(no_mangle)]
+pub extern "C" fn revroute_reader_route(reader: &mut ReaderHandle, node: u32, nodes: &mut [u32], size: &mut usize) -> u32
+{
+    *size = 0;
+    match reader.reader_mut() {
+        Some(held) => walk_read(held, node, nodes, size),
+        None => NO_NETWORK,
+    }
+}
+
+/// Gives a reader up. The handle is null again. The table goes with its session and its last reader. `O(1)`, and
+/// `O(n)` for the last one.
+#[unsafe(no_mangle)]
+pub extern "C" fn revroute_reader_close(alloc: Global, reader: &mut ReaderHandle)
+{
+    drop(ReaderHandle::taken(reader, alloc));
 }

@@ -18,13 +18,13 @@ pub(crate) const HERE: u32 = u32::MAX;
 pub(crate) const CUT_OFF: u32 = u32::MAX - 1;
 
 /// In place of a hop: there is no such node.
-const HOP_OF_NO_NODE: u32 = u32::MAX - 2;
+pub(crate) const HOP_OF_NO_NODE: u32 = u32::MAX - 2;
 
 /// In place of a hop: there is no network yet.
 pub(crate) const HOP_OF_NO_NETWORK: u32 = u32::MAX - 3;
 
 /// A hop as a number.
-fn number(hop: Hop) -> u32
+pub(crate) fn number(hop: Hop) -> u32
     ensures { result ≡ number_of hop }
 {
     match hop {

@@ -45,10 +45,7 @@ pub(crate) fn reply(
     ensures answers { AnswersApart line.now engine.old engine.new (outcome result answer.old answer.new size.new) }
     ensures not_blank { result ≢ BLANK }
 {
-    match engine
-        .session
-        .answer_line_telling_alone(alloc, line, &mut engine.rerouted)
-    {
+    match engine.published.answer_line(alloc, line) {
         Ok(Some(text)) => hand_out(text.as_bytes(), answer, size),
         Err(AnswerFault::Memory) => NO_MEMORY,
         Ok(None) | Err(AnswerFault::Start) => unreachable!(),

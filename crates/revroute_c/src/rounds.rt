@@ -127,12 +127,11 @@ pub(crate) fn open_in(
             return REFUSED;
         }
     };
-    let Ok(rerouted) = router.changed_since(alloc, engine.session.router()) else {
+    let report = router.report();
+    if engine.published.put_router(alloc, router).is_err() {
         return NO_MEMORY;
-    };
-    *round = round_of(router.report());
-    engine.rerouted = rerouted;
-    engine.session.put_router(router);
+    }
+    *round = round_of(report);
     ANSWERED
 }
 
@@ -211,9 +210,9 @@ pub(crate) fn change_in(
     ensures no_network { (result ≡ NO_NETWORK) ↔ (engine.old.session ≡ None) }
     ensures status { (result ≡ ANSWERED) ⊎ (result ≡ NO_MEMORY) ⊎ (result ≡ NO_NETWORK) ⊎ (result ≡ REFUSED) }
 {
-    let Some(router) = engine.session.router_mut() else {
+    if engine.session().router().is_none() {
         return NO_NETWORK;
-    };
+    }
     if edits.len() > MAX_EDITS {
         *refusal = refusal_for(edits.len(), &NetFault::TooMany, (0, 0));
         return REFUSED;
@@ -221,14 +220,17 @@ pub(crate) fn change_in(
     let Ok(made) = edits_of(alloc, edits) else {
         return NO_MEMORY;
     };
-    match router.change_telling_alone(alloc, Change::Batch(made), &mut engine.rerouted) {
-        Ok(report) => {
+    match engine.published.change(alloc, Change::Batch(made)) {
+        Some(Ok(report)) => {
             *round = round_of(report);
             ANSWERED
         }
-        Err(RouteFault::Net(_)) => tell_refused(router.net(), alloc, edits, refusal),
-        Err(RouteFault::Memory) => NO_MEMORY,
-        Err(RouteFault::Range | RouteFault::Start) => unreachable!(),
+        Some(Err(RouteFault::Net(_))) => {
+            let router = engine.session().router().unwrap();
+            tell_refused(router.net(), alloc, edits, refusal)
+        }
+        Some(Err(RouteFault::Memory)) => NO_MEMORY,
+        None | Some(Err(RouteFault::Range | RouteFault::Start)) => unreachable!(),
     }
 }
 
@@ -245,19 +247,17 @@ pub(crate) fn move_in(
     ensures no_network { (result ≡ NO_NETWORK) ↔ (engine.old.session ≡ None) }
     ensures status { (result ≡ ANSWERED) ⊎ (result ≡ NO_MEMORY) ⊎ (result ≡ NO_NETWORK) ⊎ (result ≡ REFUSED) }
 {
-    let Some(router) = engine.session.router_mut() else {
-        return NO_NETWORK;
-    };
-    match router.change_telling_alone(alloc, Change::Destination { dest }, &mut engine.rerouted) {
-        Ok(report) => {
+    match engine.published.change(alloc, Change::Destination { dest }) {
+        None => NO_NETWORK,
+        Some(Ok(report)) => {
             *round = round_of(report);
             ANSWERED
         }
-        Err(RouteFault::Range) => {
+        Some(Err(RouteFault::Range)) => {
             *refusal = refusal_for(0, &NetFault::Range(dest), (dest, dest));
             REFUSED
         }
-        Err(RouteFault::Memory) => NO_MEMORY,
-        Err(RouteFault::Net(_) | RouteFault::Start) => unreachable!(),
+        Some(Err(RouteFault::Memory)) => NO_MEMORY,
+        Some(Err(RouteFault::Net(_) | RouteFault::Start)) => unreachable!(),
     }
 }
