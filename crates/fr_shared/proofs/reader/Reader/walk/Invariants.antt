@@ -1,5 +1,6 @@
+use Rattle.std.proofs.Common.{drop, ◌≡◌}
 use Rattle.fr_shared.proofs.Reading.{IsUnderWay}
 use Rattle.fr_shared.proofs.reader.Reader.walk.Given as goal
 
-abbrev pub invariant-loop-step : goal.invariant-loop-step
-invariant-loop-step l = IsUnderWay l.fn.self l.self l.x l.at l.nodes.items l._step
+abbrev pub invariant-loop-count : goal.invariant-loop-count
+invariant-loop-count l = record { way : IsUnderWay l.fn.self l.self l.x l.nodes l.count l.hop; rest : drop l.count l.nodes ≡ drop l.count l.fn.nodes }
