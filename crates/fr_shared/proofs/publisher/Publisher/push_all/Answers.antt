@@ -25,7 +25,7 @@ loop-x-preserved c =
     let x : ℕ = get_or c.args.order.now c.loop-x.x-index 0 in
     let hop : c.hop_at.result ≡ get_or (padded n c.args.new.now) x Here =
     c.hop_at.ensures ∙ sym (padded_hop n c.args.new.now x (inside c.loop-x.invariant c.loop-x-test.true)) in
-    push_goes_on c.loop-x.invariant c.loop-x-test.true (rw hop at c.push.ensures.history) (rw hop at c.push.ensures.table)
+    push_goes_on c.loop-x.invariant c.loop-x-test.true (rw hop at c.push.ensures)
 
 pub returns-clause-table : goal.returns-clause-table
 returns-clause-table c = push_ends c.loop-x.invariant (omega (arith, c.loop-x-test.false))
