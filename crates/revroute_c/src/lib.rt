@@ -28,8 +28,6 @@ mod handle;
 mod loose;
 mod pieces;
 mod questions;
-mod reader_handle;
-mod readers;
 mod records;
 mod replies;
 mod rounds;
@@ -43,12 +41,10 @@ use pieces::{finish_line, take_anew, take_front};
 use questions::{
     HOP_OF_NO_NETWORK, counts_in, hop_in, hops_in, links_in, report_in, route_in, size_in,
 };
-use reader_handle::ReaderHandle;
-use readers::{copied, hop_read, reader_anew, reader_in, walk_read};
 use records::{Link, LinkEdit, Refusal, Round, first_unknown, unknown_at};
 use replies::{LEAST_ROOM, hand_out, reply, reply_anew};
 use rounds::{NewNetwork, change_in, move_in, open_anew, open_in};
-use statuses::{ANSWERED, BLANK, NO_MEMORY, NO_NETWORK, REFUSED, TOO_SHORT};
+use statuses::{BLANK, NO_NETWORK, REFUSED, TOO_SHORT};
 use std::alloc::Global;
 use tables::pushes_in;
 
@@ -294,6 +290,7 @@ pub extern "C" fn revroute_close(alloc: Global, handle: &mut Handle)
     ensures session { handle.new.session ≡ None }
     ensures rerouted { handle.new.rerouted ≡ [] }
     ensures begun { handle.new.begun ≡ [] }
+    ensures table { handle.new.table ≡ None }
     ensures null { handle.new.at ≡ null_ptr }
 {
     drop(Handle::taken(handle, alloc));
@@ -498,86 +495,4 @@ pub extern "C" fn revroute_size(handle: &mut Handle, nodes: &mut u32, links: &mu
         Some(engine) => size_in(engine.session(), nodes, links),
         None => NO_NETWORK,
     }
-}
-
-/// Opens a reader of the session's hops, which knows all pushes made so far, and puts it into `reader`. One that was
-/// there is closed. From then on each accepted round pushes the changed hops, in push order, before its call returns.
-/// The session can be one that holds no network yet; each node is cut off then. Readers outlive the session, and read
-/// the last hops then.
-///
-/// `NO_MEMORY`: an allocation was refused. The reader is unchanged, and the session answers as before. `O(n)` for the
-/// first reader of a session, and `O(1)` for each later one.
-#[unsafe(no_mangle)]
-pub extern "C" fn revroute_reader_open(alloc: Global, handle: &mut Handle, reader: &mut ReaderHandle) -> u32
-{
-    let opened = match handle.engine_mut() {
-        Some(engine) => reader_in(engine, alloc),
-        None => reader_anew(handle, alloc),
-    };
-    match opened {
-        Ok(opened) => {
-            ReaderHandle::put(reader, alloc, opened);
-            ANSWERED
-        }
-        Err(_) => NO_MEMORY,
-    }
-}
-
-/// Opens one more reader of the same table, for another thread, and puts it into `other`. One that was there is closed.
-/// It knows what `reader` knows.
-///
-/// - `NO_NETWORK`: `reader` is null.
-/// - `NO_MEMORY`: an allocation was refused.
-///
-/// After both `other` is unchanged. `O(1)`.
-#[unsafe(no_mangle)]
-pub extern "C" fn revroute_reader_copy(alloc: Global, reader: &mut ReaderHandle, other: &mut ReaderHandle) -> u32
-{
-    let Some(held) = reader.reader_mut() else {
-        return NO_NETWORK;
-    };
-    let Ok(copy) = copied(held, alloc) else {
-        return NO_MEMORY;
-    };
-    ReaderHandle::put(other, alloc, copy);
-    ANSWERED
-}
-
-/// Where a node sends on to, as [`revroute_next_hop`] answers it, by one load. It waits for nobody, and other threads
-/// may use the session and other readers meanwhile. A number that is no node of the network is cut off, and a number
-/// of 4,096 or more is no node. A null reader answers that there is no network. `O(1)`.
-#[unsafe(no_mangle)]
-pub extern "C" fn revroute_reader_next_hop(reader: &mut ReaderHandle, node: u32) -> u32
-{
-    match reader.reader_mut() {
-        Some(held) => hop_read(held, node),
-        None => HOP_OF_NO_NETWORK,
-    }
-}
-
-/// Walks hop by hop from a node, and writes it and the nodes after it into the front of the place, and how many these
-/// are to `size`. The walk makes one load a node. While hops are pushed, each of them can be of a later table.
-///
-/// - `TOO_SHORT`: the place is full before the walk has ended. `size` is one more than it has room for.
-/// - `NO_ROUTE`: the last node is cut off, or the first is none.
-/// - `NO_NETWORK`: the reader is null.
-///
-/// `size` is 0 after the last two. After each of the three the front of the place has the nodes walked so far. It
-/// takes no memory, and waits for nobody. `O(r)` for r nodes of the walk.
-#[unsafe(no_mangle)]
-pub extern "C" fn revroute_reader_route(reader: &mut ReaderHandle, node: u32, nodes: &mut [u32], size: &mut usize) -> u32
-{
-    *size = 0;
-    match reader.reader_mut() {
-        Some(held) => walk_read(held, node, nodes, size),
-        None => NO_NETWORK,
-    }
-}
-
-/// Gives a reader up. The handle is null again. The table goes with its session and its last reader. `O(1)`, and
-/// `O(n)` for the last one.
-#[unsafe(no_mangle)]
-pub extern "C" fn revroute_reader_close(alloc: Global, reader: &mut ReaderHandle)
-{
-    drop(ReaderHandle::taken(reader, alloc));
 }
