@@ -8,11 +8,14 @@ use Rattle.fr_tables.specs.Pushes.{IsBefore, IsPushOrder, IsWave, differ_at, is_
 use Rattle.fr_tables.specs.Tables.{IsInRange, IsLoop, IsLoopFree, IsWalk, SendsOn, end_of}
 use Rattle.fr_tables.specs.declared.hop.Hop.{Hop}
 use Rattle.fr_tables.specs.declared.hop.Hop.TheVariants.{CutOff, Here, To}
-use Rattle.fr_shared.specs.Histories.{IsTable, padded}
+use Rattle.fr_shared.specs.Histories.{IsTable, blank, padded}
 use Rattle.fr_shared.proofs.Histories.{blank_sends}
 
 pub padded_length : (n : ℕ) (table : List Hop) → length table ≤ n → length (padded n table) ≡ n
 padded_length n table low = omega (arith, length-append table (replicate (n - length table) CutOff), length-replicate (n - length table) CutOff)
+
+pub padded_none : (n : ℕ) → padded n [] ≡ blank n
+padded_none n = ap (λ (k : ℕ). replicate k CutOff) (omega arith)
 
 -- a table that is padded twice
 pub padded_again : (m n : ℕ) (table : List Hop) → m ≤ n → padded n (padded m table) ≡ padded n table
