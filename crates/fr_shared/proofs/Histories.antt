@@ -66,7 +66,7 @@ blank_rests zero x s = s
 blank_rests (suc n) zero s = s
 blank_rests (suc n) (suc x) s = blank_rests n x s
 
-blank_sends : (n x y : ℕ) → SendsOn (blank n) x y → ⊥
+pub blank_sends : (n x y : ℕ) → SendsOn (blank n) x y → ⊥
 blank_sends n x y e = blank_rests n x (subst Sends (sym e) tt)
 
 blank_loops : (n : ℕ) (nodes : List ℕ) → IsLoop (blank n) nodes → ⊥

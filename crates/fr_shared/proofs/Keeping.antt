@@ -14,7 +14,7 @@ use Rattle.fr_shared.specs.declared.view.View.{View}
 use Rattle.fr_shared.specs.Words.{hop_of, word_of}
 use Rattle.fr_shared.specs.Histories.{IsHistory, IsTable, StartsWith, blank, push, table_of}
 use Rattle.fr_shared.specs.Rule.{AllFit, KeepsRule, ViewFits, first_view, reader_view, spent_view, with_met}
-use Rattle.fr_shared.specs.Steps.{compared, looked, written}
+use Rattle.fr_shared.specs.Steps.{compared, looked, recalled, written}
 use Rattle.fr_shared.specs.Laws.{Explains, StepsKeepTheRule}
 use Rattle.fr_shared.proofs.Histories.{after_more, all_known, blank_is_table, blank_words, hop_again, hop_held, last_is_table, table_held, tables_more}
 
@@ -59,6 +59,13 @@ module _ {S : Type 0} where
   stays : (n : ℕ) (s t : State S View) (r : KeepsRule n s) → t.words ≡ s.words → AllFit r.history r.at t.views → KeepsRule n t
   stays n s t r words views = record { history = r.history; at = r.at; few = r.few; tables = r.tables; words = words ∙ r.words; views = views }
 
+  -- a load by which a seat comes to know nothing
+  same_views : (n : ℕ) (s : State S View) (id : ℕ) (me : Me S View) (x : ℕ) (r : KeepsRule n s) → get_elem? s.views id ≡ some me.0
+      → KeepsRule n (record { words = set s.words x (slice_index s.words x); homes = s.homes; views = set s.views id me.0 })
+  same_views n s id me x r here =
+      stays n s (record { words = set s.words x (slice_index s.words x); homes = s.homes; views = set s.views id me.0 }) r (set-get_or s.words x 0)
+      (fit_set r.history r.at s.views id me.0 (r.views id me.0 here) (λ j v _ old. r.views j v old))
+
   -- each hop is to a node whose number fits into a word
   low : (n : ℕ) (s : State S View) (r : KeepsRule n s) (x y : ℕ) → SendsOn (table_of n r.history) x y → y < 4294967296
   low n s r x y e =
@@ -102,6 +109,27 @@ module _ {S : Type 0} where
       → Allows {S = S} (KeepsRule n) slots id me x (λ word. word) (looked (step slots x 0 0 none) me)
   looks_at n slots id me x nodes inside =
       subst (λ (k : ℕ). Allows {S = S} (KeepsRule k) slots id me x (λ word. word) (looked (step slots x 0 0 none) me)) nodes (looks slots id me x (omega arith))
+
+  recalls : (slots id : ℕ) (me : Me S View) (x : ℕ) → me.0.writes ≡ true → x < me.0.nodes
+      → Allows {S = S} (KeepsRule me.0.nodes) slots id me x (λ word. word) (recalled (step slots x 0 0 none) me)
+  recalls slots id me x works inside s r _ here _ =
+      let n : ℕ = me.0.nodes in
+      let mine = r.views id me.0 here in
+      let last = last_is_table n r.history r.tables in
+      let there = hop_held (table_of n r.history) x (low n s r) (omega (arith, last.one_each)) in
+      let found = there ∙ ap (λ (words : List ℕ). Some (hop_of (slice_index words x))) (sym r.words) in (
+        me.0,
+        keeps,
+        tt,
+        same_views n s id me x r here,
+        (refl, subst (λ (h : List Push). slice_get (table_of n h) x ≡ Some (hop_of (slice_index s.words x))) (sym (mine.writer works).1) found, refl),
+      )
+
+  pub recalls_at : (n slots id : ℕ) (me : Me S View) (x : ℕ) → me.0.nodes ≡ n → me.0.writes ≡ true → x < n
+      → Allows {S = S} (KeepsRule n) slots id me x (λ word. word) (recalled (step slots x 0 0 none) me)
+  recalls_at n slots id me x nodes works inside =
+      subst (λ (k : ℕ). Allows {S = S} (KeepsRule k) slots id me x (λ word. word) (recalled (step slots x 0 0 none) me)) nodes
+      (recalls slots id me x works (omega arith))
 
   writes : (slots id : ℕ) (me : Me S View) (x : ℕ) (hop : Hop) → me.0.writes ≡ true → x < me.0.nodes
       → IsTable me.0.nodes (set (table_of me.0.nodes me.0.known) x hop)
@@ -186,15 +214,14 @@ module _ {S : Type 0} where
         me.0,
         keeps,
         tt,
-        stays n s (record { words = set s.words x (slice_index s.words x); homes = s.homes; views = set s.views id me.0 }) r (set-get_or s.words x 0)
-            (fit_set r.history r.at s.views id me.0 mine (λ j v _ old. r.views j v old)),
+        same_views n s id me x r here,
         (refl, subst (λ (h : List Push). StartsWith h me.0.met) (sym (mine.writer works).1) mine.met, refl),
       )
 
 -- The laws
 
 pub steps_keep : (n : ℕ) → StepsKeepTheRule n
-steps_keep n = record { load = looks_at n; store = writes_at n; adds = splits n; meets = joins n; compares = compares n }
+steps_keep n = record { load = looks_at n; recall = recalls_at n; store = writes_at n; adds = splits n; meets = joins n; compares = compares n }
 
 pub only_first : (n : ℕ) (words : List ℕ) → KeepsRule {S = Unit {0}} n (opening words [] (first_view n)) → words ≡ replicate n 4294967297
 only_first n words r =

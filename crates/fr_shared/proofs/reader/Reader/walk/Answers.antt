@@ -1,18 +1,29 @@
-use Rattle.std.proofs.Common.{rules}
-use Rattle.fr_shared.proofs.Reading.{starts_after, walk_begins, walk_ends, walk_goes_on}
+use Rattle.std.proofs.Common.{List, ap, arith, drop, refl, set, sym, ℕ, ◌+◌, ◌∙◌, ◌≡◌}
+use Rattle.std.proofs.lemmas.List.{drop-drop, drop-set-lt}
+use Rattle.fr_shared.proofs.Reading.{next_inside, not_longer, walk_begins, walk_ends, walk_goes_on}
 use Rattle.fr_shared.proofs.reader.Reader.walk.Goals as goal
 
-pub loop-step-init : goal.loop-step-init
-loop-step-init c = rw c.new-nodes.ensures.items (walk_begins c.args.self.now c.args.x c.history_law.ensures c.requires)
+-- a write at i leaves what is behind it
+rest_more : (room now : List ℕ) (i y : ℕ) → drop i now ≡ drop i room → drop (i + 1) (set now i y) ≡ drop (i + 1) room
+rest_more room now i y rest =
+    drop-set-lt (i + 1) now i y (omega arith) ∙ (sym (drop-drop 1 i now) ∙ (ap (λ (l : List ℕ). drop 1 l) rest ∙ drop-drop 1 i room))
 
-pub returns-in-Here : goal.returns-in-Here
-returns-in-Here c =
-    let l = c.loop-step in
-    record {
-      same = search rules;
-      grows = starts_after c.hop.new.self.known l.self.known c.args.self.now.known c.hop.ensures.grows l.invariant.grows;
-      walked = walk_ends l.invariant c.in-Here.is c.hop.ensures c.loop-step-test.true;
-    }
+pub loop-count-init : goal.loop-count-init
+loop-count-init c = record { way = walk_begins c.args.nodes.now c.hop-hop.ensures; rest = refl }
 
-pub loop-step-preserved : goal.loop-step-preserved
-loop-step-preserved c = rw c.in_ok-push-in-To.ensures.items (walk_goes_on c.loop-step.invariant c.in-To.ensures)
+pub hop-hop-requires-in-loop-count : goal.hop-hop-requires-in-loop-count
+hop-hop-requires-in-loop-count c = next_inside c.loop-count.invariant.way c.in-To.is
+
+pub loop-count-preserved : goal.loop-count-preserved
+loop-count-preserved c = record {
+  way = walk_goes_on c.loop-count.invariant.way c.in-To.is (omega arith) c.hop-hop-in-loop-count.ensures;
+  rest = rest_more c.args.nodes.now c.loop-count.nodes c.loop-count.count c.in-To.next c.loop-count.invariant.rest;
+}
+
+pub returns-in_default-clause-walked : goal.returns-in_default-clause-walked
+returns-in_default-clause-walked c = walk_ends c.ended.result c.loop-count.invariant.way c.ended.ensures.count c.ended.ensures.end (omega arith)
+    (λ longer. absurd (not_longer c.loop-count.hop c.in_default.not-To (sym c.ended.ensures.end ∙ longer)))
+
+pub returns-clause-walked : goal.returns-clause-walked
+returns-clause-walked c = walk_ends c.ended-2.result c.loop-count.invariant.way (omega (arith, c.ended-2.ensures.count)) c.ended-2.ensures.end
+    (omega arith) (λ _. omega arith)
