@@ -1,6 +1,6 @@
 //! What C holds of a reader.
 
-ghost use Rattle.std.specs.Prelude.{◌≡◌, MatchOption};
+ghost use Rattle.std.specs.Prelude.{◌≡◌, ◌≢◌, MatchOption};
 ghost use Rattle.std.specs.Borrow.{sem};
 ghost use denote.RawPtr.{null_ptr};
 ghost use Rattle.fr_shared.specs.Knowledge.{Knowledge};
@@ -84,7 +84,7 @@ impl ReaderHandle {
     pub(crate) fn reader_mut(&mut self) -> Option<&mut Reader>
         ensures* writes_back { sem 𝓛 (LendsReader self.entry result) }
         ensures value { MatchOption result ((self.old.at ≡ null_ptr) × (read_by self.old ≡ no_reader))
-            (λ reader. reader.now ≡ read_by self.old) }
+            (λ reader. (self.old.at ≢ null_ptr) × (reader.now ≡ read_by self.old)) }
     {
         if self.at.is_null() {
             return None;

@@ -1,31 +1,18 @@
 //! Readers: what other threads ask while the session is changed.
 
-use crate::engine::Engine;
-use crate::handle::Handle;
+ghost use Rattle.std.specs.Prelude.{◌≡◌, ◌⊎◌, IfOk};
+ghost use Rattle.revroute_c.specs.Readers.{ReadsOn, TellsHopRead, TellsWalk};
+ghost use Rattle.revroute_c.specs.Replies.{outcome};
+
 use crate::questions::{HOP_OF_NO_NODE, number};
-use crate::statuses::{ANSWERED, NO_MEMORY, NO_ROUTE, TOO_SHORT};
-use fr_published::Reader;
-use fr_shared::WalkEnd;
+use crate::statuses::{ANSWERED, NO_ROUTE, TOO_SHORT};
+use fr_shared::{Reader, WalkEnd};
 use std::alloc::{AllocError, Global};
-
-/// A reader of the session's hops.
-pub(crate) fn reader_in(engine: &mut Engine, alloc: Global) -> Result<Box<Reader>, AllocError>
-{
-    let reader = engine.published.reader(alloc)?;
-    Ok(Box::new(alloc, reader)?)
-}
-
-/// A reader of the hops of a new session, which the null handle holds from then on.
-pub(crate) fn reader_anew(handle: &mut Handle, alloc: Global) -> Result<Box<Reader>, AllocError>
-{
-    let mut engine = Box::new(alloc, Engine::new(alloc))?;
-    let reader = reader_in(&mut engine, alloc)?;
-    Handle::put(handle, engine);
-    Ok(reader)
-}
 
 /// One more reader of the same table.
 pub(crate) fn copied(reader: &mut Reader, alloc: Global) -> Result<Box<Reader>, AllocError>
+    ensures same { reader.new ≡ reader.old }
+    ensures other { IfOk result (λ other. other.value ≡ reader.old) }
 {
     let other = reader.another()?;
     Ok(Box::new(alloc, other)?)
@@ -33,6 +20,7 @@ pub(crate) fn copied(reader: &mut Reader, alloc: Global) -> Result<Box<Reader>, 
 
 /// Where a node sends on to, as a number.
 pub(crate) fn hop_read(reader: &mut Reader, node: u32) -> u32
+    ensures { TellsHopRead reader.old reader.new node result }
 {
     if node >= reader.nodes() {
         return HOP_OF_NO_NODE;
@@ -41,7 +29,16 @@ pub(crate) fn hop_read(reader: &mut Reader, node: u32) -> u32
 }
 
 /// Walks from a node hop by hop, and writes it and the nodes after it to the front of the place. `size` has to be 0.
-pub(crate) fn walk_read(reader: &mut Reader, node: u32, place: &mut [u32], size: &mut usize) -> u32
+pub(crate) fn walk_read(
+    reader: &mut Reader,
+    node: u32,
+    place: &mut [u32],
+    size: &mut usize,
+) -> u32
+    requires { size.old ≡ 0 }
+    ensures reads_on { ReadsOn reader.old reader.new }
+    ensures walk { TellsWalk reader.old reader.new node (outcome result place.old place.new size.new) }
+    ensures status { (result ≡ ANSWERED) ⊎ (result ≡ TOO_SHORT) ⊎ (result ≡ NO_ROUTE) }
 {
     if node >= reader.nodes() {
         return NO_ROUTE;
