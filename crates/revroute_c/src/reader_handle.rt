@@ -4,8 +4,9 @@ ghost use Rattle.std.specs.Prelude.{◌≡◌, ◌≢◌, MatchOption};
 ghost use Rattle.std.specs.Borrow.{sem};
 ghost use denote.RawPtr.{null_ptr};
 ghost use Rattle.fr_shared.specs.Knowledge.{Knowledge};
+ghost use Rattle.fr_shared.specs.contracts.reader.Reader.{the_row as reader_row};
+ghost use Rattle.revroute_c.specs.Owning.{owned_at};
 ghost use Rattle.revroute_c.specs.Readers.{no_reader};
-ghost use Rattle.revroute_c.specs.ReaderHolding.{holds};
 
 use crate::loose::Loose;
 use fr_shared::Reader;
@@ -24,7 +25,7 @@ pub struct ReaderHandle {
 }
 
 impl Model for ReaderHandle {
-    ghost also_owns = { λ handle. holds handle.at handle.reading };
+    ghost also_owns = { λ handle. owned_at reader_row no_reader handle.at handle.reading };
 }
 
 // What a handle owns is the reader, and that may go to another thread.

@@ -17,7 +17,8 @@ use denote.Triple.Walked.{Stays, walk_of}
 use Rattle.std.proofs.raw_atomic.Walks.{proved_at, leaves}
 use Rattle.fr_shared.specs.Knowledge.{Knowledge}
 use Rattle.revroute_c.specs.Readers.{no_reader}
-use Rattle.revroute_c.proofs.ReaderHandles.{word, handle_in, handle_of}
+use Rattle.revroute_c.proofs.Owned.{word}
+use Rattle.revroute_c.proofs.ReaderHandles.{handle_in, handle_of}
 use Rattle.revroute_c.specs.contracts.reader_handle.ReaderHandle.empty.{ended, clauses}
 use Rattle.revroute_c.specs.contracts.reader_handle.ReaderHandle.empty.Key.{name as #self}
 use Rattle.revroute_c.proofs.reader_handle.ReaderHandle.empty.Statement.{statement}

@@ -29,7 +29,8 @@ use Rattle.std.proofs.alloc.Global.TheLaws as heap_laws
 use Rattle.std.specs.contracts.impls.GlobalAllocator.TheImpl.{ghosts}
 use Rattle.std.proofs.raw_atomic.Walks.{proved_at, leaves}
 use Rattle.fr_shared.specs.contracts.reader.Reader.{the_row as S}
-use Rattle.revroute_c.proofs.ReaderHandles.{word, handle_out, either_held}
+use Rattle.revroute_c.proofs.Owned.{word, either_owned}
+use Rattle.revroute_c.proofs.ReaderHandles.{handle_out}
 use Rattle.revroute_c.specs.Readers.{no_reader}
 use Rattle.revroute_c.specs.ReaderLending.{read_by}
 use Rattle.revroute_c.proofs.Values.{al, both, Loose, loose_good, loose_in}
@@ -56,7 +57,7 @@ into_loose_spec 𝓤 𝓛 𝓜 𝓡 wired =
     ∵ split ! $ move ! (1 ∷ []) $ fsplit ! $
     handle_out ! d z.0.4.0 (λ ws. move ! (1 ∷ []) $ fsplit ! $ handle_tells (al S Z LZ ghosts) ! a z.0.4.1.0 (λ h eh gh. move ! (2 ∷ []) $
     -- [what the handle owns; the allocator; no more parameters; no tokens; the `requires`]
-    either_held ! d.at (read_by d)
+    either_owned S no_reader ! d.at (read_by d)
     (λ is none. let w : Val = word null_ptr in
     suffices ! (Run (w ∷ h ∷ [])) (subst (λ (us : List Val). ent 𝓤 (Run (w ∷ h ∷ [])) (Run us))
     (sym (λ i. (ws ∙ ap (λ (p : Ptr). word p ∷ []) is) i ++ (eh i ++ []))) (id⊢ 𝓤 (Run (w ∷ h ∷ [])))) $

@@ -22,7 +22,8 @@ use Rattle.std.proofs.alloc.Global.TheLaws as heap_laws
 use Rattle.std.specs.contracts.impls.GlobalAllocator.TheImpl.{ghosts}
 use Rattle.std.proofs.raw_atomic.Walks.{proved_at, leaves}
 use Rattle.fr_shared.specs.contracts.reader.Reader.{the_row as S}
-use Rattle.revroute_c.proofs.ReaderHandles.{word, boxed, handle_in, handle_of}
+use Rattle.revroute_c.proofs.Owned.{word, boxed}
+use Rattle.revroute_c.proofs.ReaderHandles.{handle_in, handle_of}
 use Rattle.revroute_c.proofs.Values.{both, Loose, loose_good, loose_out}
 use Rattle.revroute_c.specs.contracts.reader_handle.ReaderHandle.of.{ended, clauses}
 use Rattle.revroute_c.specs.contracts.reader_handle.ReaderHandle.of.Key.{name as #self}
@@ -45,7 +46,7 @@ of_spec 𝓤 𝓛 𝓜 𝓡 wired =
     enter ! 𝓣.C 𝓣.Λ fn (w ∷ []) Post $ alloc_all ! (λ l. pass_all ! refl (loose_good S Z LZ ghosts b o h fits, tt) $
     sets ! (of_opd ! (get_in ! (fld ! refl (stop !)) (sub ! 0 refl (whole !)))) refl (tt, tt) $ sets !
     (agg ! (and_then ! (get ! refl) (no_more !))) refl (tt, (tt, tt)) $
-    fpack ! Global (λ a. boxed a (block_ptr b o) v.value) v.alloc $ handle_in ! (block_ptr b o) v.value $
+    fpack ! Global (λ a. boxed S a (block_ptr b o) v.value) v.alloc $ handle_in ! (block_ptr b o) v.value $
     use0 𝓛 (raw (fact 𝓤 (v.value ≡ v.value))) (fact_i 𝓤 (v.value ≡ v.value) (emp 𝓤) refl) $ nothing ! $ nothing ! $ fjoin ! $
     returns ! (look_at ! 0 refl) $ free_all ! refl $ keep ! (5 ∷ 0 ∷ 2 ∷ 1 ∷ []) $
     by ! (leaves 𝓛 ended hs c z (word (block_ptr b o)) (handle_of (block_ptr b o) v.value) (tt, tt) (tt, tt)))))

@@ -1,5 +1,5 @@
 -- `reader_mut` tests the pointer, and lends the reader behind it where it is not null.
-use Rattle.std.proofs.Common.{◌≡◌, ◌≢◌, ℕ, List, [], ◌∷◌, refl, sym, subst, ◌∙◌, lit<}
+use Rattle.std.proofs.Common.{◌≡◌, ◌≢◌, ℕ, List, [], ◌∷◌, refl, sym, lit<}
 use seplogic.Ra.Ura.{Ura}
 use mir.Syntax.{named}
 use mir.Raw.{raw as bare}
@@ -21,7 +21,7 @@ use contract.Running.{tables}
 use denote.Exit.{no}
 use denote.RattleType.{RattleType}
 use denote.Memory.{cell_at, part_at, mem, part_of, lone}
-use denote.RawPtr.{Ptr, InBlock, block_ptr, null_ptr, tests_null}
+use denote.RawPtr.{Ptr, block_ptr, null_ptr, tests_null}
 use denote.Ref.{MutRef, mut_vals, mut_Tells}
 use denote.Follow.{follows, follows_by, Part, lends_Part}
 use denote.Signature.{plain, mut_ref_to}
@@ -36,20 +36,18 @@ use Rattle.std.proofs.VecSteps.Shapes.{after}
 use Rattle.std.proofs.option.Made.{Some-of, none_of}
 use Rattle.std.proofs.raw_atomic.Walks.{proved, leaves}
 use Rattle.fr_shared.specs.contracts.reader.Reader.{the_row as S}
-use Rattle.revroute_c.specs.ReaderHolding.{holds}
+use Rattle.revroute_c.specs.Owning.{owned_at}
 use Rattle.fr_shared.specs.Knowledge.{Knowledge}
 use Rattle.revroute_c.specs.Readers.{no_reader}
 use Rattle.revroute_c.specs.ReaderLending.{read_by, with_reader}
-use Rattle.revroute_c.proofs.ReaderHandles.{word, boxed, handle_out, handle_in, either_held}
+use Rattle.revroute_c.proofs.Owned.{word, boxed, either_owned, not_null}
+use Rattle.revroute_c.proofs.ReaderHandles.{handle_out, handle_in}
 use Rattle.revroute_c.specs.declared.reader_handle.ReaderHandle.{ReaderHandle}
 use Rattle.revroute_c.specs.contracts.reader_handle.ReaderHandle.{the_row as H'}
 use Rattle.revroute_c.specs.contracts.reader_handle.ReaderHandle.reader_mut.{ended, clauses}
 use Rattle.revroute_c.specs.contracts.reader_handle.ReaderHandle.reader_mut.Key.{name as #self}
 use Rattle.revroute_c.proofs.reader_handle.ReaderHandle.reader_mut.Statement.{statement}
 use Rattle.revroute_c.proofs.reader_handle.ReaderHandle.reader_mut.Code as code
-
-not_null : (p : Ptr) (x y : ℕ) → p ≡ block_ptr x y → p ≢ null_ptr
-not_null p x y is null = subst InBlock (sym is ∙ null) tt
 
 abbrev stayed : Stays ended.signature.params ended.kept
 stayed = (stay_dropped (mut_ref_to (0 ∷ []) tt (plain (λ _. H'))) no, tt)
@@ -83,7 +81,7 @@ module _ {M : Type 1} {𝓤 : Ura M} (𝓛 : Logic 𝓤) (at_mem : Memory → SP
   unfolding part_of
   back a x y is w =
       qed 𝓛 (‵ (part_at S full_share w x y) ∷ ‵ (Rest a x y) ∷ []) ∵ move ! (1 ∷ []) $ fsplit ! $ move ! (2 ∷ 0 ∷ []) $ fjoin ! $
-      fpack ! Global (λ z. boxed z (block_ptr x y) w) a $ rewrite ! 0 (λ (p : Ptr). ‵ (holds p w))
+      fpack ! Global (λ z. boxed S z (block_ptr x y) w) a $ rewrite ! 0 (λ (p : Ptr). ‵ (owned_at S no_reader p w))
       (sym is) refl $ rewrite ! 1 (λ (p : Ptr). ‵ (cell p)) (sym is) refl $
       handle_in ! h.at w $ move ! (1 ∷ 0 ∷ []) $ fjoin ! $ fpack ! (List Val)
       (λ us. fsep (cell_at full_share H'.mir us b o) (H'.own_val (with_reader h w) us)) (word h.at ∷ []) $ done !
@@ -124,13 +122,13 @@ reader_mut_spec 𝓤 𝓛 𝓜 𝓡 wired =
     fsplit3 ! $ move ! (1 ∷ 2 ∷ 3 ∷ []) $ opens ! tt H' b o
     (λ us. move ! (1 ∷ []) $ handle_out ! h us (λ ws. rewrite ! 1 (λ (vs : List Val). ‵ (cell_at full_share H'.mir vs b o)) ws refl $
     -- [what the handle owns; its bytes; the open borrow, in three entries]
-    either_held ! h.at (read_by h)
+    either_owned S no_reader ! h.at (read_by h)
     (λ is none. rewrite ! 0 (λ (p : Ptr). ‵ (Cell p)) is refl $
     sets ! (of_opd ! (load ! (through ! refl (fld ! refl (stop !))) (look_in ! 0 (sub ! 0 refl (whole !))))) refl (tt, record { fits = lit< tt }) $
     sets ! (bin ! (get ! refl) (lit ! tt) tt) refl (tt, tt) $ first ! $ branches ! (get ! refl)
     (λ _. sets ! (agg ! (and_then ! (lit ! tt) (no_more !))) refl (tt, (record { fits = lit< tt }, tt)) $
     rewrite ! 0 (λ (p : Ptr). ‵ (Cell p)) (sym is) refl $ nothing ! $ fpack ! (read_by h ≡ no_reader)
-    (λ _. ftrue) none $ rewrite ! 0 (λ (p : Ptr). ‵ (holds p (read_by h))) (sym is) refl $
+    (λ _. ftrue) none $ rewrite ! 0 (λ (p : Ptr). ‵ (owned_at S no_reader p (read_by h))) (sym is) refl $
     handle_in ! h.at (read_by h) $ move ! (1 ∷ 0 ∷ []) $ closes ! tt H' h (word h.at ∷ []) b o $
     returns_within ! Ends refl (look_at ! 0 refl) $ free_all ! refl $ keep ! (0 ∷ 2 ∷ []) $ by !
     (none_lent 𝓛 𝓜.mem 𝓡.returns κ q b o γ h is none)) (λ wrong. absurd wrong))
