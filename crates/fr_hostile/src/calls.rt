@@ -13,6 +13,7 @@ use fr_net::{
 };
 use fr_round::Round;
 use fr_route::{Change, Report, Router, Session, counts_line, fault_number, links_line};
+use fr_shared::open;
 use fr_tables::{Hop, find_loop, push_order};
 use std::alloc::{AllocError, Global};
 use std::fmt::Display;
@@ -75,10 +76,11 @@ pub enum Call {
     CountedAlone,
     Rerouted,
     Pushed,
+    Shared,
 }
 
 /// The calls in the order in which they are made.
-pub const CALLS: [Call; 24] = [
+pub const CALLS: [Call; 25] = [
     Call::Network,
     Call::CutNetwork,
     Call::LinkedNetwork,
@@ -103,6 +105,7 @@ pub const CALLS: [Call; 24] = [
     Call::CountedAlone,
     Call::Rerouted,
     Call::Pushed,
+    Call::Shared,
 ];
 
 /// Makes a call, and puts what it came to behind the answer.
@@ -119,6 +122,7 @@ pub fn make<R: Threads + Wait + Sync + Alloc<A = Global> + Print + Eprint>(
         Call::AnsweredAlone => answered_alone(rt, answer),
         Call::LinesRead => lines_read(rt, answer),
         Call::Pushed => pushed(rt, answer),
+        Call::Shared => shared(rt, answer),
         _ => {
             if let Some(net) = answer.told(rt, Net::new(rt.alloc(), 4, &CHAIN)) {
                 make_on(rt, answer, net, call);
@@ -601,5 +605,19 @@ fn pushed<R: Alloc<A = Global> + Eprint>(rt: &R, answer: &mut Answer) {
     let between = [Hop::Here, Hop::To(2), Hop::To(1), Hop::To(0)];
     if let Some(found) = answer.told(rt, find_loop(rt.alloc(), &between)) {
         answer.put(&found);
+    }
+}
+
+/// A table that threads share, with three readers, of which each reads the hop of another node.
+fn shared<R: Alloc<A = Global> + Eprint>(rt: &R, answer: &mut Answer) {
+    let Some((mut publisher, mut first)) = answer.told(rt, open(rt.alloc(), 4)) else {
+        return;
+    };
+    answer.put(&first.hop(1));
+    if let Some(mut second) = answer.told(rt, publisher.reader()) {
+        answer.put(&second.hop(2));
+    }
+    if let Some(mut third) = answer.told(rt, first.another()) {
+        answer.put(&third.hop(3));
     }
 }

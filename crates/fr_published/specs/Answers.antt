@@ -47,7 +47,7 @@ pub record IsMade (old : Published) (change : Change) (report : Report) (new : P
 pub record IsNotMade (old : Published) (change : Change) (fault : RouteFault) : Type 0 where
   pub before : State
   pub was : old.session ≡ Some before
-  pub fault : IsRouteFault before change fault
+  pub refused : IsRouteFault before change fault
   pub no_start : fault ≢ RouteStart
 
 -- a change of the network is made, and what it reroutes is published; there is no answer just where there is no network

@@ -1,8 +1,8 @@
 -- What contracts see of a session whose hops other threads read.
-use Rattle.std.specs.Prelude.{◌≡◌, ℕ, ◌≤◌, List, [], Option, Some, None, length, replicate, slice_index_or, IfSome}
+use Rattle.std.specs.Prelude.{◌≡◌, ℕ, List, Option}
 use Rattle.fr_graph.specs.Limits.{most_nodes}
 use Rattle.fr_route.specs.Reroutes.{AreHopsIn}
-use Rattle.fr_route.specs.States.{State, IsAfterRound}
+use Rattle.fr_route.specs.States.{State}
 use Rattle.fr_shared.specs.Knowledge.{Knowledge, last_table}
 
 -- the session, the nodes that its last accepted round rerouted, and the table with all pushes, once a reader was asked for

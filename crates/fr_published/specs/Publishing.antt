@@ -1,12 +1,11 @@
 -- What is pushed, and when.
-use Rattle.std.specs.Prelude.{◌≡◌, ℕ, ◌≤◌, ◌⊎◌, ◌++◌, List, [], Option, Some, None, Result, IfOk, IfSome, OnErr, length, slice_index_or}
+use Rattle.std.specs.Prelude.{◌≡◌, ℕ, ◌≤◌, ◌⊎◌, ◌++◌, List, [], Option, Some, None, slice_get}
 use Rattle.fr_graph.specs.Limits.{most_nodes}
 use Rattle.fr_route.specs.Reroutes.{AreHopsIn}
 use Rattle.fr_route.specs.Routes.{AreHops}
 use Rattle.fr_route.specs.States.{State, IsAfterRound}
 use Rattle.fr_tables.specs.Pushes.{IsPushOrder}
 use Rattle.fr_tables.specs.declared.hop.Hop.{Hop}
-use Rattle.fr_tables.specs.declared.hop.Hop.TheVariants.{CutOff}
 use Rattle.fr_shared.specs.Histories.{pushes_of}
 use Rattle.fr_shared.specs.Knowledge.{Knowledge, last_table}
 use Rattle.fr_published.specs.Published.{HasHopsOf, Published}
@@ -25,9 +24,9 @@ abbrev pub AreHopsOf : Option State → List Hop → Type 0
 AreHopsOf None hops = hops ≡ []
 AreHopsOf (Some s) hops = AreHops s s.nodes hops
 
--- the hop of node x in a table: one past its end is cut off
-abbrev pub hop_at : List Hop → ℕ → Hop
-hop_at hops x = slice_index_or hops x CutOff
+-- two tables have the same hop of node x, if any
+abbrev pub HasHopAt : List Hop → List Hop → ℕ → Type 0
+HasHopAt table other x = slice_get table x ≡ slice_get other x
 
 -- these nodes are the push order from a table to the hops of the session
 pub record LeadsTo (k : Knowledge) (s : Option State) (nodes : List ℕ) : Type 0 where

@@ -1,10 +1,13 @@
 //! How the hops of a session are pushed to a table.
 
-ghost use Rattle.std.specs.Prelude.{◌≡◌, IfOk, IfSome};
+ghost use Rattle.std.specs.Prelude.{◌≡◌, ◌≤◌, ◌↔◌, IfOk, IfSome, IsTrue, length, slice_index_or};
 ghost use Rattle.std.specs.Option.{option_copied};
 ghost use Rattle.fr_route.specs.Reroutes.{AreReplaced};
 ghost use Rattle.fr_published.specs.Published.{HasHopsOf};
-ghost use Rattle.fr_published.specs.Publishing.{AreHopsOf, CanPublish, IsSettledSession, Publishes, PublishesIn, hop_at};
+ghost use Rattle.fr_published.specs.Publishing.{AreHopsOf, CanPublish, HasHopAt, IsSettledSession, Publishes, PublishesIn};
+ghost use Rattle.fr_shared.specs.Histories.{padded};
+ghost use Rattle.fr_shared.specs.Knowledge.{last_table};
+ghost use Rattle.fr_tables.specs.declared.hop.Hop.TheVariants.{CutOff};
 
 use fr_graph::MAX_NODES;
 use fr_route::{Hop, Router, Session};
@@ -45,9 +48,22 @@ fn hops_in(session: &Session) -> &[Hop]
     }
 }
 
+/// Whether a published table has the hop of node `x` in these hops: a node past their end is cut off.
+fn has_hop(publisher: &mut Publisher, hops: &[Hop], x: u32) -> bool
+    requires { length hops.now ≤ publisher.old.nodes }
+    ensures same { IsTrue result ↔ HasHopAt (last_table publisher.old) (padded publisher.old.nodes hops.now) x }
+    ensures kept { publisher.new ≡ publisher.old }
+{
+    publisher.history_law();
+    if x >= publisher.nodes() {
+        return true;
+    }
+    publisher.hop(x) == hop_in(hops, x)
+}
+
 /// The hop of node `x` in a table: one past its end is cut off.
 fn hop_in(hops: &[Hop], x: u32) -> Hop
-    ensures { result ≡ hop_at hops.now x }
+    ensures { result ≡ slice_index_or hops.now x CutOff }
 {
     hops.get(x as usize).copied().unwrap_or(Hop::CutOff)
 }
@@ -59,11 +75,12 @@ fn bring(publisher: &mut Publisher, session: &Session, rerouted: &[u32])
     requires can { CanPublish publisher.old session.now rerouted.now }
     ensures { Publishes publisher.old session.now rerouted.now publisher.new }
 {
+    publisher.history_law();
     let Some(first) = rerouted.first() else {
         return;
     };
     let hops = hops_in(session);
-    if *first >= publisher.nodes() || publisher.hop(*first) == hop_in(hops, *first) {
+    if has_hop(publisher, hops, *first) {
         return;
     }
     publisher.push_all(hops, rerouted);
@@ -85,9 +102,9 @@ pub(crate) fn opened(alloc: Global, session: &Session) -> Result<Publisher, Allo
     ensures { IfOk result (HasHopsOf session.now) }
 {
     let (mut publisher, _) = open(alloc, MAX_NODES)?;
+    session_law(session);
     if let Some(router) = session.router() {
         let rerouted = replaced(alloc, None, router)?;
-        session_law(session);
         bring(&mut publisher, session, &rerouted);
     }
     Ok(publisher)

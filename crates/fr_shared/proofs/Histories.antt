@@ -37,9 +37,9 @@ table_held (hop ∷ table) low =
 pub all_known : (h : List Push) → StartsWith h h
 all_known h = ([], sym (append-nil h))
 
-pub after_more : (table : List Hop) (h : List Push) (p : Push) → table_after table (h ++ p ∷ []) ≡ set (table_after table h) p.node p.hop
-after_more table [] p = refl
-after_more table (q ∷ qs) p = after_more (set table q.node q.hop) qs p
+pub after_append : (table : List Hop) (h k : List Push) → table_after table (h ++ k) ≡ table_after (table_after table h) k
+after_append table [] k = refl
+after_append table (p ∷ ps) k = after_append (set table p.node p.hop) ps k
 
 pub tables_more : (n : ℕ) (table : List Hop) (h : List Push) (p : Push) → AreAllTables n table h → IsTable n (set (table_after table h) p.node p.hop)
     → AreAllTables n table (h ++ p ∷ [])

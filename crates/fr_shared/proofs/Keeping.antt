@@ -16,7 +16,7 @@ use Rattle.fr_shared.specs.Histories.{IsHistory, IsTable, StartsWith, blank, pus
 use Rattle.fr_shared.specs.Rule.{AllFit, KeepsRule, ViewFits, first_view, reader_view, spent_view, with_met}
 use Rattle.fr_shared.specs.Steps.{compared, looked, recalled, written}
 use Rattle.fr_shared.specs.Laws.{Explains, StepsKeepTheRule}
-use Rattle.fr_shared.proofs.Histories.{after_more, all_known, blank_is_table, blank_words, hop_again, hop_held, last_is_table, table_held, tables_more}
+use Rattle.fr_shared.proofs.Histories.{after_append, all_known, blank_is_table, blank_words, hop_again, hop_held, last_is_table, table_held, tables_more}
 
 reads : false ≡ true → ⊥
 reads e = true≢false (sym e)
@@ -49,7 +49,7 @@ words_more : (n : ℕ) (h : List Push) (x : ℕ) (hop : Hop) (words : List ℕ) 
 words_more n h x hop words same =
     ap (λ (l : List ℕ). set l x (word_of hop)) same
     ∙ (sym (map-set word_of (table_of n h) x hop)
-    ∙ ap (map word_of) (sym (after_more (blank n) h (push x hop))))
+    ∙ ap (map word_of) (sym (after_append (blank n) h (push x hop ∷ []))))
 
 starts_more : (h k : List Push) (p : Push) → StartsWith h k → StartsWith (h ++ p ∷ []) k
 starts_more h k p begins = (begins.0 ++ p ∷ [], ap (λ (l : List Push). l ++ p ∷ []) begins.1 ∙ append_assoc k begins.0 (p ∷ []))
@@ -174,7 +174,7 @@ module _ {S : Type 0} where
             writer = λ other. absurd (apart ((f.writer other).0 ∙ sym (mine.writer works).0));
           });
         },
-        (refl, after_more (blank n) me.0.known p, tables, refl),
+        (refl, after_append (blank n) me.0.known (p ∷ []), tables, refl),
       )
 
   pub writes_at : (n slots id : ℕ) (me : Me S View) (x : ℕ) (hop : Hop) → me.0.nodes ≡ n → me.0.writes ≡ true → x < n

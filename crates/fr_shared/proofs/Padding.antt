@@ -1,8 +1,8 @@
 -- Tables with more nodes behind their end, which are cut off.
-use Rattle.std.proofs.Common.{Bool, List, not, ◌+◌, [], ap, arith, get_or, length, length-append, refl, replicate, slice_get, subst}
+use Rattle.std.proofs.Common.{append_assoc, Bool, List, not, ◌+◌, [], ap, arith, get_or, length, length-append, refl, replicate, slice_get, subst}
 use Rattle.std.proofs.Common.{suc, sym, true, zero, ℕ, ◌++◌, ◌-◌, ◌<◌, ◌≤◌, ◌∙◌, ◌∷◌, ◌≡◌}
 use Rattle.std.specs.List.{count_by}
-use Rattle.std.proofs.lemmas.List.{length-replicate}
+use Rattle.std.proofs.lemmas.List.{length-replicate, replicate-append-replicate}
 use Rattle.std.proofs.lemmas.Option.{none-some}
 use Rattle.fr_tables.specs.Pushes.{IsBefore, IsPushOrder, IsWave, differ_at, is_same}
 use Rattle.fr_tables.specs.Tables.{IsInRange, IsLoop, IsLoopFree, IsWalk, SendsOn, end_of}
@@ -13,6 +13,17 @@ use Rattle.fr_shared.proofs.Histories.{blank_sends}
 
 pub padded_length : (n : ℕ) (table : List Hop) → length table ≤ n → length (padded n table) ≡ n
 padded_length n table low = omega (arith, length-append table (replicate (n - length table) CutOff), length-replicate (n - length table) CutOff)
+
+-- a table that is padded twice
+pub padded_again : (m n : ℕ) (table : List Hop) → m ≤ n → padded n (padded m table) ≡ padded n table
+padded_again m n table low =
+    let k : ℕ = m - length table in
+    let long : length (padded m table) ≡ length table + k =
+    length-append table (replicate k CutOff) ∙ ap (λ (l : ℕ). length table + l) (length-replicate k CutOff) in
+    let all : k + (n - length (padded m table)) ≡ n - length table = omega (arith, long) in
+    append_assoc table (replicate k CutOff) (replicate (n - length (padded m table)) CutOff)
+    ∙ ap (λ (l : List Hop). table ++ l) (replicate-append-replicate k (n - length (padded m table)) CutOff
+    ∙ ap (λ (l : ℕ). replicate l CutOff) all)
 
 -- the hop of a node of the longer table
 longer_hop : (k : ℕ) (table : List Hop) (x : ℕ) → x < length table + k → get_or (table ++ replicate k CutOff) x Here ≡ get_or table x CutOff

@@ -1,10 +1,11 @@
 -- The pushes of a push order, one after the other.
-use Rattle.std.proofs.Common.{List, [], ap, append_assoc, arith, drop, get_or, inl, inr, length, set, subst}
+use Rattle.std.proofs.Common.{Contains, List, [], ap, append_assoc, arith, drop, get_or, inl, inr, length, set, subst}
 use Rattle.std.proofs.Common.{sym, take, ℕ, ⊎_elim, ◌++◌, ◌+◌, ◌<◌, ◌≤◌, ◌∙◌, ◌∷◌, ◌≡◌, append-nil}
 use Rattle.std.proofs.lemmas.Bool.{cases_lt}
 use Rattle.std.proofs.lemmas.List.{get_or_default, map-append, take-append-drop, take_all, take_more}
+use Rattle.std.proofs.lemmas.List.Elements.{Contains-append_left}
 use Rattle.std.proofs.lemmas.Option.{slice_get-get_or, slice_get_past}
-use Rattle.fr_tables.proofs.Members.{cases_member}
+use Rattle.fr_tables.proofs.Members.{Contains-head, Contains-tail, cases_member}
 use Rattle.fr_tables.proofs.Orders.{beginning_closed, ends_as_new, push_is_one_more, starts_as_old}
 use Rattle.fr_tables.specs.Laws.{NeverLoops}
 use Rattle.fr_tables.specs.Pushes.{IsClosedDownstream, IsPushOrder, IsPushed}
@@ -12,9 +13,38 @@ use Rattle.fr_tables.specs.Tables.{IsInRange}
 use Rattle.fr_tables.specs.declared.hop.Hop.{Hop}
 use Rattle.fr_tables.specs.declared.hop.Hop.TheVariants.{Here}
 use Rattle.fr_shared.specs.declared.view.Push.{Push}
-use Rattle.fr_shared.specs.Histories.{IsHistory, IsTable, push, pushes_of}
+use Rattle.fr_shared.specs.Histories.{IsHistory, IsTable, blank, push, pushes_of, table_after}
 use Rattle.fr_shared.specs.Knowledge.{Knowledge, last_table}
-use Rattle.fr_shared.proofs.Histories.{last_is_table}
+use Rattle.fr_shared.proofs.Histories.{after_append, last_is_table}
+
+pub take_within : (k : ℕ) (nodes : List ℕ) (x : ℕ) → Contains (take k nodes) x → Contains nodes x
+take_within k nodes x found = subst (λ (l : List ℕ). Contains l x) (take-append-drop k nodes) (Contains-append_left (take k nodes) (drop k nodes) x found)
+
+-- a node of an order is in the tables
+node_inside : (old new : List Hop) (order : List ℕ) (x : ℕ) → length old ≡ length new → IsPushOrder old new order → Contains order x → x < length new
+node_inside old new order x same is found = elim (cases_lt x (length new)) [
+  | inl inside ↦ inside
+  | inr out ↦ absurd ((is.these x).0 found (slice_get_past old x (omega (arith, out, same)) ∙ sym (slice_get_past new x out)))
+]
+
+pushes_more : (old new : List Hop) (done nodes : List ℕ) (table : List Hop) → length old ≡ length new
+    → ((x : ℕ) → Contains nodes x → x < length new) → IsPushed old new done table
+    → IsPushed old new (done ++ nodes) (table_after table (pushes_of new nodes))
+pushes_more old new done [] table same inside pushed = rw append-nil pushed
+pushes_more old new done (x ∷ xs) table same inside pushed =
+    let hop : Hop = get_or new x Here in
+    subst (λ (nodes : List ℕ). IsPushed old new nodes (table_after (set table x hop) (pushes_of new xs))) (append_assoc done (x ∷ []) xs)
+    (pushes_more old new (done ++ x ∷ []) xs (set table x hop) same (λ y found. inside y (Contains-tail y x xs found))
+    (push_is_one_more old new done table x hop same (slice_get-get_or new x Here (inside x (Contains-head x xs))) pushed))
+
+-- after so many pushes of an order its first nodes are pushed, and they are closed downstream
+pub first_pushed : (old new : List Hop) (order : List ℕ) (k : ℕ) → length old ≡ length new → IsPushOrder old new order
+    → IsPushed old new (take k order) (table_after old (pushes_of new (take k order)))
+first_pushed old new order k same is = pushes_more old new [] (take k order) old same
+    (λ x found. node_inside old new order x same is (take_within k order x found)) (starts_as_old old new)
+
+pub first_closed : (old new : List Hop) (order : List ℕ) (k : ℕ) → IsPushOrder old new order → IsClosedDownstream old new (take k order)
+first_closed old new order k is = beginning_closed old new (take k order) (drop k order) (subst (IsPushOrder old new) (sym (take-append-drop k order)) is)
 
 -- so many nodes of the order are pushed. The first three fields are what `push_all` asks
 pub record IsPushedTo (old now : Knowledge) (new : List Hop) (order : List ℕ) (i : ℕ) : Type 0 where
@@ -22,7 +52,6 @@ pub record IsPushedTo (old now : Knowledge) (new : List Hop) (order : List ℕ) 
   pub new_table : IsTable old.nodes new
   pub is_order : IsPushOrder (last_table old) new order
   pub history : now ≡ record old { known = old.known ++ pushes_of new (take i order) }
-  pub pushed : IsPushed (last_table old) new (take i order) (last_table now)
 
 pub push_begins : (old : Knowledge) (new : List Hop) (order : List ℕ) → IsHistory old.nodes old.known → IsTable old.nodes new
     → IsPushOrder (last_table old) new order → IsPushedTo old old new order 0
@@ -31,19 +60,7 @@ push_begins old new order are table is = record {
   new_table = table;
   is_order = is;
   history = ap (λ (h : List Push). record old { known = h }) (sym (append-nil old.known));
-  pushed = starts_as_old (last_table old) new;
 }
-
--- a node of an order is in the tables
-node_inside : (old new : List Hop) (order : List ℕ) (i : ℕ) → length old ≡ length new → IsPushOrder old new order → i < length order
-    → get_or order i 0 < length new
-node_inside old new order i same is low =
-    let x : ℕ = get_or order i 0 in
-    elim (cases_lt x (length new)) [
-      | inl inside ↦ inside
-      | inr out ↦ absurd ((is.these x).0 (i, low, get_or_default order i x 0 low)
-          (slice_get_past old x (omega (arith, out, same)) ∙ sym (slice_get_past new x out)))
-    ]
 
 pushed_in_range : (old new : List Hop) (nodes : List ℕ) (table : List Hop) → length old ≡ length new → IsInRange old → IsInRange new
     → IsPushed old new nodes table → IsInRange table
@@ -59,8 +76,12 @@ module _ {old now : Knowledge} {new : List Hop} {order : List ℕ} {i : ℕ} (do
   same_nodes : now.nodes ≡ old.nodes
   same_nodes = ap (λ (k : Knowledge). k.nodes) done.history
 
+  pushed : IsPushed (last_table old) new (take i order) (last_table now)
+  pushed = rw (ap last_table done.history, after_append (blank old.nodes) old.known (pushes_of new (take i order)))
+      (first_pushed (last_table old) new order i one_length done.is_order)
+
   pub inside : i < length order → get_or order i 0 < length new
-  inside low = node_inside (last_table old) new order i one_length done.is_order low
+  inside low = node_inside (last_table old) new order (get_or order i 0) one_length done.is_order (i, low, get_or_default order i (get_or order i 0) 0 low)
 
   pub has_word : i < length order → get_or order i 0 < now.nodes
   has_word low = omega (arith, inside low, same_nodes, done.new_table.one_each)
@@ -71,7 +92,7 @@ module _ {old now : Knowledge} {new : List Hop} {order : List ℕ} {i : ℕ} (do
       let x : ℕ = get_or order i 0 in
       rw (take_more order i 0 low)
       (push_is_one_more (last_table old) new (take i order) (last_table now) x (get_or new x Here) one_length
-      (slice_get-get_or new x Here (inside low)) done.pushed)
+      (slice_get-get_or new x Here (inside low)) pushed)
 
   -- the next push makes no loop
   pub next_table : NeverLoops → i < length order
@@ -80,18 +101,17 @@ module _ {old now : Knowledge} {new : List Hop} {order : List ℕ} {i : ℕ} (do
       let x : ℕ = get_or order i 0 in
       let table : List Hop = set (last_table now) x (get_or new x Here) in
       let nodes : List ℕ = take (i + 1) order in
-      let closed : IsClosedDownstream (last_table old) new nodes = beginning_closed (last_table old) new nodes (drop (i + 1) order)
-      (subst (IsPushOrder (last_table old) new) (sym (take-append-drop (i + 1) order)) done.is_order) in
       record {
         one_each = (next low).one_length ∙ (done.old_table.one_each ∙ sym same_nodes);
         in_range = pushed_in_range (last_table old) new nodes table one_length done.old_table.in_range done.new_table.in_range (next low);
-        loop_free = never (last_table old) new nodes table done.old_table.loop_free done.new_table.loop_free closed (next low);
+        loop_free = never (last_table old) new nodes table done.old_table.loop_free done.new_table.loop_free
+            (first_closed (last_table old) new order (i + 1) done.is_order) (next low);
       }
 
   pub push_goes_on : {after : Knowledge} → i < length order
       → after ≡ record now { known = now.known ++ push (get_or order i 0) (get_or new (get_or order i 0) Here) ∷ [] }
-      → last_table after ≡ set (last_table now) (get_or order i 0) (get_or new (get_or order i 0) Here) → IsPushedTo old after new order (i + 1)
-  push_goes_on low is table =
+      → IsPushedTo old after new order (i + 1)
+  push_goes_on low is =
       let x : ℕ = get_or order i 0 in
       let p : Push = push x (get_or new x Here) in
       let pushes : pushes_of new (take (i + 1) order) ≡ pushes_of new (take i order) ++ p ∷ [] =
@@ -106,10 +126,9 @@ module _ {old now : Knowledge} {new : List Hop} {order : List ℕ} {i : ℕ} (do
         is_order = done.is_order;
         history = is ∙ (ap (λ (k : Knowledge). record k { known = now.known ++ p ∷ [] }) done.history
             ∙ ap (λ (h : List Push). record old { known = h }) all);
-        pushed = subst (IsPushed (last_table old) new (take (i + 1) order)) (sym table) (next low);
       }
 
   -- after the last push the table is the new one
   pub push_ends : length order ≤ i → last_table now ≡ new
   push_ends past = ends_as_new (last_table old) new order (last_table now) one_length done.is_order
-      (subst (λ (nodes : List ℕ). IsPushed (last_table old) new nodes (last_table now)) (take_all i order past) done.pushed)
+      (subst (λ (nodes : List ℕ). IsPushed (last_table old) new nodes (last_table now)) (take_all i order past) pushed)

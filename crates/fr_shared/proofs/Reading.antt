@@ -9,7 +9,8 @@ use Rattle.fr_shared.specs.declared.walks.Walk.{Walk}
 use Rattle.fr_shared.specs.declared.walks.WalkEnd.TheVariants.{Longer}
 use Rattle.fr_shared.specs.Histories.{IsHistory, StartsWith, table_of}
 use Rattle.fr_shared.specs.Knowledge.{Knowledge, last_table}
-use Rattle.fr_shared.specs.Reading.{GoesBy, HasRead, HasWalked, IsEnd, end_by}
+use Rattle.fr_shared.specs.Inside.{end_by}
+use Rattle.fr_shared.specs.Reading.{GoesBy, HasRead, HasWalked, IsEnd}
 use Rattle.fr_shared.proofs.Histories.{all_known, last_is_table}
 
 pub starts_after : (last mid first : List Push) → StartsWith last mid → StartsWith mid first → StartsWith last first

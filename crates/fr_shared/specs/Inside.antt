@@ -1,10 +1,14 @@
--- The fields of a publisher and of a reader.
+-- The fields of a publisher and of a reader, and what a walk returns.
 use Rattle.std.specs.Prelude.{◌≡◌, ◌<◌, ℕ, Bool, true, false, []}
 use Rattle.atomic_table.specs.declared.shared.Seat.{Seat}
 use Rattle.atomic_table.specs.declared.owned.Table.{Table}
 use Rattle.std.specs.declared.alloc.Global.{Global}
+use Rattle.fr_tables.specs.declared.hop.Hop.{Hop}
+use Rattle.fr_tables.specs.declared.hop.Hop.TheVariants.{CutOff, Here, To}
 use Rattle.fr_shared.specs.declared.view.View.{View}
 use Rattle.fr_shared.specs.declared.rule.Rule.{Rule}
+use Rattle.fr_shared.specs.declared.walks.WalkEnd.{WalkEnd}
+use Rattle.fr_shared.specs.declared.walks.WalkEnd.TheVariants.{Arrived, CutOff as AtCutOff, Longer}
 use Rattle.fr_shared.specs.declared.reader.Reader.TheInside.{Inside as InReader}
 use Rattle.fr_shared.specs.declared.publisher.Publisher.TheInside.{Inside as InPublisher}
 use Rattle.fr_shared.specs.Histories.{IsHistory}
@@ -36,3 +40,9 @@ publisher_knowledge p = knowledge p.table.value.shared.table_id p.nodes p.seat.m
 
 abbrev pub IsSoundPublisher : InPublisher → Type 0
 IsSoundPublisher p = IsSoundPlace true p.nodes p.table.value p.seat
+
+-- what ends a walk, by the hop of its last node
+abbrev pub end_by : Hop → WalkEnd
+end_by Here = Arrived
+end_by (To y) = Longer
+end_by CutOff = AtCutOff

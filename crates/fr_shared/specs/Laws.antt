@@ -1,14 +1,16 @@
 -- The laws of a shared table: what holds at each moment, whatever the threads did. Each is a clause of `shared_law`.
-use Rattle.std.specs.Prelude.{◌≡◌, ℕ, ◌<◌, true, List, [], map, replicate, slice_set}
+use Rattle.std.specs.Prelude.{◌≡◌, ℕ, ◌<◌, ◌≤◌, ◌++◌, ◌∷◌, true, List, [], count_by, map, nat_eq, replicate, slice_set}
 use mathlib.Core.Option.{none, some}
 use lib.ListN.{get_elem?}
 use Rattle.atomic_table.specs.Table.{Allows, Joins, Me, Splits, State, opening, step}
+use Rattle.fr_tables.specs.Pushes.{IsPushOrder}
 use Rattle.fr_tables.specs.declared.hop.Hop.{Hop}
 use Rattle.fr_tables.specs.declared.hop.Hop.TheVariants.{CutOff}
 use Rattle.fr_shared.specs.declared.view.Push.{Push}
 use Rattle.fr_shared.specs.declared.view.View.{View}
 use Rattle.fr_shared.specs.Words.{hop_of, word_of}
-use Rattle.fr_shared.specs.Histories.{IsHistory, IsTable, StartsWith, table_of}
+use Rattle.fr_shared.specs.Histories.{IsHistory, IsTable, StartsWith, pushes_of, table_of}
+use Rattle.fr_shared.specs.Reading.{GoesBy}
 use Rattle.fr_shared.specs.Rule.{KeepsRule, first_view, reader_view, spent_view, with_met}
 use Rattle.fr_shared.specs.Steps.{compared, looked, recalled, written}
 
@@ -60,3 +62,16 @@ pub record StepsKeepTheRule (n : ℕ) : Type 0 where
 
 abbrev pub EveryStepKeepsTheRule : Type 0
 EveryStepKeepsTheRule = (n : ℕ) → StepsKeepTheRule n
+
+-- The pushes that a walk saw are all of one push order: it began after the pushes before that, and ended within these.
+pub record AreOfOneOrder (n : ℕ) (before : List Push) (new : List Hop) (order : List ℕ) (known after : List Push) : Type 0 where
+  pub tables : IsHistory n before
+  pub new_table : IsTable n new
+  pub is_order : IsPushOrder (table_of n before) new order
+  pub begins : StartsWith known before
+  pub ends : StartsWith (before ++ pushes_of new order) after
+
+-- Then the walk comes to no node more than twice.
+abbrev pub ComesTwiceAtMost : Type 0
+ComesTwiceAtMost = (n : ℕ) (before : List Push) (new : List Hop) (order : List ℕ) (known after : List Push) (x : ℕ) (nodes : List ℕ) (z : ℕ)
+    → AreOfOneOrder n before new order known after → GoesBy n known x nodes after → count_by (nat_eq z) (x ∷ nodes) ≤ 2

@@ -2,7 +2,7 @@
 use Rattle.std.specs.Prelude.{◌≡◌, ℕ, ◌≤◌, List, [], ◌∷◌, length, slice_get, Some, take}
 use Rattle.fr_tables.specs.Tables.{SendsOn, end_of}
 use Rattle.fr_tables.specs.declared.hop.Hop.{Hop}
-use Rattle.fr_tables.specs.declared.hop.Hop.TheVariants.{CutOff, Here, To}
+use Rattle.fr_tables.specs.declared.hop.Hop.TheVariants.{CutOff, Here}
 use Rattle.fr_shared.specs.declared.view.Push.{Push}
 use Rattle.fr_shared.specs.declared.walks.Walk.{Walk}
 use Rattle.fr_shared.specs.declared.walks.WalkEnd.{WalkEnd}
@@ -26,13 +26,7 @@ GoesBy n known x [] after = StartsWith after known × IsHistory n after
 GoesBy n known x (y ∷ ys) after = (history : List Push) × StartsWith history known × IsHistory n history × SendsOn (table_of n history) x y
     × GoesBy n history y ys after
 
--- what ends a walk, by the hop of its last node
-abbrev pub end_by : Hop → WalkEnd
-end_by Here = Arrived
-end_by (To y) = Longer
-end_by CutOff = AtCutOff
-
--- a walk ends so at node x of a table
+-- a walk in this table ends so at node x
 abbrev pub IsEnd : WalkEnd → List Hop → ℕ → Type 0
 IsEnd Arrived table x = slice_get table x ≡ Some Here
 IsEnd AtCutOff table x = slice_get table x ≡ Some CutOff
@@ -42,7 +36,7 @@ IsEnd Longer table x = (y : ℕ) × SendsOn table x y
 pub record HasWalked (old new : Knowledge) (x : ℕ) (room : List ℕ) (walk : Walk) : Type 0 where
   pub few : walk.count ≤ length room
   pub goes : GoesBy old.nodes old.known x (take walk.count room) new.known
-  -- the last read is of the last node, and it is what ended the walk,
+  -- it ended by the hop of its last node, in the last table that was read,
   pub ends : IsEnd walk.end (last_table new) (end_of x (take walk.count room))
-  -- which ends before its last hop only where the room is full
+  -- and this hop is to one more node only where the room is full
   pub full : walk.end ≡ Longer → walk.count ≡ length room

@@ -1,6 +1,6 @@
 //! The laws of a shared table: each clause is a law of `specs/Laws.antt`, proved. The function does nothing.
 
-ghost use Rattle.fr_shared.specs.Laws.{EveryStepKeepsTheRule, IsTableAtEachMoment};
+ghost use Rattle.fr_shared.specs.Laws.{ComesTwiceAtMost, EveryStepKeepsTheRule, IsTableAtEachMoment};
 ghost use Rattle.fr_shared.specs.Laws.{NoOtherStateIsFirst, OneHistoryExplainsAll, RuleHoldsAtFirst};
 
 /// At each moment, whatever the threads do, the words are a table without loops. It is the last table of one history of
@@ -13,4 +13,5 @@ pub fn shared_law()
     ensures first { RuleHoldsAtFirst }
     ensures only { NoOtherStateIsFirst }
     ensures kept { EveryStepKeepsTheRule }
+    ensures twice { ComesTwiceAtMost }
 {}

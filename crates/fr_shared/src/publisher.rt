@@ -88,8 +88,7 @@ impl Publisher {
     fn push(&mut self, x: u32, hop: Hop)
         requires node { x < self.old.nodes }
         requires table { IsTable self.old.nodes (slice_set (last_table self.old) x hop) }
-        ensures history { self.new ≡ record self.old { known = self.old.known ++ push x hop ∷ [] } }
-        ensures table { last_table self.new ≡ slice_set (last_table self.old) x hop }
+        ensures { self.new ≡ record self.old { known = self.old.known ++ push x hop ∷ [] } }
     {
         self.table
             .shared

@@ -1,16 +1,16 @@
 ghost use Rattle.std.specs.Prelude.{◌≡◌, ◌<◌};
 ghost use Rattle.fr_tables.specs.Pushes.{IsPushOrder};
-ghost use Rattle.fr_shared.specs.Histories.{IsTable};
+ghost use Rattle.fr_shared.specs.Histories.{IsTable, padded};
 ghost use Rattle.fr_shared.specs.Knowledge.{last_table};
 
-use crate::{Publisher, Reader, Walk, WalkEnd, open};
+use crate::{Publisher, Reader, WalkEnd, open};
 use fr_tables::{Hop, push_order};
 use std::test::Fail;
 use std::thread::{Threads, join};
 
 fn push(mut publisher: Publisher, new: &[Hop], order: &[u32]) -> Publisher
-    requires table { IsTable publisher.nodes new.now }
-    requires order { IsPushOrder (last_table publisher) new.now order.now }
+    requires table { IsTable publisher.nodes (padded publisher.nodes new.now) }
+    requires order { IsPushOrder (last_table publisher) (padded publisher.nodes new.now) order.now }
     ensures { result.nodes ≡ publisher.nodes }
 {
     publisher.push_all(new, order);
@@ -38,15 +38,15 @@ fn read_beside<R: Threads + Sync>(
     new: &[Hop],
     order: &[u32],
 ) -> (Publisher, bool)
-    requires table { IsTable publisher.nodes new.now }
-    requires order { IsPushOrder (last_table publisher) new.now order.now }
+    requires table { IsTable publisher.nodes (padded publisher.nodes new.now) }
+    requires order { IsPushOrder (last_table publisher) (padded publisher.nodes new.now) order.now }
     requires node { 2 < reader.nodes }
     ensures { result.0.nodes ≡ publisher.nodes }
 {
     join(
         rt,
         move || -> Publisher
-            requires { IsTable publisher.nodes new.now × IsPushOrder (last_table publisher) new.now order.now }
+            requires { IsTable publisher.nodes (padded publisher.nodes new.now) × IsPushOrder (last_table publisher) (padded publisher.nodes new.now) order.now }
             ensures { result.nodes ≡ publisher.nodes }
         { push(publisher, new, order) },
         move || -> bool
@@ -55,17 +55,23 @@ fn read_beside<R: Threads + Sync>(
     )
 }
 
+/// Opens a table for 5 nodes, pushes the hops of 3 while another thread reads, and reads and walks it.
 #[test]
 fn reads_while_hops_are_pushed(rt: HostRuntime) -> Result<(), Fail> {
-    let (publisher, reader) = open(rt.alloc(), 3)?;
+    let (publisher, reader) = open(rt.alloc(), 5)?;
     let old = [Hop::CutOff, Hop::CutOff, Hop::CutOff];
     let new = [Hop::Here, Hop::To(0), Hop::To(1)];
     let order = push_order(rt.alloc(), &old, &new).expect(&rt, "a push order");
     let (mut publisher, right) = read_beside(&rt, publisher, reader, &new, order.as_slice());
-    assert!(rt; right);
+    assert!(rt; right && publisher.hop(2) == Hop::To(1) && publisher.hop(4) == Hop::CutOff);
     let mut other = publisher.reader()?;
-    assert!(rt;
-        other.hop(0) == Hop::Here && other.hop(1) == Hop::To(0) && other.hop(2) == Hop::To(1)
-    );
+    assert!(rt; other.hop(0) == Hop::Here && other.hop(1) == Hop::To(0));
+    let mut room = [9, 9, 9];
+    let walk = other.walk(2, &mut room);
+    assert!(rt; walk.count == 2 && walk.end == WalkEnd::Arrived && room == [1, 0, 9]);
+    let walk = other.walk(2, &mut room[..1]);
+    assert!(rt; walk.count == 1 && walk.end == WalkEnd::Longer);
+    let walk = other.walk(3, &mut room);
+    assert!(rt; walk.count == 0 && walk.end == WalkEnd::CutOff);
     Ok(())
 }

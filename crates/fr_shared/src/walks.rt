@@ -1,7 +1,7 @@
 //! What a walk returns.
 
 ghost use Rattle.std.specs.Prelude.{◌≡◌};
-ghost use Rattle.fr_shared.specs.Reading.{end_by};
+ghost use Rattle.fr_shared.specs.Inside.{end_by};
 
 use fr_tables::Hop;
 

@@ -1,0 +1,154 @@
+-- Where a line leaves the session, and where it leads to other hops.
+use Rattle.std.proofs.Common.{List, Option, Some, None, Result, Ok, Err, IfErr, IfNone, IfOk, IfSome, OnErr, String, ap, false, inl, inr, length}
+use Rattle.std.proofs.Common.{refl, string_bytes, subst, sym, true, ℕ, ⊎_elim, ◌∙◌, ◌≡◌, ◌≢◌, ◌≤◌, ◌⊎◌}
+use Rattle.std.specs.declared.alloc.Global.{Global}
+use Rattle.fr_lines.specs.Requests.{PlainRequest, new_network, cut_link, add_link, join_nodes, make_edits, move_dest, walk_from, ask, reading}
+use Rattle.fr_lines.specs.declared.requests.LineFault.{LineFault}
+use Rattle.fr_route.specs.Answers.{IsAccepted, IsLineAnswer}
+use Rattle.fr_route.specs.Blank.{is_blank}
+use Rattle.fr_route.specs.Changes.{IsChanged, IsRouteFault}
+use Rattle.fr_route.specs.Reroutes.{TellsRerouted}
+use Rattle.fr_route.specs.States.{State, IsReport, net_at}
+use Rattle.fr_route.specs.Texts.{longest_report}
+use Rattle.fr_route.specs.Told.{IsLineTold, TellsOf, TellsOfLine}
+use Rattle.fr_route.specs.declared.change.Change.{Change}
+use Rattle.fr_route.specs.declared.change.Change.TheVariants.{Cut, Add, Join, Destination}
+use Rattle.fr_route.specs.declared.change.Report.{Report}
+use Rattle.fr_route.specs.declared.fault.AnswerFault.{AnswerFault}
+use Rattle.fr_route.specs.declared.fault.AnswerFault.TheVariants.{Start}
+use Rattle.fr_route.specs.declared.fault.RouteFault.{RouteFault}
+use Rattle.fr_route.specs.declared.fault.RouteFault.TheVariants.{Start as RouteStart}
+use Rattle.fr_route.proofs.Changing.{made_nodes}
+use Rattle.fr_shared.specs.Knowledge.{Knowledge}
+use Rattle.fr_published.specs.Answers.{AnswersLine, MakesChange}
+use Rattle.fr_published.specs.Published.{HasHopsOf, published}
+use Rattle.fr_published.specs.Publishing.{IsSettled, IsSettledSession, PublishesIn}
+use Rattle.fr_published.proofs.Bringing.{left_in}
+use Rattle.fr_published.proofs.Leading.{Leads, changed_nodes, replaced_leads, rerouted_leads}
+
+-- an accepted request that is no question leads from the session to the new state
+module _ (s : State) (settled : IsSettled s) (new : State) (before after : List ℕ) where
+  told_of_one : (request : PlainRequest) → IsSettled new → IsAccepted (Some s) request new → TellsOf (Some s) request new before after
+      → (Some new ≡ Some s) ⊎ Leads (Some s) (Some new) after
+  told_of_one (new_network n d links) is acc told = inr (replaced_leads (Some s) new after settled is told)
+  told_of_one (cut_link u v) is acc told = inr (rerouted_leads s new after settled (changed_nodes s (Cut u v) new acc) told)
+  told_of_one (add_link u v) is acc told = inr (rerouted_leads s new after settled (changed_nodes s (Add u v) new acc) told)
+  told_of_one (join_nodes u v) is acc told = inr (rerouted_leads s new after settled (changed_nodes s (Join u v) new acc) told)
+  told_of_one (make_edits edits) is acc told =
+      inr (rerouted_leads s new after settled (acc.1.1.1.nodes ∙ made_nodes (net_at s) edits acc.1.0 acc.1.1.0) told)
+  told_of_one (move_dest d) is acc told = inr (rerouted_leads s new after settled (changed_nodes s (Destination d) new acc) told)
+  told_of_one (walk_from x) is acc told = inl (ap Some acc.1)
+  told_of_one (ask question) is acc told = inl (ap Some acc)
+
+told_of : (s : Option State) → IsSettledSession s → (request : PlainRequest) (new : State) → IsSettled new → IsAccepted s request new
+    → (before after : List ℕ) → TellsOf s request new before after → (Some new ≡ s) ⊎ Leads s (Some new) after
+told_of None settled (new_network n d links) new is acc before after told = inr (replaced_leads None new after settled is told)
+told_of None settled (cut_link u v) new is acc before after told = absurd acc
+told_of None settled (add_link u v) new is acc before after told = absurd acc
+told_of None settled (join_nodes u v) new is acc before after told = absurd acc
+told_of None settled (make_edits edits) new is acc before after told = absurd acc
+told_of None settled (move_dest d) new is acc before after told = absurd acc
+told_of None settled (walk_from x) new is acc before after told = absurd acc
+told_of None settled (ask question) new is acc before after told = absurd acc
+told_of (Some s) settled request new is acc before after told = told_of_one s settled new before after request is acc told
+
+pub line_leads : (s next : Option State) → IsSettledSession s → IsSettledSession next → (asked : Result PlainRequest LineFault)
+    → (before after : List ℕ) → IsLineTold s asked next before after → (next ≡ s) ⊎ Leads s next after
+line_leads s next settled settled' (Ok request) before after told = ⊎_elim
+    (λ refused. inl refused.2)
+    (λ a.
+    let is : IsSettled a.0 = subst IsSettledSession a.2 settled' in
+    ⊎_elim (λ same. inl (a.2 ∙ same)) (λ l. inr (subst (λ (t : Option State). Leads s t after) (sym a.2) l))
+    (told_of s settled request a.0 is a.1 before after a.3))
+    told
+line_leads s next settled settled' (Err fault) before after told = inl told.0
+
+-- an answer to a line leaves the session, or leads to other hops
+pub answer_leads : (s next : Option State) → IsSettledSession s → IsSettledSession next → (line : List ℕ)
+    → (answer : Result (Option (String Global)) AnswerFault) (before after : List ℕ)
+    → IfOk answer (λ a. IfNone a ((is_blank line ≡ true) × (next ≡ s))) → OnErr answer ((is_blank line ≡ false) × (next ≡ s))
+    → TellsOfLine s (reading line) answer next before after → (next ≡ s) ⊎ Leads s next after
+answer_leads s next settled settled' line (Ok None) before after blank fault told = inl blank.1
+answer_leads s next settled settled' line (Ok (Some text)) before after blank fault told =
+    line_leads s next settled settled' (reading line) before after told.answered
+answer_leads s next settled settled' line (Err why) before after blank fault told = inl fault.1
+
+-- and so does a change
+pub change_leads : (s next : State) → IsSettled s → (change : Change) (answer : Result Report RouteFault) (before after : List ℕ)
+    → IfOk answer (λ _. IsChanged s change next) → OnErr answer (next ≡ s) → TellsRerouted s answer next before after
+    → (Some next ≡ Some s) ⊎ Leads (Some s) (Some next) after
+change_leads s next settled change (Ok report) before after changed fault told =
+    inr (rerouted_leads s next after settled (changed_nodes s change next changed) told.rerouted)
+change_leads s next settled change (Err why) before after changed fault told = inl (ap Some fault)
+
+-- What a session and its router answer, where it is published
+
+module _ (s s' : Option State) (nodes nodes' : List ℕ) (t t' : Option Knowledge) where
+  -- what leaves the session and the list leaves the table
+  all_left : IfSome t (HasHopsOf s) → PublishesIn t s' nodes' t' → s' ≡ s → nodes' ≡ nodes → published s' nodes' t' ≡ published s nodes t
+  all_left has p same list =
+      let kept : t' ≡ t = left_in t s' nodes' t' (subst (λ (u : Option State). IfSome t (HasHopsOf u)) (sym same) has) p in
+      λ i. record { session = same i; rerouted = list i; table = kept i }
+
+  pub line_answered : IfSome t (HasHopsOf s) → PublishesIn t s' nodes' t' → (line : List ℕ) (answer : Result (Option (String Global)) AnswerFault)
+      → IfOk answer (λ a. IfNone a ((is_blank line ≡ true) × (s' ≡ s)))
+      → IfOk answer (λ a. IfSome a (λ text. (is_blank line ≡ false) × IsLineAnswer s (reading line) (string_bytes text) s'))
+      → TellsOfLine s (reading line) answer s' nodes nodes' → OnErr answer ((is_blank line ≡ false) × (s' ≡ s))
+      → IfOk answer (λ a. IfSome a (λ text. ((s' ≡ s) × (nodes' ≡ nodes)) ⊎ (length (string_bytes text) ≤ longest_report)))
+      → IfErr answer (λ fault. fault ≢ Start) → AnswersLine (published s nodes t) line answer (published s' nodes' t')
+  line_answered has p line (Ok None) blank text told fault short no_start = record {
+    blank = (blank.0, all_left has p blank.1 told.blank);
+    text = tt;
+    told = told;
+    published = p;
+    short = tt;
+    unchanged = tt;
+    no_start = tt;
+  }
+  line_answered has p line (Ok (Some answer)) blank text told fault short no_start = record {
+    blank = tt;
+    text = text;
+    told = told;
+    published = p;
+    short = ⊎_elim (λ same. inl (all_left has p same.0 same.1)) (λ few. inr few) short;
+    unchanged = tt;
+    no_start = tt;
+  }
+  line_answered has p line (Err why) blank text told fault short no_start = record {
+    blank = tt;
+    text = tt;
+    told = told;
+    published = p;
+    short = tt;
+    unchanged = (fault.0, all_left has p fault.1 told.fault);
+    no_start = no_start;
+  }
+
+module _ (s s' : State) (nodes nodes' : List ℕ) (t t' : Option Knowledge) where
+  pub change_made : IfSome t (HasHopsOf (Some s)) → PublishesIn t (Some s') nodes' t' → (change : Change) (answer : Result Report RouteFault)
+      → IfOk answer (λ _. IsChanged s change s') → IfOk answer (λ report. IsReport s' report.turned report.cut)
+      → TellsRerouted s answer s' nodes nodes' → IfErr answer (IsRouteFault s change) → OnErr answer (s' ≡ s)
+      → IfErr answer (λ fault. fault ≢ RouteStart)
+      → MakesChange (published (Some s) nodes t) change (Some answer) (published (Some s') nodes' t')
+  change_made has p change (Ok report) changed is_report told fault unchanged no_start = record {
+    none = tt;
+    made = record {
+      before = s;
+      after = s';
+      was = refl;
+      is = refl;
+      changed = changed;
+      report_is = is_report;
+      rerouted = told.rerouted;
+    };
+    fault = tt;
+    unchanged = tt;
+    published = p;
+  }
+  change_made has p change (Err why) changed is_report told fault unchanged no_start = record {
+    none = tt;
+    made = tt;
+    fault = record { before = s; was = refl; refused = fault; no_start = no_start };
+    unchanged = all_left (Some s) (Some s') nodes nodes' t t' has p (ap Some unchanged) told.untold;
+    published = p;
+  }

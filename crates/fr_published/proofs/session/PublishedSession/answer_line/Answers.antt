@@ -1,0 +1,28 @@
+use Rattle.std.proofs.Common.{IfSome, List, subst, sym, ℕ}
+use Rattle.std.proofs.lemmas.Option.{IfSome_then}
+use Rattle.fr_published.specs.Answers.{AnswersLine}
+use Rattle.fr_published.specs.Published.{Published, published}
+use Rattle.fr_published.specs.Publishing.{CanPublish, PublishesIn}
+use Rattle.fr_published.proofs.Leading.{can_publish}
+use Rattle.fr_published.proofs.Telling.{answer_leads, line_answered}
+use Rattle.fr_published.proofs.session.PublishedSession.answer_line.Goals as goal
+
+pub publish-requires-clause-can : goal.publish-requires-clause-can
+publish-requires-clause-can c =
+    let p = c.self.inside in
+    let a = c.answer_line_telling_alone-answer in
+    let by = answer_leads p.session a.new.self c.session_law.ensures c.session_law-2.ensures c.args.line.now a.result p.rerouted.items
+    a.new.rerouted.items a.ensures.blank a.ensures.unchanged a.ensures.told in
+    subst (λ (nodes : List ℕ). IfSome p.publisher (λ k. CanPublish k a.new.self nodes)) (sym c.deref.ensures.value)
+    (IfSome_then p.publisher c.self.invariant
+    (can_publish p.session a.new.self c.session_law.ensures c.session_law-2.ensures a.new.rerouted.items by))
+
+pub returns : goal.returns
+returns c =
+    let p = c.self.inside in
+    let a = c.answer_line_telling_alone-answer in
+    let t = c.publish.new.publisher in
+    let table = subst (λ (nodes : List ℕ). PublishesIn p.publisher a.new.self nodes t) c.deref.ensures.value c.publish.ensures in
+    subst (λ (old : Published). AnswersLine old c.args.line.now a.result (published a.new.self a.new.rerouted.items t)) c.self.view_is
+    (line_answered p.session a.new.self p.rerouted.items a.new.rerouted.items p.publisher t c.self.invariant table c.args.line.now a.result
+    a.ensures.blank a.ensures.text a.ensures.told a.ensures.unchanged a.ensures.short a.ensures.no_start)
