@@ -29,12 +29,7 @@ pub(crate) fn hop_read(reader: &mut Reader, node: u32) -> u32
 }
 
 /// Walks from a node hop by hop, and writes it and the nodes after it to the front of the place. `size` has to be 0.
-pub(crate) fn walk_read(
-    reader: &mut Reader,
-    node: u32,
-    place: &mut [u32],
-    size: &mut usize,
-) -> u32
+pub(crate) fn walk_read(reader: &mut Reader, node: u32, place: &mut [u32], size: &mut usize) -> u32
     requires { size.old ≡ 0 }
     ensures reads_on { ReadsOn reader.old reader.new }
     ensures walk { TellsWalk reader.old reader.new node (outcome result place.old place.new size.new) }
