@@ -9,7 +9,7 @@ use Rattle.revroute_c.specs.contracts.handle.Handle.{the_row}
 
 -- what stands behind a handle
 abbrev pub held_by : Handle → Held
-held_by h = held h.session h.rerouted h.begun
+held_by h = held h.session h.rerouted h.table h.begun
 
 -- the handle is null, and nothing stands behind it
 pub record IsNull (h : Handle) : Type 0 where
@@ -23,7 +23,7 @@ pub record IsUnchanged (old new : Handle) : Type 0 where
 
 -- the same handle, with this engine behind it
 abbrev pub with_engine : Handle → Held → Handle
-with_engine h e = record h { session = e.session; rerouted = e.rerouted; begun = e.begun }
+with_engine h e = record h { session = e.session; rerouted = e.rerouted; table = e.table; begun = e.begun }
 
 -- the handle ends with the last engine behind the reference, and is else as it was, as it all is where nothing was lent
 abbrev pub LendsEngine : MutBor Handle → Option (MutBor Held) → Fml

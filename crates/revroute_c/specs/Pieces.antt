@@ -6,7 +6,8 @@ use Rattle.fr_lines.specs.Requests.{reading}
 use Rattle.fr_route.specs.Blank.{is_blank}
 use Rattle.fr_route.specs.States.{State}
 use Rattle.fr_route.specs.Told.{IsLineTold}
-use Rattle.revroute_c.specs.Engines.{Held}
+use Rattle.fr_published.specs.Publishing.{PublishesTo}
+use Rattle.revroute_c.specs.Engines.{Held, published_of}
 use Rattle.revroute_c.specs.Replies.{least_room, IsAnswered, IsAnswerLength, Outcome}
 use Rattle.revroute_c.specs.Statuses.{REVROUTE_ANSWERED, REVROUTE_BLANK, REVROUTE_TOO_SHORT}
 use Rattle.revroute_c.specs.Statuses.{REVROUTE_NO_MEMORY, REVROUTE_BEGUN, REVROUTE_TOO_LONG}
@@ -50,6 +51,8 @@ pub record AnswersEnd (piece : List ℕ) (old new : Held) (taken : ℕ) (o : Out
   pub answered : IsAnswered old.session line new.session o
   -- the engine then has the nodes that the line reroutes
   pub told : IsLineTold old.session (reading line) new.session old.rerouted new.rerouted
+  -- and they are pushed to the readers
+  pub published : PublishesTo old.table (published_of new)
 
 -- a call takes so many bytes of the piece, and answers the line that ends there
 -- the engine goes from `old` to `new`
@@ -68,8 +71,7 @@ pub record TakesPiece (piece : List ℕ) (old new : Held) (taken : ℕ) (o : Out
       × IsWantedAtEnd old.session old.begun piece (length o.before) o.size
   pub no_memory : o.status ≡ REVROUTE_NO_MEMORY → o.size ≡ 0
   pub too_long : o.status ≡ REVROUTE_TOO_LONG → IsTooLong old.begun piece × (o.size ≡ 0)
-  pub unchanged : ¬ (o.status ≡ REVROUTE_ANSWERED) → (new.session ≡ old.session)
-      × (new.rerouted ≡ old.rerouted) × (o.after ≡ o.before)
+  pub unchanged : ¬ (o.status ≡ REVROUTE_ANSWERED) → (published_of new ≡ published_of old) × (o.after ≡ o.before)
   pub untaken : REVROUTE_BLANK < o.status → o.status ≢ REVROUTE_BEGUN → (new.begun ≡ old.begun) × (taken ≡ 0)
   pub room : length o.before < least_room → o.status ≡ REVROUTE_TOO_SHORT
   pub status : (o.status ≤ REVROUTE_NO_MEMORY) ⊎ (o.status ≡ REVROUTE_BEGUN) ⊎ (o.status ≡ REVROUTE_TOO_LONG)

@@ -5,7 +5,8 @@ use Rattle.fr_route.specs.Answers.{IsLineAnswer}
 use Rattle.fr_route.specs.Blank.{is_blank}
 use Rattle.fr_route.specs.States.{State}
 use Rattle.fr_route.specs.Told.{IsLineTold}
-use Rattle.revroute_c.specs.Engines.{Held}
+use Rattle.fr_published.specs.Publishing.{PublishesTo}
+use Rattle.revroute_c.specs.Engines.{Held, published_of}
 use Rattle.revroute_c.specs.Statuses.{REVROUTE_ANSWERED, REVROUTE_BLANK, REVROUTE_TOO_SHORT, REVROUTE_NO_MEMORY}
 
 -- the least room for an answer, in bytes
@@ -76,8 +77,9 @@ pub record AnswersLine (line : List ℕ) (old new : Held) (o : Outcome) : Type 0
   pub too_short : o.status ≡ REVROUTE_TOO_SHORT → (length o.before < o.size)
       × IsWanted old.session line (length o.before) o.size
   pub no_memory : o.status ≡ REVROUTE_NO_MEMORY → o.size ≡ 0
-  pub unchanged : ¬ (o.status ≡ REVROUTE_ANSWERED) → (new.session ≡ old.session)
-      × (new.rerouted ≡ old.rerouted) × (o.after ≡ o.before)
+  -- and they are pushed to the readers
+  pub published : o.status ≡ REVROUTE_ANSWERED → PublishesTo old.table (published_of new)
+  pub unchanged : ¬ (o.status ≡ REVROUTE_ANSWERED) → (published_of new ≡ published_of old) × (o.after ≡ o.before)
   pub room : length o.before < least_room → o.status ≡ REVROUTE_TOO_SHORT
   pub status : o.status ≤ REVROUTE_NO_MEMORY
 

@@ -11,7 +11,8 @@ use Rattle.fr_graph.specs.declared.fault.NetFault.TheVariants.{TooMany, Range, S
 use Rattle.fr_route.specs.Answers.{IsAccepted, fault_number}
 use Rattle.fr_route.specs.States.{State, IsReport, net_at}
 use Rattle.fr_route.specs.Told.{TellsOf}
-use Rattle.revroute_c.specs.Engines.{Held}
+use Rattle.fr_published.specs.Publishing.{PublishesTo}
+use Rattle.revroute_c.specs.Engines.{Held, published_of}
 use Rattle.revroute_c.specs.Records.{AreKnown, edit_of, is_unknown}
 use Rattle.revroute_c.specs.Statuses.{REVROUTE_ANSWERED, REVROUTE_REFUSED}
 use Rattle.revroute_c.specs.declared.records.LinkEdit.{LinkEdit}
@@ -42,6 +43,8 @@ pub record IsNewRound (request : PlainRequest) (old new : Held) (round : Round) 
   pub accepted : IsAccepted old.session request after
   pub new_is : new.session ≡ Some after
   pub tells : TellsOf old.session request after old.rerouted new.rerouted
+  -- they are pushed to the readers
+  pub published : PublishesTo old.table (published_of new)
   pub report : IsReport after round.turned round.cut_off
 
 -- a call makes the request, with one round after it, or refuses it for such a reason

@@ -4,6 +4,7 @@ ghost use Rattle.std.specs.Prelude.{◌≡◌, ℕ, List, MatchOption, Option, N
 ghost use Rattle.std.specs.Borrow.{sem};
 ghost use denote.RawPtr.{null_ptr};
 ghost use Rattle.fr_route.specs.States.{State};
+ghost use Rattle.fr_shared.specs.Knowledge.{Knowledge};
 ghost use Rattle.revroute_c.specs.Engines.{no_engine, held};
 ghost use Rattle.revroute_c.specs.Holding.{holds};
 
@@ -22,11 +23,12 @@ pub struct Handle {
     at: *mut u8,
     pub ghost session: { Option State },
     pub ghost rerouted: { List ℕ },
+    pub ghost table: { Option Knowledge },
     pub ghost begun: { List ℕ },
 }
 
 impl Model for Handle {
-    ghost also_owns = { λ handle. holds handle.at (held handle.session handle.rerouted handle.begun) };
+    ghost also_owns = { λ handle. holds handle.at (held handle.session handle.rerouted handle.table handle.begun) };
 }
 
 // What a handle owns is the engine, and that may go to another thread.

@@ -299,6 +299,7 @@ pub extern "C" fn revroute_close(alloc: Global, handle: &mut Handle)
     ensures session { handle.new.session ≡ None }
     ensures rerouted { handle.new.rerouted ≡ [] }
     ensures begun { handle.new.begun ≡ [] }
+    ensures table { handle.new.table ≡ None }
     ensures null { handle.new.at ≡ null_ptr }
 {
     drop(Handle::taken(handle, alloc));
