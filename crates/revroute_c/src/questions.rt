@@ -1,8 +1,8 @@
 //! Questions: they change nothing.
 
-ghost use Rattle.std.specs.Prelude.{◌≡◌, ◌<◌, ◌≤◌, ◌⊎◌, ◌↔◌, length, None, IfOk, IfSome};
+ghost use Rattle.std.specs.Prelude.{◌≡◌, ◌<◌, ◌≤◌, ◌⊎◌, ◌↔◌, length, map, None, IfOk, IfSome};
 ghost use Rattle.fr_route.specs.States.{IsReport};
-ghost use Rattle.revroute_c.specs.Questions.{number_of, AreCounts, AreEnds, AreHopNumbers, AreHopsWritten};
+ghost use Rattle.revroute_c.specs.Questions.{number_of, AreCounts, AreEnds, AreHopsWritten};
 ghost use Rattle.revroute_c.specs.Questions.{AreAsManyAsNodes, HasNoRoute, IsHopNumber, IsRouteFrom, TellsHop, ends};
 ghost use Rattle.revroute_c.specs.Replies.{outcome, GivesList};
 
@@ -42,13 +42,13 @@ fn hop_number(router: &Router, x: u32) -> u32
     number(router.next_hop(x))
 }
 
-/// Writes where each node sends on to into a place for just these.
-fn fill_hops(router: &Router, place: &mut [u32])
-    requires { length place.old ≡ router.now.nodes }
-    ensures { AreHopNumbers router.now place.new }
+/// Writes hops as numbers into a place for just these.
+fn fill_hops(hops: &[Hop], place: &mut [u32])
+    requires { length place.old ≡ length hops.now }
+    ensures { place.new ≡ map number_of hops.now }
 {
-    for x in 0..router.net().nodes() {
-        place[x as usize] = hop_number(router, x);
+    for at in 0..hops.len() {
+        place[at] = number(hops[at]);
     }
 }
 
@@ -59,12 +59,12 @@ fn hand_out_hops(router: &Router, place: &mut [u32], size: &mut usize) -> u32
     ensures hops { result ≡ ANSWERED → AreHopsWritten router.now place.old place.new }
     ensures status { (result ≡ ANSWERED) ⊎ (result ≡ TOO_SHORT) }
 {
-    let nodes = router.net().nodes() as usize;
-    *size = nodes;
-    if nodes > place.len() {
+    let hops = router.hops();
+    *size = hops.len();
+    if hops.len() > place.len() {
         return TOO_SHORT;
     }
-    fill_hops(router, &mut place[..nodes]);
+    fill_hops(hops, &mut place[..hops.len()]);
     ANSWERED
 }
 
