@@ -13,7 +13,10 @@ ghost use Rattle.revroute_c.specs.ClosedWalks.{IsWalkOfChange, IsWalkOfNetwork};
 ghost use Rattle.revroute_c.specs.Lending.{held_by, IsUnchanged};
 ghost use Rattle.revroute_c.specs.Pieces.{TakesPiece};
 ghost use Rattle.revroute_c.specs.Questions.{AreCounts, AreEnds, AreHopsWritten, AreAsManyAsNodes};
-ghost use Rattle.revroute_c.specs.Questions.{HasNoRoute, IsRouteFrom, TellsHop};
+ghost use Rattle.revroute_c.specs.Questions.{HasNoRoute, IsRouteFrom, TellsHop, no_network};
+ghost use Rattle.revroute_c.specs.ReaderLending.{IsSameReader};
+ghost use Rattle.revroute_c.specs.ReaderOpening.{OpensTable, ReadsTableOf};
+ghost use Rattle.revroute_c.specs.Readers.{ReadsOn, TellsHopRead, TellsWalk, no_reader};
 ghost use Rattle.revroute_c.specs.Records.{AreKnown, edit_of, link_of};
 ghost use Rattle.revroute_c.specs.Replies.{outcome, AnswersApart, AnswersLine, GivesList, IsWritten};
 ghost use Rattle.revroute_c.specs.Rounds.{round_outcome, BeginsRound, IsChangeRefused, IsMoveRefused, IsNewRefused};
@@ -28,6 +31,9 @@ mod handle;
 mod loose;
 mod pieces;
 mod questions;
+mod reader_handle;
+mod reader_opening;
+mod readers;
 mod records;
 mod replies;
 mod rounds;
@@ -41,10 +47,13 @@ use pieces::{finish_line, take_anew, take_front};
 use questions::{
     HOP_OF_NO_NETWORK, counts_in, hop_in, hops_in, links_in, report_in, route_in, size_in,
 };
+use reader_handle::ReaderHandle;
+use reader_opening::{reader_anew, reader_in};
+use readers::{copied, hop_read, walk_read};
 use records::{Link, LinkEdit, Refusal, Round, first_unknown, unknown_at};
 use replies::{LEAST_ROOM, hand_out, reply, reply_anew};
 use rounds::{NewNetwork, change_in, move_in, open_anew, open_in};
-use statuses::{BLANK, NO_NETWORK, REFUSED, TOO_SHORT};
+use statuses::{ANSWERED, BLANK, NO_MEMORY, NO_NETWORK, REFUSED, TOO_SHORT};
 use std::alloc::Global;
 use tables::pushes_in;
 
@@ -495,4 +504,121 @@ pub extern "C" fn revroute_size(handle: &mut Handle, nodes: &mut u32, links: &mu
         Some(engine) => size_in(engine.session(), nodes, links),
         None => NO_NETWORK,
     }
+}
+
+/// Opens a reader of the session's hops, which knows all pushes made so far, and puts it into `reader`. One that was
+/// there is closed. From then on each accepted round pushes the changed hops, in push order, before its call returns.
+/// The session can be one that holds no network yet; each node is cut off then. Readers outlive the session, and read
+/// the last hops then.
+///
+/// `NO_MEMORY`: an allocation was refused. The reader is unchanged, and the session answers as before. `O(n)` for the
+/// first reader of a session, and `O(1)` for each later one.
+#[unsafe(no_mangle)]
+pub extern "C" fn revroute_reader_open(
+    alloc: Global,
+    handle: &mut Handle,
+    reader: &mut ReaderHandle,
+) -> u32
+    ensures opens { OpensTable (held_by handle.old) (held_by handle.new) }
+    ensures reader { result ≡ REVROUTE_ANSWERED → ReadsTableOf (held_by handle.new) reader.new.reading }
+    ensures kept { ¬ (result ≡ REVROUTE_ANSWERED) → reader.new ≡ reader.old }
+    ensures handle { (handle.new.at ≡ handle.old.at) ⊎ ((handle.old.at ≡ null_ptr) × (result ≡ REVROUTE_ANSWERED)) }
+    ensures status { (result ≡ REVROUTE_ANSWERED) ⊎ (result ≡ REVROUTE_NO_MEMORY) }
+{
+    let opened = match handle.engine_mut() {
+        Some(engine) => reader_in(engine, alloc),
+        None => reader_anew(handle, alloc),
+    };
+    match opened {
+        Ok(opened) => {
+            ReaderHandle::put(reader, alloc, opened);
+            ANSWERED
+        }
+        Err(_) => NO_MEMORY,
+    }
+}
+
+/// Opens one more reader of the same table, for another thread, and puts it into `other`. One that was there is closed.
+/// It knows what `reader` knows.
+///
+/// - `NO_NETWORK`: `reader` is null.
+/// - `NO_MEMORY`: an allocation was refused.
+///
+/// After both `other` is unchanged. `O(1)`.
+#[unsafe(no_mangle)]
+pub extern "C" fn revroute_reader_copy(
+    alloc: Global,
+    reader: &mut ReaderHandle,
+    other: &mut ReaderHandle,
+) -> u32
+    ensures same { IsSameReader reader.old reader.new }
+    ensures copied { result ≡ REVROUTE_ANSWERED → other.new.reading ≡ reader.old.reading }
+    ensures kept { ¬ (result ≡ REVROUTE_ANSWERED) → other.new ≡ other.old }
+    ensures no_network { (result ≡ REVROUTE_NO_NETWORK) ↔ (reader.old.at ≡ null_ptr) }
+    ensures status { (result ≡ REVROUTE_ANSWERED) ⊎ (result ≡ REVROUTE_NO_MEMORY) ⊎ (result ≡ REVROUTE_NO_NETWORK) }
+{
+    let Some(held) = reader.reader_mut() else {
+        return NO_NETWORK;
+    };
+    let Ok(copy) = copied(held, alloc) else {
+        return NO_MEMORY;
+    };
+    ReaderHandle::put(other, alloc, copy);
+    ANSWERED
+}
+
+/// Where a node sends on to, as [`revroute_next_hop`] answers it, by one load. It waits for nobody, and other threads
+/// may use the session and other readers meanwhile. A number that is no node of the network is cut off, and a number
+/// of 4,096 or more is no node. A null reader answers that there is no network. `O(1)`.
+#[unsafe(no_mangle)]
+pub extern "C" fn revroute_reader_next_hop(reader: &mut ReaderHandle, node: u32) -> u32
+    ensures null { reader.old.at ≡ null_ptr → (result ≡ no_network) × (reader.new.reading ≡ reader.old.reading) }
+    ensures hop { reader.old.at ≢ null_ptr → TellsHopRead reader.old.reading reader.new.reading node result }
+    ensures same_handle { reader.new.at ≡ reader.old.at }
+{
+    match reader.reader_mut() {
+        Some(held) => hop_read(held, node),
+        None => HOP_OF_NO_NETWORK,
+    }
+}
+
+/// Walks hop by hop from a node, and writes it and the nodes after it into the front of the place, and how many these
+/// are to `size`. The walk makes one load a node. While hops are pushed, each of them can be of a later table.
+///
+/// - `TOO_SHORT`: the place is full before the walk has ended. `size` is one more than it has room for.
+/// - `NO_ROUTE`: the last node is cut off, or the first is none.
+/// - `NO_NETWORK`: the reader is null.
+///
+/// `size` is 0 after the last two. After each of the three the front of the place has the nodes walked so far. It
+/// takes no memory, and waits for nobody. `O(r)` for r nodes of the walk.
+#[unsafe(no_mangle)]
+pub extern "C" fn revroute_reader_route(
+    reader: &mut ReaderHandle,
+    node: u32,
+    nodes: &mut [u32],
+    size: &mut usize,
+) -> u32
+    ensures walk { TellsWalk reader.old.reading reader.new.reading node
+        (outcome result nodes.old nodes.new size.new) }
+    ensures reads_on { ReadsOn reader.old.reading reader.new.reading }
+    ensures same_handle { reader.new.at ≡ reader.old.at }
+    ensures no_network { (result ≡ REVROUTE_NO_NETWORK) ↔ (reader.old.at ≡ null_ptr) }
+    ensures status { (result ≡ REVROUTE_ANSWERED) ⊎ (result ≡ REVROUTE_TOO_SHORT) ⊎ (result ≡ REVROUTE_NO_NETWORK)
+        ⊎ (result ≡ REVROUTE_NO_ROUTE) }
+{
+    *size = 0;
+    match reader.reader_mut() {
+        Some(held) => walk_read(held, node, nodes, size),
+        None => NO_NETWORK,
+    }
+}
+
+/// Gives a reader up. The handle is null again. The table goes with its session and its last reader. `O(1)`, and
+/// `O(n)` for the last one.
+#[unsafe(no_mangle)]
+pub extern "C" fn revroute_reader_close(alloc: Global, reader: &mut ReaderHandle)
+    ensures none { reader.new.reading ≡ no_reader }
+    ensures null { reader.new.at ≡ null_ptr }
+{
+    drop(ReaderHandle::taken(reader, alloc));
 }

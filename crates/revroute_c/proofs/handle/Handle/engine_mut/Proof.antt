@@ -39,7 +39,8 @@ use Rattle.revroute_c.specs.contracts.engine.Engine.{the_row as S}
 use Rattle.revroute_c.specs.Holding.{holds}
 use Rattle.revroute_c.specs.Engines.{Held, no_engine}
 use Rattle.revroute_c.specs.Lending.{held_by, with_engine}
-use Rattle.revroute_c.proofs.Handles.{word, boxed, handle_out, handle_in, either_held}
+use Rattle.revroute_c.proofs.Owned.{word, boxed, either_owned}
+use Rattle.revroute_c.proofs.Handles.{handle_out, handle_in}
 use Rattle.revroute_c.specs.declared.handle.Handle.{Handle}
 use Rattle.revroute_c.specs.contracts.handle.Handle.{the_row as H'}
 use Rattle.revroute_c.specs.contracts.handle.Handle.engine_mut.{ended, clauses}
@@ -79,7 +80,7 @@ module _ {M : Type 1} {𝓤 : Ura M} (𝓛 : Logic 𝓤) (at_mem : Memory → SP
   unfolding part_of
   back a x y is w =
       qed 𝓛 (‵ (part_at S full_share w x y) ∷ ‵ (Rest a x y) ∷ []) ∵ move ! (1 ∷ []) $ fsplit ! $ move ! (2 ∷ 0 ∷ []) $ fjoin ! $
-      fpack ! Global (λ z. boxed z (block_ptr x y) w) a $ rewrite ! 0 (λ (p : Ptr). ‵ (holds p w))
+      fpack ! Global (λ z. boxed S z (block_ptr x y) w) a $ rewrite ! 0 (λ (p : Ptr). ‵ (holds p w))
       (sym is) refl $ rewrite ! 1 (λ (p : Ptr). ‵ (cell p)) (sym is) refl $
       handle_in ! h.at w $ move ! (1 ∷ 0 ∷ []) $ fjoin ! $ fpack ! (List Val)
       (λ us. fsep (cell_at full_share H'.mir us b o) (H'.own_val (with_engine h w) us)) (word h.at ∷ []) $ done !
@@ -119,7 +120,7 @@ engine_mut_spec 𝓤 𝓛 𝓜 𝓡 wired =
     fsplit3 ! $ move ! (1 ∷ 2 ∷ 3 ∷ []) $ opens ! tt H' b o
     (λ us. move ! (1 ∷ []) $ handle_out ! h us (λ ws. rewrite ! 1 (λ (vs : List Val). ‵ (cell_at full_share H'.mir vs b o)) ws refl $
     -- [what the handle owns; its bytes; the open borrow, in three entries]
-    either_held ! h.at (held_by h)
+    either_owned S no_engine ! h.at (held_by h)
     (λ is none. rewrite ! 0 (λ (p : Ptr). ‵ (Cell p)) is refl $
     sets ! (of_opd ! (load ! (through ! refl (fld ! refl (stop !))) (look_in ! 0 (sub ! 0 refl (whole !))))) refl (tt, record { fits = lit< tt }) $
     sets ! (bin ! (get ! refl) (lit ! tt) tt) refl (tt, tt) $ first ! $ branches ! (get ! refl)

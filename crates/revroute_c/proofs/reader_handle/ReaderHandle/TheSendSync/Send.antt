@@ -1,0 +1,10 @@
+-- A reader's handle may go to another thread, since a reader may.
+use denote.Param.Send.{IsSend, owning_send, sendable}
+use Rattle.fr_shared.specs.contracts.reader.Reader.{the_row as S}
+use Rattle.fr_shared.proofs.reader.Reader.TheSendSync as reader
+use Rattle.revroute_c.proofs.Owned.{owned_keyless}
+use Rattle.revroute_c.specs.Readers.{no_reader}
+use Rattle.revroute_c.specs.contracts.reader_handle.ReaderHandle.{the_row, the_type}
+
+pub send : IsSend the_row
+send = owning_send the_type (search sendable, tt) (λ d. owned_keyless S no_reader reader.the_send d.at d.reading) (λ k x w. tt)

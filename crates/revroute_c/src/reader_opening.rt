@@ -1,0 +1,33 @@
+//! How a session opens readers.
+
+ghost use Rattle.std.specs.Prelude.{◌≡◌, IfOk, OnErr};
+ghost use Rattle.revroute_c.specs.Lending.{held_by, IsNull};
+ghost use Rattle.revroute_c.specs.ReaderOpening.{OpensTable, ReadsTableOf};
+
+use crate::engine::Engine;
+use crate::handle::Handle;
+use fr_shared::Reader;
+use std::alloc::{AllocError, Global};
+
+/// A reader of the session's hops.
+pub(crate) fn reader_in(engine: &mut Engine, alloc: Global) -> Result<Box<Reader>, AllocError>
+    ensures opens { OpensTable engine.old engine.new }
+    ensures reader { IfOk result (λ reader. ReadsTableOf engine.new reader.value) }
+{
+    let reader = engine.published.reader(alloc)?;
+    engine.published.table_law();
+    Ok(Box::new(alloc, reader)?)
+}
+
+/// A reader of the hops of a new session, which the null handle holds from then on.
+pub(crate) fn reader_anew(handle: &mut Handle, alloc: Global) -> Result<Box<Reader>, AllocError>
+    requires { IsNull handle.old }
+    ensures opens { OpensTable (held_by handle.old) (held_by handle.new) }
+    ensures reader { IfOk result (λ reader. ReadsTableOf (held_by handle.new) reader.value) }
+    ensures kept { OnErr result (handle.new ≡ handle.old) }
+{
+    let mut engine = Box::new(alloc, Engine::new(alloc))?;
+    let reader = reader_in(&mut engine, alloc)?;
+    Handle::put(handle, engine);
+    Ok(reader)
+}

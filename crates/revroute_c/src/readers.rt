@@ -1,0 +1,58 @@
+//! Readers: what other threads ask while the session is changed.
+
+ghost use Rattle.std.specs.Prelude.{◌≡◌, ◌⊎◌, IfOk};
+ghost use Rattle.revroute_c.specs.Readers.{ReadsOn, TellsHopRead, TellsWalk};
+ghost use Rattle.revroute_c.specs.Replies.{outcome};
+
+use crate::questions::{HOP_OF_NO_NODE, number};
+use crate::statuses::{ANSWERED, NO_ROUTE, TOO_SHORT};
+use fr_shared::{Reader, WalkEnd};
+use std::alloc::{AllocError, Global};
+
+/// One more reader of the same table.
+pub(crate) fn copied(reader: &mut Reader, alloc: Global) -> Result<Box<Reader>, AllocError>
+    ensures same { reader.new ≡ reader.old }
+    ensures other { IfOk result (λ other. other.value ≡ reader.old) }
+{
+    let other = reader.another()?;
+    Ok(Box::new(alloc, other)?)
+}
+
+/// Where a node sends on to, as a number.
+pub(crate) fn hop_read(reader: &mut Reader, node: u32) -> u32
+    ensures { TellsHopRead reader.old reader.new node result }
+{
+    if node >= reader.nodes() {
+        return HOP_OF_NO_NODE;
+    }
+    number(reader.hop(node))
+}
+
+/// Walks from a node hop by hop, and writes it and the nodes after it to the front of the place. `size` has to be 0.
+pub(crate) fn walk_read(reader: &mut Reader, node: u32, place: &mut [u32], size: &mut usize) -> u32
+    requires { size.old ≡ 0 }
+    ensures reads_on { ReadsOn reader.old reader.new }
+    ensures walk { TellsWalk reader.old reader.new node (outcome result place.old place.new size.new) }
+    ensures status { (result ≡ ANSWERED) ⊎ (result ≡ TOO_SHORT) ⊎ (result ≡ NO_ROUTE) }
+{
+    if node >= reader.nodes() {
+        return NO_ROUTE;
+    }
+    if place.is_empty() {
+        *size = 1;
+        return TOO_SHORT;
+    }
+    place[0] = node;
+    let walk = reader.walk(node, &mut place[1..]);
+    match walk.end {
+        WalkEnd::Arrived => {
+            *size = walk.count + 1;
+            ANSWERED
+        }
+        WalkEnd::CutOff => NO_ROUTE,
+        WalkEnd::Longer => {
+            *size = walk.count + 2;
+            TOO_SHORT
+        }
+    }
+}
