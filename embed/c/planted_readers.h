@@ -1,5 +1,5 @@
 /* Readers in plain C in the place of the library's, with a fault: readers.c is built with each PLANT, and has to find it. It has to end well
- * with no_plant, which are right readers. Pushes are slow, so that threads read between them. */
+ * with no_fault, which are right readers. Pushes are slow, so that threads read between them. */
 #ifndef PLANTED_READERS_H
 #define PLANTED_READERS_H
 
@@ -7,7 +7,7 @@
 #include <stdatomic.h>
 #include <stdlib.h>
 
-enum { no_plant = 1, pushes_by_number, a_read_of_the_next_node, a_push_left_out, a_hop_that_goes_back, PUSH_TIME = 60 };
+enum { no_fault = 1, pushes_by_number, a_read_of_the_next_node, a_push_left_out, a_hop_that_goes_back, PUSH_TIME = 400 };
 
 static _Atomic uint32_t planted_table[4096];
 
@@ -22,6 +22,11 @@ static uint32_t planted_hop(revroute *session, uint32_t node) {
     return hop == REVROUTE_NO_SUCH_NODE ? REVROUTE_CUT_OFF : hop;
 }
 
+static void planted_store(uint32_t node, uint32_t hop) {
+    planted_table[node] = hop;
+    for (volatile int spin = 0; spin < PUSH_TIME; spin++) continue;
+}
+
 /* Pushes what a call has changed, and returns the call's status. */
 static uint32_t planted_push(revroute *session, uint32_t status) {
     uint32_t nodes[4096];
@@ -31,12 +36,10 @@ static uint32_t planted_push(revroute *session, uint32_t status) {
     if (PLANT == a_push_left_out && count > 2) count--;
     for (size_t at = 0; at < count; at++) {
         uint32_t before = planted_table[nodes[at]], hop = planted_hop(session, nodes[at]);
-        planted_table[nodes[at]] = hop;
-        for (volatile int spin = 0; spin < PUSH_TIME; spin++) continue;
-        if (PLANT == a_hop_that_goes_back) {
-            planted_table[nodes[at]] = before;
-            planted_table[nodes[at]] = hop;
-        }
+        planted_store(nodes[at], hop);
+        if (PLANT != a_hop_that_goes_back) continue;
+        planted_store(nodes[at], before);
+        planted_store(nodes[at], hop);
     }
     return status;
 }
