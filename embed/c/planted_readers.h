@@ -1,5 +1,5 @@
-/* Readers in plain C in the place of the library's, with a fault: readers.c is built with each PLANT, and has to find it. It has to end well
- * with no_fault, which are right readers. Pushes are slow, so that threads read between them. */
+/* Readers in plain C in the place of the library's, with a fault: readers.c is built with each PLANT, and has to find
+ * it. It has to end well with no_fault, which are right readers. Pushes are slow, so that threads read between them. */
 #ifndef PLANTED_READERS_H
 #define PLANTED_READERS_H
 
@@ -61,7 +61,8 @@ static uint32_t planted_reader_next_hop(revroute_reader *reader, uint32_t node) 
     return table[PLANT == a_read_of_the_next_node ? node + 1 : node];
 }
 
-static uint32_t planted_reader_route(revroute_reader *reader, uint32_t node, uint32_t *nodes, size_t room, size_t *length) {
+static uint32_t planted_reader_route(revroute_reader *reader, uint32_t node, uint32_t *nodes, size_t room,
+                                     size_t *length) {
     *length = 0;
     for (size_t at = 0; at < room; at++) {
         nodes[at] = node;

@@ -1,9 +1,9 @@
 /* Readers without memory, without room, and without a network; and who gives memory back.
  *
- * A session without a network, one with a network, and one that has readers already: of each a reader is opened and copied with the Nth
- * allocation refused, for N = 1, 2, .. until none is met. A call that says that it has no memory writes no handle. Then the session is changed
- * in the same way: after a change without memory the readers have the hops from before it. In the end session and readers are closed in each
- * order, and no block is left.
+ * A session without a network, one with a network, and one that has readers already: of each a reader is opened and
+ * copied with the Nth allocation refused, for N = 1, 2, .. until none is met. A call that says that it has no memory
+ * writes no handle. Then the session is changed in the same way: after a change without memory the readers have the
+ * hops from before it. In the end session and readers are closed in each order, and no block is left.
  *
  * Printed are how many allocations were refused, and how many calls said so.
  */
@@ -16,8 +16,9 @@
 enum { NODES = 4, MOST = 4096, FENCED = 1 << 16, UNTOUCHED = 77 };
 
 static const revroute_link links[] = {{1, 0}, {2, 1}, {2, 3}, {3, 0}};
-/* Changes, made over and over, and the hop of node 2 behind each. */
-static const revroute_edit feed[] = {{REVROUTE_CUT, 1, 0}, {REVROUTE_JOIN, 1, 0}, {REVROUTE_CUT, 3, 0}, {REVROUTE_JOIN, 3, 0}};
+/* Changes, made over and over, and the hop of node 2 after each. */
+static const revroute_edit feed[] = {
+    {REVROUTE_CUT, 1, 0}, {REVROUTE_JOIN, 1, 0}, {REVROUTE_CUT, 3, 0}, {REVROUTE_JOIN, 3, 0}};
 static const uint32_t hops[] = {3, 3, 1, 1};
 static size_t steps;
 static long refusals, told;
@@ -41,8 +42,8 @@ static uint32_t open_network(revroute *session, revroute_reader *reader, revrout
     revroute_refusal refusal;
     uint32_t before = reader->at ? revroute_reader_next_hop(reader, 1) : 0;
     uint32_t status = revroute_open(session, NODES, 0, links, 4, &round, &refusal);
-    if (status && reader->at && revroute_reader_next_hop(reader, 1) != before) stop("a network without memory pushes a hop");
     (void)other;
+    if (status && reader->at && revroute_reader_next_hop(reader, 1) != before) stop("without memory a hop is pushed");
     return status;
 }
 
@@ -52,12 +53,13 @@ static uint32_t change(revroute *session, revroute_reader *reader, revroute_read
     uint32_t status = revroute_change(session, &feed[steps % 4], 1, &round, &refusal);
     steps += status == REVROUTE_ANSWERED;
     uint32_t hop = hops[(steps + 3) % 4];
-    if (revroute_reader_next_hop(reader, 2) != hop || revroute_reader_next_hop(other, 2) != hop) stop("a reader has another hop");
+    if (revroute_reader_next_hop(reader, 2) != hop) stop("a reader has another hop");
+    if (revroute_reader_next_hop(other, 2) != hop) stop("a copy has another hop");
     return status;
 }
 
-/* Makes a call again and again, with each allocation refused in turn, until none is met. A session may keep room for its next
- * change, and the table for its next reader. */
+/* Makes a call again and again, with each allocation refused in turn, until none is met. A session may keep room for
+ * its next change, and the table for its next reader. */
 static void make_poor(call *make, revroute *session, revroute_reader *reader, revroute_reader *other) {
     for (long number = 1;; number++) {
         revroute before = *session;
@@ -72,12 +74,13 @@ static void make_poor(call *make, revroute *session, revroute_reader *reader, re
         if (status == REVROUTE_ANSWERED) continue;
         if (status != REVROUTE_NO_MEMORY || !was_refused) stop("a call ends as it cannot end");
         told++;
-        if (session->at != before.at || reader->at != was.at || other->at != other_was.at) stop("a call without memory wrote a handle");
-        if (make == copy_reader && refusing_held != held) stop("a copy without memory took a block, or gave one back");
+        if (session->at != before.at || reader->at != was.at || other->at != other_was.at)
+            stop("a call without memory wrote a handle");
+        if (make == copy_reader && refusing_held != held) stop("a copy without memory holds another block");
     }
 }
 
-/* The ends of a walk in each room from none on: no place behind it is written. */
+/* The ends of a walk in each room from none on: no place after it is written. */
 static void walk_all(revroute_reader *reader) {
     static const uint32_t route[] = {2, 1, 0};
     for (size_t room = 0; room < 5; room++) {
@@ -94,19 +97,22 @@ static void walk_all(revroute_reader *reader) {
 
 /* What is no node, or has no way. */
 static void ask_outside(revroute_reader *reader) {
-    static const uint32_t cut_off[] = {NODES, NODES + 1, MOST - 1}, outside[] = {MOST, MOST + 1, 1 << 16, UINT32_MAX};
+    static const uint32_t cut_off[] = {NODES, NODES + 1, MOST - 1};
+    static const uint32_t outside[] = {MOST, MOST + 1, 1 << 16, UINT32_MAX};
     uint32_t *place = place_end - 2;
     size_t length;
     for (int at = 0; at < 3; at++) {
         length = 99;
-        if (revroute_reader_next_hop(reader, cut_off[at]) != REVROUTE_CUT_OFF) stop("what is no node of the network has a hop");
-        if (revroute_reader_route(reader, cut_off[at], place, 2, &length) != REVROUTE_NO_ROUTE || length) stop("what is no node has a route");
+        if (revroute_reader_next_hop(reader, cut_off[at]) != REVROUTE_CUT_OFF) stop("what is no node has a hop");
+        uint32_t status = revroute_reader_route(reader, cut_off[at], place, 2, &length);
+        if (status != REVROUTE_NO_ROUTE || length) stop("what is no node has a route");
         if (place[0] != cut_off[at]) stop("a walk that is cut off does not leave its nodes");
     }
     for (int at = 0; at < 4; at++) {
         length = 99;
-        if (revroute_reader_next_hop(reader, outside[at]) != REVROUTE_NO_SUCH_NODE) stop("what can be no node has a hop");
-        if (revroute_reader_route(reader, outside[at], place, 2, &length) != REVROUTE_NO_ROUTE || length) stop("what can be no node has a route");
+        if (revroute_reader_next_hop(reader, outside[at]) != REVROUTE_NO_SUCH_NODE) stop("no node has a hop");
+        uint32_t status = revroute_reader_route(reader, outside[at], place, 2, &length);
+        if (status != REVROUTE_NO_ROUTE || length) stop("no node has a route");
     }
 }
 
@@ -116,22 +122,24 @@ static void ask_null(void) {
     size_t length = 99;
     uint32_t *place = place_end - 2;
     if (revroute_reader_next_hop(&none, 0) != REVROUTE_NO_HOP) stop("no reader has a hop");
-    if (revroute_reader_route(&none, 0, place, 2, &length) != REVROUTE_NO_NETWORK || length) stop("no reader has a route");
+    uint32_t status = revroute_reader_route(&none, 0, place, 2, &length);
+    if (status != REVROUTE_NO_NETWORK || length) stop("no reader has a route");
     if (revroute_reader_copy(&none, &other) != REVROUTE_NO_NETWORK || other.at) stop("no reader has a copy");
     revroute_reader_close(&none);
     if (none.at || refusing_held) stop("no reader holds memory");
 }
 
-/* A session with a network or without, and of `readers` readers: all is made without memory. Closed are the session, the reader and its copy,
- * the one of this number first. */
+/* A session with a network or without, and of `readers` readers: all is made without memory. Closed are the session,
+ * the reader and its copy, the one of this number first. */
 static void live(int is_open, int readers, int first) {
     revroute session = REVROUTE_NEW;
-    revroute_reader reader = REVROUTE_NO_READER, other = REVROUTE_NO_READER, more[2] = {REVROUTE_NO_READER, REVROUTE_NO_READER};
+    revroute_reader reader = REVROUTE_NO_READER, other = REVROUTE_NO_READER;
+    revroute_reader more[2] = {REVROUTE_NO_READER, REVROUTE_NO_READER};
     if (is_open) make_poor(open_network, &session, &reader, &other);
     for (int at = 0; at < readers; at++)
         if (revroute_reader_open(&session, &more[at]) != REVROUTE_ANSWERED) stop("there is no reader");
     make_poor(open_reader, &session, &reader, &other);
-    if (!is_open && revroute_reader_next_hop(&reader, 1) != REVROUTE_CUT_OFF) stop("before the first network a node has a hop");
+    if (!is_open && revroute_reader_next_hop(&reader, 1) != REVROUTE_CUT_OFF) stop("before a network a node has a hop");
     if (!is_open) make_poor(open_network, &session, &reader, &other);
     walk_all(&reader);
     ask_outside(&reader);
@@ -148,7 +156,8 @@ static void live(int is_open, int readers, int first) {
         if (at % 3 == 0) revroute_close(&session);
         if (at % 3 == 1) revroute_reader_close(&reader);
         if (at % 3 == 2) revroute_reader_close(&other);
-        if (other.at && revroute_reader_next_hop(&other, 2) != hops[(steps + 3) % 4]) stop("a reader does not outlive what is closed");
+        if (other.at && revroute_reader_next_hop(&other, 2) != hops[(steps + 3) % 4])
+            stop("a reader does not outlive what is closed");
     }
     for (int at = 0; at < readers; at++) revroute_reader_close(&more[at]);
     revroute_reader_close(&reader);

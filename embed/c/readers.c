@@ -2,16 +2,18 @@
  *
  * usage: readers [CHANGES]
  *
- * 1, 2, 4 and 8 threads read next hops and walk, each by a reader of its own. Meanwhile the main thread makes drawn changes to a drawn mesh:
- * links fail and come back, one or several at once, by calls and by lines; the destination moves; a larger or smaller network comes; and some
- * changes are refused. Behind each change it asks a reader of its own for the changed hops, and writes all pushes down, in push order.
+ * 1, 2, 4 and 8 threads read next hops and walk, each by a reader of its own. Meanwhile the main thread makes drawn
+ * changes to a drawn mesh: links fail and come back, one or several at once, by calls and by lines; the destination
+ * moves; a larger or smaller network comes; and some changes are refused. After each change it asks a reader of its
+ * own for the changed hops, and writes all pushes down, in push order.
  *
- * Each thread keeps what it has read, with how many changes were done before a read, and how many had begun after it. In the end:
+ * Each thread keeps what it has read, with how many changes were done before a read, and how many had begun after it.
+ * In the end:
  *
- * - For the reads of a thread there are moments, one not before the other, at which the table had the hop that was read. Each lies behind the
- *   pushes of the changes that were done, and not behind those of the changes that had begun.
- * - A walk ends at the destination or at a node that is cut off. While one change was made it visits no node more than twice, and while none
- *   was made none more than once.
+ * - For the reads of a thread there are moments, one not before the other, at which the table had the hop that was
+ *   read. Each is after the pushes of the changes that were done, and not after those of changes that had not begun.
+ * - A walk ends at the destination or at a node that is cut off. While one change was made it visits no node more
+ *   than twice, and while none was made none more than once.
  * - After the last change each thread reads the hops of the session.
  *
  * Printed are how many hops were compared, and how many of them were read while a change was made.
@@ -29,7 +31,7 @@
 #endif
 
 enum { SIDE = 8, NODES = SIDE * SIDE, LINKS = 2 * SIDE * (SIDE - 1), MOST_THREADS = 8, MOST_EDITS = 6 };
-/* A walk of more nodes visits one three times. What a thread keeps, in numbers; of a read the first three are not its nodes. */
+/* A walk of more nodes visits one three times. A thread keeps so many numbers; the first three of a read are no nodes. */
 enum { ROOM = 2 * NODES, KEPT = 1 << 20, HEAD = 3 };
 
 static uint32_t draw_of(uint64_t *drawn, uint32_t below) {
@@ -91,7 +93,8 @@ static void walk(one *it) {
     uint32_t nodes[ROOM + 1], count = 0, before = done;
     size_t length;
     for (uint32_t at = 0; at <= ROOM; at++) nodes[at] = untouched;
-    uint32_t status = revroute_reader_route(&it->reader, draw_of(&it->drawn, NODES), nodes, ROOM, &length), after = begun;
+    uint32_t status = revroute_reader_route(&it->reader, draw_of(&it->drawn, NODES), nodes, ROOM, &length);
+    uint32_t after = begun;
     while (nodes[count] != untouched) count++;
     if (count == 0 || length != (status == REVROUTE_NO_ROUTE ? 0 : status == REVROUTE_TOO_SHORT ? ROOM + 1 : count))
         stop("a walk has another length than nodes");
@@ -156,7 +159,8 @@ static uint32_t change_by_line(mesh *it) {
     char text[64];
     uint8_t answer[REVROUTE_LEAST_ROOM];
     revroute_edit edit = draw_edit(it);
-    int size = snprintf(text, sizeof text, "[\"%s\",%d,%d]", edit.kind == REVROUTE_CUT ? "cut" : "join", (int)edit.u, (int)edit.v);
+    const char *kind = edit.kind == REVROUTE_CUT ? "cut" : "join";
+    int size = snprintf(text, sizeof text, "[\"%s\",%d,%d]", kind, (int)edit.u, (int)edit.v);
     size_t length;
     return revroute_answer(&it->session, (const uint8_t *)text, (size_t)size, answer, sizeof answer, &length);
 }
@@ -179,11 +183,11 @@ static uint32_t make_change(mesh *it) {
 static void log_change(mesh *it) {
     uint32_t nodes[NODES];
     size_t count;
-    if (revroute_rerouted(&it->session, nodes, NODES, &count) != REVROUTE_ANSWERED) stop("there are too many rerouted nodes");
+    if (revroute_rerouted(&it->session, nodes, NODES, &count) != REVROUTE_ANSWERED) stop("there are too many of them");
     for (size_t at = 0; at < count; at++) {
         uint32_t hop = revroute_next_hop(&it->session, nodes[at]);
         if (hop == REVROUTE_NO_SUCH_NODE) hop = REVROUTE_CUT_OFF;
-        if (revroute_reader_next_hop(&it->reader, nodes[at]) != hop) stop("behind a change a reader does not have its hop");
+        if (revroute_reader_next_hop(&it->reader, nodes[at]) != hop) stop("after a change a reader has another hop");
         write_down(++pushes, nodes[at], hop);
     }
 }
@@ -199,7 +203,7 @@ static void change_all(mesh *it) {
     }
 }
 
-/* The first push from `least` to `most` behind which the node has the hop. */
+/* The first push from `least` to `most` after which the node has the hop. */
 static uint32_t moment_of(uint32_t node, uint32_t hop, uint32_t least, uint32_t most) {
     const entry *all = hops_of[node].entries;
     size_t low = 0, high = hops_of[node].count;
@@ -229,8 +233,10 @@ static void compare(const one *it) {
         uint32_t before = it->kept[at], after = it->kept[at + 1], count = it->kept[at + 2];
         const uint32_t *nodes = it->kept + at + HEAD;
         if (pushes_by[before] > moment) moment = pushes_by[before];
-        for (uint32_t next = 1; next < count; next++) moment = moment_of(nodes[next - 1], nodes[next], moment, pushes_by[after]);
-        if (after - before <= 1 && most_visits(nodes, count) > 1 + after - before) stop("a walk visits a node too often");
+        for (uint32_t next = 1; next < count; next++)
+            moment = moment_of(nodes[next - 1], nodes[next], moment, pushes_by[after]);
+        uint32_t made = after - before;
+        if (made <= 1 && most_visits(nodes, count) > 1 + made) stop("a walk visits a node too often");
         compared += count - 1;
         beside += after == before ? 0 : count - 1;
     }
@@ -247,7 +253,8 @@ static void begin(mesh *it, one *all, size_t threads) {
     if (revroute_reader_open(&it->session, &it->reader) != REVROUTE_ANSWERED) stop("there is no reader");
     for (size_t at = 0; at < threads; at++) {
         all[at] = (one){.reader = REVROUTE_NO_READER, .drawn = at, .kept = grown(NULL, KEPT * sizeof(uint32_t))};
-        uint32_t status = at % 2 ? revroute_reader_copy(&it->reader, &all[at].reader) : revroute_reader_open(&it->session, &all[at].reader);
+        uint32_t status = at % 2 ? revroute_reader_copy(&it->reader, &all[at].reader)
+                                 : revroute_reader_open(&it->session, &all[at].reader);
         if (status != REVROUTE_ANSWERED) stop("there is no reader for a thread");
         if (pthread_create(&all[at].thread, NULL, read_along, &all[at])) stop("a thread could not be started");
     }
@@ -262,8 +269,8 @@ static void run(size_t threads) {
     for (size_t at = 0; at < threads; at++) {
         pthread_join(all[at].thread, NULL);
         for (uint32_t x = 0; x < NODES; x++) {
-            uint32_t hop = revroute_next_hop(&it.session, x);
-            if (all[at].settled[x] != (x < it.nodes ? hop : REVROUTE_CUT_OFF)) stop("a thread ends with another hop than the session");
+            uint32_t hop = x < it.nodes ? revroute_next_hop(&it.session, x) : REVROUTE_CUT_OFF;
+            if (all[at].settled[x] != hop) stop("a thread ends with another hop than the session");
         }
         compare(&all[at]);
         free(all[at].kept);

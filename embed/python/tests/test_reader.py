@@ -75,7 +75,7 @@ class ReaderTest(unittest.TestCase):
             self.assertEqual(pool.submit(reader.next_hop, 1).result(20), 0)
             self.assertEqual(pool.submit(reader.copy).result(20).next_hop(1), 0)
 
-    def test_behind_each_call_a_reader_has_the_hops(self):
+    def test_after_each_call_a_reader_has_the_hops(self):
         network = Network(4, 0, [(1, 0), (2, 1), (2, 3), (3, 0)])
         reader = network.reader()
         for change in (lambda: None, lambda: network.cut(1, 0), lambda: network.move(2), lambda: network.join(1, 0)):
@@ -138,7 +138,7 @@ class ReaderTest(unittest.TestCase):
         for call in (copy.copy, copy.deepcopy, pickle.dumps):
             self.assertRaises(TypeError, call, reader)
 
-    def test_what_is_left_behind_is_closed(self):
+    def test_what_is_left_after_is_closed(self):
         readers = [Network(2, 0, [(1, 0)]).reader() for _ in range(100)]
         ends = [it._end for it in readers]
         gc.disable()

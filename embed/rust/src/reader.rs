@@ -7,11 +7,13 @@ use std::fmt;
 /// The most nodes that a network has. A place for so many nodes has room for each route of a settled network.
 pub const MAX_NODES: usize = 4096;
 
-/// Reads next hops on one thread while another changes the [`Network`](crate::Network) or the [`Session`](crate::Session).
+/// Reads next hops on one thread while another changes the [`Network`](crate::Network) or the
+/// [`Session`](crate::Session).
 ///
-/// A read waits for nobody and takes no lock: a hop is one load. As soon as there is a reader, each accepted change pushes the
-/// changed hops to the table that all readers read, in push order, before its call returns. So at every moment this table has no
-/// loop. Two reads can be of different tables. Hops of one node never go back to earlier ones.
+/// A read waits for nobody and takes no lock: a hop is one load. As soon as there is a reader, each accepted change
+/// pushes the changed hops to the table that all readers read, in push order, before its call returns. So at every
+/// moment this table has no loop. Two reads can be of different tables. Hops of one node never go back to earlier
+/// ones.
 ///
 /// Each thread has its own reader, made by `clone`:
 ///
@@ -93,8 +95,8 @@ impl Reader {
         Reader::opened(|other| unsafe { sys::revroute_reader_copy(self.handle.get(), other) })
     }
 
-    /// Where a node sends on to, by one load. A number below [`MAX_NODES`] that is no node of the network is cut off. `O(1)`,
-    /// without memory.
+    /// Where a node sends on to, by one load. A number below [`MAX_NODES`] that is no node of the network is cut off.
+    /// `O(1)`, without memory.
     ///
     /// ```
     /// use revroute::{Hop, Network};
@@ -121,10 +123,10 @@ impl Reader {
 
     /// Walks from a node hop by hop, by one load for each, and writes the nodes to the front of a place.
     ///
-    /// While another thread changes the network, later steps can read later hops, and the walk can visit a node again. If the place is
-    /// full before the walk has ended, the answer is [`Longer`](Walked::Longer) with all nodes of the place: walk again, or go on
-    /// from the last of them. With a place of [`MAX_NODES`] nodes that happens only while hops are pushed. `O(k)` for k nodes,
-    /// without memory.
+    /// While another thread changes the network, later steps can read later hops, and the walk can visit a node
+    /// again. If the place is full before the walk has ended, the answer is [`Longer`](Walked::Longer) with all nodes
+    /// of the place: walk again, or go on from the last of them. With a place of [`MAX_NODES`] nodes that happens
+    /// only while hops are pushed. `O(k)` for k nodes, without memory.
     ///
     /// ```
     /// use revroute::{MAX_NODES, Network, Walked};
@@ -144,7 +146,8 @@ impl Reader {
     pub fn walk<'a>(&self, node: u32, place: &'a mut [u32]) -> Walked<'a> {
         assert!((node as usize) < MAX_NODES, "no network has a node {node}");
         let (places, room, mut length) = (place.as_mut_ptr(), place.len(), 0);
-        // SAFETY: the handle is the library's own, no other call has it, and the place is a slice, which does not overlap its length.
+        // SAFETY: the handle is the library's own, no other call has it, and the place is a slice, which does not overlap
+        // its length.
         let status = unsafe {
             sys::revroute_reader_route(self.handle.get(), node, places, room, &mut length)
         };

@@ -73,7 +73,7 @@ fn threads_read_while_a_network_changes() -> Result<(), Refused> {
 }
 
 #[test]
-fn behind_each_call_a_reader_has_the_hops() -> Result<(), Refused> {
+fn after_each_call_a_reader_has_the_hops() -> Result<(), Refused> {
     let mut network = Network::new(4, 0, &[(1, 0), (2, 1), (2, 3), (3, 0)])?;
     let reader = network.reader()?;
     let read = || (0..4).map(|node| reader.next_hop(node)).collect::<Vec<_>>();

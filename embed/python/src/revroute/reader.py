@@ -37,18 +37,20 @@ class Reader(Generic[Name]):
     >>> reader.walk(2)
     [2, 3, 0]
 
-    No read waits for a change: a hop is one load. As soon as there is a reader, each accepted change pushes the changed hops to the table
-    that all readers read, in push order, before its call returns. So at every moment this table has no loop. Two reads can be of different
-    tables. Hops of one node never go back to earlier ones.
+    No read waits for a change: a hop is one load. As soon as there is a reader, each accepted change pushes the changed
+    hops to the table that all readers read, in push order, before its call returns. So at every moment this table has
+    no loop. Two reads can be of different tables. Hops of one node never go back to earlier ones.
 
-    A reader outlives its network, and reads its last hops then. A closed reader is a ValueError. Any thread may call. Give each thread its
-    own, by `copy`: in an interpreter without a global lock calls on one reader wait for each other.
+    A reader outlives its network, and reads its last hops then. A closed reader is a ValueError. Any thread may call.
+    Give each thread its own, by `copy`: in an interpreter without a global lock calls on one reader wait for each other.
 
     `next_hop` and `copy` are O(1), and `walk` as long as what it answers.
     """
 
-    def __init__(self, opened: Any, names: Optional[Sequence[Name]] = None, numbers: Any = None, nodes: int = _MOST) -> None:
-        """For the package alone: `opened` opens the handle that it is given, and `nodes` are those that can be asked about."""
+    def __init__(
+        self, opened: Any, names: Optional[Sequence[Name]] = None, numbers: Any = None, nodes: int = _MOST
+    ) -> None:
+        """For the package alone: `opened` opens the handle that it is given; `nodes` can be asked about."""
         self._names, self._numbers, self._count = names, numbers, nodes
         self._bound = nodes if numbers is None and _HAS_LOCK else 0
         self._handle = _calls.ReaderHandle()
@@ -100,7 +102,8 @@ class Reader(Generic[Name]):
         return self._name(hop) if hop < _calls.NO_HOP else _hop(hop)  # type: ignore[return-value]
 
     def walk(self, node: Name) -> Optional[list[Name]]:
-        """The nodes of the way from a node to the destination, hop by hop, with both ends; None where it ends at a node that is cut off.
+        """The nodes of the way from a node to the destination, hop by hop, with both ends; None where it ends at a node
+        that is cut off.
 
         Later steps can read later hops, so a walk can visit a node again while another thread makes a change.
 
