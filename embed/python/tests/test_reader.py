@@ -91,6 +91,10 @@ class ReaderTest(unittest.TestCase):
         self.assertEqual((reader.next_hop(2), reader.walk(2)), (1, [2, 1, 0]))
         session.take('["net",2,1,[[0,1]]]\n')
         self.assertEqual([reader.next_hop(it) for it in (0, 1, 2, 4095)], [1, NoHop.HERE, NoHop.CUT_OFF, NoHop.CUT_OFF])
+        session.take('["cut",0,1]')
+        self.assertEqual(reader.next_hop(0), 1)
+        session.finish()
+        self.assertEqual(reader.next_hop(0), NoHop.CUT_OFF)
 
     def test_a_route_may_have_as_many_nodes_as_a_network(self):
         reader = Network(4096, 0, [(x, x - 1) for x in range(1, 4096)]).reader()
