@@ -3,7 +3,9 @@
 import copy
 import doctest
 import gc
+import os
 import pickle
+import signal
 import threading
 import unittest
 from concurrent.futures import ThreadPoolExecutor
@@ -129,6 +131,17 @@ class ReaderTest(unittest.TestCase):
         reader.close()
         self.assertEqual(other.walk(1), [1, 0])
         self.assertRaises(ValueError, network.reader)
+
+    def test_a_child_has_a_reader_of_its_own(self):
+        network = Network(4, 0, [(1, 0), (2, 1), (2, 3), (3, 0)])
+        reader = network.reader()
+        child = os.fork()
+        if not child:
+            signal.alarm(5)
+            network.cut(1, 0)
+            os._exit(not (reader.walk(2) == [2, 3, 0] and reader.copy().next_hop(2) == 3))
+        self.assertEqual(os.waitpid(child, 0)[1], 0)
+        self.assertEqual(reader.walk(2), [2, 1, 0])
 
     def test_a_closed_reader_is_an_error(self):
         with Network(2, 0, [(1, 0)]).reader() as reader:
