@@ -24,3 +24,4 @@ pub use opening::open;
 pub use publisher::Publisher;
 pub use reader::Reader;
 pub use walks::{Walk, WalkEnd};
+pub use words::HERE;

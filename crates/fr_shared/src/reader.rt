@@ -4,6 +4,7 @@ ghost use Rattle.std.specs.Prelude.{◌≡◌, ◌<◌, false, [], IfOk, drop};
 ghost use Rattle.fr_shared.specs.Histories.{IsHistory, StartsWith};
 ghost use Rattle.fr_shared.specs.Knowledge.{last_table};
 ghost use Rattle.fr_shared.specs.Reading.{HasRead, HasWalked};
+ghost use Rattle.fr_shared.specs.Words.{hop_of};
 ghost use Rattle.fr_shared.specs.Inside.{IsSoundPlace};
 
 use crate::opening::Words;
@@ -70,7 +71,18 @@ impl Reader {
         requires { x < self.old.nodes }
         ensures { HasRead self.old self.new x result }
     {
-        hop_in(self.table.shared.load::<Look>(&mut self.seat, x as usize))
+        hop_in(self.word(x))
+    }
+
+    /// The same as the word that holds the hop, for callers that have numbers of their own for hops: a word below
+    /// [`HERE`](crate::HERE) is the node to which `x` sends on, that number says that `x` is the destination, and all else that it is cut off.
+    ///
+    /// It makes one load. O(1).
+    pub fn word(&mut self, x: u32) -> u64
+        requires { x < self.old.nodes }
+        ensures { HasRead self.old self.new x (hop_of result) }
+    {
+        self.table.shared.load::<Look>(&mut self.seat, x as usize)
     }
 
     /// Walks hop by hop from node `x`, which must be one of the table. It writes the nodes after `x` to the front of

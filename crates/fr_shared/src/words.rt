@@ -5,8 +5,8 @@ ghost use Rattle.fr_shared.specs.Words.{hop_of, word_of};
 
 use fr_tables::Hop;
 
-/// The word of the destination. It is above every `u32`.
-const HERE: u64 = 0x1_0000_0000;
+/// The word of the destination. It is above every node.
+pub const HERE: u64 = 0x1_0000_0000;
 
 /// The word of a node that is cut off.
 pub(crate) const CUT_OFF: u64 = 0x1_0000_0001;

@@ -24,7 +24,7 @@ pub(crate) const HOP_OF_NO_NODE: u32 = u32::MAX - 2;
 pub(crate) const HOP_OF_NO_NETWORK: u32 = u32::MAX - 3;
 
 /// A hop as a number.
-pub(crate) fn number(hop: Hop) -> u32
+fn number(hop: Hop) -> u32
     ensures { result ≡ number_of hop }
 {
     match hop {

@@ -1,10 +1,12 @@
 //! Readers: what other threads ask while the session is changed.
 
 ghost use Rattle.std.specs.Prelude.{◌≡◌, ◌⊎◌, IfOk};
+ghost use Rattle.fr_shared.specs.Words.{hop_of};
+ghost use Rattle.revroute_c.specs.Questions.{number_of};
 ghost use Rattle.revroute_c.specs.Readers.{ReadsOn, TellsHopRead, TellsWalk};
 ghost use Rattle.revroute_c.specs.Replies.{outcome};
 
-use crate::questions::{HOP_OF_NO_NODE, number};
+use crate::questions::{CUT_OFF, HERE, HOP_OF_NO_NODE};
 use crate::statuses::{ANSWERED, NO_ROUTE, TOO_SHORT};
 use fr_shared::{Reader, WalkEnd};
 use std::alloc::{AllocError, Global};
@@ -25,7 +27,20 @@ pub(crate) fn hop_read(reader: &mut Reader, node: u32) -> u32
     if node >= reader.nodes() {
         return HOP_OF_NO_NODE;
     }
-    number(reader.hop(node))
+    number_in(reader.word(node))
+}
+
+/// The number of the hop that a word holds. Faster than by the hop itself.
+fn number_in(word: u64) -> u32
+    ensures { result ≡ number_of (hop_of word) }
+{
+    if word < fr_shared::HERE {
+        word as u32
+    } else if word == fr_shared::HERE {
+        HERE
+    } else {
+        CUT_OFF
+    }
 }
 
 /// Walks from a node hop by hop, and writes it and the nodes after it to the front of the place. `size` has to be 0.
