@@ -1,6 +1,7 @@
 /* Times the typed calls of revroute.h, and each change beside its line, as timing.rs does: the best of several runs, nanoseconds a call. */
 #include <pthread.h>
 #include <revroute.h>
+#include <stdatomic.h>
 #include <stdbool.h>
 #include <stdio.h>
 #include <stdlib.h>
@@ -16,6 +17,7 @@ static char lines[CHANGES][TEXT];
 static size_t link_count, change_count;
 static pthread_barrier_t together;
 static volatile uint32_t kept;
+static atomic_bool is_over;
 
 static void stop(const char *why) {
     fprintf(stderr, "%s\n", why);
@@ -77,8 +79,17 @@ static void ask(revroute *session) {
     kept = sum;
 }
 
+static void read_hops(revroute_reader *reader) {
+    uint32_t sum = 0;
+    for (int round = 0; round < ROUNDS; round++)
+        for (uint32_t at = 0; at < nodes; at++) sum += revroute_reader_next_hop(reader, order[at]);
+    kept = sum;
+}
+
+/* A thread that asks a network of its own, or a reader where it has one. */
 typedef struct {
     revroute session;
+    revroute_reader reader;
     double begin, end;
 } asked;
 
@@ -86,23 +97,36 @@ static void *ask_as_one(void *of) {
     asked *one = of;
     pthread_barrier_wait(&together);
     one->begin = now();
-    ask(&one->session);
+    if (one->reader.at) read_hops(&one->reader);
+    else ask(&one->session);
     one->end = now();
     return NULL;
 }
 
-/* The time of threads that ask a network of their own each: from the first that begins to the last that ends. */
-static double ask_together(asked *all) {
+/* The time of threads side by side: from the first that begins to the last that ends. */
+static double ask_together(asked *all, unsigned count) {
     pthread_t threads[THREADS];
     double begin = 1e18, end = 0;
-    for (int at = 0; at < THREADS; at++)
+    pthread_barrier_init(&together, NULL, count);
+    for (unsigned at = 0; at < count; at++)
         if (pthread_create(&threads[at], NULL, ask_as_one, &all[at])) stop("no thread");
-    for (int at = 0; at < THREADS; at++) {
+    for (unsigned at = 0; at < count; at++) {
         pthread_join(threads[at], NULL);
         if (all[at].begin < begin) begin = all[at].begin;
         if (all[at].end > end) end = all[at].end;
     }
+    pthread_barrier_destroy(&together);
     return end - begin;
+}
+
+/* The best time of a hop, over all threads. */
+static double best_together(asked *all, unsigned count) {
+    double least = 1e18;
+    for (int run = 0; run < RUNS; run++) {
+        double spent = ask_together(all, count);
+        if (spent < least) least = spent;
+    }
+    return least / ROUNDS / nodes / count;
 }
 
 static void tell_tables(revroute *session) {
@@ -159,17 +183,61 @@ static void change_by_lines(revroute *session) {
     }
 }
 
-/* The best time of what is done with a fresh network. */
-static double best(void (*what)(revroute *)) {
+/* The best time of what is done with a fresh network, which has a reader or none. */
+static double best_of(void (*what)(revroute *), bool is_read) {
     double least = 1e18;
     for (int run = 0; run < RUNS; run++) {
         revroute session = opened();
+        revroute_reader reader = REVROUTE_NO_READER;
+        if (is_read && revroute_reader_open(&session, &reader) != REVROUTE_ANSWERED) stop("there is no reader");
         double begin = now();
         what(&session);
         double spent = now() - begin;
         if (spent < least) least = spent;
         revroute_close(&session);
+        revroute_reader_close(&reader);
     }
+    return least;
+}
+
+static double best(void (*what)(revroute *)) {
+    return best_of(what, false);
+}
+
+/* Makes all changes again and again, each time from the network as it was. */
+static void *change_on(void *session) {
+    revroute_round round;
+    revroute_refusal refusal;
+    while (!is_over) {
+        change(session);
+        if (revroute_open(session, nodes, dest, links, link_count, &round, &refusal) != REVROUTE_ANSWERED) stop("there is no network");
+    }
+    return NULL;
+}
+
+/* The time of a hop by readers, a thread each, while nothing changes or all changes are made again and again. */
+static double best_read(unsigned count, bool is_busy) {
+    asked all[THREADS] = {{.session = REVROUTE_NEW}};
+    revroute session = opened();
+    pthread_t writer;
+    for (unsigned at = 0; at < count; at++)
+        if (revroute_reader_open(&session, &all[at].reader) != REVROUTE_ANSWERED) stop("there is no reader");
+    is_over = false;
+    if (is_busy && pthread_create(&writer, NULL, change_on, &session)) stop("no thread");
+    double least = best_together(all, count);
+    is_over = true;
+    if (is_busy) pthread_join(writer, NULL);
+    for (unsigned at = 0; at < count; at++) revroute_reader_close(&all[at].reader);
+    revroute_close(&session);
+    return least;
+}
+
+/* The same by networks, a thread and a network each. */
+static double best_asked(unsigned count) {
+    asked all[THREADS] = {{.session = REVROUTE_NEW}};
+    for (unsigned at = 0; at < count; at++) all[at].session = opened();
+    double least = best_together(all, count);
+    for (unsigned at = 0; at < count; at++) revroute_close(&all[at].session);
     return least;
 }
 
@@ -189,23 +257,20 @@ static uint32_t summed(void) {
 int main(void) {
     read_input();
     shuffle();
-    double count = (double)nodes * ROUNDS, least = 1e18;
+    double count = (double)nodes * ROUNDS;
     printf("hop %.3f\n", best(ask) / count);
-    asked all[THREADS];
-    pthread_barrier_init(&together, NULL, THREADS);
-    for (int at = 0; at < THREADS; at++) all[at].session = opened();
-    for (int run = 0; run < RUNS; run++) {
-        double spent = ask_together(all);
-        if (spent < least) least = spent;
-    }
-    for (int at = 0; at < THREADS; at++) revroute_close(&all[at].session);
-    printf("hop4 %.3f\n", least / count / THREADS);
+    printf("hop4 %.3f\n", best_asked(THREADS));
+    printf("reader %.3f\n", best_read(1, false));
+    printf("reader4 %.3f\n", best_read(THREADS, false));
+    printf("reader-busy %.3f\n", best_read(1, true));
+    printf("reader3-busy %.3f\n", best_read(THREADS - 1, true));
     printf("hops %.0f\n", best(tell_tables) / TABLES);
     printf("pushes-none %.0f\n", best_pushes(nodes, false));
     printf("pushes %.0f\n", best_pushes(nodes, true));
     printf("pushes-half %.0f\n", best_pushes(nodes / 2, true));
     printf("pushes-quarter %.0f\n", best_pushes(nodes / 4, true));
     printf("change %.0f\n", best(change) / (double)change_count);
+    printf("change-read %.0f\n", best_of(change, true) / (double)change_count);
     printf("line %.0f\n", best(change_by_lines) / (double)change_count);
     printf("table %u\n", summed());
 }

@@ -36,6 +36,7 @@ def read_input():
 
 def tell_hops(nodes, dest, links):
     network = revroute.Network(nodes, dest, links)
+    reader = network.reader()
     order = random.Random(1).sample(range(nodes), nodes)
     library = ctypes.CDLL(str(Path(revroute.__file__).with_name("librevroute.so")))
     # any call of one number: it is given one that the library takes for a session with no network
@@ -53,6 +54,11 @@ def tell_hops(nodes, dest, links):
             for node in order:
                 network.next_hop(node)
 
+    def read():
+        for _ in range(ROUNDS):
+            for node in order:
+                reader.next_hop(node)
+
     def pass_by():
         for _ in range(ROUNDS):
             for _ in order:
@@ -60,6 +66,7 @@ def tell_hops(nodes, dest, links):
 
     loop = best(pass_by)
     tell("hop", best(ask) - loop, nodes * ROUNDS)
+    tell("reader", best(read) - loop, nodes * ROUNDS)
     tell("ctypes", best(call_numbers) - loop, nodes * ROUNDS)
     buffer = array("I", bytes(4 * nodes))
     tell("hops", best(lambda: [network.hops_into(buffer) for _ in range(TABLES)]), TABLES)

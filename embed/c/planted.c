@@ -13,6 +13,11 @@ uint32_t engine_links(revroute *, uint32_t *, size_t, size_t *);
 uint32_t engine_move(revroute *, uint32_t, revroute_round *, revroute_refusal *);
 uint32_t engine_open(revroute *, uint32_t, uint32_t, const revroute_link *, size_t, revroute_round *, revroute_refusal *);
 uint32_t engine_pushes(revroute *, const uint32_t *, size_t, uint32_t *, size_t, size_t *);
+void engine_reader_close(revroute_reader *);
+uint32_t engine_reader_copy(revroute_reader *, revroute_reader *);
+uint32_t engine_reader_next_hop(revroute_reader *, uint32_t);
+uint32_t engine_reader_open(revroute *, revroute_reader *);
+uint32_t engine_reader_route(revroute_reader *, uint32_t, uint32_t *, size_t, size_t *);
 uint32_t engine_report(revroute *, uint64_t *, uint64_t *);
 uint32_t engine_rerouted(revroute *, uint32_t *, size_t, size_t *);
 uint32_t engine_route(revroute *, uint32_t, uint32_t *, size_t, size_t *);
@@ -74,7 +79,17 @@ enum {
     a_longer_table_taken,
     a_shorter_table_taken,
     a_hop_of_no_node_taken,
-    the_table_read_too_far
+    the_table_read_too_far,
+    a_reader_replaced_and_not_closed,
+    a_reader_closed_that_keeps_its_memory,
+    a_copy_that_is_the_reader,
+    a_copy_without_memory_that_closes_another,
+    no_reader_told_as_cut_off,
+    a_number_of_no_node_told_as_cut_off,
+    a_walk_without_its_destination,
+    a_walk_of_no_route_with_a_length,
+    a_walk_that_wants_too_little_room,
+    a_walk_that_leaves_its_last_place
 };
 
 /* Asks once more with room enough, as if the state had moved on where the buffer was too short. */
@@ -302,6 +317,42 @@ uint32_t revroute_pushes(revroute *session, const uint32_t *table, size_t count,
     if (FAULT == pushes_by_number) qsort(nodes, *length, sizeof *nodes, compare_numbers);
     if (FAULT == a_push_left_out && *length) --*length;
     return status;
+}
+
+uint32_t revroute_reader_open(revroute *session, revroute_reader *reader) {
+    if (FAULT == a_reader_replaced_and_not_closed) reader->at = NULL;
+    return engine_reader_open(session, reader);
+}
+
+uint32_t revroute_reader_copy(revroute_reader *reader, revroute_reader *other) {
+    if (FAULT == a_copy_that_is_the_reader && reader->at) {
+        engine_reader_close(other);
+        *other = *reader;
+        return REVROUTE_ANSWERED;
+    }
+    uint32_t status = engine_reader_copy(reader, other);
+    if (FAULT == a_copy_without_memory_that_closes_another && status == REVROUTE_NO_MEMORY) engine_reader_close(other);
+    return status;
+}
+
+uint32_t revroute_reader_next_hop(revroute_reader *reader, uint32_t node) {
+    uint32_t hop = engine_reader_next_hop(reader, node);
+    if (FAULT == no_reader_told_as_cut_off && hop == REVROUTE_NO_HOP) return REVROUTE_CUT_OFF;
+    return FAULT == a_number_of_no_node_told_as_cut_off && hop == REVROUTE_NO_SUCH_NODE ? REVROUTE_CUT_OFF : hop;
+}
+
+uint32_t revroute_reader_route(revroute_reader *reader, uint32_t node, uint32_t *nodes, size_t room, size_t *length) {
+    uint32_t status = engine_reader_route(reader, node, nodes, room, length);
+    if (FAULT == a_walk_without_its_destination && status == REVROUTE_ANSWERED && *length > 1) --*length;
+    if (FAULT == a_walk_of_no_route_with_a_length && status == REVROUTE_NO_ROUTE) *length = 1;
+    if (FAULT == a_walk_that_wants_too_little_room && status == REVROUTE_TOO_SHORT) *length = room;
+    if (FAULT == a_walk_that_leaves_its_last_place && status == REVROUTE_TOO_SHORT && room) nodes[room - 1] = 0;
+    return status;
+}
+
+void revroute_reader_close(revroute_reader *reader) {
+    if (FAULT == a_reader_closed_that_keeps_its_memory) memset(reader, 0, sizeof *reader);
+    else if (FAULT != a_copy_that_is_the_reader) engine_reader_close(reader);
 }
 
 void revroute_close(revroute *session) {

@@ -14,6 +14,15 @@
  *     ..
  *     revroute_close(&session);
  *
+ * Other threads read next hops while one thread changes the session. Each of them has a reader, and no call waits:
+ *
+ *     revroute_reader reader = REVROUTE_NO_READER, copy = REVROUTE_NO_READER;
+ *     if (revroute_reader_open(&session, &reader) == REVROUTE_ANSWERED
+ *         && revroute_reader_copy(&reader, &copy) == REVROUTE_ANSWERED) ..
+ *     next = revroute_reader_next_hop(&copy, 3);    (in another thread, once `copy` has been handed over)
+ *     ..
+ *     revroute_reader_close(&copy);
+ *
  * What a caller owes, since no call tests it:
  *
  * - No pointer is null, not even that of a line, of a buffer of no bytes or of an array of nothing, nor that of a session: what a session
@@ -21,11 +30,16 @@
  * - A pointer to bytes or to an array covers as many as the length beside it tells, so no length stands for 'unbounded'. Line and buffer may
  *   stand anywhere; all else is aligned, as variables of its type are.
  * - What a call is given does not overlap. Until the call returns nobody else uses it; others may read what is const.
- * - A session is used by one call at a time. It may go from one thread to another, if its calls do not overlap and each sees
- *   what those before it wrote, as behind a lock or a join. Different sessions share nothing: each thread can have its own.
+ * - A session is used by one call at a time: each call, a question too, has it for itself. It may go from one thread to another, if its
+ *   calls do not overlap and each sees what those before it wrote, as behind a lock or a join. Different sessions share nothing: each thread
+ *   can have its own. If several threads ask one session, give each of them a reader.
+ * - A reader, too, is used by one call at a time, and may go to another thread in the same way. Different readers of one session, and the
+ *   session itself, may be used by different threads at the same time. revroute_reader_open is a call on the session, and
+ *   revroute_reader_copy one on both of its readers.
  * - A session is made by REVROUTE_NEW, and only these calls read or write it then. It is not copied: closing two copies
- *   gives the same memory back twice. Memory that was moved, as by realloc, is no copy if the old place is used no more.
- * - Memory is the process's malloc, realloc and free, of one allocator as long as a session is open. So no call is made from a
+ *   gives the same memory back twice. Memory that was moved, as by realloc, is no copy if the old place is used no more. The same holds for
+ *   a reader, which is made by REVROUTE_NO_READER.
+ * - Memory is the process's malloc, realloc and free, of one allocator as long as a session or a reader is open. So no call is made from a
  *   signal handler, or in the child that a process with threads has forked.
  * - The thread has 256 KiB of stack left. A request was seen to take 52, a line that nests as deep as JSON may here 141.
  *
@@ -64,7 +78,7 @@ enum {
     REVROUTE_TOO_SHORT = 2,
     /* Memory ran out: the line can be asked again. *length is 0. */
     REVROUTE_NO_MEMORY = 3,
-    /* There is no network yet: no call has given one. *length is 0. */
+    /* There is no network yet: no call has given one. Or the reader is null. *length is 0. */
     REVROUTE_NO_NETWORK = 4,
     /* There is no way to the destination: the node is not joined with it, or it is no node. *length is 0. */
     REVROUTE_NO_ROUTE = 5,
@@ -236,6 +250,56 @@ uint32_t revroute_report(revroute *session, uint64_t *turned, uint64_t *cut_off)
 
 /* How many nodes and links there are. Before the first network REVROUTE_NO_NETWORK, and both are 0. O(1). */
 uint32_t revroute_size(revroute *session, uint32_t *nodes, size_t *links);
+
+/* Readers. A reader answers where nodes send on to while other threads use the session and other readers. It waits for nobody and takes no
+ * lock: a hop is one load.
+ *
+ * All readers of a session read one table, of a hop for each number below 4,096. As soon as it has a reader, each accepted round of the session
+ * pushes the changed hops to that table, in push order (as revroute_rerouted lists them), before its call returns. So:
+ *
+ * - At every moment the table has no loop.
+ * - A reader whose use comes after a call on the session, as behind a lock or a join, reads the hops that this call left, or later ones. Hops
+ *   of one node never go back to earlier ones.
+ * - Two reads can be of different tables. A route that is walked while hops are pushed can visit a node again; within the pushes of one round
+ *   it visits no node more than twice.
+ *
+ * Readers outlive their session. After its end they read its last hops. */
+
+/* A reader. Whoever makes it owns it, and closes it once it is no longer needed. */
+typedef struct revroute_reader {
+    void *at;
+} revroute_reader;
+
+/* The null reader, which reads nothing and holds no memory: revroute_reader reader = REVROUTE_NO_READER; */
+#define REVROUTE_NO_READER {NULL}
+
+/* Opens a reader of the session's hops in *reader, and closes the one that was there, if any. The session may hold no network yet: then all
+ * nodes are cut off. REVROUTE_ANSWERED or REVROUTE_NO_MEMORY; after the second both are as they were. A change costs one store more for each
+ * rerouted node as soon as its session has a reader, however many it has. O(n) for the first reader of a session, and O(1) for each later one. */
+uint32_t revroute_reader_open(revroute *session, revroute_reader *reader);
+
+/* Opens one more reader of the same table in *other, and closes the one that was there, if any. REVROUTE_ANSWERED; REVROUTE_NO_NETWORK if
+ * `reader` is null; REVROUTE_NO_MEMORY if memory ran out. After the last two *other is as it was. O(1). */
+uint32_t revroute_reader_copy(revroute_reader *reader, revroute_reader *other);
+
+/* Where a node sends on to, by the values of revroute_next_hop. A number below 4,096 that is no node of the network is REVROUTE_CUT_OFF, and a
+ * number from 4,096 on REVROUTE_NO_SUCH_NODE. A null reader answers REVROUTE_NO_HOP. O(1), and takes no memory. */
+uint32_t revroute_reader_next_hop(revroute_reader *reader, uint32_t node);
+
+/* Walks hop by hop, and writes the node and those after it to the front of an array of `room` places.
+ *
+ * - REVROUTE_ANSWERED: *length nodes, and the last is the destination.
+ * - REVROUTE_TOO_SHORT: the array is full before the walk has ended. *length is one more than `room`.
+ * - REVROUTE_NO_ROUTE: the last node is cut off, or `node` is 4,096 or more. *length is 0.
+ * - REVROUTE_NO_NETWORK: the reader is null. *length is 0.
+ *
+ * The nodes that were walked stay in the array in every case. With room for n nodes a settled table is never too short. O(r) for r nodes of the
+ * walk, and takes no memory. */
+uint32_t revroute_reader_route(revroute_reader *reader, uint32_t node, uint32_t *nodes, size_t room, size_t *length);
+
+/* Closes a reader, which is then as REVROUTE_NO_READER made it. The table stays as long as its session or another reader has it. O(1), and O(n)
+ * where nobody has it any more. */
+void revroute_reader_close(revroute_reader *reader);
 
 /* The version of this header, which a program may compare with that of the library it runs with. */
 #define REVROUTE_VERSION_MAJOR 0

@@ -32,6 +32,10 @@ pub trait Calls: Send + Sized {
     fn open(input: &Input) -> Self;
     /// A number for the next hop of a node.
     fn hop(&self, node: u32) -> u32;
+    /// What another thread reads next hops by.
+    type Reader: Send;
+    fn reader(&self) -> Self::Reader;
+    fn read(reader: &Self::Reader, node: u32) -> u32;
     /// The next hops of all nodes, into a list whose room is kept.
     fn hops(&self, list: &mut Vec<u32>);
     fn change(&mut self, change: Change);
@@ -80,29 +84,34 @@ fn best(mut run: impl FnMut() -> Duration) -> f64 {
     times.fold(f64::INFINITY, f64::min)
 }
 
-fn ask<T: Calls>(network: &T, order: &[u32]) {
+fn ask<T>(network: &T, hop: impl Fn(&T, u32) -> u32, order: &[u32]) {
     let mut sum = 0u32;
     for _ in 0..ROUNDS {
         // each round asks anew
         let network = black_box(network);
         for &node in order {
-            sum = sum.wrapping_add(network.hop(node));
+            sum = sum.wrapping_add(hop(network, node));
         }
     }
     black_box(sum);
 }
 
-/// The time of as many threads as there are networks, each of which asks its own: from the first that begins to the last that ends.
-fn ask_together<T: Calls>(networks: &mut [T], order: &[u32]) -> Duration {
-    let together = &Barrier::new(networks.len());
+/// The time of as many threads as there are networks or readers, each of which asks its own: from the first that begins to the last that
+/// ends.
+fn ask_together<T: Send>(
+    asked: &mut [T],
+    hop: impl Fn(&T, u32) -> u32 + Copy + Send,
+    order: &[u32],
+) -> Duration {
+    let together = &Barrier::new(asked.len());
     let spans: Vec<(Instant, Instant)> = thread::scope(|scope| {
-        let ask_one = |network: &mut T| {
+        let ask_one = move |one: &mut T| {
             together.wait();
             let begin = Instant::now();
-            ask(network, order);
+            ask(one, hop, order);
             (begin, Instant::now())
         };
-        let threads: Vec<_> = networks
+        let threads: Vec<_> = asked
             .iter_mut()
             .map(|it| scope.spawn(move || ask_one(it)))
             .collect();
@@ -129,11 +138,17 @@ pub fn tell<T: Calls>(input: &Input) {
     };
     println!(
         "hop {:.3}",
-        best(|| timed(&mut || ask(&network, &order))) / asked
+        best(|| timed(&mut || ask(&network, T::hop, &order))) / asked
     );
     let mut four: Vec<T> = (0..THREADS).map(|_| T::open(input)).collect();
-    let together = best(|| ask_together(&mut four, &order));
+    let together = best(|| ask_together(&mut four, T::hop, &order));
     println!("hop4 {:.3}", together / asked / THREADS as f64);
+    let mut readers: Vec<T::Reader> = (0..THREADS).map(|_| network.reader()).collect();
+    let alone = best(|| ask_together(&mut readers[..1], T::read, &order));
+    println!("reader {:.3}", alone / asked);
+    let together = best(|| ask_together(&mut readers, T::read, &order));
+    println!("reader4 {:.3}", together / asked / THREADS as f64);
+    drop(readers);
     let mut list = Vec::new();
     let tables = best(|| {
         timed(&mut || {

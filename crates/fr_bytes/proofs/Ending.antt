@@ -5,14 +5,18 @@ use Rattle.std.proofs.lemmas.Bool.{cases_lt}
 use Rattle.std.proofs.lemmas.Grind.{common_steps, take_at_read}
 use Rattle.std.proofs.lemmas.List.{same_from_push, take_all}
 use Rattle.std.proofs.lemmas.List.Quantifiers.{position-Some}
-use Rattle.std.proofs.lemmas.List.Sums.{fails_before_first, passes_at_first, position_or_len_is, prefix_len-le-length}
-use Rattle.std.proofs.lemmas.List.Splits.{slice_split-cons_yes, slice_split-cons_no, slice_split_none, slice_split_at, slice_split_first}
+use Rattle.std.proofs.lemmas.List.Sums.{count_by-le-length, fails_before_first, passes_at_first, position_or_len_is, prefix_len-le-length}
+use Rattle.std.proofs.lemmas.List.Splits.{length-slice_split, slice_split-cons_yes, slice_split-cons_no, slice_split_none, slice_split_at, slice_split_first}
 use Rattle.std.specs.List.{All, onto_first, before_first, after_first, position, position_or_len}
 use Rattle.fr_bytes.specs.Lines.{lines_of}
 use Rattle.fr_bytes.proofs.Cutting.{past_end}
 
 abbrev pub ends_line : ℕ → Bool
 ends_line x = x == 10
+
+-- there is at most one line more than there are bytes
+pub few_lines : (xs : List ℕ) → length (lines_of xs) ≤ length xs + 1
+few_lines xs = omega (arith, length-slice_split ends_line xs, count_by-le-length ends_line xs)
 
 -- the lines of these bytes: those that have ended, and then the one that has begun, with which the bytes behind go on
 pub record Parted (xs : List ℕ) : Type 0 where

@@ -1,15 +1,15 @@
 -- How far the answering of an input has come.
-use Rattle.std.proofs.Common.{◌≡◌, ◌∙◌, ℕ, ◌+◌, ◌≤◌, ◌==◌, Bool, true, false, cond, not, List, [], ◌∷◌, ◌++◌, length, take, Option, Some, None}
+use Rattle.std.proofs.Common.{◌≡◌, ◌∙◌, ℕ, ◌+◌, ◌≤◌, Bool, true, false, cond, not, List, [], ◌∷◌, ◌++◌, length, take, Option, Some, None}
 use Rattle.std.proofs.Common.{append-nil, refl, sym, ap, subst, arith}
 use Rattle.std.specs.Prelude.{slice_get}
-use Rattle.std.proofs.lemmas.List.Splits.{length-slice_split}
-use Rattle.std.proofs.lemmas.List.Sums.{count_by-le-length, sum_by-append, sum_by-cons}
+use Rattle.std.proofs.lemmas.List.Sums.{sum_by-append, sum_by-cons}
 use Rattle.std.proofs.Math.Seq.{take-append_seam}
 use Rattle.std.proofs.KnownBytes.{Appends-nil, Appends-trans, Appends-kept}
 use Rattle.std.specs.Io.KnownBytes.{Appends, Keeps}
 use Rattle.fr_route.specs.Blank.{is_blank}
 use Rattle.fr_route.specs.States.{State}
 use Rattle.fr_bytes.specs.Lines.{lines_of}
+use Rattle.fr_bytes.proofs.Ending.{few_lines}
 use Rattle.fr_command.specs.Outputs.{asking_count, IsOutput, WritesOutput, WritesBeginning, StopsAtLine}
 use Rattle.fr_route.specs.Answers.{AreAnswers}
 use Rattle.fr_route.proofs.Asking.{HasAsked, none_asked, asked_more}
@@ -27,10 +27,6 @@ pub record HasAnswered (whole : List ℕ) (left : List (List ℕ)) (now : Option
   pub writes : Appends old new out
   pub counted : count ≡ asking_count asked.done
   pub within : count + length left ≤ length whole + 1
-
--- there is at most one line more than there are bytes
-few_lines : (whole : List ℕ) → length (lines_of whole) ≤ length whole + 1
-few_lines whole = omega (arith, length-slice_split (λ x. x == 10) whole, count_by-le-length (λ x. x == 10) whole)
 
 pub at_start : (whole : List ℕ) (left : List (List ℕ)) (now : Option State) (old : Option (List ℕ)) → left ≡ lines_of whole
     → now ≡ None → HasAnswered whole left now old old 0

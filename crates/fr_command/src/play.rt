@@ -72,12 +72,7 @@ fn play_input(alloc: Global, input: &[u8], draw: Draw) -> Result<(String, u64), 
 fn first_asking(input: &[u8]) -> Option<&[u8]>
     ensures { option_copied result ≡ find (λ line. not (is_blank_line line)) (lines_of input.now) }
 {
-    for line in Lines::new(input) {
-        if !is_blank(line) {
-            return Some(line);
-        }
-    }
-    None
+    Lines::new(input).find(|line| !is_blank(line))
 }
 
 /// That the input is refused, with no entry.

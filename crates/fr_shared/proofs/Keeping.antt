@@ -60,10 +60,12 @@ module _ {S : Type 0} where
   stays n s t r words views = record { history = r.history; at = r.at; few = r.few; tables = r.tables; words = words ∙ r.words; views = views }
 
   -- a load by which a seat comes to know nothing
-  same_views : (n : ℕ) (s : State S View) (id : ℕ) (me : Me S View) (x : ℕ) (r : KeepsRule n s) → get_elem? s.views id ≡ some me.0
+  same_views : (n : ℕ) (s : State S View) (id : ℕ) (me : Me S View) (x : ℕ) (r : KeepsRule n s)
+      → get_elem? s.views id ≡ some me.0
       → KeepsRule n (record { words = set s.words x (slice_index s.words x); homes = s.homes; views = set s.views id me.0 })
   same_views n s id me x r here =
-      stays n s (record { words = set s.words x (slice_index s.words x); homes = s.homes; views = set s.views id me.0 }) r (set-get_or s.words x 0)
+      let t : State S View = record { words = set s.words x (slice_index s.words x); homes = s.homes; views = set s.views id me.0 } in
+      stays n s t r (set-get_or s.words x 0)
       (fit_set r.history r.at s.views id me.0 (r.views id me.0 here) (λ j v _ old. r.views j v old))
 
   -- each hop is to a node whose number fits into a word
@@ -122,7 +124,12 @@ module _ {S : Type 0} where
         keeps,
         tt,
         same_views n s id me x r here,
-        (refl, subst (λ (h : List Push). slice_get (table_of n h) x ≡ Some (hop_of (slice_index s.words x))) (sym (mine.writer works).1) found, refl),
+        (
+          refl,
+          subst (λ (h : List Push). slice_get (table_of n h) x ≡ Some (hop_of (slice_index s.words x)))
+              (sym (mine.writer works).1) found,
+          refl,
+        ),
       )
 
   pub recalls_at : (n slots id : ℕ) (me : Me S View) (x : ℕ) → me.0.nodes ≡ n → me.0.writes ≡ true → x < n
@@ -221,7 +228,14 @@ module _ {S : Type 0} where
 -- The laws
 
 pub steps_keep : (n : ℕ) → StepsKeepTheRule n
-steps_keep n = record { load = looks_at n; recall = recalls_at n; store = writes_at n; adds = splits n; meets = joins n; compares = compares n }
+steps_keep n = record {
+  load = looks_at n;
+  recall = recalls_at n;
+  store = writes_at n;
+  adds = splits n;
+  meets = joins n;
+  compares = compares n;
+}
 
 pub only_first : (n : ℕ) (words : List ℕ) → KeepsRule {S = Unit {0}} n (opening words [] (first_view n)) → words ≡ replicate n 4294967297
 only_first n words r =

@@ -1,6 +1,6 @@
 -- Walks while the hops of one push order are pushed.
-use Rattle.std.proofs.Common.{Contains, List, [], ap, append_assoc, arith, get_or, length, length-append, refl, subst, suc, sym, take, zero, ℕ}
-use Rattle.std.proofs.Common.{add-one, eqb, ◌++◌, ◌+◌, ◌-◌, ◌≤◌, ◌∙◌, ◌∷◌, ◌≡◌}
+use Rattle.std.proofs.Common.{Contains, List, [], add-one, ap, append_assoc, arith, eqb, get_or, length, length-append, refl}
+use Rattle.std.proofs.Common.{subst, suc, sym, take, zero, ℕ, ◌++◌, ◌+◌, ◌-◌, ◌≤◌, ◌∙◌, ◌∷◌, ◌≡◌}
 use Rattle.std.specs.List.{count_by}
 use Rattle.std.proofs.lemmas.List.{append_cancel_left, take-map, take-take, take_at}
 use Rattle.fr_tables.proofs.Pushing.{comes_twice}
@@ -23,7 +23,8 @@ take_longer : (a b : ℕ) (nodes : List ℕ) (x : ℕ) → a ≤ b → Contains 
 take_longer a b nodes x low found =
     take_within a (take b nodes) x (subst (λ (l : List ℕ). Contains l x) (sym (take-take a b nodes low)) found)
 
-goes_starts : (n : ℕ) (known : List Push) (x : ℕ) (ys : List ℕ) (after : List Push) → GoesBy n known x ys after → StartsWith after known
+goes_starts : (n : ℕ) (known : List Push) (x : ℕ) (ys : List ℕ) (after : List Push) → GoesBy n known x ys after
+    → StartsWith after known
 goes_starts n known x [] after goes = goes.0
 goes_starts n known x (y ∷ ys) after goes = starts_after after goes.0 known (goes_starts n goes.0 y ys after goes.4) goes.1
 
@@ -39,7 +40,8 @@ module _ {n : ℕ} {before : List Push} {new : List Hop} {order : List ℕ} {fir
       let rest = starts_after (before ++ all) after h one.ends ends in
       let split : all ≡ begins.0 ++ rest.0 = append_cancel_left before all (begins.0 ++ rest.0)
       (rest.1 ∙ (ap (λ (l : List Push). l ++ rest.0) begins.1 ∙ append_assoc before begins.0 rest.0)) in
-      let long : length begins.0 ≡ length h - length before = omega (arith, ap length begins.1, length-append before begins.0) in
+      let long : length begins.0 ≡ length h - length before =
+      omega (arith, ap length begins.1, length-append before begins.0) in
       let front : take (length begins.0) all ≡ begins.0 =
       ap (λ (l : List Push). take (length begins.0) l) split ∙ take_at begins.0 rest.0 (length begins.0) refl in
       begins.1 ∙ ap (λ (l : List Push). before ++ l) (sym front ∙ (ap (λ (k : ℕ). take k all) long
@@ -69,7 +71,8 @@ module _ {n : ℕ} {before : List Push} {new : List Hop} {order : List ℕ} {fir
   grows_more h hs here more zero = here
   grows_more h hs here more (suc k) = more k
 
-  moved : (known : List Push) (x : ℕ) (ys : List ℕ) → StartsWith known before → GoesBy n known x ys after → (hs : List (List Push)) × IsMoved known x ys hs
+  moved : (known : List Push) (x : ℕ) (ys : List ℕ) → StartsWith known before → GoesBy n known x ys after
+      → (hs : List (List Push)) × IsMoved known x ys hs
   moved known x [] begins goes = ([], record { moves = tt; grows = λ k. omega arith; begins = starts_long after known goes.0 })
   moved known x (y ∷ ys) begins goes =
       let h : List Push = goes.0 in
@@ -79,7 +82,8 @@ module _ {n : ℕ} {before : List Push} {new : List Hop} {order : List ℕ} {fir
         record {
           moves = (
             sends_pushed h x y from (goes_starts n h y ys after goes.4) goes.3,
-            subst (λ (f : ℕ → List ℕ). Moves (table_of n before) new f y ys) (λ i k. pushed (get_or (h ∷ hs) (sym (add-one k) i) after)) more.moves,
+            subst (λ (f : ℕ → List ℕ). Moves (table_of n before) new f y ys)
+                (λ i k. pushed (get_or (h ∷ hs) (sym (add-one k) i) after)) more.moves,
           );
           grows = grows_more h hs more.begins more.grows;
           begins = starts_long h known goes.1;
@@ -90,10 +94,12 @@ module _ {n : ℕ} {before : List Push} {new : List Hop} {order : List ℕ} {fir
   twice_at_most x ys z goes =
       let old : List Hop = table_of n before in
       let (hs, way) = moved first x ys one.begins goes in
+      let old_free = (last_is_table n before one.tables).loop_free in
       let longer : (k : ℕ) → length (get_or hs k after) ≤ length (get_or hs (k + 1) after) =
       λ k. subst (λ (m : ℕ). length (get_or hs k after) ≤ length (get_or hs m after)) (sym (add-one k)) (way.grows k) in
-      comes_twice old new (λ k. pushed (get_or hs k after)) x ys z (last_is_table n before one.tables).loop_free one.new_table.loop_free
+      comes_twice old new (λ k. pushed (get_or hs k after)) x ys z old_free one.new_table.loop_free
       (λ k. first_closed old new order (length (get_or hs k after) - length before) one.is_order)
-      (λ k w found. take_longer (length (get_or hs k after) - length before) (length (get_or hs (k + 1) after) - length before) order w
+      (λ k w found. take_longer (length (get_or hs k after) - length before)
+      (length (get_or hs (k + 1) after) - length before) order w
       (let more = longer k in omega (arith, more)) found)
       way.moves

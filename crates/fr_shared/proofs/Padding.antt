@@ -8,11 +8,16 @@ use Rattle.fr_tables.specs.Pushes.{IsBefore, IsPushOrder, IsWave, differ_at, is_
 use Rattle.fr_tables.specs.Tables.{IsInRange, IsLoop, IsLoopFree, IsWalk, SendsOn, end_of}
 use Rattle.fr_tables.specs.declared.hop.Hop.{Hop}
 use Rattle.fr_tables.specs.declared.hop.Hop.TheVariants.{CutOff, Here, To}
-use Rattle.fr_shared.specs.Histories.{IsTable, padded}
+use Rattle.fr_shared.specs.Histories.{IsTable, blank, padded}
 use Rattle.fr_shared.proofs.Histories.{blank_sends}
 
 pub padded_length : (n : ℕ) (table : List Hop) → length table ≤ n → length (padded n table) ≡ n
-padded_length n table low = omega (arith, length-append table (replicate (n - length table) CutOff), length-replicate (n - length table) CutOff)
+padded_length n table low =
+    let k : ℕ = n - length table in
+    omega (arith, length-append table (replicate k CutOff), length-replicate k CutOff)
+
+pub padded_none : (n : ℕ) → padded n [] ≡ blank n
+padded_none n = ap (λ (k : ℕ). replicate k CutOff) (omega arith)
 
 -- a table that is padded twice
 pub padded_again : (m n : ℕ) (table : List Hop) → m ≤ n → padded n (padded m table) ≡ padded n table
@@ -26,17 +31,19 @@ padded_again m n table low =
     ∙ ap (λ (l : ℕ). replicate l CutOff) all)
 
 -- the hop of a node of the longer table
-longer_hop : (k : ℕ) (table : List Hop) (x : ℕ) → x < length table + k → get_or (table ++ replicate k CutOff) x Here ≡ get_or table x CutOff
+longer_hop : (k : ℕ) (table : List Hop) (x : ℕ) → x < length table + k
+    → get_or (table ++ replicate k CutOff) x Here ≡ get_or table x CutOff
 longer_hop zero [] x low = absurd (omega arith)
 longer_hop (suc k) [] zero low = refl
 longer_hop (suc k) [] (suc x) low = longer_hop k [] x (omega arith)
 longer_hop k (hop ∷ table) zero low = refl
 longer_hop k (hop ∷ table) (suc x) low = longer_hop k table x (omega arith)
 
-pub padded_hop : (n : ℕ) (table : List Hop) (x : ℕ) → x < length (padded n table) → get_or (padded n table) x Here ≡ get_or table x CutOff
+pub padded_hop : (n : ℕ) (table : List Hop) (x : ℕ) → x < length (padded n table)
+    → get_or (padded n table) x Here ≡ get_or table x CutOff
 padded_hop n table x low =
-    longer_hop (n - length table) table x
-    (omega (arith, length-append table (replicate (n - length table) CutOff), length-replicate (n - length table) CutOff))
+    let k : ℕ = n - length table in
+    longer_hop k table x (omega (arith, length-append table (replicate k CutOff), length-replicate k CutOff))
 
 -- The nodes behind the end send on to none, so the walks are the same,
 
@@ -50,11 +57,13 @@ only_sends k [] x y is = absurd (blank_sends k x y is)
 only_sends k (hop ∷ table) zero y is = is
 only_sends k (hop ∷ table) (suc x) y is = only_sends k table x y is
 
-padded_walk : (k : ℕ) (table : List Hop) (x : ℕ) (ys : List ℕ) → IsWalk table x ys → IsWalk (table ++ replicate k CutOff) x ys
+padded_walk : (k : ℕ) (table : List Hop) (x : ℕ) (ys : List ℕ) → IsWalk table x ys
+    → IsWalk (table ++ replicate k CutOff) x ys
 padded_walk k table x [] goes = tt
 padded_walk k table x (y ∷ ys) goes = (padded_sends k table x y goes.0, padded_walk k table y ys goes.1)
 
-only_walk : (k : ℕ) (table : List Hop) (x : ℕ) (ys : List ℕ) → IsWalk (table ++ replicate k CutOff) x ys → IsWalk table x ys
+only_walk : (k : ℕ) (table : List Hop) (x : ℕ) (ys : List ℕ) → IsWalk (table ++ replicate k CutOff) x ys
+    → IsWalk table x ys
 only_walk k table x [] goes = tt
 only_walk k table x (y ∷ ys) goes = (only_sends k table x y goes.0, only_walk k table y ys goes.1)
 
@@ -83,14 +92,16 @@ module _ (k : ℕ) where
   abbrev longer : List Hop → List Hop
   longer table = table ++ replicate k CutOff
 
-  same_longer : (old new : List Hop) (x : ℕ) → length old ≡ length new → slice_get old x ≡ slice_get new x → slice_get (longer old) x ≡ slice_get (longer new) x
+  same_longer : (old new : List Hop) (x : ℕ) → length old ≡ length new → slice_get old x ≡ slice_get new x
+      → slice_get (longer old) x ≡ slice_get (longer new) x
   same_longer [] [] x long is = refl
   same_longer [] (g ∷ new) x long is = absurd (omega arith)
   same_longer (h ∷ old) [] x long is = absurd (omega arith)
   same_longer (h ∷ old) (g ∷ new) zero long is = is
   same_longer (h ∷ old) (g ∷ new) (suc x) long is = same_longer old new x (omega arith) is
 
-  same_shorter : (old new : List Hop) (x : ℕ) → length old ≡ length new → slice_get (longer old) x ≡ slice_get (longer new) x → slice_get old x ≡ slice_get new x
+  same_shorter : (old new : List Hop) (x : ℕ) → length old ≡ length new
+      → slice_get (longer old) x ≡ slice_get (longer new) x → slice_get old x ≡ slice_get new x
   same_shorter [] [] x long is = refl
   same_shorter [] (g ∷ new) x long is = absurd (omega arith)
   same_shorter (h ∷ old) [] x long is = absurd (omega arith)
@@ -102,14 +113,16 @@ blank_same zero x = refl
 blank_same (suc k) zero = refl
 blank_same (suc k) (suc x) = blank_same k x
 
-test_longer : (k : ℕ) (old new : List Hop) (x : ℕ) → length old ≡ length new → differ_at (longer k old) (longer k new) x ≡ differ_at old new x
+test_longer : (k : ℕ) (old new : List Hop) (x : ℕ) → length old ≡ length new
+    → differ_at (longer k old) (longer k new) x ≡ differ_at old new x
 test_longer k [] [] x long = ap (λ (b : Bool). not b) (blank_same k x)
 test_longer k [] (g ∷ new) x long = absurd (omega arith)
 test_longer k (h ∷ old) [] x long = absurd (omega arith)
 test_longer k (h ∷ old) (g ∷ new) zero long = refl
 test_longer k (h ∷ old) (g ∷ new) (suc x) long = test_longer k old new x (omega arith)
 
-wave_longer : (k : ℕ) (old new : List Hop) (x wave : ℕ) → length old ≡ length new → IsWave old new x wave → IsWave (longer k old) (longer k new) x wave
+wave_longer : (k : ℕ) (old new : List Hop) (x wave : ℕ) → length old ≡ length new → IsWave old new x wave
+    → IsWave (longer k old) (longer k new) x wave
 wave_longer k old new x wave long is =
     let tests : differ_at (longer k old) (longer k new) ≡ differ_at old new = λ i y. test_longer k old new y long i in
     record {
@@ -121,7 +134,8 @@ wave_longer k old new x wave long is =
       number = is.number ∙ ap (λ (t : ℕ → Bool). count_by t (x ∷ is.walk)) (sym tests);
     }
 
-before_longer : (k : ℕ) (old new : List Hop) (x y : ℕ) → length old ≡ length new → IsBefore old new x y → IsBefore (longer k old) (longer k new) x y
+before_longer : (k : ℕ) (old new : List Hop) (x y : ℕ) → length old ≡ length new → IsBefore old new x y
+    → IsBefore (longer k old) (longer k new) x y
 before_longer k old new x y long is = record {
   wave_x = is.wave_x;
   wave_y = is.wave_y;
@@ -145,4 +159,5 @@ order_longer k old new order long is = record {
 pub padded_order : (n : ℕ) (old new : List Hop) (order : List ℕ) → length old ≡ length new → IsPushOrder old new order
     → IsPushOrder (padded n old) (padded n new) order
 padded_order n old new order long is =
-    subst (λ (m : ℕ). IsPushOrder (padded n old) (new ++ replicate (n - m) CutOff) order) long (order_longer (n - length old) old new order long is)
+    subst (λ (m : ℕ). IsPushOrder (padded n old) (new ++ replicate (n - m) CutOff) order) long
+    (order_longer (n - length old) old new order long is)

@@ -18,10 +18,12 @@ use Rattle.fr_shared.specs.Knowledge.{Knowledge, last_table}
 use Rattle.fr_shared.proofs.Histories.{after_append, last_is_table}
 
 pub take_within : (k : ℕ) (nodes : List ℕ) (x : ℕ) → Contains (take k nodes) x → Contains nodes x
-take_within k nodes x found = subst (λ (l : List ℕ). Contains l x) (take-append-drop k nodes) (Contains-append_left (take k nodes) (drop k nodes) x found)
+take_within k nodes x found =
+    subst (λ (l : List ℕ). Contains l x) (take-append-drop k nodes) (Contains-append_left (take k nodes) (drop k nodes) x found)
 
 -- a node of an order is in the tables
-node_inside : (old new : List Hop) (order : List ℕ) (x : ℕ) → length old ≡ length new → IsPushOrder old new order → Contains order x → x < length new
+node_inside : (old new : List Hop) (order : List ℕ) (x : ℕ) → length old ≡ length new → IsPushOrder old new order
+    → Contains order x → x < length new
 node_inside old new order x same is found = elim (cases_lt x (length new)) [
   | inl inside ↦ inside
   | inr out ↦ absurd ((is.these x).0 found (slice_get_past old x (omega (arith, out, same)) ∙ sym (slice_get_past new x out)))
@@ -33,7 +35,8 @@ pushes_more : (old new : List Hop) (done nodes : List ℕ) (table : List Hop) �
 pushes_more old new done [] table same inside pushed = rw append-nil pushed
 pushes_more old new done (x ∷ xs) table same inside pushed =
     let hop : Hop = get_or new x Here in
-    subst (λ (nodes : List ℕ). IsPushed old new nodes (table_after (set table x hop) (pushes_of new xs))) (append_assoc done (x ∷ []) xs)
+    let whole = append_assoc done (x ∷ []) xs in
+    subst (λ (nodes : List ℕ). IsPushed old new nodes (table_after (set table x hop) (pushes_of new xs))) whole
     (pushes_more old new (done ++ x ∷ []) xs (set table x hop) same (λ y found. inside y (Contains-tail y x xs found))
     (push_is_one_more old new done table x hop same (slice_get-get_or new x Here (inside x (Contains-head x xs))) pushed))
 
@@ -43,8 +46,10 @@ pub first_pushed : (old new : List Hop) (order : List ℕ) (k : ℕ) → length 
 first_pushed old new order k same is = pushes_more old new [] (take k order) old same
     (λ x found. node_inside old new order x same is (take_within k order x found)) (starts_as_old old new)
 
-pub first_closed : (old new : List Hop) (order : List ℕ) (k : ℕ) → IsPushOrder old new order → IsClosedDownstream old new (take k order)
-first_closed old new order k is = beginning_closed old new (take k order) (drop k order) (subst (IsPushOrder old new) (sym (take-append-drop k order)) is)
+pub first_closed : (old new : List Hop) (order : List ℕ) (k : ℕ) → IsPushOrder old new order
+    → IsClosedDownstream old new (take k order)
+first_closed old new order k is = beginning_closed old new (take k order) (drop k order)
+    (subst (IsPushOrder old new) (sym (take-append-drop k order)) is)
 
 -- so many nodes of the order are pushed. The first three fields are what `push_all` asks
 pub record IsPushedTo (old now : Knowledge) (new : List Hop) (order : List ℕ) (i : ℕ) : Type 0 where
@@ -81,7 +86,9 @@ module _ {old now : Knowledge} {new : List Hop} {order : List ℕ} {i : ℕ} (do
       (first_pushed (last_table old) new order i one_length done.is_order)
 
   pub inside : i < length order → get_or order i 0 < length new
-  inside low = node_inside (last_table old) new order (get_or order i 0) one_length done.is_order (i, low, get_or_default order i (get_or order i 0) 0 low)
+  inside low =
+      let x : ℕ = get_or order i 0 in
+      node_inside (last_table old) new order x one_length done.is_order (i, low, get_or_default order i x 0 low)
 
   pub has_word : i < length order → get_or order i 0 < now.nodes
   has_word low = omega (arith, inside low, same_nodes, done.new_table.one_each)

@@ -1,5 +1,6 @@
 -- Walks hop by hop, while hops are pushed.
-use Rattle.std.proofs.Common.{List, Some, [], ap, append_assoc, arith, length, refl, set, slice_get, subst, sym, take, ℕ, ◌++◌, ◌+◌, ◌<◌, ◌≤◌, ◌∙◌, ◌∷◌, ◌≡◌}
+use Rattle.std.proofs.Common.{List, Some, [], ap, append_assoc, arith, length, refl, set, slice_get, subst, sym, take, ℕ}
+use Rattle.std.proofs.Common.{◌++◌, ◌+◌, ◌<◌, ◌≤◌, ◌∙◌, ◌∷◌, ◌≡◌}
 use Rattle.std.proofs.lemmas.List.{take_more_set}
 use Rattle.fr_tables.specs.Tables.{SendsOn, end_of}
 use Rattle.fr_tables.specs.declared.hop.Hop.{Hop}
@@ -17,17 +18,17 @@ pub starts_after : (last mid first : List Push) → StartsWith last mid → Star
 starts_after last mid first a b = (b.0 ++ a.0, a.1 ∙ (ap (λ (h : List Push). h ++ a.0) b.1 ∙ append_assoc first b.0 a.0))
 
 -- the last node sends on to one more
-goes_more : (n : ℕ) (known : List Push) (x : ℕ) (ys : List ℕ) (mid after : List Push) (y : ℕ) → GoesBy n known x ys mid
-    → StartsWith after mid → IsHistory n after
+goes_more : (n : ℕ) (known : List Push) (x : ℕ) (ys : List ℕ) (after : List Push) (y : ℕ) → GoesBy n known x ys after
     → SendsOn (table_of n after) (end_of x ys) y → GoesBy n known x (ys ++ y ∷ []) after
-goes_more n known x [] mid after y goes on are sends = (after, starts_after after mid known on goes.0, are, sends, (all_known after, are))
-goes_more n known x (z ∷ zs) mid after y goes on are sends = (goes.0, goes.1, goes.2, goes.3, goes_more n goes.0 z zs mid after y goes.4 on are sends)
+goes_more n known x [] after y goes sends = (after, goes.0, goes.1, sends, (all_known after, goes.1))
+goes_more n known x (z ∷ zs) after y goes sends = (goes.0, goes.1, goes.2, goes.3, goes_more n goes.0 z zs after y goes.4 sends)
 
--- the last node is read, and sends on to none
+-- the last node is read again, in a later table
 goes_on : (n : ℕ) (known : List Push) (x : ℕ) (ys : List ℕ) (mid after : List Push) → GoesBy n known x ys mid
     → StartsWith after mid → IsHistory n after → GoesBy n known x ys after
 goes_on n known x [] mid after goes on are = (starts_after after mid known on goes.0, are)
-goes_on n known x (z ∷ zs) mid after goes on are = (goes.0, goes.1, goes.2, goes.3, goes_on n goes.0 z zs mid after goes.4 on are)
+goes_on n known x (z ∷ zs) mid after goes on are =
+    (goes.0, goes.1, goes.2, goes.3, goes_on n goes.0 z zs mid after goes.4 on are)
 
 end_of-push : (x : ℕ) (ys : List ℕ) (y : ℕ) → end_of x (ys ++ y ∷ []) ≡ y
 end_of-push x [] y = refl
@@ -44,15 +45,17 @@ pub record IsUnderWay (old now : Knowledge) (x : ℕ) (room : List ℕ) (count :
 same_nodes : (old now : Knowledge) → now ≡ record old { known = now.known } → now.nodes ≡ old.nodes
 same_nodes old now same = ap (λ (k : Knowledge). k.nodes) same
 
-pub walk_begins : {old now : Knowledge} {x : ℕ} {hop : Hop} (room : List ℕ) → HasRead old now x hop → IsUnderWay old now x room 0 hop
+pub walk_begins : {old now : Knowledge} {x : ℕ} {hop : Hop} (room : List ℕ) → HasRead old now x hop
+    → IsUnderWay old now x room 0 hop
 walk_begins {old} {now} {x} {hop} room read =
-    let are : IsHistory old.nodes now.known = subst (λ (n : ℕ). IsHistory n now.known) (same_nodes old now read.same) read.loop_free in
+    let nodes = same_nodes old now read.same in
+    let are : IsHistory old.nodes now.known = subst (λ (n : ℕ). IsHistory n now.known) nodes read.loop_free in
     record {
       same = read.same;
       grows = read.grows;
       goes = (read.grows, are);
       loop_free = are;
-      read = subst (λ (n : ℕ). slice_get (table_of n now.known) x ≡ Some hop) (same_nodes old now read.same) read.answer;
+      read = subst (λ (n : ℕ). slice_get (table_of n now.known) x ≡ Some hop) nodes read.answer;
     }
 
 module _ {old now : Knowledge} {x count : ℕ} {room : List ℕ} {hop : Hop} (way : IsUnderWay old now x room count hop) where
@@ -66,18 +69,21 @@ module _ {old now : Knowledge} {x count : ℕ} {room : List ℕ} {hop : Hop} (wa
   pub walk_goes_on : {after : Knowledge} {y : ℕ} {next : Hop} → hop ≡ To y → count < length room → HasRead now after y next
       → IsUnderWay old after x (set room count y) (count + 1) next
   walk_goes_on {after} {y} {next} is low read =
-      let same : after ≡ record old { known = after.known } = read.same ∙ ap (λ (k : Knowledge). record k { known = after.known }) way.same in
-      let are : IsHistory old.nodes after.known = subst (λ (n : ℕ). IsHistory n after.known) (same_nodes old after same) read.loop_free in
+      let same : after ≡ record old { known = after.known } =
+      read.same ∙ ap (λ (k : Knowledge). record k { known = after.known }) way.same in
+      let nodes = same_nodes old after same in
+      let are : IsHistory old.nodes after.known = subst (λ (n : ℕ). IsHistory n after.known) nodes read.loop_free in
       let sends : SendsOn (table_of old.nodes now.known) (end_of x (take count room)) y = way.read ∙ ap Some is in
       let longer : GoesBy old.nodes old.known x (take count room ++ y ∷ []) now.known =
-      goes_more old.nodes old.known x (take count room) now.known now.known y way.goes (all_known now.known) way.loop_free sends in
+      goes_more old.nodes old.known x (take count room) now.known y way.goes sends in
       let front : take (count + 1) (set room count y) ≡ take count room ++ y ∷ [] = take_more_set room count y low in
       let answer : slice_get (table_of old.nodes after.known) y ≡ Some next =
-      subst (λ (n : ℕ). slice_get (table_of n after.known) y ≡ Some next) (same_nodes old after same) read.answer in
+      subst (λ (n : ℕ). slice_get (table_of n after.known) y ≡ Some next) nodes read.answer in
       record {
         same = same;
         grows = starts_after after.known now.known old.known read.grows way.grows;
-        goes = rw front (goes_on old.nodes old.known x (take count room ++ y ∷ []) now.known after.known longer read.grows are);
+        goes = rw front
+            (goes_on old.nodes old.known x (take count room ++ y ∷ []) now.known after.known longer read.grows are);
         loop_free = are;
         read = rw (front, end_of-push x (take count room) y) answer;
       }
@@ -93,12 +99,13 @@ not_longer Here rests is = cc
 not_longer (To y) rests is = rests y refl
 not_longer CutOff rests is = cc
 
-pub walk_ends : {old now : Knowledge} {x count : ℕ} {room : List ℕ} {hop : Hop} (walk : Walk) → IsUnderWay old now x room count hop
-    → walk.count ≡ count → walk.end ≡ end_by hop → count ≤ length room → (walk.end ≡ Longer → count ≡ length room)
-    → HasWalked old now x room walk
+pub walk_ends : {old now : Knowledge} {x count : ℕ} {room : List ℕ} {hop : Hop} (walk : Walk)
+    → IsUnderWay old now x room count hop → walk.count ≡ count → walk.end ≡ end_by hop → count ≤ length room
+    → (walk.end ≡ Longer → count ≡ length room) → HasWalked old now x room walk
 walk_ends {old} {now} {x} {count} {room} {hop} walk way counted end low full =
     let read : slice_get (last_table now) (end_of x (take count room)) ≡ Some hop =
-    subst (λ (n : ℕ). slice_get (table_of n now.known) (end_of x (take count room)) ≡ Some hop) (sym (same_nodes old now way.same)) way.read in
+    subst (λ (n : ℕ). slice_get (table_of n now.known) (end_of x (take count room)) ≡ Some hop)
+    (sym (same_nodes old now way.same)) way.read in
     record {
       few = omega (arith, counted, low);
       goes = rw counted way.goes;

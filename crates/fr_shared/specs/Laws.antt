@@ -63,7 +63,8 @@ pub record StepsKeepTheRule (n : ℕ) : Type 0 where
 abbrev pub EveryStepKeepsTheRule : Type 0
 EveryStepKeepsTheRule = (n : ℕ) → StepsKeepTheRule n
 
--- The pushes that a walk saw are all of one push order: it began after the pushes before that, and ended within these.
+-- All pushes that a walk sees are of one push order: it begins once the pushes before this order are known, and ends within
+-- the pushes of the order.
 pub record AreOfOneOrder (n : ℕ) (before : List Push) (new : List Hop) (order : List ℕ) (known after : List Push) : Type 0 where
   pub tables : IsHistory n before
   pub new_table : IsTable n new
@@ -71,7 +72,8 @@ pub record AreOfOneOrder (n : ℕ) (before : List Push) (new : List Hop) (order 
   pub begins : StartsWith known before
   pub ends : StartsWith (before ++ pushes_of new order) after
 
--- Then the walk comes to no node more than twice.
-abbrev pub ComesTwiceAtMost : Type 0
-ComesTwiceAtMost = (n : ℕ) (before : List Push) (new : List Hop) (order : List ℕ) (known after : List Push) (x : ℕ) (nodes : List ℕ) (z : ℕ)
+-- Such a walk visits no node more than twice.
+abbrev pub VisitsTwiceAtMost : Type 0
+VisitsTwiceAtMost =
+    (n : ℕ) (before : List Push) (new : List Hop) (order : List ℕ) (known after : List Push) (x : ℕ) (nodes : List ℕ) (z : ℕ)
     → AreOfOneOrder n before new order known after → GoesBy n known x nodes after → count_by (nat_eq z) (x ∷ nodes) ≤ 2

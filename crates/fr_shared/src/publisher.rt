@@ -63,12 +63,13 @@ impl Publisher {
         let _nodes = self.nodes;
     }
 
-    /// Pushes the hops of a new table, node after node in this order. The new table may have fewer nodes than this one:
+    /// Pushes the hops of a new table, node after node in this order. The new table can have fewer nodes than this one:
     /// the nodes past its end are cut off.
     ///
-    /// The new table must have no loop, and the order must be the push order from the table of the last push to the new
-    /// one, as [`known_push_order`](fr_tables::known_push_order) and [`PushRoom::order`](fr_tables::PushRoom::order)
-    /// return it. Then no table on the way has a loop, by [`push_law`](fr_tables::laws::push_law).
+    /// The new table must have no more nodes than this one, no hop out of range and no loop. The order must be the push
+    /// order from the table of the last push to the new one, as [`known_push_order`](fr_tables::known_push_order) and
+    /// [`PushRoom::order`](fr_tables::PushRoom::order) return it. Then no table on the way has a loop, by
+    /// [`push_law`](fr_tables::laws::push_law).
     ///
     /// It makes one store a node. It takes no memory and waits for nobody. O(p) for p nodes.
     pub fn push_all(&mut self, new: &[Hop], order: &[u32])

@@ -76,8 +76,9 @@ impl Reader {
     /// Walks hop by hop from node `x`, which must be one of the table. It writes the nodes after `x` to the front of
     /// `nodes`, and returns how many they are and what ended the walk. The rest of `nodes` is unchanged.
     ///
-    /// Each node is the hop of the one before it in some table. Later steps can read later tables, so a node can come
-    /// more than once while hops are pushed.
+    /// Each node is the hop of the one before it in some table. Later steps can read later tables, so the walk can visit
+    /// a node more than once while hops are pushed. A walk that sees pushes of one `push_all` alone visits none more than
+    /// twice, by [`shared_law`](crate::shared_law).
     ///
     /// It makes one load a step, and one more. It takes no memory and waits for nobody. O(n) for n nodes written.
     pub fn walk(&mut self, x: u32, nodes: &mut [u32]) -> Walk

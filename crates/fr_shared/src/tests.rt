@@ -46,7 +46,8 @@ fn read_beside<R: Threads + Sync>(
     join(
         rt,
         move || -> Publisher
-            requires { IsTable publisher.nodes (padded publisher.nodes new.now) × IsPushOrder (last_table publisher) (padded publisher.nodes new.now) order.now }
+            requires table { IsTable publisher.nodes (padded publisher.nodes new.now) }
+            requires order { IsPushOrder (last_table publisher) (padded publisher.nodes new.now) order.now }
             ensures { result.nodes ≡ publisher.nodes }
         { push(publisher, new, order) },
         move || -> bool

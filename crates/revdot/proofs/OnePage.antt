@@ -1,20 +1,20 @@
 -- The page of an input is determined by the input.
-use Rattle.std.proofs.Common.{◌≡◌, ◌∙◌, ℕ, ◌+◌, Bool, true, false, List, [], ◌∷◌, ◌++◌, Option, None, Some, MatchBool, ap, subst, sym}
-use Rattle.std.specs.Prelude.{Result, codes}
+use Rattle.std.proofs.Common.{◌≡◌, ◌∙◌, ℕ, ◌+◌, Bool, true, false, List, [], ◌∷◌, ◌++◌, Option, None, Some, MatchBool, ap, inl, inr, subst, sym}
+use Rattle.std.specs.Prelude.{Result, Ok, Err, codes}
 use Rattle.fr_lines.specs.Requests.{PlainRequest, ask, reading}
 use Rattle.fr_lines.specs.declared.requests.LineFault.{LineFault}
 use Rattle.fr_lines.specs.declared.requests.Question.{Question}
 use Rattle.fr_lines.specs.declared.requests.Question.TheVariants.{Links, Counts, Hops}
 use Rattle.fr_route.specs.Blank.{is_blank}
 use Rattle.fr_route.specs.States.{State}
-use Rattle.fr_route.proofs.Determined.{answer_unique, line_unique}
+use Rattle.fr_route.proofs.Determined.{answer_unique, line_unique, not_both}
 use Rattle.fr_route.proofs.OneTelling.{line_told_unique}
 use Rattle.fr_route.specs.Told.{IsLineTold}
 use Rattle.fr_bytes.specs.Lines.{lines_of}
 use Rattle.revdot.specs.Pages.{IsPage}
 use Rattle.revdot.specs.Asked.{asked_text}
-use Rattle.revdot.specs.Stories.{AreBlocks, AreSettledLines, IsAnswerLine, IsAnswered, IsBlock, IsRoundStory, IsToldRound, IsTurnByTurn, answer_text}
-use Rattle.revdot.specs.Stories.{beginning_text, is_short, most_told_turns, net_text, nodes_line, reports_round}
+use Rattle.revdot.specs.Stories.{AreBlocks, AreSettledLines, HasBegun, HasLineBegun, IsAnswerLine, IsAnswered, IsBlock, IsRoundStory, IsToldRound, IsTurnByTurn, answer_text}
+use Rattle.revdot.specs.Stories.{beginning_text, is_short, most_told_turns, net_text, nodes_line}
 use Rattle.revdot.specs.Strips.{beginning}
 use Rattle.revdot.proofs.OneDrawing.{all_turns_unique}
 
@@ -54,14 +54,25 @@ round_story_unique true (Some s) rerouted a b h k =
 round_story_unique true None rerouted a b h k = h ∙ sym k
 round_story_unique false s rerouted a b h k = h ∙ sym k
 
+begun_unique : (s : Option State) (request : PlainRequest) (a b : Bool) → HasBegun s request a → HasBegun s request b → a ≡ b
+begun_unique s request a b (inl (j, h, e)) (inl (k, g, f)) = e ∙ sym f
+begun_unique s request a b (inl (j, h, e)) (inr (n, g, f)) = absurd (not_both s request j n h g)
+begun_unique s request a b (inr (m, h, e)) (inl (k, g, f)) = absurd (not_both s request k m g h)
+begun_unique s request a b (inr (m, h, e)) (inr (n, g, f)) = e ∙ sym f
+
+line_begun_unique : (s : Option State) (asked : Result PlainRequest LineFault) (a b : Bool) → HasLineBegun s asked a → HasLineBegun s asked b → a ≡ b
+line_begun_unique s (Ok request) a b h k = begun_unique s request a b h k
+line_begun_unique s (Err fault) a b h k = h ∙ sym k
+
 answered_unique : (s : Option State) (number : ℕ) (asked : Result PlainRequest LineFault) (a b : List ℕ) (p q : Option State)
     → IsAnswered s number asked a p → IsAnswered s number asked b q → (a ≡ b) × (p ≡ q)
 answered_unique s number asked a b p q h k =
     let one = line_unique s asked h.answer k.answer p q h.is_answer k.is_answer in
     let are_rerouted = subst (λ (t : Option State). IsLineTold s asked t [] h.rerouted) one.1 h.are_rerouted in
     let same : h.rerouted ≡ k.rerouted = line_told_unique s asked q [] h.rerouted k.rerouted are_rerouted k.are_rerouted in
-    let of_round : IsRoundStory (reports_round k.answer) q k.rerouted h.told = rw (← one.0, ← one.1, ← same) h.of_round in
-    let told : h.told ≡ k.told = round_story_unique (reports_round k.answer) q k.rerouted h.told k.told of_round k.of_round in
+    let began : h.began ≡ k.began = line_begun_unique s asked h.began k.began h.has_begun k.has_begun in
+    let of_round : IsRoundStory k.began q k.rerouted h.told = rw (← began, ← one.1, ← same) h.of_round in
+    let told : h.told ≡ k.told = round_story_unique k.began q k.rerouted h.told k.told of_round k.of_round in
     let texts : answer_text number h.answer ++ (asked_text asked ++ h.told) ≡ answer_text number k.answer ++ (asked_text asked ++ k.told) =
     (λ i. answer_text number (one.0 i) ++ (asked_text asked ++ told i)) in
     (h.text ∙ (texts ∙ sym k.text), one.1)

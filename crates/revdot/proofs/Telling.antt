@@ -1,21 +1,21 @@
 -- How far the story of an input has been told.
-use Rattle.std.proofs.Common.{◌≡◌, ◌∙◌, ℕ, ◌+◌, ◌≤◌, ◌==◌, List, [], ◌∷◌, ◌++◌, length, ap, append_assoc, append-nil, arith, Option, None, Some, true}
-use Rattle.std.proofs.Common.{false, refl, subst, sym}
-use Rattle.std.proofs.lemmas.List.Splits.{length-slice_split}
-use Rattle.std.proofs.lemmas.List.Sums.{count_by-le-length}
+use Rattle.std.proofs.Common.{◌≡◌, ◌∙◌, ℕ, ◌+◌, ◌≤◌, List, [], ◌∷◌, ◌++◌, length, ap, append_assoc, append-nil, arith, Option, None, Some, true}
+use Rattle.std.proofs.Common.{Bool, false, inl, inr, not, refl, rules, subst, sym, ◌&&◌}
+use Rattle.std.specs.List.{starts_with}
 use Rattle.fr_route.specs.States.{State}
 use Rattle.fr_bytes.specs.Lines.{lines_of}
-use Rattle.std.specs.Prelude.{Err, Ok, codes}
+use Rattle.fr_bytes.proofs.Ending.{few_lines}
+use Rattle.std.specs.Prelude.{Err, Ok, codes, eqb}
 use Rattle.fr_lines.specs.declared.requests.Question.TheVariants.{Links, Counts, Hops}
 use Rattle.fr_lines.specs.declared.requests.LineFault.{LineFault}
-use Rattle.fr_lines.specs.Requests.{PlainRequest, reading}
-use Rattle.fr_route.specs.Answers.{IsAnswer, IsLineAnswer}
+use Rattle.fr_lines.specs.Requests.{PlainRequest, new_network, cut_link, add_link, join_nodes, make_edits, move_dest, walk_from, ask, reading}
+use Rattle.fr_route.specs.Answers.{IsAnswer, IsLineAnswer, IsText}
 use Rattle.fr_route.specs.Blank.{is_blank}
 use Rattle.fr_route.specs.Texts.{refusal_text}
 use Rattle.fr_route.specs.Told.{IsTold}
 use Rattle.revdot.specs.Asked.{asked_text}
 use Rattle.revdot.specs.Stories.{AreBlocks, AreSettledLines, IsAnswerLine, IsAnswered, IsBlock, IsRoundStory, IsStory, IsTurnByTurn, answer_text}
-use Rattle.revdot.specs.Stories.{beginning_text, is_short, most_told_turns, net_text, nodes_line, reports_round}
+use Rattle.revdot.specs.Stories.{HasBegun, beginning_text, is_short, makes_round, most_told_turns, net_text, nodes_line}
 use Rattle.revdot.specs.Strips.{AreAllTurns, beginning}
 use Rattle.revdot.proofs.Beginnings.{begins}
 
@@ -31,10 +31,6 @@ pub record HasTold (whole : List ℕ) (left : List (List ℕ)) (now : Option Sta
   pub text : new ≡ old ++ told
   pub rest : (more : List ℕ) → AreBlocks now (number + 1) left more → IsStory whole (told ++ more)
   pub within : number + length left ≤ length whole + 1
-
--- there is at most one line more than there are bytes
-few_lines : (whole : List ℕ) → length (lines_of whole) ≤ length whole + 1
-few_lines whole = omega (arith, length-slice_split (λ x. x == 10) whole, count_by-le-length (λ x. x == 10) whole)
 
 pub at_start : (whole : List ℕ) (left : List (List ℕ)) (now : Option State) (old : List ℕ) → left ≡ lines_of whole
     → now ≡ None → HasTold whole left now 0 old old
@@ -109,17 +105,40 @@ round_told s session turns settled rerouted old one two more new some short are_
     let in_session = subst (λ (t : Option State). IsRoundStory true t rerouted (net ++ rest)) some story in
     (net ++ rest, in_session, three old net (beginning_text s turns) (settled ++ pushes) one two new e f end)
 
+-- a report is no refusal
+no_refusal : (s : State) (request : PlainRequest) (answer : List ℕ) → IsText s request answer
+    → (makes_round request && not (starts_with eqb answer (codes "refused"))) ≡ makes_round request
+no_refusal s (new_network n d links) answer is = rw is.3 refl
+no_refusal s (cut_link u v) answer is = rw is.3 refl
+no_refusal s (add_link u v) answer is = rw is.3 refl
+no_refusal s (join_nodes u v) answer is = rw is.3 refl
+no_refusal s (make_edits edits) answer is = rw is.3 refl
+no_refusal s (move_dest d) answer is = rw is.3 refl
+no_refusal s (walk_from x) answer is = refl
+no_refusal s (ask question) answer is = refl
+
+none_begun : (request : PlainRequest) → (makes_round request && false) ≡ false
+none_begun request = search rules
+
+-- whether a request began a round, by its kind and its answer
+pub begun_by : (s next : Option State) (request : PlainRequest) (answer : List ℕ) (began : Bool) → IsAnswer s request answer next
+    → began ≡ (makes_round request && not (starts_with eqb answer (codes "refused"))) → HasBegun s request began
+begun_by s next request answer began (inl (number, refused, is, same)) e = inl (number, refused, e ∙ rw is (none_begun request))
+begun_by s next request answer began (inr (new, accepted, is, same)) e = inr (new, accepted, e ∙ no_refusal new request answer is)
+
 -- the answer to a request, what it asks, and its round, one after the other
-pub answered_told : (s next : Option State) (number : ℕ) (request : PlainRequest) (answer rerouted told old one two new : List ℕ)
-    → IsAnswer s request answer next → IsTold s request next [] rerouted → IsRoundStory (reports_round answer) next rerouted told
+pub answered_told : (s next : Option State) (number : ℕ) (request : PlainRequest) (began : Bool) (answer rerouted told old one two new : List ℕ)
+    → IsAnswer s request answer next → IsTold s request next [] rerouted → HasBegun s request began → IsRoundStory began next rerouted told
     → one ≡ old ++ answer_text number answer → two ≡ one ++ asked_text (Ok request) → new ≡ two ++ told
     → (block : List ℕ) × IsAnswered s number (Ok request) block next × (new ≡ old ++ block)
-answered_told s next number request answer rerouted told old one two new is_answer are_rerouted of_round e f g =
+answered_told s next number request began answer rerouted told old one two new is_answer are_rerouted has_begun of_round e f g =
     let answered : IsAnswered s number (Ok request) (answer_text number answer ++ (asked_text (Ok request) ++ told)) next = record {
       answer = answer;
       is_answer = is_answer;
       rerouted = rerouted;
       are_rerouted = are_rerouted;
+      began = began;
+      has_begun = has_begun;
       told = told;
       of_round = of_round;
       text = refl;
@@ -134,6 +153,8 @@ refused_told s fault why number line asks reads is_answer = rw (asks, reads) rec
   is_answer = is_answer;
   rerouted = [];
   are_rerouted = (refl, refl);
+  began = false;
+  has_begun = refl;
   told = [];
   of_round = refl;
   text = sym (append-nil (answer_text number (refusal_text why)));

@@ -1,11 +1,10 @@
 -- The story of an input: the answer to each line, and each round turn by turn, with the nodes that get new hops.
-use Rattle.std.specs.Prelude.{◌≡◌, ℕ, ◌+◌, nat_le, eqb, ◌&&◌, Bool, true, false, List, [], ◌∷◌, ◌++◌, Option, Some, None, Result, MatchBool, codes, decimal, sum}
-use Rattle.std.specs.List.{starts_with}
-use Rattle.fr_lines.specs.Requests.{PlainRequest, ask, reading}
+use Rattle.std.specs.Prelude.{◌≡◌, ℕ, ◌+◌, nat_le, ◌⊎◌, ◌&&◌, Bool, true, false, List, [], ◌∷◌, ◌++◌, Option, Some, None, Result, Ok, Err, MatchBool, codes, decimal, sum}
+use Rattle.fr_lines.specs.Requests.{PlainRequest, walk_from, ask, reading}
 use Rattle.fr_lines.specs.declared.requests.LineFault.{LineFault}
 use Rattle.fr_lines.specs.declared.requests.Question.{Question}
 use Rattle.fr_lines.specs.declared.requests.Question.TheVariants.{Links, Counts, Hops}
-use Rattle.fr_route.specs.Answers.{IsAnswer, IsLineAnswer}
+use Rattle.fr_route.specs.Answers.{IsAccepted, IsAnswer, IsLineAnswer, IsRefused}
 use Rattle.fr_route.specs.Blank.{is_blank}
 use Rattle.fr_route.specs.States.{State}
 use Rattle.fr_route.specs.Texts.{spaced, spaced_links}
@@ -65,29 +64,44 @@ pub record IsTurnByTurn (s : State) (rerouted out : List ℕ) : Type 0 where
 abbrev pub IsToldRound : State → List ℕ → List ℕ → Type 0
 IsToldRound s rerouted out = MatchBool (is_short s) (IsTurnByTurn s rerouted out) (out ≡ codes "omitted\n")
 
--- what is told behind an answer, by the state after it: of a round, if it reports one
+-- what is told behind an answer, by the state after it: of a round, if the line began one
 abbrev pub IsRoundStory : Bool → Option State → List ℕ → List ℕ → Type 0
 IsRoundStory true (Some s) rerouted told =
     (out : List ℕ) × IsToldRound s rerouted out × (told ≡ net_text s.nodes s.dest ++ out)
 IsRoundStory true None rerouted told = told ≡ []
 IsRoundStory false s rerouted told = told ≡ []
 
--- an answer that reports a round, and no other, begins so
-abbrev pub reports_round : List ℕ → Bool
-reports_round answer = starts_with eqb answer (codes "turned")
+-- a request that begins a round where it is accepted: a network or a change
+abbrev pub makes_round : PlainRequest → Bool
+makes_round (walk_from x) = false
+makes_round (ask question) = false
+makes_round request = true
+
+-- whether a request began a round: it was accepted, and is a network or a change
+abbrev pub HasBegun : Option State → PlainRequest → Bool → Type 0
+HasBegun s request began =
+    ((number : ℕ) × IsRefused s request number × (began ≡ false))
+    ⊎ ((new : State) × IsAccepted s request new × (began ≡ makes_round request))
+
+-- whether a line as it is read began one
+abbrev pub HasLineBegun : Option State → Result PlainRequest LineFault → Bool → Type 0
+HasLineBegun s (Ok request) began = HasBegun s request began
+HasLineBegun s (Err fault) began = began ≡ false
 
 -- the number of a line, and its answer
 abbrev pub answer_text : ℕ → List ℕ → List ℕ
 answer_text number answer = codes "line " ++ (decimal number ++ (codes "\n" ++ (answer ++ codes "\n")))
 
--- what is told of a line that is not blank: its answer, what it asks, and its round, if it makes one
+-- what is told of a line that is not blank: its answer, what it asks, and its round, if it began one
 pub record IsAnswered (s : Option State) (number : ℕ) (asked : Result PlainRequest LineFault) (block : List ℕ) (next : Option State) : Type 0 where
   pub answer : List ℕ
   pub is_answer : IsLineAnswer s asked answer next
   pub rerouted : List ℕ
   pub are_rerouted : IsLineTold s asked next [] rerouted
+  pub began : Bool
+  pub has_begun : HasLineBegun s asked began
   pub told : List ℕ
-  pub of_round : IsRoundStory (reports_round answer) next rerouted told
+  pub of_round : IsRoundStory began next rerouted told
   pub text : block ≡ answer_text number answer ++ (asked_text asked ++ told)
 
 -- what is told of a line, and the state after it: a blank line has no answer

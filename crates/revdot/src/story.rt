@@ -1,10 +1,11 @@
 //! The story of an input: the answer to each line, and each round turn by turn, with the nodes that get new hops.
 
-ghost use Rattle.std.specs.Prelude.{◌≡◌, ◌++◌, ℕ, List, Ok, OnOk, string_bytes};
+ghost use Rattle.std.specs.Prelude.{◌≡◌, ◌++◌, ◌&&◌, ℕ, List, Ok, OnOk, codes, eqb, not, string_bytes};
+ghost use Rattle.std.specs.List.{starts_with};
 ghost use Rattle.fr_lines.specs.Requests.{plain};
 ghost use Rattle.fr_route.specs.Refusals.{number_of};
 ghost use Rattle.fr_route.specs.Texts.{refusal_text};
-ghost use Rattle.revdot.specs.Stories.{IsAnswered, IsBlock, IsStory, answer_text};
+ghost use Rattle.revdot.specs.Stories.{IsAnswered, IsBlock, IsStory, answer_text, makes_round};
 
 use crate::asked::push_asked;
 use crate::rounds::push_round;
@@ -57,7 +58,7 @@ fn push_refusal(story: &mut String, number: u64, refusal: Refusal) -> Result<(),
     writeln!(story, "line {number}\nrefused {}", refusal.number())
 }
 
-/// Adds the number of a line, the answer to its request, what it asks, and its round, if it makes one.
+/// Adds the number of a line, the answer to its request, what it asks, and its round, if it began one.
 fn push_answered(
     story: &mut String,
     alloc: Global,
@@ -74,9 +75,19 @@ fn push_answered(
     };
     writeln!(story, "line {number}\n{answer}")?;
     push_asked(story, request)?;
-    if answer.starts_with("turned") {
+    if has_begun(request, &answer) {
         push_round(story, alloc, session, &rerouted)
     } else {
         Ok(())
+    }
+}
+
+/// Whether a request began a round: it is a network or a change, and was not refused.
+fn has_begun(request: &Request, answer: &str) -> bool
+    ensures { result ≡ (makes_round (plain request.now) && not (starts_with eqb answer.now (codes "refused"))) }
+{
+    match request {
+        Request::Walk { .. } | Request::Ask(_) => false,
+        _ => !answer.starts_with("refused"),
     }
 }

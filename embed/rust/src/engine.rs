@@ -1,6 +1,6 @@
 //! What stands behind a session or a network: the handle of the library, and the questions to it.
 
-use crate::{Hop, NoMemory, Report, Size, TableFault, listed, sys, table};
+use crate::{Hop, NoMemory, Reader, Report, Size, TableFault, listed, sys, table};
 use std::cell::UnsafeCell;
 
 /// The owner of a handle. Questions change nothing, though the library takes the handle as its own for each: so it stands in a cell, and
@@ -98,6 +98,11 @@ impl Engine {
         // SAFETY: the handle is new or the library's own, no other call has it, and the three do not overlap.
         let status = unsafe { sys::revroute_size(self.handle.get(), &mut nodes, &mut links) };
         (status == sys::ANSWERED).then_some(Size { nodes, links })
+    }
+
+    pub fn reader(&self) -> Result<Reader, NoMemory> {
+        // SAFETY: the handle is new or the library's own, no other call has it, and the reader's is new.
+        Reader::opened(|reader| unsafe { sys::revroute_reader_open(self.handle.get(), reader) })
     }
 
     /// What a question has for each node, or nothing before the first network.

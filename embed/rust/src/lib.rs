@@ -12,6 +12,8 @@
 //! # Ok::<(), Refused>(())
 //! ```
 //!
+//! Other threads read next hops while one thread changes the network, without a lock: each has a [`Reader`].
+//!
 //! [`Session`] answers lines instead, those of the program `revroute run`. The engine is a static library, written and proved in
 //! Rattle; this crate calls it, and rules out what a caller in C has to see to.
 //!
@@ -24,6 +26,7 @@ mod hop;
 mod network;
 mod pieces;
 mod questions;
+mod reader;
 mod refused;
 mod session;
 mod sys;
@@ -32,6 +35,7 @@ mod table;
 pub use hop::{Hop, Report, Size};
 pub use network::{Edit, Network, Walk};
 pub use pieces::TakeFault;
+pub use reader::{MAX_NODES, Reader, Walked};
 pub use refused::{Refused, RefusedEdit};
 pub use session::Session;
 pub use table::TableFault;

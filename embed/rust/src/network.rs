@@ -1,7 +1,7 @@
 //! A network by typed calls.
 
 use crate::engine::{Engine, filled};
-use crate::{Hop, NoMemory, Refused, RefusedEdit, Report, Size, TableFault, listed, sys};
+use crate::{Hop, NoMemory, Reader, Refused, RefusedEdit, Report, Size, TableFault, listed, sys};
 use std::fmt;
 use std::iter::FusedIterator;
 
@@ -19,7 +19,8 @@ use std::iter::FusedIterator;
 /// # Ok::<(), revroute::Refused>(())
 /// ```
 ///
-/// It cannot be shared by several:
+/// It cannot be shared by several, since each call has it for itself. To read next hops on other threads while this one changes the
+/// network, give each of them a [`reader`](Network::reader).
 ///
 /// ```compile_fail,E0277
 /// fn is_shared<T: Sync>() {}
@@ -214,6 +215,27 @@ impl Network {
             Some(hop) => hop,
             None => panic!("there is no node {node}"),
         }
+    }
+
+    /// A reader of the next hops, for another thread. From the first one on, each change stores every changed hop once more. `O(n)`
+    /// for the first reader, and `O(1)` for each later one.
+    ///
+    /// ```
+    /// use revroute::{Hop, Network};
+    ///
+    /// let mut network = Network::new(3, 0, &[(1, 0), (2, 1)])?;
+    /// let reader = network.reader()?;
+    /// let hop = std::thread::spawn(move || reader.next_hop(2));
+    /// network.join(2, 0)?;
+    /// assert!(matches!(hop.join().unwrap(), Hop::To(1) | Hop::To(0)));
+    /// # Ok::<(), revroute::Refused>(())
+    /// ```
+    ///
+    /// # Errors
+    ///
+    /// Where memory runs out.
+    pub fn reader(&self) -> Result<Reader, NoMemory> {
+        self.engine.reader()
     }
 
     /// Where each node sends on to, in the order of the nodes. `O(n)`.

@@ -1,6 +1,6 @@
 //! Questions to a session with numbers for answers, and no text between.
 
-use crate::{Hop, NoMemory, Report, Session, Size, TableFault};
+use crate::{Hop, NoMemory, Reader, Report, Session, Size, TableFault};
 
 impl Session {
     /// Where a node sends on to; `None` where there is no such node, as before the first network. `O(1)`, without memory.
@@ -16,6 +16,27 @@ impl Session {
     /// ```
     pub fn next_hop(&mut self, node: u32) -> Option<Hop> {
         self.engine.next_hop(node)
+    }
+
+    /// A reader of the next hops, for another thread, as [`Network::reader`](crate::Network::reader). Before the first network each
+    /// node is cut off. The reader stays through all later networks.
+    ///
+    /// ```
+    /// use revroute::{Hop, Session};
+    ///
+    /// let mut session = Session::new();
+    /// let reader = session.reader()?;
+    /// assert_eq!(reader.next_hop(1), Hop::CutOff);
+    /// session.answer(r#"["net",2,0,[[0,1]]]"#)?;
+    /// assert_eq!(reader.next_hop(1), Hop::To(0));
+    /// # Ok::<(), revroute::NoMemory>(())
+    /// ```
+    ///
+    /// # Errors
+    ///
+    /// Where memory runs out.
+    pub fn reader(&mut self) -> Result<Reader, NoMemory> {
+        self.engine.reader()
     }
 
     /// Where each node sends on to, in the order of the nodes; nothing before the first network. `O(n)`.

@@ -14,6 +14,17 @@ impl Handle {
     pub const NEW: Handle = Handle { at: null_mut() };
 }
 
+/// What the library holds of a reader. Only the library reads it.
+#[repr(C)]
+pub struct ReaderHandle {
+    at: *mut c_void,
+}
+
+impl ReaderHandle {
+    /// The handle of no reader, which holds no memory.
+    pub const NONE: ReaderHandle = ReaderHandle { at: null_mut() };
+}
+
 /// The answer stands at the front of the buffer.
 pub const ANSWERED: u32 = 0;
 /// The line is blank.
@@ -215,6 +226,22 @@ unsafe extern "C" {
     pub fn revroute_size(session: *mut Handle, nodes: *mut u32, links: *mut usize) -> u32;
 
     pub fn revroute_close(session: *mut Handle);
+
+    pub fn revroute_reader_open(session: *mut Handle, reader: *mut ReaderHandle) -> u32;
+
+    pub fn revroute_reader_copy(reader: *mut ReaderHandle, other: *mut ReaderHandle) -> u32;
+
+    pub fn revroute_reader_next_hop(reader: *mut ReaderHandle, node: u32) -> u32;
+
+    pub fn revroute_reader_route(
+        reader: *mut ReaderHandle,
+        node: u32,
+        nodes: *mut u32,
+        room: usize,
+        length: *mut usize,
+    ) -> u32;
+
+    pub fn revroute_reader_close(reader: *mut ReaderHandle);
 
     pub fn revroute_version(text: *mut u8, room: usize, length: *mut usize) -> u32;
 }

@@ -118,3 +118,25 @@ fn without_memory_the_network_is_as_it_was() -> Result<(), Refused> {
     assert_eq!(poor(1, || network.links()), Err(NoMemory));
     Ok(())
 }
+
+#[test]
+fn without_memory_there_is_no_reader_and_all_is_as_it_was() -> Result<(), Refused> {
+    let _held = COUNTER.lock().unwrap_or_else(PoisonError::into_inner);
+    let mut network = Network::new(3, 0, &[(0, 1), (1, 2)])?;
+    let mut number = 1;
+    let reader = loop {
+        match poor(number, || network.reader()) {
+            Err(NoMemory) => number += 1,
+            Ok(reader) => break reader,
+        }
+    };
+    assert!(number > 1, "a reader takes memory");
+    assert!(matches!(poor(1, || reader.try_clone()), Err(NoMemory)));
+    assert_eq!(reader.next_hop(2), Hop::To(1));
+    assert_eq!(
+        made_poor(&mut network, |it| it.cut(1, 0)).map(|it| it.cut_off),
+        Ok(2)
+    );
+    assert_eq!(reader.next_hop(2), Hop::CutOff);
+    Ok(())
+}

@@ -3,7 +3,7 @@
 #[path = "../timing.rs"]
 mod timing;
 
-use revroute::{Hop, Network};
+use revroute::{Hop, Network, Reader};
 use timing::{Calls, Change, Input};
 
 struct Called(Network);
@@ -19,6 +19,16 @@ impl Calls for Called {
 
     fn hop(&self, node: u32) -> u32 {
         number(self.0.next_hop(node))
+    }
+
+    type Reader = Reader;
+
+    fn reader(&self) -> Reader {
+        self.0.reader().expect("memory")
+    }
+
+    fn read(reader: &Reader, node: u32) -> u32 {
+        number(reader.next_hop(node))
     }
 
     fn hops(&self, list: &mut Vec<u32>) {

@@ -18,6 +18,8 @@ use edit::Edit;
 use net::Net;
 use round::{Hop, Round};
 use settle::Method;
+use std::sync::Arc;
+use std::sync::atomic::{AtomicU32, Ordering};
 use timing::{Calls, Change, Input};
 
 /// The plain crew is not called here.
@@ -47,6 +49,18 @@ impl Calls for Called {
 
     fn hop(&self, node: u32) -> u32 {
         number(self.0.hops()[node as usize])
+    }
+
+    // a table of atomic words: nothing changes while it is read
+    type Reader = Arc<[AtomicU32]>;
+
+    fn reader(&self) -> Self::Reader {
+        let hops = self.0.hops().iter();
+        hops.map(|&hop| AtomicU32::new(number(hop))).collect()
+    }
+
+    fn read(reader: &Self::Reader, node: u32) -> u32 {
+        reader[node as usize].load(Ordering::Acquire)
     }
 
     fn hops(&self, list: &mut Vec<u32>) {

@@ -41,12 +41,30 @@ a router its hop, and returns once the router has confirmed it:
 >>> network.pushes(table)
 []
 
+Other threads read next hops while one thread changes the network, and wait for nobody, each by a reader of its own:
+
+    reader()          a Reader, with next_hop(node), walk(node), copy() and close()
+
 `Network.from_networkx(graph, dest)` takes a graph of networkx with its names, and `to_networkx()` gives one.
 
 A `Session` answers lines instead, those of the program `revroute run`.
 """
 
 from .network import Network, Refused
+from .reader import Reader, WalkTooLong
 from .session import AnswerLost, LineTooLong, NoHop, NoSuchNode, Report, Session, Size, version
 
-__all__ = ["AnswerLost", "LineTooLong", "Network", "NoHop", "NoSuchNode", "Refused", "Report", "Session", "Size", "version"]
+__all__ = [
+    "AnswerLost",
+    "LineTooLong",
+    "Network",
+    "NoHop",
+    "NoSuchNode",
+    "Reader",
+    "Refused",
+    "Report",
+    "Session",
+    "Size",
+    "WalkTooLong",
+    "version",
+]

@@ -21,6 +21,12 @@ class Handle(ctypes.Structure):
     _fields_ = [("at", ctypes.c_void_p)]
 
 
+class ReaderHandle(ctypes.Structure):
+    """What the library holds of a reader. Only the library reads it, and it is never copied."""
+
+    _fields_ = [("at", ctypes.c_void_p)]
+
+
 class Refusal(ctypes.Structure):
     """Why a call is refused, with the nodes that are evidence, and which of the edits."""
 
@@ -30,6 +36,7 @@ class Refusal(ctypes.Structure):
 _number, _wide, _size = ctypes.c_uint32, ctypes.c_uint64, ctypes.c_size_t
 # the bytes of links, edits or hops, and the two numbers of a round by their address
 _given, _round, _handle = ctypes.c_char_p, ctypes.c_void_p, ctypes.POINTER(Handle)
+_reader = ctypes.POINTER(ReaderHandle)
 _text, _length, _numbers = ctypes.POINTER(ctypes.c_char), ctypes.POINTER(_size), ctypes.POINTER(_number)
 _ended = [_round, ctypes.POINTER(Refusal)]
 _WORDS: dict[str, list[Any]] = {
@@ -50,6 +57,11 @@ _WORDS: dict[str, list[Any]] = {
     "route": [_handle, _number, _numbers, _size, _length],
     "report": [_handle, ctypes.POINTER(_wide), ctypes.POINTER(_wide)],
     "size": [_handle, _numbers, _length],
+    "reader_open": [_handle, _reader],
+    "reader_copy": [_reader, _reader],
+    "reader_next_hop": [_reader, _number],
+    "reader_route": [_reader, _number, _numbers, _size, _length],
+    "reader_close": [_reader],
     "version": [_text, _size, _length],
     "close": [_handle],
 }
@@ -65,7 +77,7 @@ def load(kind: Any = ctypes.CDLL) -> Any:
     for name, words in _WORDS.items():
         call = getattr(library, f"revroute_{name}")
         call.argtypes, call.restype = words, _number
-    library.revroute_close.restype = None
+    library.revroute_close.restype = library.revroute_reader_close.restype = None
     return library
 
 
@@ -73,4 +85,5 @@ library, questions = load(), load(ctypes.PyDLL)
 # Without types, which take longer to look at than the calls: given a c_void_p and a number that is less than that of the nodes, and a handle,
 # bytes, a c_size_t, a c_void_p and a refusal.
 next_hop, change = load(ctypes.PyDLL).revroute_next_hop, load().revroute_change
-next_hop.argtypes = change.argtypes = None
+reader_next_hop = load(ctypes.PyDLL).revroute_reader_next_hop
+next_hop.argtypes = change.argtypes = reader_next_hop.argtypes = None

@@ -11,6 +11,7 @@ from typing import TypeVar, Union
 
 from . import _calls
 from ._calls import library
+from .reader import Reader
 from .session import NoHop, NoSuchNode, Report, Session, Size, _hop, _packed_table, _Why
 
 if TYPE_CHECKING:
@@ -77,7 +78,7 @@ class Network(Generic[Name]):
     NoSuchNode, and where a change has it by number, Refused. A closed network is a ValueError. Any thread may call, one at a time:
     others wait. What would wait for itself is a RuntimeError, as a session has it.
 
-    With n nodes and m links `next_hop`, `size` and `report` are O(1), `walk` and `changed` as long as what they
+    With n nodes and m links `next_hop`, `size` and `report` are O(1), `reader` O(n) at first and then O(1), `walk` and `changed` as long as what they
     answer, `hops`, `hops_into`, `table`, `pushes`, `counts` and `dest` O(n), `links`, `move` and a new network
     O(n + m) and the round; a change is O(n + m) at most, and where few nodes turn the links of these and of those
     that sent on to them.
@@ -171,6 +172,10 @@ class Network(Generic[Name]):
             pass
         hop = self._session.next_hop(self._number(node))
         return hop if isinstance(hop, NoHop) else self._name(hop)
+
+    def reader(self) -> Reader[Name]:
+        """A reader of the next hops, for another thread. From the first one on, each change stores every changed hop once more."""
+        return Reader(self._session._open_reader, self._names, self._numbers, len(self._nodes))
 
     def hops(self) -> list[Union[Name, NoHop]]:
         """The next hop of each node, in order."""

@@ -23,10 +23,13 @@ from array import array
 from collections.abc import Mapping, Sequence
 from operator import index
 from threading import RLock, get_ident
-from typing import Any, Callable, NamedTuple, NoReturn, Optional, Union
+from typing import TYPE_CHECKING, Any, Callable, NamedTuple, NoReturn, Optional, Union
 
 from . import _calls
 from ._calls import library, questions
+
+if TYPE_CHECKING:
+    from .reader import Reader
 
 _FIRST_ROOM = 4096
 # places for numbers, before it is known how many there are
@@ -147,7 +150,7 @@ class Session:
     session, and a call in the child of `os.fork` if another thread was in a call as the process was forked. The child can use
     every other session, and has a copy of its own.
 
-    With n nodes and m links `next_hop`, `size` and `report` are O(1), `route`, `rerouted` and `changed` as long as
+    With n nodes and m links `next_hop`, `size` and `report` are O(1), `reader` O(n) at first and then O(1), `route`, `rerouted` and `changed` as long as
     what they answer, `next_hops`, `pushes` and `counts` O(n), `links` O(n + m). `answer`, `take` and `finish` are
     O(b) for b bytes of lines and answers, and what the calls of a Network cost.
     """
@@ -371,6 +374,21 @@ class Session:
         if value in (_calls.NO_SUCH_NODE, _calls.NO_HOP):
             raise NoSuchNode(number)
         return _hop(value)
+
+    def reader(self) -> Reader[int]:
+        """A reader of the next hops, for another thread. It stays through all later networks, and takes every number below 4,096: what is
+        no node of the network is cut off. From the first reader on, each change stores every changed hop once more."""
+        from .reader import Reader
+
+        return Reader(self._open_reader)
+
+    def _open_reader(self, reader: Any) -> int:
+        with self._lock:
+            self._begin_call()
+            try:
+                return int(questions.revroute_reader_open(self._at, reader))
+            finally:
+                self._caller = None
 
     def next_hops(self) -> list[Union[int, NoHop]]:
         """Where each node sends on to, in the order of the nodes; nothing before the first network."""

@@ -6,7 +6,8 @@ use Rattle.fr_shared.proofs.reader.Reader.walk.Goals as goal
 -- a write at i leaves what is behind it
 rest_more : (room now : List ℕ) (i y : ℕ) → drop i now ≡ drop i room → drop (i + 1) (set now i y) ≡ drop (i + 1) room
 rest_more room now i y rest =
-    drop-set-lt (i + 1) now i y (omega arith) ∙ (sym (drop-drop 1 i now) ∙ (ap (λ (l : List ℕ). drop 1 l) rest ∙ drop-drop 1 i room))
+    drop-set-lt (i + 1) now i y (omega arith)
+    ∙ (sym (drop-drop 1 i now) ∙ (ap (λ (l : List ℕ). drop 1 l) rest ∙ drop-drop 1 i room))
 
 pub loop-count-init : goal.loop-count-init
 loop-count-init c = record { way = walk_begins c.args.nodes.now c.hop-hop.ensures; rest = refl }
@@ -21,9 +22,11 @@ loop-count-preserved c = record {
 }
 
 pub returns-in_default-clause-walked : goal.returns-in_default-clause-walked
-returns-in_default-clause-walked c = walk_ends c.ended.result c.loop-count.invariant.way c.ended.ensures.count c.ended.ensures.end (omega arith)
+returns-in_default-clause-walked c =
+    walk_ends c.ended.result c.loop-count.invariant.way c.ended.ensures.count c.ended.ensures.end (omega arith)
     (λ longer. absurd (not_longer c.loop-count.hop c.in_default.not-To (sym c.ended.ensures.end ∙ longer)))
 
 pub returns-clause-walked : goal.returns-clause-walked
-returns-clause-walked c = walk_ends c.ended-2.result c.loop-count.invariant.way (omega (arith, c.ended-2.ensures.count)) c.ended-2.ensures.end
+returns-clause-walked c =
+    walk_ends c.ended-2.result c.loop-count.invariant.way (omega (arith, c.ended-2.ensures.count)) c.ended-2.ensures.end
     (omega arith) (λ _. omega arith)

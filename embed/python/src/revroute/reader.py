@@ -1,0 +1,158 @@
+"""Readers: what other threads ask while one thread changes a network."""
+
+from __future__ import annotations
+
+import ctypes
+import weakref
+from contextlib import nullcontext
+from operator import index
+from threading import RLock
+from typing import Any, ContextManager, Generic, Hashable, NoReturn, Optional, Sequence, TypeVar, Union
+
+from . import _calls
+from ._calls import questions
+from .session import _HAS_LOCK, NoHop, NoSuchNode, _hop
+
+Name = TypeVar("Name", bound=Hashable)
+
+# no network has more nodes, and no walk of a reader goes on after so many
+_MOST = 4096
+_UNLOCKED = nullcontext()
+
+
+class WalkTooLong(Exception):
+    """The walk of a reader has met 4,096 nodes and has not ended, since hops were pushed meanwhile: walk again."""
+
+
+class Reader(Generic[Name]):
+    """Reads next hops while another thread changes the network: `Network.reader` and `Session.reader` make it.
+
+    >>> import revroute
+    >>> network = revroute.Network(4, 0, [(1, 0), (2, 1), (2, 3), (3, 0)])
+    >>> reader = network.reader()
+    >>> reader.walk(2)
+    [2, 1, 0]
+    >>> network.cut(1, 0)
+    Report(turned=1, cut_off=0)
+    >>> reader.walk(2)
+    [2, 3, 0]
+
+    No read waits for a change: a hop is one load. As soon as there is a reader, each accepted change pushes the changed
+    hops to the table that all readers read, in push order, before its call returns. So at every moment this table has
+    no loop. Two reads can be of different tables. Hops of one node never go back to earlier ones.
+
+    A reader outlives its network, and reads its last hops then. A closed reader is a ValueError. Any thread may call.
+    Give each thread its own, by `copy`: in an interpreter without a global lock calls on one reader wait for each other.
+
+    `next_hop` and `copy` are O(1), and `walk` as long as what it answers.
+    """
+
+    def __init__(
+        self, opened: Any, names: Optional[Sequence[Name]] = None, numbers: Any = None, nodes: int = _MOST
+    ) -> None:
+        """For the package alone: `opened` opens the handle that it is given; `nodes` can be asked about."""
+        self._names, self._numbers, self._count = names, numbers, nodes
+        self._bound = nodes if numbers is None and _HAS_LOCK else 0
+        self._handle = _calls.ReaderHandle()
+        self._at, self._live = ctypes.byref(self._handle), ctypes.c_void_p(ctypes.addressof(self._handle))
+        self._lock: ContextManager[Any] = _UNLOCKED if _HAS_LOCK else RLock()
+        status = opened(self._at)
+        if status == _calls.NO_MEMORY:
+            raise MemoryError
+        if status != _calls.ANSWERED:
+            self._refuse()
+        self._end = weakref.finalize(self, questions.revroute_reader_close, self._at)
+        self._end.atexit = False
+
+    def copy(self) -> Reader[Name]:
+        """One more reader of the same table, for another thread."""
+        with self._lock:
+            opened = lambda other: questions.revroute_reader_copy(self._at, other)  # noqa: E731
+            return Reader(opened, self._names, self._numbers, self._count)
+
+    def next_hop(self, node: Name) -> Union[Name, NoHop]:
+        """Where a node sends on to, or why it does not, as `Network.next_hop`.
+
+        The reader of a session takes every number below 4,096: what is no node of its network is cut off.
+
+        >>> import revroute
+        >>> session = revroute.Session()
+        >>> reader = session.reader()
+        >>> reader.next_hop(1)
+        <NoHop.CUT_OFF: 'cut'>
+        >>> session.answer('["net",2,0,[[0,1]]]')
+        'turned 1 cut 0'
+        >>> reader.next_hop(1), reader.next_hop(0)
+        (0, <NoHop.HERE: 'here'>)
+
+        Raises NoSuchNode where there is none.
+        """
+        try:
+            if 0 <= node < self._bound:  # type: ignore[operator]
+                hop = _calls.reader_next_hop(self._live, node)
+                if hop < _calls.NO_HOP:
+                    return hop  # type: ignore[no-any-return]
+        except (TypeError, ctypes.ArgumentError):
+            pass
+        number = self._number(node)
+        with self._lock:
+            hop = questions.revroute_reader_next_hop(self._at, number)
+        if hop == _calls.NO_HOP:
+            self._refuse()
+        return self._name(hop) if hop < _calls.NO_HOP else _hop(hop)  # type: ignore[return-value]
+
+    def walk(self, node: Name) -> Optional[list[Name]]:
+        """The nodes of the way from a node to the destination, hop by hop, with both ends; None where it ends at a node
+        that is cut off.
+
+        Later steps can read later hops, so a walk can visit a node again while another thread makes a change.
+
+        Raises NoSuchNode where there is none, and WalkTooLong.
+        """
+        number, length = self._number(node), ctypes.c_size_t()
+        room, status = 64, _calls.TOO_SHORT
+        while status == _calls.TOO_SHORT:
+            if room > _MOST:
+                raise WalkTooLong("the walk has met 4,096 nodes and has not ended")
+            nodes = (ctypes.c_uint32 * room)()
+            with self._lock:
+                status = questions.revroute_reader_route(self._at, number, nodes, room, ctypes.byref(length))
+            room *= 8
+        if status == _calls.NO_NETWORK:
+            self._refuse()
+        return [self._name(it) for it in nodes[: length.value]] if status == _calls.ANSWERED else None
+
+    def close(self) -> None:
+        """Gives the memory back. A second call does nothing."""
+        with self._lock:
+            self._end()
+
+    def _number(self, node: Name) -> int:
+        """The number of a node that can be asked about."""
+        if self._numbers is not None:
+            try:
+                return self._numbers[node]  # type: ignore[no-any-return]
+            except KeyError:
+                raise NoSuchNode(node) from None
+        number = index(node)  # type: ignore[arg-type]
+        if not 0 <= number < self._count:
+            raise NoSuchNode(number)
+        return number
+
+    def _name(self, number: int) -> Name:
+        return self._names[number] if self._names is not None else number  # type: ignore[return-value]
+
+    def _refuse(self) -> NoReturn:
+        raise ValueError("the reader is closed")
+
+    def __enter__(self) -> Reader[Name]:
+        return self
+
+    def __exit__(self, *_: object) -> None:
+        self.close()
+
+    def __reduce__(self) -> NoReturn:
+        raise TypeError("a reader can neither be copied so nor pickled: `copy` makes another one")
+
+    def __repr__(self) -> str:
+        return "<revroute.Reader>" if self._end.alive else "<revroute.Reader, closed>"

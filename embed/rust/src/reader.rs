@@ -1,0 +1,185 @@
+//! Readers: what other threads ask while one thread changes a network.
+
+use crate::{Hop, NoMemory, sys};
+use std::cell::UnsafeCell;
+use std::fmt;
+
+/// The most nodes that a network has. A place for so many nodes has room for each route of a settled network.
+pub const MAX_NODES: usize = 4096;
+
+/// Reads next hops on one thread while another changes the [`Network`](crate::Network) or the
+/// [`Session`](crate::Session).
+///
+/// A read waits for nobody and takes no lock: a hop is one load. As soon as there is a reader, each accepted change
+/// pushes the changed hops to the table that all readers read, in push order, before its call returns. So at every
+/// moment this table has no loop. Two reads can be of different tables. Hops of one node never go back to earlier
+/// ones.
+///
+/// Each thread has its own reader, made by `clone`:
+///
+/// ```
+/// use revroute::{Hop, Network};
+/// use std::thread;
+///
+/// let mut network = Network::new(4, 0, &[(1, 0), (2, 1), (2, 3), (3, 0)])?;
+/// let reader = network.reader()?;
+/// thread::scope(|scope| {
+///     for _ in 0..2 {
+///         let reader = reader.clone();
+///         scope.spawn(move || assert!(matches!(reader.next_hop(2), Hop::To(1) | Hop::To(3))));
+///     }
+///     network.cut(1, 0).map(|_| ())
+/// })?;
+/// assert_eq!(reader.next_hop(2), Hop::To(3));
+/// # Ok::<(), revroute::Refused>(())
+/// ```
+///
+/// It can be sent to another thread, and cannot be shared by several:
+///
+/// ```compile_fail,E0277
+/// fn is_shared<T: Sync>() {}
+/// is_shared::<revroute::Reader>();
+/// ```
+///
+/// It outlives its network, and reads its last hops then:
+///
+/// ```
+/// use revroute::{Hop, Network};
+///
+/// let network = Network::new(2, 0, &[(0, 1)])?;
+/// let reader = network.reader()?;
+/// drop(network);
+/// assert_eq!(reader.next_hop(1), Hop::To(0));
+/// # Ok::<(), revroute::Refused>(())
+/// ```
+pub struct Reader {
+    handle: UnsafeCell<sys::ReaderHandle>,
+}
+
+// SAFETY: the library proves that a reader may go to another thread; the cell keeps it from being shared by two.
+unsafe impl Send for Reader {}
+
+/// Where a walk of a [`Reader`] has ended.
+#[derive(Debug, Clone, Copy, PartialEq, Eq, Hash)]
+pub enum Walked<'a> {
+    /// At the destination: the nodes of the way, with both ends.
+    Arrived(&'a [u32]),
+    /// At a node that is cut off.
+    CutOff,
+    /// Nowhere yet, and the place is full: all its nodes were walked.
+    Longer(&'a [u32]),
+}
+
+impl Reader {
+    /// A reader that a call opens.
+    pub(crate) fn opened(
+        open: impl FnOnce(*mut sys::ReaderHandle) -> u32,
+    ) -> Result<Reader, NoMemory> {
+        let reader = Reader {
+            handle: UnsafeCell::new(sys::ReaderHandle::NONE),
+        };
+        match open(reader.handle.get()) {
+            sys::ANSWERED => Ok(reader),
+            sys::NO_MEMORY => Err(NoMemory),
+            _ => unreachable!("the reader of a session has two ends"),
+        }
+    }
+
+    /// One more reader of the same table. `O(1)`.
+    ///
+    /// # Errors
+    ///
+    /// Where memory runs out.
+    pub fn try_clone(&self) -> Result<Reader, NoMemory> {
+        // SAFETY: the handle is the library's own, no other call has it, and the other one is new.
+        Reader::opened(|other| unsafe { sys::revroute_reader_copy(self.handle.get(), other) })
+    }
+
+    /// Where a node sends on to, by one load. A number below [`MAX_NODES`] that is no node of the network is cut off.
+    /// `O(1)`, without memory.
+    ///
+    /// ```
+    /// use revroute::{Hop, Network};
+    ///
+    /// let network = Network::new(3, 0, &[(0, 1)])?;
+    /// let reader = network.reader()?;
+    /// let hops = [0, 1, 2, 3].map(|node| reader.next_hop(node));
+    /// assert_eq!(hops, [Hop::Here, Hop::To(0), Hop::CutOff, Hop::CutOff]);
+    /// # Ok::<(), revroute::Refused>(())
+    /// ```
+    ///
+    /// # Panics
+    ///
+    /// If the number is [`MAX_NODES`] or more.
+    #[inline]
+    #[track_caller]
+    pub fn next_hop(&self, node: u32) -> Hop {
+        // SAFETY: the handle is the library's own, and no other call has it.
+        match Hop::of(unsafe { sys::revroute_reader_next_hop(self.handle.get(), node) }) {
+            Some(hop) => hop,
+            None => panic!("no network has a node {node}"),
+        }
+    }
+
+    /// Walks from a node hop by hop, by one load for each, and writes the nodes to the front of a place.
+    ///
+    /// While another thread changes the network, later steps can read later hops, and the walk can visit a node
+    /// again. If the place is full before the walk has ended, the answer is [`Longer`](Walked::Longer) with all nodes
+    /// of the place: walk again, or go on from the last of them. With a place of [`MAX_NODES`] nodes that happens
+    /// only while hops are pushed. `O(k)` for k nodes, without memory.
+    ///
+    /// ```
+    /// use revroute::{MAX_NODES, Network, Walked};
+    ///
+    /// let network = Network::new(4, 0, &[(0, 1), (1, 2)])?;
+    /// let (reader, mut place) = (network.reader()?, [0; MAX_NODES]);
+    /// assert_eq!(reader.walk(2, &mut place), Walked::Arrived(&[2, 1, 0]));
+    /// assert_eq!(reader.walk(3, &mut place), Walked::CutOff);
+    /// assert_eq!(reader.walk(2, &mut place[..2]), Walked::Longer(&[2, 1]));
+    /// # Ok::<(), revroute::Refused>(())
+    /// ```
+    ///
+    /// # Panics
+    ///
+    /// If the number is [`MAX_NODES`] or more.
+    #[track_caller]
+    pub fn walk<'a>(&self, node: u32, place: &'a mut [u32]) -> Walked<'a> {
+        assert!((node as usize) < MAX_NODES, "no network has a node {node}");
+        let (places, room, mut length) = (place.as_mut_ptr(), place.len(), 0);
+        // SAFETY: the handle is the library's own, no other call has it, and the place is a slice, which does not overlap
+        // its length.
+        let status = unsafe {
+            sys::revroute_reader_route(self.handle.get(), node, places, room, &mut length)
+        };
+        match status {
+            sys::ANSWERED => Walked::Arrived(&place[..length]),
+            sys::NO_ROUTE => Walked::CutOff,
+            sys::TOO_SHORT => Walked::Longer(place),
+            _ => unreachable!("the walk of a reader has three ends"),
+        }
+    }
+}
+
+/// As [`try_clone`](Reader::try_clone).
+///
+/// # Panics
+///
+/// Where memory runs out.
+impl Clone for Reader {
+    fn clone(&self) -> Reader {
+        self.try_clone().expect("there is memory for a reader")
+    }
+}
+
+impl Drop for Reader {
+    fn drop(&mut self) {
+        // SAFETY: the handle is null or the library's own, and no call has it.
+        unsafe { sys::revroute_reader_close(self.handle.get()) }
+    }
+}
+
+impl fmt::Debug for Reader {
+    fn fmt(&self, f: &mut fmt::Formatter<'_>) -> fmt::Result {
+        f.debug_struct("Reader").finish_non_exhaustive()
+    }
+}
