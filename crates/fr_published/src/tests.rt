@@ -22,6 +22,8 @@ fn a_reader_outlives_a_network(rt: HostRuntime) -> Result<(), Fail> {
         .expect(&rt, "an answer");
     let mut other = session.reader(rt.alloc())?;
     session.table_law();
-    assert!(rt; reader.hop(0) == Hop::To(1) && reader.hop(2) == Hop::CutOff && other.hop(1) == Hop::Here);
+    assert!(rt;
+        reader.hop(0) == Hop::To(1) && reader.hop(2) == Hop::CutOff && other.hop(1) == Hop::Here
+    );
     Ok(())
 }

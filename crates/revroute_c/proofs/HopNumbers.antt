@@ -14,9 +14,13 @@ hop_numbers s hops are = record {
   one_each = length-map hops number_of ∙ are.one_each;
   each = λ x number is.
       let low : x < length hops = subst (λ (n : ℕ). x < n) (length-map hops number_of) (slice_get_within (map number_of hops) x number is) in
-      let hop : Hop = get_or hops x Here in
-      (hop, (are.each x hop (slice_get-get_or hops x Here low),
-      sym (get_or_from_slice_get (map number_of hops) x number 0 is) ∙ get_or-map number_of hops x Here 0 low));
+      let hop : Hop = get_or hops x Here in (
+        hop,
+        (
+          are.each x hop (slice_get-get_or hops x Here low),
+          sym (get_or_from_slice_get (map number_of hops) x number 0 is) ∙ get_or-map number_of hops x Here 0 low,
+        ),
+      );
 }
 
 -- they are written where the place begins with them
@@ -24,7 +28,8 @@ pub numbers_written : (hops : List Hop) (before front : List ℕ) → front ≡ 
     → IsWritten (map number_of hops) before (front ++ drop (length hops) before)
 numbers_written hops before front is low =
     let numbers : List ℕ = map number_of hops in
-    let long : length numbers ≡ length hops = length-map hops number_of in
-    (omega (arith, long, low),
-    ap (λ (t : List ℕ). t ++ drop (length hops) before) is
-    ∙ ap (λ (n : ℕ). numbers ++ drop n before) (sym long))
+    let long : length numbers ≡ length hops = length-map hops number_of in (
+      omega (arith, long, low),
+      ap (λ (t : List ℕ). t ++ drop (length hops) before) is
+          ∙ ap (λ (n : ℕ). numbers ++ drop n before) (sym long),
+    )

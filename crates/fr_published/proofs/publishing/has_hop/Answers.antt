@@ -26,6 +26,7 @@ returns-clause-same c =
     let inside : x < length (padded k.nodes hops) = omega (arith, low, padded_length k.nodes hops c.requires) in
     let is : slice_get (padded k.nodes hops) x ≡ Some c.hop_in.result =
     slice_get-get_or (padded k.nodes hops) x Here inside ∙ ap Some (padded_hop k.nodes hops x inside ∙ sym c.hop_in.ensures) in
-    let test : IsTrue c.eq.result ↔ (c.hop.result ≡ c.hop_in.result) = search rules in
-    (λ t. c.hop.ensures.hop ∙ (ap Some (test.0 t) ∙ sym is),
-    λ same. test.1 (same_Some c.hop.result c.hop_in.result (sym c.hop.ensures.hop ∙ (same ∙ is))))
+    let test : IsTrue c.eq.result ↔ (c.hop.result ≡ c.hop_in.result) = search rules in (
+      λ t. c.hop.ensures.hop ∙ (ap Some (test.0 t) ∙ sym is),
+      λ same. test.1 (same_Some c.hop.result c.hop_in.result (sym c.hop.ensures.hop ∙ (same ∙ is))),
+    )

@@ -29,6 +29,10 @@ returns-clause-gives c =
 
 pub returns-clause-hops : goal.returns-clause-hops
 returns-clause-hops c = λ _.
-    let hops = c.hops-hops.result.now in
-    (map number_of hops, (hop_numbers c.args.router.now hops c.hops-hops.ensures,
-    numbers_written hops c.args.place.now c.fill_hops.new.place c.fill_hops.ensures c.if-hops-place.false))
+    let hops = c.hops-hops.result.now in (
+      map number_of hops,
+      (
+        hop_numbers c.args.router.now hops c.hops-hops.ensures,
+        numbers_written hops c.args.place.now c.fill_hops.new.place c.fill_hops.ensures c.if-hops-place.false,
+      ),
+    )
