@@ -13,7 +13,8 @@ use Rattle.fr_route.specs.Told.{IsLineTold}
 use Rattle.fr_bytes.specs.Lines.{lines_of}
 use Rattle.revdot.specs.Pages.{IsPage}
 use Rattle.revdot.specs.Asked.{asked_text}
-use Rattle.revdot.specs.Stories.{AreBlocks, AreSettledLines, HasBegun, HasLineBegun, IsAnswerLine, IsAnswered, IsBlock, IsRoundStory, IsToldRound, IsTurnByTurn, answer_text}
+use Rattle.revdot.specs.Stories.{AreBlocks, AreSettledLines, HasBegun, HasLineBegun, IsAnswerLine, IsAnswered, IsBlock}
+use Rattle.revdot.specs.Stories.{IsRoundStory, IsToldRound, IsTurnByTurn, answer_text}
 use Rattle.revdot.specs.Stories.{beginning_text, is_short, most_told_turns, net_text, nodes_line}
 use Rattle.revdot.specs.Strips.{beginning}
 use Rattle.revdot.proofs.OneDrawing.{all_turns_unique}
