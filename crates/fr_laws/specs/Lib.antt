@@ -1,0 +1,4 @@
+pub mod Hops
+pub mod Locality
+pub mod Quiet
+pub mod Work
