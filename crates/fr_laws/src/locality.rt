@@ -1,4 +1,17 @@
-//! To come.
+//! Whom a change touches: each clause here is a law of `specs/Locality.antt`, proved. The function does nothing.
 
-/// To come.
-pub fn locality_law() {}
+ghost use Rattle.fr_laws.specs.Locality.{ChangeIsARound, WhoTurns, LinksStand};
+ghost use Rattle.fr_laws.specs.Locality.{AddSparesJoined, JoinSparesJoined, CutSparesOthers};
+
+/// Whom a change of a settled network touches. In the round after it, exactly the nodes turn that have a link and no
+/// path to the destination. Links between the other nodes stay as they are. An added link turns no node that was joined
+/// with the destination. Of these nodes a cut turns only those whose every path went over the link, and none of them if
+/// another link points from its tail.
+pub fn locality_law()
+    ensures round { ChangeIsARound }
+    ensures turns { WhoTurns }
+    ensures links { LinksStand }
+    ensures added { AddSparesJoined }
+    ensures joined { JoinSparesJoined }
+    ensures cut { CutSparesOthers }
+{}

@@ -1,0 +1,220 @@
+-- Whom an added or a cut link leaves alone.
+use Rattle.std.proofs.Common.{[], List, ap, inl, inr, refl, subst, sym, ℕ, ⊎_elim}
+use Rattle.std.proofs.Common.{◌∙◌, ◌∷◌, ◌≡◌, ◌≢◌, ◌⊎◌, ◌↔◌}
+use Rattle.std.specs.Prelude.{IsTrue, not}
+use Rattle.std.proofs.lemmas.Bool.{cases_Bool}
+use Rattle.std.proofs.lemmas.List.Elements.{Contains-append_left, Contains-push, Contains-push_cases}
+use Rattle.fr_graph.specs.Edits.{IsJoined as IsNetJoined, without}
+use Rattle.fr_graph.specs.Faults.{IsNetworkOf}
+use Rattle.fr_graph.specs.Links.{HasPath, HaveSameLinks, IsAcyclic, IsNet, IsPath, Points, end_of, is_between}
+use Rattle.fr_graph.specs.Network.{Network}
+use Rattle.fr_graph.proofs.AddedLinks.{added, path_joins}
+use Rattle.fr_graph.proofs.Editing.{from_filter}
+use Rattle.fr_graph.proofs.Linking.{joined_from, path_carries}
+use Rattle.fr_graph.proofs.Lists.{filter_passes, into_filter}
+use Rattle.fr_core.specs.Walks.{IsJoined}
+use Rattle.fr_core.proofs.SameLinks.{same_from_permutation}
+use Rattle.fr_route.specs.States.{State, IsAfterRound, IsRound}
+use Rattle.fr_route.specs.declared.change.Change.TheVariants.{Add, Cut, Join}
+use Rattle.fr_laws.specs.Locality.{EachGoesOver, GoesOver, HasTurned, IsAfterCut, IsSettledAnew, IsTail, KeepsHop}
+use Rattle.fr_laws.proofs.ChangeRounds.{begins_net, cut_net, here, moved_round}
+use Rattle.fr_laws.proofs.TurnsAfter.{grown_hop, grown_still, home, joined_on, joined_out, keeps_hop, path_still}
+use Rattle.fr_laws.proofs.TurnsAfter.{who_turns}
+
+-- Links with one added
+
+pushed_keeps : (links : List (ℕ × ℕ)) (u v a b : ℕ) → Points links a b → Points (added links u v) a b
+pushed_keeps links u v a b h = Contains-append_left links ((u, v) ∷ []) (a, b) h
+
+pushed_back : (links : List (ℕ × ℕ)) (u v x w : ℕ) → Points (added links u v) x w → x ≢ u → Points links x w
+pushed_back links u v x w h apart = ⊎_elim (λ old. old)
+    (λ e. absurd (apart (sym (ap (λ (l : ℕ × ℕ). l.0) e)))) (Contains-push_cases links (u, v) (x, w) h)
+
+pub add_spares : (s : State) (u v : ℕ) (first : List (ℕ × ℕ)) (d : ℕ) (new : State) (x : ℕ)
+    → IsSettledAnew s (Add u v) first d new → IsJoined s.links s.dest x → ¬ HasTurned new x × (x ≢ u → KeepsHop s new x)
+add_spares s u v first d new x h joined =
+    let links = added s.links u v in
+    let round = moved_round s.nodes d s.dest first links new h.begins.1 h.begins.2 h.round in
+    let net = h.begins.0.is_net in
+    let grows : (a b : ℕ) → Points s.links a b → Points links a b = pushed_keeps s.links u v in (
+      grown_still s h.settled links new net round grows x joined,
+      λ apart. grown_hop s h.settled links new net round grows x joined (λ w g. pushed_back s.links u v x w g apart),
+    )
+
+-- the links of a network that was listed with one link added
+module _ (s : State) (after : IsAfterRound s) (a b : ℕ) (net : Network) (new : State)
+    (made : IsNetworkOf s.nodes (added s.links a b) net) (is : IsNet s.nodes net.links)
+    (round : IsRound s.nodes s.dest net.links new) where
+  listed : HaveSameLinks (added s.links a b) net.links
+  listed = same_from_permutation (added s.links a b) net.links made.same_links
+
+  listed_grows : (x y : ℕ) → Points s.links x y → Points net.links x y
+  listed_grows x y h = (listed x y).0 (pushed_keeps s.links a b x y h)
+
+  listed_spares : (x : ℕ) → IsJoined s.links s.dest x
+      → ¬ HasTurned new x × ((x ≡ a → Points net.links a b → ⊥) → KeepsHop s new x)
+  listed_spares x joined = (
+    grown_still s after net.links new is round listed_grows x joined,
+    λ other.
+        let stands : Points net.links a b = (listed a b).0 (Contains-push s.links (a, b)) in
+        grown_hop s after net.links new is round listed_grows x joined
+        (λ w h. pushed_back s.links a b x w ((listed x w).1 h) (λ e. other e stands)),
+  )
+
+join_by : (s : State) (after : IsAfterRound s) (u v : ℕ) (net : Network) (new : State) (x : ℕ)
+    → IsNetJoined s.nodes s.links u v net → IsNet s.nodes net.links → IsRound s.nodes s.dest net.links new
+    → IsJoined s.links s.dest x
+    → ¬ HasTurned new x × (¬ IsTail net.links u v x → KeepsHop s new x)
+join_by s after u v net new x (inl made) is round joined =
+    let spared = listed_spares s after u v net new made is round x joined in
+    (spared.0, λ other. spared.1 (λ e h. other (inl (e, h))))
+join_by s after u v net new x (inr made) is round joined =
+    let spared = listed_spares s after v u net new made.1 is round x joined in
+    (spared.0, λ other. spared.1 (λ e h. other (inr (e, h))))
+
+pub join_spares : (s : State) (u v : ℕ) (first : List (ℕ × ℕ)) (d : ℕ) (new : State) (x : ℕ)
+    → IsSettledAnew s (Join u v) first d new → IsJoined s.links s.dest x
+    → ¬ HasTurned new x × (¬ IsTail first u v x → KeepsHop s new x)
+join_spares s u v first d new x h joined =
+    let net = h.begins.0.0 in
+    let links : first ≡ net.links = h.begins.0.2 in
+    let is = begins_net s (Join u v) first d h.settled h.begins in
+    let round = moved_round s.nodes d s.dest first net.links new links h.begins.1 h.round in
+    let spared = join_by s h.settled u v net new x h.begins.0.1 (subst (IsNet s.nodes) links is) round joined in
+    (spared.0, λ other. spared.1 (λ tail. other (subst (λ (l : List (ℕ × ℕ)). IsTail l u v x) (sym links) tail)))
+
+-- Links with one cut
+
+module _ (links : List (ℕ × ℕ)) (u v : ℕ) where
+  left_was : (a b : ℕ) → Points (without u v links) a b → Points links a b
+  left_was a b h = from_filter (λ l. not (is_between u v l)) links (a, b) h
+
+  -- a link is the one that is cut, or is left
+  cut_or_left : (a b : ℕ) → Points links a b → IsTrue (is_between u v (a, b)) ⊎ Points (without u v links) a b
+  cut_or_left a b h = ⊎_elim inl
+      (λ e. inr (into_filter (λ l. not (is_between u v l)) links (a, b) h (ap not e)))
+      (cases_Bool (is_between u v (a, b)))
+
+  left_not_cut : (a b : ℕ) → Points (without u v links) a b → ¬ IsTrue (is_between u v (a, b))
+  left_not_cut a b h is =
+      let passes = filter_passes (λ l. not (is_between u v l)) links (a, b) h in
+      cc (passes, ap not is)
+
+  left_or_over : (x : ℕ) (vs : List ℕ) → IsPath links x vs → IsPath (without u v links) x vs ⊎ GoesOver u v x vs
+  left_or_over x [] path = inl tt
+  left_or_over x (w ∷ ws) path = ⊎_elim (λ is. inr (inl is))
+      (λ step. ⊎_elim (λ rest. inl (step, rest)) (λ over. inr (inr over)) (left_or_over w ws path.1))
+      (cut_or_left x w path.0)
+
+  left_not_over : (x : ℕ) (vs : List ℕ) → IsPath (without u v links) x vs → ¬ GoesOver u v x vs
+  left_not_over x [] path over = over
+  left_not_over x (w ∷ ws) path (inl is) = left_not_cut x w path.0 is
+  left_not_over x (w ∷ ws) path (inr over) = left_not_over w ws path.1 over
+
+  -- no path is left exactly if each went over the link that is cut
+  none_left : (x d : ℕ) → ¬ HasPath (without u v links) x d ↔ EachGoesOver links u v x d
+  none_left x d = (
+    (λ none vs path ends. ⊎_elim (λ left. absurd (none (vs, (left, ends)))) (λ over. over) (left_or_over x vs path)),
+    (λ each h.
+        let was : IsPath links x h.0 = path_carries (without u v links) links left_was x h.0 h.1.0 in
+        left_not_over x h.0 h.1.0 (each h.0 was h.1.1)),
+  )
+
+  module _ (acyclic : IsAcyclic links) (tail : ℕ) (at : IsTail links u v tail) where
+    -- the link that is cut points from its tail alone
+    is_tail : (a b : ℕ) → Points links a b → IsTrue (is_between u v (a, b)) → a ≡ tail
+    is_tail a b h is = go at (joined_from u v (a, b) is)
+      where
+        both_ways : (x y : ℕ) → Points links x y → (a ≡ y) × (b ≡ x) → ⊥
+        both_ways x y there back =
+            let from : Points links y b = subst (λ (z : ℕ). Points links z b) back.0 h in
+            acyclic x (y ∷ (x ∷ [])) ((there, (subst (λ (z : ℕ). Points links y z) back.1 from, tt)), refl)
+
+        go : IsTail links u v tail → ((a ≡ u) × (b ≡ v)) ⊎ ((a ≡ v) × (b ≡ u)) → a ≡ tail
+        go (inl t) (inl e) = e.0 ∙ sym t.0
+        go (inl t) (inr e) = absurd (both_ways u v t.1 e)
+        go (inr t) (inl e) = absurd (both_ways v u t.1 e)
+        go (inr t) (inr e) = e.0 ∙ sym t.0
+
+    -- a path is left, or one to the tail
+    left_or_to_tail : (d x : ℕ) (vs : List ℕ) → IsPath links x vs → end_of x vs ≡ d
+        → HasPath (without u v links) x d ⊎ HasPath (without u v links) x tail
+    left_or_to_tail d x [] path ends = inl ([], (tt, ends))
+    left_or_to_tail d x (w ∷ ws) path ends = ⊎_elim
+        (λ is. inr ([], (tt, is_tail x w path.0 is)))
+        (λ step. ⊎_elim (λ p. inl (w ∷ p.0, ((step, p.1.0), p.1.1))) (λ p. inr (w ∷ p.0, ((step, p.1.0), p.1.1)))
+        (left_or_to_tail d w ws path.1 ends))
+        (cut_or_left x w path.0)
+
+-- the round after a cut
+module _ (s : State) (after : IsAfterRound s) (u v : ℕ) (new : State)
+    (round : IsRound s.nodes s.dest (without u v s.links) new) where
+  abbrev left : List (ℕ × ℕ)
+  left = without u v s.links
+
+  left_net : IsNet s.nodes left
+  left_net = cut_net s.nodes s.links u v (here s after)
+
+  left_still : (x : ℕ) → HasPath left x s.dest → ¬ HasTurned new x
+  left_still = path_still s.nodes s.dest left new left_net after.dest round
+
+  path_was : (x y : ℕ) → HasPath left x y → HasPath s.links x y
+  path_was x y p = (p.0, (path_carries left s.links (left_was s.links u v) x p.0 p.1.0, p.1.1))
+
+  splits : (tail : ℕ) → IsTail s.links u v tail → (x : ℕ) → IsJoined s.links s.dest x
+      → HasPath left x s.dest ⊎ HasPath left x tail
+  splits tail at x joined =
+      let path = home s after x joined in
+      left_or_to_tail s.links u v (here s after).acyclic tail at s.dest x path.0 path.1.0 path.1.1
+
+  -- a link that points from the tail leads to a path, since a path back to the tail would close a walk
+  tail_path : (tail w : ℕ) → IsTail s.links u v tail → Points left tail w → IsJoined s.links s.dest tail
+      → HasPath left tail s.dest
+  tail_path tail w at h joined = ⊎_elim
+      (λ p. (w ∷ p.0, ((h, p.1.0), p.1.1)))
+      (λ p. absurd (left_net.acyclic tail (w ∷ p.0) ((h, p.1.0), p.1.1)))
+      (splits tail at w (joined_out s.links s.dest tail w joined (left_was s.links u v tail w h)))
+
+  detour : (x : ℕ) → IsJoined s.links s.dest x → (tail w : ℕ) → IsTail s.links u v tail → Points left tail w
+      → ¬ HasTurned new x
+  detour x joined tail w at h = ⊎_elim (left_still x)
+      (λ p.
+      let was = path_was x tail p in
+      let on = joined_on s.links s.dest x was.0 tail joined was.1.0 was.1.1 in
+      left_still x (path_joins left x p.0 tail s.dest p.1.0 p.1.1 (tail_path tail w at h on)))
+      (splits tail at x joined)
+
+  apart_still : (x : ℕ) → IsJoined s.links s.dest x → (tail : ℕ) → IsTail s.links u v tail → ¬ HasPath s.links x tail
+      → ¬ HasTurned new x
+  apart_still x joined tail at none =
+      ⊎_elim (left_still x) (λ p. absurd (none (path_was x tail p))) (splits tail at x joined)
+
+  apart_out : (x : ℕ) → IsJoined s.links s.dest x → (tail : ℕ) → IsTail s.links u v tail → ¬ HasPath s.links x tail
+      → (w : ℕ) → Points s.links x w → Points left x w × ¬ HasTurned new w
+  apart_out x joined tail at none w h = (
+    ⊎_elim (λ is. absurd (none ([], (tt, is_tail s.links u v (here s after).acyclic tail at x w h is)))) (λ step. step)
+        (cut_or_left s.links u v x w h),
+    apart_still w (joined_out s.links s.dest x w joined h) tail at (λ p. none (w ∷ p.0, ((h, p.1.0), p.1.1))),
+  )
+
+  after_cut : (x : ℕ) → IsJoined s.links s.dest x → IsAfterCut s u v left new x
+  after_cut x joined =
+      let who = who_turns s.nodes s.dest left new left_net after.dest round x in
+      let paths = none_left s.links u v x s.dest in
+      record {
+        had = home s after x joined;
+        turns = ((λ turned. let h = who.0 turned in (h.0, paths.0 h.1)), (λ h. who.1 (h.0, paths.1 h.1)));
+        detour = detour x joined;
+        apart = λ tail at none. (
+          apart_still x joined tail at none,
+          keeps_hop s after left new left_net round x joined (apart_still x joined tail at none)
+              (apart_out x joined tail at none) (λ w h. left_was s.links u v x w h),
+        );
+      }
+
+pub cut_spares : (s : State) (u v : ℕ) (first : List (ℕ × ℕ)) (d : ℕ) (new : State) (x : ℕ)
+    → IsSettledAnew s (Cut u v) first d new → IsJoined s.links s.dest x → IsAfterCut s u v first new x
+cut_spares s u v first d new x h joined =
+    let round = moved_round s.nodes d s.dest first (without u v s.links) new h.begins.1 h.begins.2 h.round in
+    subst (λ (l : List (ℕ × ℕ)). IsAfterCut s u v l new x) (sym h.begins.1)
+    (after_cut s h.settled u v new round x joined)
