@@ -6,16 +6,20 @@ use Rattle.std.proofs.lemmas.Bool.{cases_Bool}
 use Rattle.std.proofs.lemmas.List.Elements.{Contains-append_left, Contains-push, Contains-push_cases}
 use Rattle.fr_graph.specs.Edits.{IsJoined as IsNetJoined, without}
 use Rattle.fr_graph.specs.Faults.{IsNetworkOf}
-use Rattle.fr_graph.specs.Links.{HasPath, HaveSameLinks, IsAcyclic, IsNet, IsPath, Points, end_of, is_between}
+use Rattle.fr_graph.specs.Links.{HasPath, HaveSameLinks, IsAcyclic, IsNet, IsPath, Joins, Points, end_of, is_between}
 use Rattle.fr_graph.specs.Network.{Network}
 use Rattle.fr_graph.proofs.AddedLinks.{added, path_joins}
 use Rattle.fr_graph.proofs.Editing.{from_filter}
 use Rattle.fr_graph.proofs.Linking.{joined_from, path_carries}
 use Rattle.fr_graph.proofs.Lists.{filter_passes, into_filter}
 use Rattle.fr_core.specs.Walks.{IsJoined}
+use Rattle.fr_core.proofs.Joining.{joined_carries}
 use Rattle.fr_core.proofs.SameLinks.{same_from_permutation}
-use Rattle.fr_route.specs.States.{State, IsAfterRound, IsRound}
+use Rattle.fr_route.specs.States.{State, IsAfterRound, IsCutOff, IsRound}
+use Rattle.fr_route.specs.Routes.{IsHop}
 use Rattle.fr_route.specs.declared.change.Change.TheVariants.{Add, Cut, Join}
+use Rattle.fr_tables.specs.declared.hop.Hop.TheVariants.{CutOff}
+use Rattle.fr_route.proofs.RoundEnds.{round_joined}
 use Rattle.fr_laws.specs.Locality.{EachGoesOver, GoesOver, HasTurned, IsAfterCut, IsSettledAnew, IsTail, KeepsHop}
 use Rattle.fr_laws.proofs.ChangeRounds.{begins_net, cut_net, here, moved_round}
 use Rattle.fr_laws.proofs.TurnsAfter.{grown_hop, grown_still, home, joined_on, joined_out, keeps_hop, path_still}
@@ -184,18 +188,21 @@ module _ (s : State) (after : IsAfterRound s) (u v : ℕ) (new : State)
       left_still x (path_joins left x p.0 tail s.dest p.1.0 p.1.1 (tail_path tail w at h on)))
       (splits tail at x joined)
 
+  -- a joined node keeps its hop if it is not the tail, and neither it nor the nodes to which its links point turn
+  other_hop : (x tail : ℕ) → IsJoined s.links s.dest x → IsTail s.links u v tail → x ≢ tail → ¬ HasTurned new x
+      → ((w : ℕ) → Points s.links x w → ¬ HasTurned new w) → KeepsHop s new x
+  other_hop x tail joined at apart still out = keeps_hop s after left new left_net round x joined still
+      (λ w h. (
+        ⊎_elim (λ is. absurd (apart (is_tail s.links u v (here s after).acyclic tail at x w h is))) (λ step. step)
+            (cut_or_left s.links u v x w h),
+        out w h,
+      ))
+      (λ w h. left_was s.links u v x w h)
+
   apart_still : (x : ℕ) → IsJoined s.links s.dest x → (tail : ℕ) → IsTail s.links u v tail → ¬ HasPath s.links x tail
       → ¬ HasTurned new x
   apart_still x joined tail at none =
       ⊎_elim (left_still x) (λ p. absurd (none (path_was x tail p))) (splits tail at x joined)
-
-  apart_out : (x : ℕ) → IsJoined s.links s.dest x → (tail : ℕ) → IsTail s.links u v tail → ¬ HasPath s.links x tail
-      → (w : ℕ) → Points s.links x w → Points left x w × ¬ HasTurned new w
-  apart_out x joined tail at none w h = (
-    ⊎_elim (λ is. absurd (none ([], (tt, is_tail s.links u v (here s after).acyclic tail at x w h is)))) (λ step. step)
-        (cut_or_left s.links u v x w h),
-    apart_still w (joined_out s.links s.dest x w joined h) tail at (λ p. none (w ∷ p.0, ((h, p.1.0), p.1.1))),
-  )
 
   after_cut : (x : ℕ) → IsJoined s.links s.dest x → IsAfterCut s u v left new x
   after_cut x joined =
@@ -204,17 +211,40 @@ module _ (s : State) (after : IsAfterRound s) (u v : ℕ) (new : State)
       record {
         had = home s after x joined;
         turns = ((λ turned. let h = who.0 turned in (h.0, paths.0 h.1)), (λ h. who.1 (h.0, paths.1 h.1)));
-        detour = detour x joined;
+        detour = λ tail w at h. (
+          detour x joined tail w at h,
+          λ apart. other_hop x tail joined at apart (detour x joined tail w at h)
+              (λ z g. detour z (joined_out s.links s.dest x z joined g) tail w at h),
+        );
         apart = λ tail at none. (
           apart_still x joined tail at none,
-          keeps_hop s after left new left_net round x joined (apart_still x joined tail at none)
-              (apart_out x joined tail at none) (λ w h. left_was s.links u v x w h),
+          other_hop x tail joined at (λ e. none ([], (tt, e))) (apart_still x joined tail at none)
+              (λ w h. apart_still w (joined_out s.links s.dest x w joined h) tail at
+              (λ p. none (w ∷ p.0, ((h, p.1.0), p.1.1)))),
         );
       }
 
+  -- no node is joined that was not
+  stays_cut_off : (x : ℕ) → ¬ IsJoined s.links s.dest x → IsCutOff new.dest new.links x
+  stays_cut_off x none =
+      let off : IsCutOff s.dest new.links x = (
+        (λ e. none (0, ([], (e, refl)))),
+        (λ joined.
+            let was = (round_joined s.nodes s.dest left new left_net after.dest round x).1 joined in
+            none (joined_carries left s.links left_joins s.dest was.1.0 was.0 x was.1.1)),
+      ) in
+      subst (λ (d : ℕ). IsCutOff d new.links x) (sym round.dest) off
+    where
+      left_joins : (a b : ℕ) → Joins left a b → Joins s.links a b
+      left_joins a b (inl h) = inl (left_was s.links u v a b h)
+      left_joins a b (inr h) = inr (left_was s.links u v b a h)
+
 pub cut_spares : (s : State) (u v : ℕ) (first : List (ℕ × ℕ)) (d : ℕ) (new : State) (x : ℕ)
-    → IsSettledAnew s (Cut u v) first d new → IsJoined s.links s.dest x → IsAfterCut s u v first new x
-cut_spares s u v first d new x h joined =
-    let round = moved_round s.nodes d s.dest first (without u v s.links) new h.begins.1 h.begins.2 h.round in
-    subst (λ (l : List (ℕ × ℕ)). IsAfterCut s u v l new x) (sym h.begins.1)
-    (after_cut s h.settled u v new round x joined)
+    → IsSettledAnew s (Cut u v) first d new
+    → (IsJoined s.links s.dest x → IsAfterCut s u v first new x) × (¬ IsJoined s.links s.dest x → IsHop new x CutOff)
+cut_spares s u v first d new x h =
+    let round = moved_round s.nodes d s.dest first (without u v s.links) new h.begins.1 h.begins.2 h.round in (
+      λ joined. subst (λ (l : List (ℕ × ℕ)). IsAfterCut s u v l new x) (sym h.begins.1)
+          (after_cut s h.settled u v new round x joined),
+      stays_cut_off s h.settled u v new round x,
+    )

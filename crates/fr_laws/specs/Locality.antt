@@ -16,6 +16,7 @@ use Rattle.fr_route.specs.States.{State, IsAfterRound, IsRound, net_at}
 use Rattle.fr_route.specs.declared.change.Change.{Change}
 use Rattle.fr_route.specs.declared.change.Change.TheVariants.{Cut, Add, Join, Batch, Destination}
 use Rattle.fr_tables.specs.declared.hop.Hop.{Hop}
+use Rattle.fr_tables.specs.declared.hop.Hop.TheVariants.{CutOff}
 
 -- The round after a change
 
@@ -99,18 +100,22 @@ GoesOver u v x (w ∷ ws) = IsTrue (is_between u v (x, w)) ⊎ GoesOver u v w ws
 abbrev pub EachGoesOver : List (ℕ × ℕ) → ℕ → ℕ → ℕ → ℕ → Type 0
 EachGoesOver links u v x y = (vs : List ℕ) → IsPath links x vs → end_of x vs ≡ y → GoesOver u v x vs
 
--- what the cut of the link between u and v does to x; `first` are the links that are left
+-- what the cut of the link between u and v does to x, which was joined with the destination; `first` are the links that
+-- are left
 pub record IsAfterCut (s : State) (u v : ℕ) (first : List (ℕ × ℕ)) (new : State) (x : ℕ) : Type 0 where
   -- x had a path to the destination,
   pub had : HasPath s.links x s.dest
   -- and turns exactly if it has a link left and each path that it had goes over the link that is cut
   pub turns : HasTurned new x ↔ (¬ IsAlone first x × EachGoesOver s.links u v x s.dest)
-  -- if another link points from the tail, x does not turn
-  pub detour : (tail w : ℕ) → IsTail s.links u v tail → Points first tail w → ¬ HasTurned new x
+  -- if another link points from the tail, x does not turn, and keeps its hop unless it is the tail
+  pub detour : (tail w : ℕ) → IsTail s.links u v tail → Points first tail w
+      → ¬ HasTurned new x × (x ≢ tail → KeepsHop s new x)
   -- if x had no path to the tail, it does not turn, and keeps its hop
   pub apart : (tail : ℕ) → IsTail s.links u v tail → ¬ HasPath s.links x tail → ¬ HasTurned new x × KeepsHop s new x
 
--- of the nodes that were joined with the destination, a cut touches only those with a path to the tail of the link
+-- of the nodes that were joined with the destination, a cut touches only those with a path to the tail of the link. A
+-- node that was cut off stays cut off
 abbrev pub CutSparesOthers : Type 0
 CutSparesOthers = (s : State) (u v : ℕ) (first : List (ℕ × ℕ)) (d : ℕ) (new : State) (x : ℕ)
-    → IsSettledAnew s (Cut u v) first d new → IsJoined s.links s.dest x → IsAfterCut s u v first new x
+    → IsSettledAnew s (Cut u v) first d new
+    → (IsJoined s.links s.dest x → IsAfterCut s u v first new x) × (¬ IsJoined s.links s.dest x → IsHop new x CutOff)
