@@ -12,7 +12,7 @@ use Rattle.fr_core.specs.Walks.{IsJoined}
 use Rattle.fr_core.proofs.Joining.{joins_kept}
 use Rattle.fr_core.proofs.Paths.{path_gives_zero, zero_gives_path}
 use Rattle.fr_core.proofs.Settling.{cases_linked, walk_along}
-use Rattle.fr_route.specs.Routes.{IsNextHop, IsRoute}
+use Rattle.fr_route.specs.Routes.{IsHop, IsNextHop, IsRoute}
 use Rattle.fr_route.specs.States.{State, IsAfterRound, IsRound}
 use Rattle.fr_tables.specs.declared.hop.Hop.TheVariants.{CutOff, Here, To}
 use Rattle.fr_route.proofs.RoundEnds.{hop_leads_on, lawful, round_joins, route_home}
@@ -35,16 +35,18 @@ module _ (n d : ℕ) (first : List (ℕ × ℕ)) (new : State) (net : IsNet n fi
   pub path_still : (x : ℕ) → HasPath first x d → ¬ HasTurned new x
   path_still x path turned = omega (arith, turned, zero_by_path x path)
 
-  turned_without : (x : ℕ) → ¬ IsAlone first x → ¬ HasPath first x d → HasTurned new x
-  turned_without x linked none = ⊎_elim
+  pub still_path : (x : ℕ) → ¬ IsAlone first x → ¬ HasTurned new x → HasPath first x d
+  still_path x linked still = ⊎_elim
       (λ (w, h).
       let inside : x < n = (joined_below n first x w net h).0 in
-      let count = slice_index new.counts x in
-      let path : count ≡ 0 → HasPath first x d =
-      zero_gives_path n d first x count inside linked (round.counts.settled x inside) in
-      ⊎_elim (λ l. l) (λ low. absurd (none (path (omega (arith, low))))) (cases_lt 0 count))
+      zero_gives_path n d first x (slice_index new.counts x) inside linked (round.counts.settled x inside) (count_zero x still))
       (λ alone. absurd (linked alone))
       (cases_linked first x)
+
+  turned_without : (x : ℕ) → ¬ IsAlone first x → ¬ HasPath first x d → HasTurned new x
+  turned_without x linked none = ⊎_elim (λ l. l)
+      (λ low. absurd (none (still_path x linked (λ l. omega (arith, l, low)))))
+      (cases_lt 0 (slice_index new.counts x))
 
   pub who_turns : (x : ℕ) → HasTurned new x ↔ (¬ IsAlone first x × ¬ HasPath first x d)
   who_turns x = (
@@ -79,6 +81,14 @@ module _ (n d : ℕ) (first : List (ℕ × ℕ)) (new : State) (net : IsNet n fi
       (λ g. absurd (omega (arith, g.1, count_zero y still)))
       (Points-links_at_from first new.counts y x h)
 
+  -- where a link points after the round from a node that has not turned
+  pub out_still : (x w : ℕ) → ¬ HasTurned new x → Points new.links x w → Points first x w × ¬ HasTurned new w
+  out_still x w still h = go (given x w h)
+    where
+      go : ComesFrom first new.counts x w → Points first x w × ¬ HasTurned new w
+      go (inl g) = (g.0, λ turned. omega (arith, turned, g.1, count_zero x still))
+      go (inr g) = absurd (omega (arith, g.1, count_zero x still))
+
   pub links_between : (x y : ℕ) → AreLinksBetween first new x y
   links_between x y =
       let kept = (lawful n d first new net below round).kept in
@@ -109,6 +119,14 @@ joined_on links d x (w ∷ ws) y joined path ends =
 -- the round after a change that keeps the destination
 module _ (s : State) (after : IsAfterRound s) (first : List (ℕ × ℕ)) (new : State) (net : IsNet s.nodes first)
     (round : IsRound s.nodes s.dest first new) where
+  -- a node that does not turn, and is not the destination, sends on to its next hop
+  pub leads_to : (x y : ℕ) → ¬ HasTurned new x → ¬ (x ≡ s.dest) → IsNextHop new.links x y → IsHop new x (To y)
+  leads_to x y still apart next =
+      let zero = count_zero s.nodes s.dest first new net after.dest round x still in
+      let free : ¬ (slice_index new.counts x ≡ s.nodes) = λ e. omega (arith, e, zero, after.dest) in
+      let leads = hop_leads_on s.nodes s.dest first new net after.dest round x y apart free next in
+      subst (λ (d : ℕ). (rest : List ℕ) × IsRoute new.links d x (y ∷ rest)) (sym round.dest) leads
+
   -- a joined node keeps its hop if it does not turn, and its links point to the nodes to which they did, none of which
   -- turns
   pub keeps_hop : (x : ℕ) → IsJoined s.links s.dest x → ¬ HasTurned new x
@@ -116,16 +134,11 @@ module _ (s : State) (after : IsAfterRound s) (first : List (ℕ × ℕ)) (new :
       → ((w : ℕ) → Points first x w → Points s.links x w) → KeepsHop s new x
   keeps_hop x joined still out back Here h = h ∙ sym round.dest
   keeps_hop x joined still out back (To y) (rest, (apart, hop, route)) =
-      let between = links_between s.nodes s.dest first new net after.dest round in
-      let next : IsNextHop new.links x y = record {
-        link = let to = out y hop.link in ((between x y).still still to.1).0 to.0;
-        least = λ w h. hop.least w (back w (still_back s.nodes s.dest first new net after.dest round x w still
-            (given s.nodes s.dest first new net after.dest round x w h)));
-      } in
-      let zero = count_zero s.nodes s.dest first new net after.dest round x still in
-      let free : ¬ (slice_index new.counts x ≡ s.nodes) = λ e. omega (arith, e, zero, after.dest) in
-      let leads = hop_leads_on s.nodes s.dest first new net after.dest round x y apart free next in
-      subst (λ (d : ℕ). (rest : List ℕ) × IsRoute new.links d x (y ∷ rest)) (sym round.dest) leads
+      let between = links_between s.nodes s.dest first new net after.dest round x y in
+      leads_to x y still apart (record {
+        link = let to = out y hop.link in (between.still still to.1).0 to.0;
+        least = λ w h. hop.least w (back w (out_still s.nodes s.dest first new net after.dest round x w still h).0);
+      })
   keeps_hop x joined still out back CutOff h = absurd (h.1 joined)
 
   module _ (grows : (a b : ℕ) → Points s.links a b → Points first a b) where
@@ -134,8 +147,3 @@ module _ (s : State) (after : IsAfterRound s) (first : List (ℕ × ℕ)) (new :
         let path = home s after x joined in
         let kept = path_carries s.links first grows x path.0 path.1.0 in
         path_still s.nodes s.dest first new net after.dest round x (path.0, (kept, path.1.1))
-
-    pub grown_hop : (x : ℕ) → IsJoined s.links s.dest x → ((w : ℕ) → Points first x w → Points s.links x w)
-        → KeepsHop s new x
-    grown_hop x joined back = keeps_hop x joined (grown_still x joined)
-        (λ w h. (grows x w h, grown_still w (joined_out s.links s.dest x w joined h))) back

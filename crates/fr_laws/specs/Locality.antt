@@ -16,7 +16,7 @@ use Rattle.fr_route.specs.States.{State, IsAfterRound, IsRound, net_at}
 use Rattle.fr_route.specs.declared.change.Change.{Change}
 use Rattle.fr_route.specs.declared.change.Change.TheVariants.{Cut, Add, Join, Batch, Destination}
 use Rattle.fr_tables.specs.declared.hop.Hop.{Hop}
-use Rattle.fr_tables.specs.declared.hop.Hop.TheVariants.{CutOff}
+use Rattle.fr_tables.specs.declared.hop.Hop.TheVariants.{CutOff, To}
 
 -- The round after a change
 
@@ -74,22 +74,41 @@ LinksStand = (s : State) (change : Change) (first : List (ℕ × ℕ)) (d : ℕ)
 abbrev pub KeepsHop : State → State → ℕ → Type 0
 KeepsHop s new x = (hop : Hop) → IsHop s x hop → IsHop new x hop
 
+-- x is the tail of the added link. The head was joined with the destination, and is less than the node to which x sent on
+pub record TakesLink (s : State) (tail head x : ℕ) : Type 0 where
+  pub at_tail : x ≡ tail
+  pub joined : IsJoined s.links s.dest head
+  pub before : ℕ
+  pub hop : IsHop s x (To before)
+  pub less : head < before
+
+-- what an added link does to x, which was joined with the destination: it does not turn. It sends on to the head if it
+-- takes the link, and else keeps its hop
+pub record IsAfterAdd (s : State) (tail head : ℕ) (new : State) (x : ℕ) : Type 0 where
+  pub still : ¬ HasTurned new x
+  pub takes : TakesLink s tail head x → IsHop new x (To head)
+  pub keeps : ¬ TakesLink s tail head x → KeepsHop s new x
+
+-- so an added link turns no node that was joined with the destination, and changes the hop of no other than its tail
+abbrev pub AddSparesJoined : Type 0
+AddSparesJoined = (s : State) (u v : ℕ) (first : List (ℕ × ℕ)) (d : ℕ) (new : State) (x : ℕ)
+    → IsSettledAnew s (Add u v) first d new → IsJoined s.links s.dest x → IsAfterAdd s u v new x
+
+-- the tail is the one of u and v, and the head the other
+abbrev pub AreEnds : ℕ → ℕ → ℕ → ℕ → Type 0
+AreEnds u v tail head = ((tail ≡ u) × (head ≡ v)) ⊎ ((tail ≡ v) × (head ≡ u))
+
+-- and so does the link of a join, whichever way it points
+abbrev pub JoinSparesJoined : Type 0
+JoinSparesJoined = (s : State) (u v : ℕ) (first : List (ℕ × ℕ)) (d : ℕ) (new : State)
+    → IsSettledAnew s (Join u v) first d new → (tail : ℕ) × (head : ℕ) × AreEnds u v tail head × Points first tail head
+    × ((x : ℕ) → IsJoined s.links s.dest x → IsAfterAdd s tail head new x)
+
+-- Whom a cut link leaves alone
+
 -- x is the end of the link between u and v from which it points
 abbrev pub IsTail : List (ℕ × ℕ) → ℕ → ℕ → ℕ → Type 0
 IsTail links u v x = ((x ≡ u) × Points links u v) ⊎ ((x ≡ v) × Points links v u)
-
--- an added link turns no node that was joined with the destination. All of these but its tail keep their hops
-abbrev pub AddSparesJoined : Type 0
-AddSparesJoined = (s : State) (u v : ℕ) (first : List (ℕ × ℕ)) (d : ℕ) (new : State) (x : ℕ)
-    → IsSettledAnew s (Add u v) first d new → IsJoined s.links s.dest x → ¬ HasTurned new x × (x ≢ u → KeepsHop s new x)
-
--- the same is true of a join, whichever way its link points
-abbrev pub JoinSparesJoined : Type 0
-JoinSparesJoined = (s : State) (u v : ℕ) (first : List (ℕ × ℕ)) (d : ℕ) (new : State) (x : ℕ)
-    → IsSettledAnew s (Join u v) first d new → IsJoined s.links s.dest x
-    → ¬ HasTurned new x × (¬ IsTail first u v x → KeepsHop s new x)
-
--- Whom a cut link leaves alone
 
 -- the path from x by these nodes goes over the link between u and v
 abbrev pub GoesOver : ℕ → ℕ → ℕ → List ℕ → Type 0
