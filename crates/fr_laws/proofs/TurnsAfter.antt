@@ -23,7 +23,7 @@ use Rattle.fr_laws.specs.Locality.{AreLinksBetween, HasTurned, KeepsHop}
 
 module _ (n d : ℕ) (first : List (ℕ × ℕ)) (new : State) (net : IsNet n first) (below : d < n)
     (round : IsRound n d first new) where
-  pub count_zero : (x : ℕ) → ¬ HasTurned new x → slice_index new.counts x ≡ 0
+  count_zero : (x : ℕ) → ¬ HasTurned new x → slice_index new.counts x ≡ 0
   count_zero x still = ⊎_elim (λ l. absurd (still l)) (λ h. omega (arith, h)) (cases_lt 0 (slice_index new.counts x))
 
   zero_by_path : (x : ℕ) → HasPath first x d → slice_index new.counts x ≡ 0
@@ -39,7 +39,8 @@ module _ (n d : ℕ) (first : List (ℕ × ℕ)) (new : State) (net : IsNet n fi
   still_path x linked still = ⊎_elim
       (λ (w, h).
       let inside : x < n = (joined_below n first x w net h).0 in
-      zero_gives_path n d first x (slice_index new.counts x) inside linked (round.counts.settled x inside) (count_zero x still))
+      let count = slice_index new.counts x in
+      zero_gives_path n d first x count inside linked (round.counts.settled x inside) (count_zero x still))
       (λ alone. absurd (linked alone))
       (cases_linked first x)
 

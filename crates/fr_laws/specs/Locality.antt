@@ -11,7 +11,7 @@ use Rattle.fr_graph.specs.Links.{HasPath, IsAlone, IsPath, Joins, Points, end_of
 use Rattle.fr_graph.specs.Network.{Network}
 use Rattle.fr_core.specs.Walks.{IsJoined}
 use Rattle.fr_route.specs.Changes.{IsChanged}
-use Rattle.fr_route.specs.Routes.{IsHop}
+use Rattle.fr_route.specs.Routes.{IsHop, IsNextHop}
 use Rattle.fr_route.specs.States.{State, IsAfterRound, IsRound, net_at}
 use Rattle.fr_route.specs.declared.change.Change.{Change}
 use Rattle.fr_route.specs.declared.change.Change.TheVariants.{Cut, Add, Join, Batch, Destination}
@@ -74,7 +74,8 @@ LinksStand = (s : State) (change : Change) (first : List (ℕ × ℕ)) (d : ℕ)
 abbrev pub KeepsHop : State → State → ℕ → Type 0
 KeepsHop s new x = (hop : Hop) → IsHop s x hop → IsHop new x hop
 
--- x is the tail of the added link. The head was joined with the destination, and is less than the node to which x sent on
+-- x is the tail of the added link, whose head was joined with the destination, and is less than the node to which x sent
+-- on
 pub record TakesLink (s : State) (tail head x : ℕ) : Type 0 where
   pub at_tail : x ≡ tail
   pub joined : IsJoined s.links s.dest head
@@ -126,9 +127,10 @@ pub record IsAfterCut (s : State) (u v : ℕ) (first : List (ℕ × ℕ)) (new :
   pub had : HasPath s.links x s.dest
   -- and turns exactly if it has a link left and each path that it had goes over the link that is cut
   pub turns : HasTurned new x ↔ (¬ IsAlone first x × EachGoesOver s.links u v x s.dest)
-  -- if another link points from the tail, x does not turn, and keeps its hop unless it is the tail
-  pub detour : (tail w : ℕ) → IsTail s.links u v tail → Points first tail w
-      → ¬ HasTurned new x × (x ≢ tail → KeepsHop s new x)
+  -- if other links point from the tail, the least to w, x does not turn. Then the tail sends on to w, and every other
+  -- node to where it did
+  pub detour : (tail w : ℕ) → IsTail s.links u v tail → IsNextHop first tail w
+      → ¬ HasTurned new x × (x ≡ tail → IsHop new x (To w)) × (x ≢ tail → KeepsHop s new x)
   -- if x had no path to the tail, it does not turn, and keeps its hop
   pub apart : (tail : ℕ) → IsTail s.links u v tail → ¬ HasPath s.links x tail → ¬ HasTurned new x × KeepsHop s new x
 

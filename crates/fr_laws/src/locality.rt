@@ -4,9 +4,11 @@ ghost use Rattle.fr_laws.specs.Locality.{ChangeIsARound, WhoTurns, LinksStand};
 ghost use Rattle.fr_laws.specs.Locality.{AddSparesJoined, JoinSparesJoined, CutSparesOthers};
 
 /// Whom a change of a settled network touches. In the round after it, exactly the nodes turn that have a link and no
-/// path to the destination. Links between the other nodes stay as they are. An added link turns no node that was joined
-/// with the destination. Of these nodes a cut turns only those whose every path went over the link, and none of them if
-/// another link points from its tail.
+/// path to the destination. Links between the other nodes stay as they are.
+///
+/// An added link turns no node that was joined with the destination, and changes the hop of no other than its tail. Of
+/// the nodes that were joined with the destination, a cut turns exactly those that keep a link and whose every path
+/// went over the link that is cut. It turns none of them if another link points from the tail.
 pub fn locality_law()
     ensures round { ChangeIsARound }
     ensures turns { WhoTurns }

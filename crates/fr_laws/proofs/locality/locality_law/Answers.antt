@@ -1,5 +1,6 @@
 use Rattle.fr_laws.proofs.ChangeRounds.{begins_below, begins_net, change_round, round_changes}
-use Rattle.fr_laws.proofs.SparedNodes.{add_spares, cut_spares, join_spares}
+use Rattle.fr_laws.proofs.AfterAdds.{add_spares, join_spares}
+use Rattle.fr_laws.proofs.AfterCuts.{cut_spares}
 use Rattle.fr_laws.proofs.TurnsAfter.{links_between, who_turns}
 use Rattle.fr_laws.proofs.locality.locality_law.Goals as goal
 
