@@ -1,7 +1,7 @@
 -- Whom a change touches (full reversal: E. Gafni and D. Bertsekas, "Distributed Algorithms for Generating Loop-Free
 -- Routes in Networks with Frequently Changing Topology", 1981). The laws say exactly which nodes turn in the round
 -- after a change, where the links point then, and which nodes an added or a cut link leaves alone. They hold for every
--- state after a round, every change and every node.
+-- state after a round, every change and every node. They say nothing of hops after a batch or a moved destination.
 use Rattle.std.specs.Prelude.{◌≡◌, ◌≢◌, ℕ, ◌<◌, ◌≤◌, ◌⊎◌, ◌↔◌, List, [], ◌∷◌, ◌++◌, IsTrue, length, slice_index}
 use Rattle.fr_graph.specs.Batches.{AreMade}
 use Rattle.fr_graph.specs.Edits.{IsJoined as IsNetJoined, without}
@@ -70,12 +70,12 @@ LinksStand = (s : State) (change : Change) (first : List (ℕ × ℕ)) (d : ℕ)
 
 -- Whom an added link leaves alone
 
--- x still sends on to where it did
+-- x sends on to the same node as before
 abbrev pub KeepsHop : State → State → ℕ → Type 0
 KeepsHop s new x = (hop : Hop) → IsHop s x hop → IsHop new x hop
 
--- x is the tail of the added link, whose head was joined with the destination, and is less than the node to which x sent
--- on
+-- x is the tail of the added link and takes it: the head was joined with the destination, and its number is less than
+-- that of the node to which x sent on
 pub record TakesLink (s : State) (tail head x : ℕ) : Type 0 where
   pub at_tail : x ≡ tail
   pub joined : IsJoined s.links s.dest head
@@ -83,23 +83,23 @@ pub record TakesLink (s : State) (tail head x : ℕ) : Type 0 where
   pub hop : IsHop s x (To before)
   pub less : head < before
 
--- what an added link does to x, which was joined with the destination: it does not turn. It sends on to the head if it
--- takes the link, and else keeps its hop
+-- what an added link does to x, which was joined with the destination. It does not turn. If it takes the link, it sends
+-- on to the head, and otherwise it keeps its hop
 pub record IsAfterAdd (s : State) (tail head : ℕ) (new : State) (x : ℕ) : Type 0 where
   pub still : ¬ HasTurned new x
   pub takes : TakesLink s tail head x → IsHop new x (To head)
   pub keeps : ¬ TakesLink s tail head x → KeepsHop s new x
 
--- so an added link turns no node that was joined with the destination, and changes the hop of no other than its tail
+-- so an added link turns no node that was joined with the destination, and changes the hop of none but its tail
 abbrev pub AddSparesJoined : Type 0
 AddSparesJoined = (s : State) (u v : ℕ) (first : List (ℕ × ℕ)) (d : ℕ) (new : State) (x : ℕ)
     → IsSettledAnew s (Add u v) first d new → IsJoined s.links s.dest x → IsAfterAdd s u v new x
 
--- the tail is the one of u and v, and the head the other
+-- the tail is one of u and v, and the head is the other
 abbrev pub AreEnds : ℕ → ℕ → ℕ → ℕ → Type 0
 AreEnds u v tail head = ((tail ≡ u) × (head ≡ v)) ⊎ ((tail ≡ v) × (head ≡ u))
 
--- and so does the link of a join, whichever way it points
+-- the same for a join, which adds a link one way or the other
 abbrev pub JoinSparesJoined : Type 0
 JoinSparesJoined = (s : State) (u v : ℕ) (first : List (ℕ × ℕ)) (d : ℕ) (new : State)
     → IsSettledAnew s (Join u v) first d new → (tail : ℕ) × (head : ℕ) × AreEnds u v tail head × Points first tail head
@@ -116,7 +116,7 @@ abbrev pub GoesOver : ℕ → ℕ → ℕ → List ℕ → Type 0
 GoesOver u v x [] = ⊥
 GoesOver u v x (w ∷ ws) = IsTrue (is_between u v (x, w)) ⊎ GoesOver u v w ws
 
--- and so does each path along the links from x to y
+-- each path along the links from x to y goes over the link between u and v
 abbrev pub EachGoesOver : List (ℕ × ℕ) → ℕ → ℕ → ℕ → ℕ → Type 0
 EachGoesOver links u v x y = (vs : List ℕ) → IsPath links x vs → end_of x vs ≡ y → GoesOver u v x vs
 
@@ -127,8 +127,8 @@ pub record IsAfterCut (s : State) (u v : ℕ) (first : List (ℕ × ℕ)) (new :
   pub had : HasPath s.links x s.dest
   -- and turns exactly if it has a link left and each path that it had goes over the link that is cut
   pub turns : HasTurned new x ↔ (¬ IsAlone first x × EachGoesOver s.links u v x s.dest)
-  -- if other links point from the tail, the least to w, x does not turn. Then the tail sends on to w, and every other
-  -- node to where it did
+  -- if another link points from the tail, x does not turn. Then the tail sends on to the least such neighbour w, and
+  -- every other node keeps its hop
   pub detour : (tail w : ℕ) → IsTail s.links u v tail → IsNextHop first tail w
       → ¬ HasTurned new x × (x ≡ tail → IsHop new x (To w)) × (x ≢ tail → KeepsHop s new x)
   -- if x had no path to the tail, it does not turn, and keeps its hop
