@@ -1,4 +1,4 @@
-mod Hops  -- next hops along links without a closed walk
+mod HopsAlong  -- next hops along links without a cycle
 mod Locality  -- whom a change turns
-mod Quiet  -- a round in which no node turns
+mod QuietEnds  -- what shows that no node can turn
 mod Work  -- how often all nodes turn together
