@@ -1,11 +1,11 @@
 -- Next hops along links without a closed walk have no loop. A loop along links of two moments.
-use Rattle.std.proofs.Common.{◌≡◌, ℕ, ◌<◌, ◌⊎◌, inl, inr, ⊎_elim, List, [], ◌∷◌, ◌++◌, refl, sym, ap, subst, arith, ◌∙◌, zero, suc}
-use Rattle.std.proofs.Common.{All, Contains, count_by, replicate, slice_index, take, Some}
+use Rattle.std.proofs.Common.{◌≡◌, ℕ, ◌<◌, ⊎_elim, List, [], ◌∷◌, ◌++◌, refl, sym, ap, subst, arith, ◌∙◌, zero, suc}
+use Rattle.std.proofs.Common.{All, count_by, replicate, slice_index}
 use Rattle.std.proofs.lemmas.List.Elements.{All-cons, All-nil}
 use Rattle.fr_graph.proofs.Acyclic.{links_at_acyclic, path_falls}
-use Rattle.fr_graph.proofs.Members.{Contains-cases, Contains-head, Contains-none, Contains-tail}
+use Rattle.fr_graph.proofs.Members.{Contains-cases, Contains-head, Contains-none}
 use Rattle.fr_graph.specs.Counts.{links_at}
-use Rattle.fr_graph.specs.Links.{AreBelow, AreSingle, HasNoSelfLink, IsAcyclic, IsNet, IsPath, Points, end_of, is_between}
+use Rattle.fr_graph.specs.Links.{IsAcyclic, IsNet, IsPath, Points, end_of, is_between}
 use Rattle.fr_core.proofs.Finishing.{links_at-zeros, zeros_lawful}
 use Rattle.fr_core.proofs.Rounds.{links-after_all}
 use Rattle.fr_core.proofs.Turning.{run_keeps}
@@ -15,10 +15,10 @@ use Rattle.fr_core.specs.declared.entry.Entry.{Entry}
 use Rattle.fr_core.specs.declared.entry.Reply.TheVariants.{Turned}
 use Rattle.fr_round.proofs.Standing.{one_history}
 use Rattle.fr_tables.proofs.Walks.{sends_one}
-use Rattle.fr_tables.specs.Tables.{IsLoop, IsLoopFree, IsWalk, SendsOn}
+use Rattle.fr_tables.specs.Tables.{IsLoopFree, IsWalk}
 use Rattle.fr_tables.specs.declared.hop.Hop.{Hop}
 use Rattle.fr_tables.specs.declared.hop.Hop.TheVariants.{Here, To}
-use Rattle.fr_laws.specs.Hops.{GoesAlong, IsLoopOverTime, RoundNeverLoops, RunNeverLoops, SomeLoopOverTime, WentAlong}
+use Rattle.fr_laws.specs.Hops.{GoesAlong, RoundNeverLoops, RunNeverLoops, SomeLoopOverTime, WentAlong}
 
 -- One moment
 

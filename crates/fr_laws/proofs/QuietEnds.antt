@@ -4,10 +4,9 @@ use Rattle.std.proofs.Common.{Contains, replicate, slice_index}
 use Rattle.std.proofs.lemmas.Bool.{cases_eq, cases_lt}
 use Rattle.std.proofs.lemmas.List.Sums.{sum_by-cons}
 use Rattle.std.specs.List.{AllByRecursion as Each}
-use Rattle.atomic_table.specs.Table.{State}
 use Rattle.fr_graph.proofs.Linking.{joined_below}
 use Rattle.fr_graph.proofs.Members.{Contains-cases, Contains-head, Contains-none, Contains-tail}
-use Rattle.fr_graph.specs.Counts.{AreLawful, links_at}
+use Rattle.fr_graph.specs.Counts.{links_at}
 use Rattle.fr_graph.specs.Links.{IsAlone, IsNet, Joins, Points}
 use Rattle.fr_graph.specs.Turn.{IsSink}
 use Rattle.fr_core.proofs.Finishing.{settled_at_end, zeros_lawful}
@@ -23,11 +22,7 @@ use Rattle.fr_core.specs.declared.entry.Entry.{Entry}
 use Rattle.fr_core.specs.declared.entry.Reply.{Reply}
 use Rattle.fr_core.specs.declared.entry.Reply.TheVariants.{Cut, Held, Moved, Sink, Turned}
 use Rattle.fr_round.proofs.Standing.{one_history}
-use Rattle.fr_round.specs.Histories.{StartsWith}
-use Rattle.fr_round.specs.Laws.{KnowsPartOf, StandsBehind, workers_of}
-use Rattle.fr_round.specs.Rule.{KeepsRule}
-use Rattle.fr_round.specs.declared.view.Setup.{Setup}
-use Rattle.fr_round.specs.declared.view.View.{View}
+use Rattle.fr_round.specs.Laws.{KnowsPartOf, workers_of}
 use Rattle.fr_laws.specs.Quiet.{IsBlocked, IsQuiet, ShowsBlocked, QuietIsForGood, QuietIsSettled, QuietRoundIsSettled, SettledCanBeQuiet, WorkerKnowsQuiet}
 
 -- Entries that turn nothing
@@ -198,14 +193,15 @@ module _ (n d : ℕ) (first : List (ℕ × ℕ)) (net : IsNet n first) (m : Mome
             (at_most x k l);
       }
 
+  one_more : (k : ℕ) → ((w : ℕ) × Joins first k w) ⊎ IsAlone first k → (k ≡ d) ⊎ ¬ (k ≡ d) → QuietBelow k → QuietBelow (suc k)
+  one_more k (inr alone) is q = skip k q (λ apart linked. alone linked.0 linked.1)
+  one_more k (inl linked) (inl is) q = skip k q (λ apart linked. apart is)
+  one_more k (inl linked) (inr apart) q =
+      add k q (joined_below n first k linked.0 net linked.1).0 (blocks k linked.0 linked.1 apart)
+
   quiet_below : (k : ℕ) → QuietBelow k
   quiet_below zero = record { entries = []; run = tt; no_turn = refl; blocked = λ x l. absurd (omega (arith, l)) }
-  quiet_below (suc k) = by_kind (cases_linked first k) (cases_eq k d)
-    where
-      by_kind : ((w : ℕ) × Joins first k w) ⊎ IsAlone first k → (k ≡ d) ⊎ ¬ (k ≡ d) → QuietBelow (suc k)
-      by_kind (inr alone) is = skip k (quiet_below k) (λ apart linked. alone linked.0 linked.1)
-      by_kind (inl linked) (inl is) = skip k (quiet_below k) (λ apart linked. apart is)
-      by_kind (inl linked) (inr apart) = add k (quiet_below k) (joined_below n first k linked.0 net linked.1).0 (blocks k linked.0 linked.1 apart)
+  quiet_below (suc k) = one_more k (cases_linked first k) (cases_eq k d) (quiet_below k)
 
   quiet_there : (quiet : List Entry) × IsQuiet d first quiet × IsRun n d m quiet
   quiet_there = let q = quiet_below n in (
