@@ -1,4 +1,3 @@
-mod Hops  -- next hops along links without a closed walk
-mod Locality  -- whom a change turns
-mod Quiet  -- a round in which no node turns
-mod Work  -- how often all nodes turn together
+mod Gaps  -- lists of numbers without a gap
+mod Totals  -- how often all nodes turn together
+mod Chains  -- links that all point away from the destination
