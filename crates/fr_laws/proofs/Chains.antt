@@ -23,7 +23,8 @@ use Rattle.fr_graph.proofs.Linking.{is_between_itself, joined_from}
 use Rattle.fr_graph.proofs.Members.{Contains-cases, Contains-head, Contains-none, Contains-tail}
 use Rattle.fr_graph.specs.Links.{HasPath, IsAcyclic, IsAlone, IsNet, IsPath, Joins, Points, end_of, is_between}
 use Rattle.fr_laws.proofs.Gaps.{is_some, triangle, weight}
-use Rattle.fr_laws.specs.Work.{IsBadCount, IsConnected, TriangleIsMet}
+use Rattle.fr_laws.proofs.Totals.{none_stranded}
+use Rattle.fr_laws.specs.Work.{AreCounted, IsBad, IsConnected, TriangleIsMet}
 
 -- b links in a row, away from node 0
 pub chain : ℕ → List (ℕ × ℕ)
@@ -157,11 +158,11 @@ chain_settled b = record {
 }
 
 -- all nodes but node 0 are bad
-bad_there : (b x : ℕ) → IsTrue (is_some x) ↔ (¬ HasPath (chain b) x 0)
-bad_there b x =
+bad_there : (b x : ℕ) → x < b + 1 → IsTrue (is_some x) ↔ IsBad 0 (chain b) x
+bad_there b x l =
     let decides = Decides-not (x == 0) (Decides-eqb x 0) in (
-      λ e path. decides.0 e (omega (arith, path_rises b x path.0 path.1.0, path.1.1)),
-      λ none. decides.1 (λ e. none ([], (tt, e))),
+      λ e. ((x, chain_walk b x (omega (arith, l))), λ path. decides.0 e (omega (arith, path_rises b x path.0 path.1.0, path.1.1))),
+      λ bad. decides.1 (λ e. bad.1 ([], (tt, e))),
     )
 
 bad_number : (b : ℕ) → b ≡ count_by is_some (range_with_len 0 (b + 1))
@@ -173,8 +174,11 @@ bad_number (suc b) =
     let rest : b ≡ count_by is_some (range_with_len 0 (suc b)) = rw add-one at (bad_number b) in
     omega (arith, one, more, rest)
 
-chain_bad : (b : ℕ) → IsBadCount (b + 1) 0 (chain b) b
-chain_bad b = record { is_bad = is_some; just = λ x l. bad_there b x; number = bad_number b }
+chain_counted : (b : ℕ) → AreCounted (b + 1) 0 (chain b) b 0
+chain_counted b = record {
+  bad = record { test = is_some; just = bad_there b; number = bad_number b };
+  stranded = none_stranded (b + 1) 0 (chain b) (chain_connected b);
+}
 
 abbrev same : ℕ → ℕ
 same x = x
@@ -198,4 +202,4 @@ chain_meets = λ b.
     let zeros : List ℕ = replicate (b + 1) 0 in
     let f = (run_to_settled (b + 1) 0 (chain b) zeros (levels b) (chain_net b) (omega arith) (zeros_lawful (b + 1) 0 (chain b)) (chain_settled b)).1 in
     let made : turn_count f.entries ≡ sum (levels b) = omega (arith, f.turns_alone, f.long, zeros_sum (b + 1)) in
-    (chain b, f.entries, chain_connected b, chain_bad b, f.run, omega (arith, made, levels_sum b))
+    (chain b, f.entries, chain_connected b, chain_counted b, f.run, omega (arith, made, levels_sum b))

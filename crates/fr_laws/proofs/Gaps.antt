@@ -1,12 +1,12 @@
 -- A list of numbers without a gap, of which b are not 0: each is at most b, and their sum at most 1 + 2 + .. + b.
 use Rattle.std.proofs.Common.{Bool, List, [], ap, arith, cond, count_by, false, inl, inr, length, ne_eqb, refl, slice_index, slice_set, sum, suc, sym}
-use Rattle.std.proofs.Common.{true, zero, ℕ, ⊎_elim, ◌*◌, ◌+◌, ◌-◌, ◌<◌, ◌==◌, ◌∙◌, ◌∷◌, ◌≡◌, ◌≤◌, ◌⊎◌}
+use Rattle.std.proofs.Common.{true, zero, ℕ, ⊎_elim, eq-eqb, map, ◌*◌, ◌+◌, ◌-◌, ◌<◌, ◌==◌, ◌∙◌, ◌∷◌, ◌≡◌, ◌≤◌, ◌⊎◌}
 use Rattle.std.proofs.Math.Nat.{add-mul, mul_comm}
 use Rattle.std.specs.Prelude.{not}
-use Rattle.std.proofs.lemmas.Bool.{cases_eq, cases_lt}
+use Rattle.std.proofs.lemmas.Bool.{cases_eq, cases_lt, cond-false, cond-true}
 use Rattle.std.proofs.lemmas.List.{get_or-set_other, get_or-set_same, get_or_default, length-set}
 use Rattle.std.proofs.lemmas.List.Elements.{All-from_get_or}
-use Rattle.std.proofs.lemmas.List.Sums.{count_by-le-length, sum_by-le, sum_by-set}
+use Rattle.std.proofs.lemmas.List.Sums.{count_by-le-length, sum_by-cons, sum_by-le, sum_by-set}
 use Rattle.fr_graph.proofs.Counting.{one_passes}
 
 -- a place of a greatest value
@@ -109,3 +109,58 @@ few_without_gap (suc b) xs no_gap number =
     (λ some. few_again xs no_gap top.0 low most some b (few_without_gap b (lowered xs no_gap top.0 low most) (lowered_no_gap xs no_gap top.0 low most)
     (omega (arith, lowered_count xs no_gap top.0 low most some, number))))
     (cases_eq (slice_index xs top.0) 0)
+
+-- 0 in place of n
+abbrev pub uncap : ℕ → ℕ → ℕ
+uncap n v = cond (v == n) 0 v
+
+pub uncap-n : (n v : ℕ) → v ≡ n → uncap n v ≡ 0
+uncap-n n v e = cond-true {A = ℕ} (v == n) 0 v (eq-eqb v n e)
+
+pub uncap-other : (n v : ℕ) → ¬ (v ≡ n) → uncap n v ≡ v
+uncap-other n v ne = cond-false {A = ℕ} (v == n) 0 v (ne_eqb v n ne)
+
+-- a list with 0 in place of each n: what is not 0, and what all come to
+pub split_counts : (n : ℕ) → 0 < n → (xs : List ℕ)
+    → count_by is_some xs ≡ count_by is_some (map (uncap n) xs) + count_by (λ v. v == n) xs
+split_counts n low [] = refl
+split_counts n low (x ∷ xs) =
+    let at_n : ℕ → ℕ = λ v. cond (v == n) 1 0 in
+    let rest = split_counts n low xs in
+    let whole = sum_by-cons weight x xs in
+    let left = sum_by-cons weight (uncap n x) (map (uncap n) xs) in
+    let right = sum_by-cons at_n x xs in
+    ⊎_elim
+    (λ e.
+    let none : weight (uncap n x) ≡ 0 = ap weight (uncap-n n x e) in
+    let one : at_n x ≡ 1 = rw (eq-eqb x n e) refl in
+    let some : weight x ≡ 1 = rw (ne_eqb x 0 (λ z. omega (arith, z, e, low))) refl in
+    omega (arith, rest, whole, left, right, none, one, some))
+    (λ ne.
+    let same : weight (uncap n x) ≡ weight x = ap weight (uncap-other n x ne) in
+    let none : at_n x ≡ 0 = rw (ne_eqb x n ne) refl in
+    omega (arith, rest, whole, left, right, same, none))
+    (cases_eq x n)
+
+pub split_sum : (n : ℕ) (xs : List ℕ) → sum xs ≡ sum (map (uncap n) xs) + count_by (λ v. v == n) xs * n
+split_sum n [] = omega arith
+split_sum n (x ∷ xs) =
+    let same : ℕ → ℕ = λ v. v in
+    let at_n : ℕ → ℕ = λ v. cond (v == n) 1 0 in
+    let rest = split_sum n xs in
+    let whole = sum_by-cons same x xs in
+    let left = sum_by-cons same (uncap n x) (map (uncap n) xs) in
+    let right = sum_by-cons at_n x xs in
+    ⊎_elim
+    (λ e.
+    let one : at_n x ≡ 1 = rw (eq-eqb x n e) refl in
+    let more : count_by (λ v. v == n) (x ∷ xs) ≡ count_by (λ v. v == n) xs + 1 = omega (arith, right, one) in
+    let times : count_by (λ v. v == n) (x ∷ xs) * n ≡ count_by (λ v. v == n) xs * n + 1 * n =
+    ap (λ (k : ℕ). k * n) more ∙ add-mul (count_by (λ v. v == n) xs) 1 n in
+    omega (arith, rest, whole, left, times, uncap-n n x e, e))
+    (λ ne.
+    let none : at_n x ≡ 0 = rw (ne_eqb x n ne) refl in
+    let more : count_by (λ v. v == n) (x ∷ xs) ≡ count_by (λ v. v == n) xs = omega (arith, right, none) in
+    let times : count_by (λ v. v == n) (x ∷ xs) * n ≡ count_by (λ v. v == n) xs * n = ap (λ (k : ℕ). k * n) more in
+    omega (arith, rest, whole, left, times, uncap-other n x ne))
+    (cases_eq x n)

@@ -4,52 +4,69 @@ use Rattle.std.specs.Prelude.{◌≡◌, ℕ, ◌<◌, ◌≤◌, ◌+◌, ◌-�
 use Rattle.std.specs.Bool.{IsTrue}
 use Rattle.std.specs.List.{count_by, range_with_len}
 use Rattle.fr_graph.specs.Counts.{AreLawful}
-use Rattle.fr_graph.specs.Links.{HasPath, IsNet}
+use Rattle.fr_graph.specs.Links.{HasPath, IsAlone, IsNet}
 use Rattle.fr_core.specs.History.{moment_of, turn_count}
 use Rattle.fr_core.specs.Legal.{IsRun}
 use Rattle.fr_core.specs.Settled.{AreSettled}
 use Rattle.fr_core.specs.Walks.{IsJoined}
 use Rattle.fr_core.specs.declared.entry.Entry.{Entry}
 
--- a network of n nodes that are all joined with the destination d, whichever way the links point
-pub record IsConnected (n d : ℕ) (first : List (ℕ × ℕ)) : Type 0 where
-  pub is_net : IsNet n first
+-- the bad nodes, as the field says: joined with the destination d, and without a path to it along the links
+abbrev pub IsBad : ℕ → List (ℕ × ℕ) → ℕ → Type 0
+IsBad d links x = IsJoined links d x × ¬ HasPath links x d
+
+-- a node with links that is cut off: nothing joins it with d
+abbrev pub IsStranded : ℕ → List (ℕ × ℕ) → ℕ → Type 0
+IsStranded d links x = ¬ IsAlone links x × ¬ IsJoined links d x
+
+-- k of the nodes below n are of the kind P
+pub record AreSoMany (n : ℕ) (P : ℕ → Type 0) (k : ℕ) : Type 0 where
+  pub test : ℕ → Bool
+  pub just : (x : ℕ) → x < n → IsTrue (test x) ↔ P x
+  pub number : k ≡ count_by test (range_with_len 0 n)
+
+-- b nodes are bad, and c with links are cut off
+pub record AreCounted (n d : ℕ) (links : List (ℕ × ℕ)) (b c : ℕ) : Type 0 where
+  pub bad : AreSoMany n (IsBad d links) b
+  pub stranded : AreSoMany n (IsStranded d links) c
+
+-- a network of n nodes that are all joined with d, whichever way the links point
+pub record IsConnected (n d : ℕ) (links : List (ℕ × ℕ)) : Type 0 where
+  pub is_net : IsNet n links
   pub dest : d < n
-  pub joined : (x : ℕ) → x < n → IsJoined first d x
+  pub joined : (x : ℕ) → x < n → IsJoined links d x
 
--- b of the n nodes are bad, as the field says: no path along the links leads from them to d
-pub record IsBadCount (n d : ℕ) (links : List (ℕ × ℕ)) (b : ℕ) : Type 0 where
-  pub is_bad : ℕ → Bool
-  pub just : (x : ℕ) → x < n → IsTrue (is_bad x) ↔ (¬ HasPath links x d)
-  pub number : b ≡ count_by is_bad (range_with_len 0 n)
-
--- there is exactly one number of bad nodes, and it is below n
+-- each network has exactly one number of either, and together they are fewer than the nodes
 abbrev pub BadAreCounted : Type 0
-BadAreCounted = (n d : ℕ) (first : List (ℕ × ℕ)) → IsConnected n d first
-    → (b : ℕ) × IsBadCount n d first b × (b < n) × ((other : ℕ) → IsBadCount n d first other → other ≡ b)
+BadAreCounted = (n d : ℕ) (first : List (ℕ × ℕ)) → IsNet n first → d < n
+    → (b c : ℕ) × AreCounted n d first b c × (b + c < n)
+    × ((k l : ℕ) → AreCounted n d first k l → (k ≡ b) × (l ≡ c))
 
--- the nodes lie in levels, none of which is empty: where a joined node has the settled count k + 1, one has k. (The network may have parts without d.)
+-- joined nodes lie in levels by their settled counts, and no level below another is empty
 abbrev pub NoLevelIsEmpty : Type 0
-NoLevelIsEmpty = (n d : ℕ) (first : List (ℕ × ℕ)) (counts : List ℕ) (x k : ℕ) → IsNet n first → d < n → AreSettled n d first counts
-    → IsJoined first d x → slice_index counts x ≡ k + 1 → (y : ℕ) × (y < n) × IsJoined first d y × (slice_index counts y ≡ k)
+NoLevelIsEmpty = (n d : ℕ) (first : List (ℕ × ℕ)) (counts : List ℕ) (x k : ℕ) → IsNet n first → d < n
+    → AreSettled n d first counts → IsJoined first d x → slice_index counts x ≡ k + 1
+    → (y : ℕ) × (y < n) × IsJoined first d y × (slice_index counts y ≡ k)
 
--- no node turns more often than there are bad nodes,
+-- no joined node turns more often than there are bad nodes
 abbrev pub EachIsAtMostBad : Type 0
-EachIsAtMostBad = (n d : ℕ) (first : List (ℕ × ℕ)) (counts : List ℕ) (b x : ℕ) → IsConnected n d first → IsBadCount n d first b
-    → AreSettled n d first counts → slice_index counts x ≤ b
+EachIsAtMostBad = (n d : ℕ) (first : List (ℕ × ℕ)) (counts : List ℕ) (b c x : ℕ) → IsNet n first → d < n
+    → AreCounted n d first b c → AreSettled n d first counts → IsJoined first d x → slice_index counts x ≤ b
 
--- and all nodes together turn at most 1 + 2 + .. + b times
-abbrev pub AllAreAtMostTriangle : Type 0
-AllAreAtMostTriangle = (n d : ℕ) (first : List (ℕ × ℕ)) (counts : List ℕ) (b : ℕ) → IsConnected n d first → IsBadCount n d first b
-    → AreSettled n d first counts → 2 * sum counts ≤ b * (b + 1)
-
--- so does each run, whoever turns and in whatever order, with the turns that led to the counts at its start; and b is at most n - 1
+-- a run from lawful counts, with the turns behind these, has at most 1 + 2 + .. + b turns, and n for each node with links that is cut
+-- off: so many, whoever turns and in whatever order, and at its end as well as on its way
 abbrev pub RunIsAtMostTriangle : Type 0
-RunIsAtMostTriangle = (n d : ℕ) (first : List (ℕ × ℕ)) (counts : List ℕ) (h : List Entry) (b : ℕ) → IsConnected n d first → IsBadCount n d first b
-    → AreLawful n d first counts → IsRun n d (moment_of first counts) h
-    → (2 * (sum counts + turn_count h) ≤ b * (b + 1)) × (b * (b + 1) ≤ n * (n - 1))
+RunIsAtMostTriangle = (n d : ℕ) (first : List (ℕ × ℕ)) (counts : List ℕ) (h : List Entry) (b c : ℕ) → IsNet n first → d < n
+    → AreCounted n d first b c → AreLawful n d first counts → IsRun n d (moment_of first counts) h
+    → 2 * (sum counts + turn_count h) ≤ b * (b + 1) + 2 * (c * n)
 
--- no smaller bound holds: for each b there are a network of b + 1 nodes, b of them bad, and a run that makes 1 + 2 + .. + b turns
+-- where all n nodes are joined with the destination, at most n * (n - 1) / 2 turns
+abbrev pub ConnectedIsAtMostHalfSquare : Type 0
+ConnectedIsAtMostHalfSquare = (n d : ℕ) (first : List (ℕ × ℕ)) (counts : List ℕ) (h : List Entry) → IsConnected n d first
+    → AreLawful n d first counts → IsRun n d (moment_of first counts) h → 2 * (sum counts + turn_count h) ≤ n * (n - 1)
+
+-- no smaller bound holds: for each b there are a connected network of b + 1 nodes, b of them bad, and a run of 1 + 2 + .. + b turns
 abbrev pub TriangleIsMet : Type 0
-TriangleIsMet = (b : ℕ) → (first : List (ℕ × ℕ)) × (h : List Entry) × IsConnected (b + 1) 0 first × IsBadCount (b + 1) 0 first b
-    × IsRun (b + 1) 0 (moment_of first (replicate (b + 1) 0)) h × (2 * turn_count h ≡ b * (b + 1))
+TriangleIsMet = (b : ℕ) → (first : List (ℕ × ℕ)) × (h : List Entry) × IsConnected (b + 1) 0 first
+    × AreCounted (b + 1) 0 first b 0 × IsRun (b + 1) 0 (moment_of first (replicate (b + 1) 0)) h
+    × (2 * turn_count h ≡ b * (b + 1))
