@@ -1,8 +1,9 @@
 -- A chain whose links all point away from the destination: node x turns x times.
-use Rattle.std.proofs.Common.{Bool, Contains, List, [], add-one, ap, arith, cond, count_by, eq-eqb, false, inl, inr, length, map, ne_eqb, refl, replicate}
-use Rattle.std.proofs.Common.{slice_index, subst, sum, suc, sym, true, zero, zero-add, ℕ, ⊎_elim, ◌*◌, ◌+◌, ◌++◌, ◌<◌, ◌==◌, ◌↔◌, ◌∙◌, ◌∷◌, ◌≡◌, ◌≤◌}
-use Rattle.std.proofs.Common.{◌⊎◌, IsTrue}
-use Rattle.std.proofs.lemmas.Bool.{cases_Bool, cases_eq, cases_lt}
+use Rattle.std.proofs.Common.{List, [], add-one, ap, arith, count_by, false, inl, inr, map, ne_eqb, refl, replicate}
+use Rattle.std.proofs.Common.{slice_index, subst, sum, suc, sym, zero, zero-add, ℕ, ⊎_elim, ◌*◌, ◌+◌, ◌++◌, ◌<◌}
+use Rattle.std.proofs.Common.{◌==◌, ◌↔◌, ◌∙◌, ◌∷◌, ◌≡◌, ◌≤◌}
+use Rattle.std.proofs.Common.{IsTrue}
+use Rattle.std.proofs.lemmas.Bool.{cases_Bool, cases_eq}
 use Rattle.std.proofs.lemmas.Bool.Decides.{Decides-eqb, Decides-not}
 use Rattle.std.proofs.lemmas.List.FromFn.{get_or-map-range_with_len, length-map-range_with_len, sum_by-map-range_with_len_more}
 use Rattle.std.proofs.lemmas.List.Folds.{sum_by-replicate}
@@ -13,15 +14,13 @@ use Rattle.fr_core.proofs.Finishing.{zeros_lawful}
 use Rattle.fr_core.proofs.SettledRuns.{run_to_settled}
 use Rattle.fr_core.proofs.Settling.{cases_linked, walk_along}
 use Rattle.fr_core.proofs.Turning.{All-from_Contains}
-use Rattle.fr_core.specs.History.{moment_of, turn_count}
-use Rattle.fr_core.specs.Legal.{IsRun}
+use Rattle.fr_core.specs.History.{turn_count}
 use Rattle.fr_core.specs.Settled.{AreSettled, IsSettledCount}
-use Rattle.fr_core.specs.Walks.{HasWalk, IsJoined, IsLeastAway}
-use Rattle.fr_core.specs.declared.entry.Entry.{Entry}
+use Rattle.fr_core.specs.Walks.{HasWalk, IsLeastAway}
 use Rattle.fr_graph.proofs.Counting.{count-range_more, weigh}
 use Rattle.fr_graph.proofs.Linking.{is_between_itself, joined_from}
 use Rattle.fr_graph.proofs.Members.{Contains-cases, Contains-head, Contains-none, Contains-tail}
-use Rattle.fr_graph.specs.Links.{HasPath, IsAcyclic, IsAlone, IsNet, IsPath, Joins, Points, end_of, is_between}
+use Rattle.fr_graph.specs.Links.{IsAcyclic, IsAlone, IsNet, IsPath, Points, end_of, is_between}
 use Rattle.fr_laws.proofs.Gaps.{is_some, triangle, weight}
 use Rattle.fr_laws.proofs.Totals.{none_stranded}
 use Rattle.fr_laws.specs.Work.{AreCounted, IsBad, IsConnected, TriangleIsMet}
@@ -36,7 +35,10 @@ from_chain : (b u v : ℕ) → Points (chain b) u v → (v ≡ suc u) × (u < b)
 unfolding chain
 from_chain zero u v h = absurd (Contains-none (u, v) h)
 from_chain (suc b) u v h = ⊎_elim
-    (λ e. let f : b ≡ u = ap (λ (l : ℕ × ℕ). l.0) e in let s : suc b ≡ v = ap (λ (l : ℕ × ℕ). l.1) e in (omega (arith, f, s), omega (arith, f)))
+    (λ e.
+    let tail : b ≡ u = ap (λ (l : ℕ × ℕ). l.0) e in
+    let head : suc b ≡ v = ap (λ (l : ℕ × ℕ). l.1) e in
+    (omega (arith, tail, head), omega (arith, tail)))
     (λ g. let rest = from_chain b u v g in (rest.0, omega (arith, rest.1)))
     (Contains-cases (u, v) (b, suc b) (chain b) h)
 
@@ -63,7 +65,9 @@ unfolding times chain
 times_more b u = sum_by-cons (λ (l : ℕ × ℕ). weigh (is_between u (suc u) l)) (b, suc b) (chain b)
 
 times_apart : (b u : ℕ) → ¬ (b ≡ u) → times (suc b) u ≡ times b u
-times_apart b u ne = let none : weigh (is_between u (suc u) (b, suc b)) ≡ 0 = ap weigh (not_between b u ne) in omega (arith, times_more b u, none)
+times_apart b u ne =
+    let none : weigh (is_between u (suc u) (b, suc b)) ≡ 0 = ap weigh (not_between b u ne) in
+    omega (arith, times_more b u, none)
 
 never_past : (b u : ℕ) → b ≤ u → times b u ≡ 0
 unfolding times chain
@@ -100,8 +104,10 @@ chain_net : (b : ℕ) → IsNet (b + 1) (chain b)
 chain_net b = record {
   in_range = All-from_Contains (λ (l : ℕ × ℕ). (l.0 < b + 1) × (l.1 < b + 1)) (chain b)
       (λ l h. let from = from_chain b l.0 l.1 h in (omega (arith, from.1), omega (arith, from.0, from.1)));
-  no_self = All-from_Contains (λ (l : ℕ × ℕ). ¬ (l.0 ≡ l.1)) (chain b) (λ l h e. omega (arith, (from_chain b l.0 l.1 h).0, e));
-  single = All-from_Contains (λ (l : ℕ × ℕ). count_by (is_between l.0 l.1) (chain b) ≡ 1) (chain b) (λ l h. chain_single b l.0 l.1 h);
+  no_self = All-from_Contains (λ (l : ℕ × ℕ). ¬ (l.0 ≡ l.1)) (chain b)
+      (λ l h e. omega (arith, (from_chain b l.0 l.1 h).0, e));
+  single = All-from_Contains (λ (l : ℕ × ℕ). count_by (is_between l.0 l.1) (chain b) ≡ 1) (chain b)
+      (λ l h. chain_single b l.0 l.1 h);
   acyclic = chain_acyclic b;
 }
 
@@ -113,7 +119,11 @@ chain_walk b (suc x) l =
     (w.0 ++ suc x ∷ [], rw add-one at (walk_along (chain b) 0 w.0 x x (suc x) w.1 (in_chain b x (omega arith))))
 
 chain_connected : (b : ℕ) → IsConnected (b + 1) 0 (chain b)
-chain_connected b = record { is_net = chain_net b; dest = omega arith; joined = λ x l. (x, chain_walk b x (omega (arith, l))) }
+chain_connected b = record {
+  is_net = chain_net b;
+  dest = omega arith;
+  joined = λ x l. (x, chain_walk b x (omega (arith, l)));
+}
 
 -- the settled counts 0, 1, .., b
 levels : ℕ → List ℕ
@@ -123,10 +133,18 @@ level_at : (b x : ℕ) → x ≤ b → slice_index (levels b) x ≡ x
 unfolding levels
 level_at b x l = get_or-map-range_with_len (λ (y : ℕ). y) 0 (b + 1) x x 0 (omega arith) (zero-add x)
 
+-- at the ends of a link of the chain
+level_ends : (b u v : ℕ) → Points (chain b) u v → slice_index (levels b) v ≡ slice_index (levels b) u + 1
+level_ends b u v h =
+    let from = from_chain b u v h in
+    let below = level_at b u (omega (arith, from.1)) in
+    let above = level_at b v (omega (arith, from.0, from.1)) in
+    omega (arith, from.0, below, above)
+
 levels_climb : (b : ℕ) → Climbs (chain b) (levels b)
 levels_climb b = record {
-  along = λ u v h. let from = from_chain b u v h in omega (arith, from.0, level_at b u (omega (arith, from.1)), level_at b v (omega (arith, from.0, from.1)));
-  against = λ u v h. let from = from_chain b v u h in omega (arith, from.0, level_at b v (omega (arith, from.1)), level_at b u (omega (arith, from.0, from.1)));
+  along = λ u v h. omega (arith, level_ends b u v h);
+  against = λ u v h. omega (arith, level_ends b v u h);
 }
 
 chain_least : (b x : ℕ) → x ≤ b → IsLeastAway (chain b) 0 x x
@@ -154,14 +172,19 @@ chain_settled : (b : ℕ) → AreSettled (b + 1) 0 (chain b) (levels b)
 unfolding levels
 chain_settled b = record {
   one_each = length-map-range_with_len (λ (y : ℕ). y) 0 (b + 1);
-  settled = λ x l. subst (IsSettledCount (b + 1) 0 (chain b) x) (sym (level_at b x (omega (arith, l)))) (chain_count b x (omega (arith, l)));
+  settled = λ x l.
+      let low : x ≤ b = omega (arith, l) in
+      subst (IsSettledCount (b + 1) 0 (chain b) x) (sym (level_at b x low)) (chain_count b x low);
 }
 
 -- all nodes but node 0 are bad
 bad_there : (b x : ℕ) → x < b + 1 → IsTrue (is_some x) ↔ IsBad 0 (chain b) x
 bad_there b x l =
     let decides = Decides-not (x == 0) (Decides-eqb x 0) in (
-      λ e. ((x, chain_walk b x (omega (arith, l))), λ path. decides.0 e (omega (arith, path_rises b x path.0 path.1.0, path.1.1))),
+      λ e. (
+        (x, chain_walk b x (omega (arith, l))),
+        λ path. decides.0 e (omega (arith, path_rises b x path.0 path.1.0, path.1.1)),
+      ),
       λ bad. decides.1 (λ e. bad.1 ([], (tt, e))),
     )
 
@@ -169,7 +192,8 @@ bad_number : (b : ℕ) → b ≡ count_by is_some (range_with_len 0 (b + 1))
 bad_number zero = refl
 bad_number (suc b) =
     let one : weight (suc b) ≡ 1 = rw (ne_eqb (suc b) 0 (λ e. omega (arith, e))) refl in
-    let more : count_by is_some (range_with_len 0 (suc b + 1)) ≡ count_by is_some (range_with_len 0 (suc b)) + weight (suc b) =
+    let many : ℕ → ℕ = λ k. count_by is_some (range_with_len 0 k) in
+    let more : many (suc b + 1) ≡ many (suc b) + weight (suc b) =
     count-range_more is_some (suc b) in
     let rest : b ≡ count_by is_some (range_with_len 0 (suc b)) = rw add-one at (bad_number b) in
     omega (arith, one, more, rest)
@@ -200,6 +224,8 @@ zeros_sum n = omega (arith, sum_by-replicate (λ (y : ℕ). y) n 0)
 pub chain_meets : TriangleIsMet
 chain_meets = λ b.
     let zeros : List ℕ = replicate (b + 1) 0 in
-    let f = (run_to_settled (b + 1) 0 (chain b) zeros (levels b) (chain_net b) (omega arith) (zeros_lawful (b + 1) 0 (chain b)) (chain_settled b)).1 in
+    let lawful = zeros_lawful (b + 1) 0 (chain b) in
+    let net = chain_net b in
+    let f = (run_to_settled (b + 1) 0 (chain b) zeros (levels b) net (omega arith) lawful (chain_settled b)).1 in
     let made : turn_count f.entries ≡ sum (levels b) = omega (arith, f.turns_alone, f.long, zeros_sum (b + 1)) in
     (chain b, f.entries, chain_connected b, chain_counted b, f.run, omega (arith, made, levels_sum b))

@@ -1,31 +1,32 @@
 -- A list of numbers without a gap, of which b are not 0: each is at most b, and their sum at most 1 + 2 + .. + b.
-use Rattle.std.proofs.Common.{Bool, List, [], ap, arith, cond, count_by, false, inl, inr, length, ne_eqb, refl, slice_index, slice_set, sum, suc, sym}
-use Rattle.std.proofs.Common.{true, zero, ℕ, ⊎_elim, eq-eqb, map, ◌*◌, ◌+◌, ◌-◌, ◌<◌, ◌==◌, ◌∙◌, ◌∷◌, ◌≡◌, ◌≤◌, ◌⊎◌}
+use Rattle.std.proofs.Common.{Bool, List, [], ap, arith, cond, count_by, length, ne_eqb, refl, slice_index, slice_set, sum, suc, sym}
+use Rattle.std.proofs.Common.{zero, ℕ, ⊎_elim, eq-eqb, map, ◌*◌, ◌+◌, ◌-◌, ◌<◌, ◌==◌, ◌∙◌, ◌∷◌, ◌≡◌, ◌≤◌}
 use Rattle.std.proofs.Math.Nat.{add-mul, mul_comm}
 use Rattle.std.specs.Prelude.{not}
 use Rattle.std.proofs.lemmas.Bool.{cases_eq, cases_lt, cond-false, cond-true}
-use Rattle.std.proofs.lemmas.List.{get_or-set_other, get_or-set_same, get_or_default, length-set}
+use Rattle.std.proofs.lemmas.List.{get_or-set_other, get_or-set_same, length-set}
 use Rattle.std.proofs.lemmas.List.Elements.{All-from_get_or}
 use Rattle.std.proofs.lemmas.List.Sums.{count_by-le-length, sum_by-cons, sum_by-le, sum_by-set}
 use Rattle.fr_graph.proofs.Counting.{one_passes}
 
 -- a place of a greatest value
-greatest : (f : ℕ → ℕ) (n : ℕ) → (i : ℕ) × (i < suc n) × ((j : ℕ) → j < suc n → f j ≤ f i)
+abbrev Greatest : (ℕ → ℕ) → ℕ → Type 0
+Greatest f n = (i : ℕ) × (i < suc n) × ((j : ℕ) → j < suc n → f j ≤ f i)
+
+greatest : (f : ℕ → ℕ) (n : ℕ) → Greatest f n
 greatest f zero = (0, omega arith, λ j l. let e : j ≡ 0 = omega arith in omega (arith, ap f e))
 greatest f (suc n) = go (greatest f n)
   where
-    go : (i : ℕ) × (i < suc n) × ((j : ℕ) → j < suc n → f j ≤ f i) → (i : ℕ) × (i < suc (suc n)) × ((j : ℕ) → j < suc (suc n) → f j ≤ f i)
+    go : Greatest f n → Greatest f (suc n)
     go (i, low, most) = ⊎_elim
-        (λ above. (
-          suc n,
-          omega arith,
-          λ j l. ⊎_elim (λ e. omega (arith, ap f e)) (λ ne. omega (arith, most j (omega arith), above)) (cases_eq j (suc n)),
-        ))
-        (λ under. (
-          i,
-          omega arith,
-          λ j l. ⊎_elim (λ e. omega (arith, ap f e, under)) (λ ne. most j (omega arith)) (cases_eq j (suc n)),
-        ))
+        (λ above.
+        let last : (j : ℕ) → j < suc (suc n) → f j ≤ f (suc n) =
+        λ j l. ⊎_elim (λ e. omega (arith, ap f e)) (λ ne. omega (arith, most j (omega arith), above)) (cases_eq j (suc n)) in
+        (suc n, omega arith, last))
+        (λ under.
+        let still : (j : ℕ) → j < suc (suc n) → f j ≤ f i =
+        λ j l. ⊎_elim (λ e. omega (arith, ap f e, under)) (λ ne. most j (omega arith)) (cases_eq j (suc n)) in
+        (i, omega arith, still))
         (cases_lt (f i) (f (suc n)))
 
 abbrev pub is_some : ℕ → Bool
@@ -52,7 +53,8 @@ abbrev pub AreFew : ℕ → List ℕ → Type 0
 AreFew b xs = ((i : ℕ) → i < length xs → slice_index xs i ≤ b) × (2 * sum xs ≤ b * (b + 1))
 
 -- the list with a greatest number set to 0: it has no gap either, and one less that is not 0
-module _ (xs : List ℕ) (no_gap : HasNoGap xs) (i : ℕ) (low : i < length xs) (most : (j : ℕ) → j < length xs → slice_index xs j ≤ slice_index xs i) where
+module _ (xs : List ℕ) (no_gap : HasNoGap xs) (i : ℕ) (low : i < length xs)
+    (most : (j : ℕ) → j < length xs → slice_index xs j ≤ slice_index xs i) where
   abbrev lowered : List ℕ
   lowered = slice_set xs i 0
 
@@ -68,7 +70,9 @@ module _ (xs : List ℕ) (no_gap : HasNoGap xs) (i : ℕ) (low : i < length xs) 
       (λ apart.
       let in_list : j < length xs = omega (arith, lowered_long) in
       let under = no_gap j k in_list (sym (lowered_other j apart) ∙ e) in
-      let ne : ¬ (under.0 ≡ i) = λ same. omega (arith, ap (slice_index xs) same, under.2, most j in_list, lowered_other j apart, e) in
+      let high = most j in_list in
+      let kept = lowered_other j apart in
+      let ne : ¬ (under.0 ≡ i) = λ same. omega (arith, ap (slice_index xs) same, under.2, high, kept, e) in
       (under.0, omega (arith, lowered_long, under.1), lowered_other under.0 ne ∙ under.2))
       (cases_eq j i)
 
@@ -95,7 +99,10 @@ module _ (xs : List ℕ) (no_gap : HasNoGap xs) (i : ℕ) (low : i < length xs) 
 pub few_without_gap : (b : ℕ) (xs : List ℕ) → HasNoGap xs → count_by is_some xs ≡ b → AreFew b xs
 few_without_gap zero xs no_gap number =
     let none : (i : ℕ) → i < length xs → slice_index xs i ≤ 0 =
-    λ i l. ⊎_elim (λ e. omega (arith, e)) (λ ne. absurd (omega (arith, some_counts xs i l ne, number))) (cases_eq (slice_index xs i) 0) in
+    λ i l. ⊎_elim
+    (λ e. omega (arith, e))
+    (λ ne. absurd (omega (arith, some_counts xs i l ne, number)))
+    (cases_eq (slice_index xs i) 0) in
     (none, omega (arith, sum_of_nothing xs none))
 few_without_gap (suc b) xs no_gap number =
     let long : 1 ≤ length xs = omega (arith, count_by-le-length is_some xs, number) in
@@ -106,8 +113,11 @@ few_without_gap (suc b) xs no_gap number =
     (λ none.
     let zeros : (j : ℕ) → j < length xs → slice_index xs j ≤ 0 = λ j l. omega (arith, most j l, none) in
     (λ j l. omega (arith, zeros j l), omega (arith, sum_of_nothing xs zeros)))
-    (λ some. few_again xs no_gap top.0 low most some b (few_without_gap b (lowered xs no_gap top.0 low most) (lowered_no_gap xs no_gap top.0 low most)
-    (omega (arith, lowered_count xs no_gap top.0 low most some, number))))
+    (λ some.
+    let one_less = lowered_count xs no_gap top.0 low most some in
+    let rest = lowered_no_gap xs no_gap top.0 low most in
+    few_again xs no_gap top.0 low most some b
+    (few_without_gap b (lowered xs no_gap top.0 low most) rest (omega (arith, one_less, number))))
     (cases_eq (slice_index xs top.0) 0)
 
 -- 0 in place of n

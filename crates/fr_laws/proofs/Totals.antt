@@ -1,8 +1,9 @@
 -- Settled counts have no gap, so that their sum is bounded by the number of bad nodes.
-use Rattle.std.proofs.Common.{Bool, List, [], ap, arith, cond, count_by, false, inl, inr, length, map, mul-le-mul, ne_eqb, refl, slice_index}
-use Rattle.std.proofs.Common.{slice_set, subst, sum, suc, sym, true, zero, ℕ, ⊎_elim, ◌*◌, ◌+◌, ◌-◌, ◌<◌, ◌==◌, ◌↔◌, ◌∙◌, ◌∷◌, ◌≡◌, ◌≤◌, IsTrue}
+use Rattle.std.proofs.Common.{Bool, List, [], ap, arith, count_by, false, inr, length, map, mul-le-mul, refl, slice_index}
+use Rattle.std.proofs.Common.{slice_set, sum, suc, sym, true, zero, ℕ, ⊎_elim, ◌*◌, ◌+◌, ◌-◌, ◌<◌, ◌==◌}
+use Rattle.std.proofs.Common.{◌↔◌, ◌∙◌, ◌≡◌, ◌≤◌, IsTrue}
 use Rattle.std.proofs.Math.Nat.{mul_comm}
-use Rattle.std.proofs.lemmas.Bool.{cases_eq, cases_lt, false≢true}
+use Rattle.std.proofs.lemmas.Bool.{cases_lt, false≢true}
 use Rattle.std.proofs.lemmas.Bool.Decides.{Decides-eqb, Decides-not}
 use Rattle.std.proofs.lemmas.List.{get_or-map, get_or_past, length-map, length-set}
 use Rattle.std.proofs.lemmas.List.FromFn.{fill_by_all}
@@ -15,7 +16,8 @@ use Rattle.fr_core.proofs.Runs.{run_sum}
 use Rattle.fr_core.proofs.SettledRuns.{run_to_settled}
 use Rattle.fr_core.proofs.Settling.{cases_linked, walk_takes}
 use Rattle.fr_core.proofs.Turning.{run_keeps}
-use Rattle.fr_core.proofs.Unique.{cap_from_not_joined, joined_count_below, not_joined_from_cap, settled_climbs, settled_destination, settled_lawful}
+use Rattle.fr_core.proofs.Unique.{cap_from_not_joined, joined_count_below, not_joined_from_cap}
+use Rattle.fr_core.proofs.Unique.{settled_climbs, settled_destination, settled_lawful}
 use Rattle.fr_core.specs.History.{after_all, moment_of, turn_count}
 use Rattle.fr_core.specs.Legal.{IsRun}
 use Rattle.fr_core.specs.Settled.{AreSettled}
@@ -24,9 +26,10 @@ use Rattle.fr_core.specs.declared.entry.Entry.{Entry}
 use Rattle.fr_graph.proofs.Counting.{count-range_agree, count_by-map, none_pass}
 use Rattle.fr_graph.proofs.Linking.{joined_below}
 use Rattle.fr_graph.specs.Counts.{AreLawful}
-use Rattle.fr_graph.specs.Links.{HasPath, IsNet}
-use Rattle.fr_laws.proofs.Gaps.{AreFew, HasNoGap, few_without_gap, is_some, split_counts, split_sum, uncap, uncap-n, uncap-other, weight}
-use Rattle.fr_laws.specs.Work.{AreCounted, AreSoMany, IsBad, IsConnected, IsStranded}
+use Rattle.fr_graph.specs.Links.{HasPath, IsAlone, IsNet, Joins}
+use Rattle.fr_laws.proofs.Gaps.{AreFew, HasNoGap, few_without_gap, is_some, split_counts, split_sum, weight}
+use Rattle.fr_laws.proofs.Gaps.{uncap, uncap-n, uncap-other}
+use Rattle.fr_laws.specs.Work.{AreCounted, IsNumberOf, IsBad, IsConnected, IsStranded}
 
 same_bool : (a b : Bool) → (IsTrue a ↔ IsTrue b) → a ≡ b
 same_bool true true e = refl
@@ -35,12 +38,14 @@ same_bool false true e = e.1 refl
 same_bool false false e = refl
 
 -- there are no two numbers of one kind
-pub many_unique : (n : ℕ) (P : ℕ → Type 0) (k l : ℕ) → AreSoMany n P k → AreSoMany n P l → k ≡ l
+pub many_unique : (n : ℕ) (P : ℕ → Type 0) (k l : ℕ) → IsNumberOf n P k → IsNumberOf n P l → k ≡ l
 many_unique n P k l a b =
     let same : (x : ℕ) → x < 0 + n → a.test x ≡ b.test x =
     λ x low.
     let below : x < n = omega arith in
-    same_bool (a.test x) (b.test x) ((λ e. (b.just x below).1 ((a.just x below).0 e)), (λ e. (a.just x below).1 ((b.just x below).0 e))) in
+    let here = a.just x below in
+    let there = b.just x below in
+    same_bool (a.test x) (b.test x) ((λ e. there.1 (here.0 e)), (λ e. here.1 (there.0 e))) in
     a.number ∙ (count-range_agree a.test b.test 0 n same ∙ sym b.number)
 
 count_listed : (p : ℕ → Bool) (xs : List ℕ) (n : ℕ) → length xs ≡ n
@@ -49,7 +54,8 @@ count_listed p xs n long =
     let at : ℕ → ℕ = λ x. slice_index xs x in
     ap (count_by p) (fill_by_all at xs n 0 long (λ k l. refl)) ∙ count_by-map p at (range_with_len 0 n)
 
-module _ (n d : ℕ) (first : List (ℕ × ℕ)) (net : IsNet n first) (below : d < n) (c : List ℕ) (settled : AreSettled n d first c) where
+module _ (n d : ℕ) (first : List (ℕ × ℕ)) (net : IsNet n first) (below : d < n) (c : List ℕ)
+    (settled : AreSettled n d first c) where
   at_destination : slice_index c d ≡ 0
   at_destination = settled_destination n d first net below c settled
 
@@ -71,7 +77,8 @@ module _ (n d : ℕ) (first : List (ℕ × ℕ)) (net : IsNet n first) (below : 
   level_below x zero joined e = (d, below, (0, ([], (refl, refl))), at_destination)
   level_below x (suc k) joined e =
       let climbs = settled_climbs n d first net below c settled in
-      let at = walk_takes n first (λ u w h. (joined_below n first u w net h).0) c climbs d below joined.1.0 joined.0 x joined.1.1 (suc k)
+      let in_range : (u w : ℕ) → Joins first u w → u < n = λ u w h. (joined_below n first u w net h).0 in
+      let at = walk_takes n first in_range c climbs d below joined.1.0 joined.0 x joined.1.1 (suc k)
       (omega (arith, at_destination)) (omega (arith, e)) in
       (at.0, at.1, joined_by_count at.0 (λ z. omega (arith, z, at.2)) (omega (arith, e, at.2, high x joined)), at.2)
 
@@ -79,7 +86,9 @@ module _ (n d : ℕ) (first : List (ℕ × ℕ)) (net : IsNet n first) (below : 
   path_at_zero : (x : ℕ) → x < n → IsJoined first d x → slice_index c x ≡ 0 → HasPath first x d
   path_at_zero x l joined e = ⊎_elim
       (λ same. ([], (tt, same)))
-      (λ linked. zero_gives_path n d first x (slice_index c x) l (λ alone. alone linked.0 linked.1) (settled.settled x l) e)
+      (λ linked.
+      let not_alone : ¬ IsAlone first x = λ alone. alone linked.0 linked.1 in
+      zero_gives_path n d first x (slice_index c x) l not_alone (settled.settled x l) e)
       (walk_linked first d joined.1.0 joined.0 x joined.1.1)
 
   -- the counts, with 0 in place of the cap
@@ -111,9 +120,10 @@ module _ (n d : ℕ) (first : List (ℕ × ℕ)) (net : IsNet n first) (below : 
   bad_there x l =
       let decides = Decides-not (slice_index low x == 0) (Decides-eqb (slice_index low x) 0) in (
         λ e.
-        let some = decides.0 e in
-        let same = low_below x l (below_cap x l some) in
-        (joined_by_low x l some, λ path. some (same ∙ path_gives_zero n d first x (slice_index c x) (settled.settled x l) path)),
+            let some = decides.0 e in
+            let same = low_below x l (below_cap x l some) in
+            let zero_at = path_gives_zero n d first x (slice_index c x) (settled.settled x l) in
+            (joined_by_low x l some, λ path. some (same ∙ zero_at path)),
         λ bad. decides.1 (λ e. bad.1 (path_at_zero x l bad.0 (sym (low_below x l (high x bad.0)) ∙ e))),
       )
 
@@ -121,8 +131,9 @@ module _ (n d : ℕ) (first : List (ℕ × ℕ)) (net : IsNet n first) (below : 
   stranded_there x l =
       let decides = Decides-eqb (slice_index c x) n in (
         λ e.
-        let cap = decides.0 e in
-        ((λ alone. omega (arith, cap, lawful.alone x alone, below)), not_joined_from_cap n d first net below c settled x cap),
+            let cap = decides.0 e in
+            let linked : ¬ IsAlone first x = λ alone. omega (arith, cap, lawful.alone x alone, below) in
+            (linked, not_joined_from_cap n d first net below c settled x cap),
         λ stranded. decides.1 (cap_from_not_joined n d first net below c settled x l stranded.0 stranded.1),
       )
 
@@ -135,8 +146,16 @@ module _ (n d : ℕ) (first : List (ℕ × ℕ)) (net : IsNet n first) (below : 
   pub counted : AreCounted n d first bad_number stranded_number
   unfolding bad_number stranded_number
   counted = record {
-    bad = record { test = λ x. is_some (slice_index low x); just = bad_there; number = count_listed is_some low n low_long };
-    stranded = record { test = λ x. slice_index c x == n; just = stranded_there; number = count_listed (λ v. v == n) c n settled.one_each };
+    bad = record {
+      test = λ x. is_some (slice_index low x);
+      just = bad_there;
+      number = count_listed is_some low n low_long;
+    };
+    stranded = record {
+      test = λ x. slice_index c x == n;
+      just = stranded_there;
+      number = count_listed (λ v. v == n) c n settled.one_each;
+    };
   }
 
   -- the destination is neither
@@ -182,17 +201,20 @@ module _ (n d : ℕ) (first : List (ℕ × ℕ)) (net : IsNet n first) (below : 
         omega (arith, few.1, split_sum n c, same)
 
 -- a run adds up to no more than the settled counts
-pub run_below : (n d : ℕ) (first : List (ℕ × ℕ)) (before settled : List ℕ) (h : List Entry) → IsNet n first → d < n → AreLawful n d first before
-    → AreSettled n d first settled → IsRun n d (moment_of first before) h → sum before + turn_count h ≤ sum settled
+pub run_below : (n d : ℕ) (first : List (ℕ × ℕ)) (before settled : List ℕ) (h : List Entry) → IsNet n first → d < n
+    → AreLawful n d first before → AreSettled n d first settled → IsRun n d (moment_of first before) h
+    → sum before + turn_count h ≤ sum settled
 run_below n d first before settled h net below lawful ends run =
     let at = run_keeps n d first net (moment_of first before) (record { links = refl; lawful = lawful }) h run in
     let adds = run_sum n d (moment_of first before) h lawful.one_each run in
-    omega (arith, adds, (run_to_settled n d first (after_all (moment_of first before) h).counts settled net below at.lawful ends).0)
+    let after : List ℕ = (after_all (moment_of first before) h).counts in
+    omega (arith, adds, (run_to_settled n d first after settled net below at.lawful ends).0)
 
 -- b is at most n - 1
 pub triangle_below : (b n : ℕ) → b < n → b * (b + 1) ≤ n * (n - 1)
 triangle_below b n l =
-    let up : b * (b + 1) ≤ (n - 1) * n = mul-le-mul {n₁ = b} {m₁ = b + 1} {n₂ = n - 1} {m₂ = n} (omega (arith, l)) (omega (arith, l)) in
+    let up : b * (b + 1) ≤ (n - 1) * n =
+    mul-le-mul {n₁ = b} {m₁ = b + 1} {n₂ = n - 1} {m₂ = n} (omega (arith, l)) (omega (arith, l)) in
     omega (arith, up, mul_comm (n - 1) n)
 
 module _ (n d : ℕ) (first : List (ℕ × ℕ)) (net : IsNet n first) (below : d < n) where
@@ -202,7 +224,8 @@ module _ (n d : ℕ) (first : List (ℕ × ℕ)) (net : IsNet n first) (below : 
   ends : AreSettled n d first end
   ends = (settled_exists n d first net below).1
 
-  pub all_counted : (b c : ℕ) × AreCounted n d first b c × (b + c < n) × ((k l : ℕ) → AreCounted n d first k l → (k ≡ b) × (l ≡ c))
+  pub all_counted : (b c : ℕ) × AreCounted n d first b c × (b + c < n)
+      × ((k l : ℕ) → AreCounted n d first k l → (k ≡ b) × (l ≡ c))
   all_counted =
       let b = bad_number n d first net below end ends in
       let c = stranded_number n d first net below end ends in
@@ -211,16 +234,20 @@ module _ (n d : ℕ) (first : List (ℕ × ℕ)) (net : IsNet n first) (below : 
         c,
         are,
         counted_below n d first net below end ends,
-        λ k l others. (many_unique n (IsBad d first) k b others.bad are.bad, many_unique n (IsStranded d first) l c others.stranded are.stranded),
+        λ k l others. (
+          many_unique n (IsBad d first) k b others.bad are.bad,
+          many_unique n (IsStranded d first) l c others.stranded are.stranded,
+        ),
       )
 
   pub run_few : (before : List ℕ) (h : List Entry) (b c : ℕ) → AreCounted n d first b c → AreLawful n d first before
       → IsRun n d (moment_of first before) h → 2 * (sum before + turn_count h) ≤ b * (b + 1) + 2 * (c * n)
   run_few before h b c are lawful run =
-      omega (arith, run_below n d first before end h net below lawful ends run, total_few n d first net below end ends b c are)
+      let most = total_few n d first net below end ends b c are in
+      omega (arith, run_below n d first before end h net below lawful ends run, most)
 
 -- no node of a connected network is cut off
-pub none_stranded : (n d : ℕ) (first : List (ℕ × ℕ)) → IsConnected n d first → AreSoMany n (IsStranded d first) 0
+pub none_stranded : (n d : ℕ) (first : List (ℕ × ℕ)) → IsConnected n d first → IsNumberOf n (IsStranded d first) 0
 none_stranded n d first whole = record {
   test = λ x. false;
   just = λ x l. ((λ e. absurd (false≢true e)), (λ stranded. absurd (stranded.1 (whole.joined x l))));

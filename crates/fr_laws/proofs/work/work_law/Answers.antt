@@ -9,7 +9,8 @@ pub returns-clause-levels : goal.returns-clause-levels
 returns-clause-levels c = λ n d first counts x k net below settled. level_below n d first net below counts settled x k
 
 pub returns-clause-each : goal.returns-clause-each
-returns-clause-each c = λ n d first counts b k x net below are settled. each_few n d first net below counts settled b k are x
+returns-clause-each c = λ n d first counts b k x net below are settled.
+    each_few n d first net below counts settled b k are x
 
 pub returns-clause-turns : goal.returns-clause-turns
 returns-clause-turns c = λ n d first counts h b k net below. run_few n d first net below counts h b k
