@@ -1,11 +1,11 @@
 -- A chain whose links all point away from the destination: node x turns x times.
 use Rattle.std.proofs.Common.{List, [], add-one, ap, arith, count_by, false, inl, inr, map, ne_eqb, refl, replicate}
 use Rattle.std.proofs.Common.{slice_index, subst, sum, suc, sym, zero, zero-add, ℕ, ⊎_elim, ◌*◌, ◌+◌, ◌++◌, ◌<◌}
-use Rattle.std.proofs.Common.{◌==◌, ◌↔◌, ◌∙◌, ◌∷◌, ◌≡◌, ◌≤◌}
-use Rattle.std.proofs.Common.{IsTrue}
+use Rattle.std.proofs.Common.{◌==◌, ◌↔◌, ◌∙◌, ◌∷◌, ◌≡◌, ◌≤◌, IsTrue}
 use Rattle.std.proofs.lemmas.Bool.{cases_Bool, cases_eq}
 use Rattle.std.proofs.lemmas.Bool.Decides.{Decides-eqb, Decides-not}
-use Rattle.std.proofs.lemmas.List.FromFn.{get_or-map-range_with_len, length-map-range_with_len, sum_by-map-range_with_len_more}
+use Rattle.std.proofs.lemmas.List.FromFn.{get_or-map-range_with_len, length-map-range_with_len}
+use Rattle.std.proofs.lemmas.List.FromFn.{sum_by-map-range_with_len_more}
 use Rattle.std.proofs.lemmas.List.Folds.{sum_by-replicate}
 use Rattle.std.proofs.lemmas.List.Sums.{sum_by-cons}
 use Rattle.std.specs.List.{range_with_len}
@@ -26,7 +26,7 @@ use Rattle.fr_laws.proofs.Totals.{none_stranded}
 use Rattle.fr_laws.specs.Work.{AreCounted, IsBad, IsConnected, TriangleIsMet}
 
 -- b links in a row, away from node 0
-pub chain : ℕ → List (ℕ × ℕ)
+chain : ℕ → List (ℕ × ℕ)
 chain zero = []
 chain (suc b) = (b, suc b) ∷ chain b
 
@@ -53,7 +53,9 @@ in_chain (suc b) u l = ⊎_elim
 -- each link stands once
 not_between : (b u : ℕ) → ¬ (b ≡ u) → is_between u (suc u) (b, suc b) ≡ false
 not_between b u ne = ⊎_elim
-    (λ yes. ⊎_elim (λ t. absurd (ne t.0)) (λ t. absurd (omega (arith, t.0, t.1))) (joined_from u (suc u) (b, suc b) yes))
+    (λ yes.
+    let ends = joined_from u (suc u) (b, suc b) yes in
+    ⊎_elim (λ t. absurd (ne t.0)) (λ t. absurd (omega (arith, t.0, t.1))) ends)
     (λ no. no)
     (cases_Bool (is_between u (suc u) (b, suc b)))
 

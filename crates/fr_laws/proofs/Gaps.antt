@@ -1,6 +1,7 @@
 -- A list of numbers without a gap, of which b are not 0: each is at most b, and their sum at most 1 + 2 + .. + b.
-use Rattle.std.proofs.Common.{Bool, List, [], ap, arith, cond, count_by, length, ne_eqb, refl, slice_index, slice_set, sum, suc, sym}
-use Rattle.std.proofs.Common.{zero, ℕ, ⊎_elim, eq-eqb, map, ◌*◌, ◌+◌, ◌-◌, ◌<◌, ◌==◌, ◌∙◌, ◌∷◌, ◌≡◌, ◌≤◌}
+use Rattle.std.proofs.Common.{Bool, List, [], ap, arith, cond, count_by, length, ne_eqb, refl, slice_index}
+use Rattle.std.proofs.Common.{eq-eqb, map, slice_set, sum, suc, sym, zero, ℕ, ⊎_elim, ◌*◌, ◌+◌, ◌-◌, ◌<◌}
+use Rattle.std.proofs.Common.{◌==◌, ◌∙◌, ◌∷◌, ◌≡◌, ◌≤◌}
 use Rattle.std.proofs.Math.Nat.{add-mul, mul_comm}
 use Rattle.std.specs.Prelude.{not}
 use Rattle.std.proofs.lemmas.Bool.{cases_eq, cases_lt, cond-false, cond-true}
@@ -21,7 +22,10 @@ greatest f (suc n) = go (greatest f n)
     go (i, low, most) = ⊎_elim
         (λ above.
         let last : (j : ℕ) → j < suc (suc n) → f j ≤ f (suc n) =
-        λ j l. ⊎_elim (λ e. omega (arith, ap f e)) (λ ne. omega (arith, most j (omega arith), above)) (cases_eq j (suc n)) in
+        λ j l. ⊎_elim
+        (λ e. omega (arith, ap f e))
+        (λ ne. omega (arith, most j (omega arith), above))
+        (cases_eq j (suc n)) in
         (suc n, omega arith, last))
         (λ under.
         let still : (j : ℕ) → j < suc (suc n) → f j ≤ f i =

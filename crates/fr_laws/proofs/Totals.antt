@@ -1,6 +1,6 @@
 -- Settled counts have no gap, so that their sum is bounded by the number of bad nodes.
-use Rattle.std.proofs.Common.{Bool, List, [], ap, arith, count_by, false, inr, length, map, mul-le-mul, refl, slice_index}
-use Rattle.std.proofs.Common.{slice_set, sum, suc, sym, true, zero, ℕ, ⊎_elim, ◌*◌, ◌+◌, ◌-◌, ◌<◌, ◌==◌}
+use Rattle.std.proofs.Common.{Bool, List, [], ap, arith, count_by, false, inr, length, map, mul-le-mul, refl}
+use Rattle.std.proofs.Common.{slice_index, slice_set, sum, suc, sym, true, zero, ℕ, ⊎_elim, ◌*◌, ◌+◌, ◌-◌, ◌<◌, ◌==◌}
 use Rattle.std.proofs.Common.{◌↔◌, ◌∙◌, ◌≡◌, ◌≤◌, IsTrue}
 use Rattle.std.proofs.Math.Nat.{mul_comm}
 use Rattle.std.proofs.lemmas.Bool.{cases_lt, false≢true}
@@ -38,7 +38,7 @@ same_bool false true e = e.1 refl
 same_bool false false e = refl
 
 -- there are no two numbers of one kind
-pub many_unique : (n : ℕ) (P : ℕ → Type 0) (k l : ℕ) → IsNumberOf n P k → IsNumberOf n P l → k ≡ l
+many_unique : (n : ℕ) (P : ℕ → Type 0) (k l : ℕ) → IsNumberOf n P k → IsNumberOf n P l → k ≡ l
 many_unique n P k l a b =
     let same : (x : ℕ) → x < 0 + n → a.test x ≡ b.test x =
     λ x low.
@@ -137,13 +137,13 @@ module _ (n d : ℕ) (first : List (ℕ × ℕ)) (net : IsNet n first) (below : 
         λ stranded. decides.1 (cap_from_not_joined n d first net below c settled x l stranded.0 stranded.1),
       )
 
-  pub bad_number : ℕ
+  bad_number : ℕ
   bad_number = count_by is_some low
 
-  pub stranded_number : ℕ
+  stranded_number : ℕ
   stranded_number = count_by (λ v. v == n) c
 
-  pub counted : AreCounted n d first bad_number stranded_number
+  counted : AreCounted n d first bad_number stranded_number
   unfolding bad_number stranded_number
   counted = record {
     bad = record {
@@ -159,7 +159,7 @@ module _ (n d : ℕ) (first : List (ℕ × ℕ)) (net : IsNet n first) (below : 
   }
 
   -- the destination is neither
-  pub counted_below : bad_number + stranded_number < n
+  counted_below : bad_number + stranded_number < n
   unfolding bad_number stranded_number low
   counted_below =
       let none : weight (slice_index c d) ≡ 0 = ap weight at_destination in
@@ -193,7 +193,7 @@ module _ (n d : ℕ) (first : List (ℕ × ℕ)) (net : IsNet n first) (below : 
         (λ past. omega (arith, get_or_past c x 0 (omega (arith, past, settled.one_each))))
         (cases_lt x n)
 
-    pub total_few : 2 * sum c ≤ b * (b + 1) + 2 * (k * n)
+    total_few : 2 * sum c ≤ b * (b + 1) + 2 * (k * n)
     unfolding stranded_number low
     total_few =
         let same : stranded_number * n ≡ k * n =
@@ -201,7 +201,7 @@ module _ (n d : ℕ) (first : List (ℕ × ℕ)) (net : IsNet n first) (below : 
         omega (arith, few.1, split_sum n c, same)
 
 -- a run adds up to no more than the settled counts
-pub run_below : (n d : ℕ) (first : List (ℕ × ℕ)) (before settled : List ℕ) (h : List Entry) → IsNet n first → d < n
+run_below : (n d : ℕ) (first : List (ℕ × ℕ)) (before settled : List ℕ) (h : List Entry) → IsNet n first → d < n
     → AreLawful n d first before → AreSettled n d first settled → IsRun n d (moment_of first before) h
     → sum before + turn_count h ≤ sum settled
 run_below n d first before settled h net below lawful ends run =
@@ -211,7 +211,7 @@ run_below n d first before settled h net below lawful ends run =
     omega (arith, adds, (run_to_settled n d first after settled net below at.lawful ends).0)
 
 -- b is at most n - 1
-pub triangle_below : (b n : ℕ) → b < n → b * (b + 1) ≤ n * (n - 1)
+triangle_below : (b n : ℕ) → b < n → b * (b + 1) ≤ n * (n - 1)
 triangle_below b n l =
     let up : b * (b + 1) ≤ (n - 1) * n =
     mul-le-mul {n₁ = b} {m₁ = b + 1} {n₂ = n - 1} {m₂ = n} (omega (arith, l)) (omega (arith, l)) in
