@@ -1,6 +1,6 @@
--- How much work full reversal can be, as in C. Busch, S. Surapaneni and S. Tirthapura, "Analysis of Link Reversal Routing
--- Algorithms for Mobile Ad Hoc Networks" (2003), and C. Busch and S. Tirthapura, "Analysis of Link Reversal Routing
--- Algorithms" (2005). They speak of connected networks. Here a part without the destination turns up to the cap.
+-- How much work full reversal can be, as in C. Busch, S. Surapaneni and S. Tirthapura, "Analysis of Link Reversal
+-- Routing Algorithms for Mobile Ad Hoc Networks" (2003), and C. Busch and S. Tirthapura, "Analysis of Link Reversal
+-- Routing Algorithms" (2005). They speak of connected networks. Here a part without the destination turns up to the cap.
 use Rattle.std.specs.Prelude.{◌≡◌, ℕ, ◌<◌, ◌≤◌, ◌+◌, ◌-◌, ◌*◌, ◌↔◌, Bool, List, replicate, slice_index, sum}
 use Rattle.std.specs.Bool.{IsTrue}
 use Rattle.std.specs.List.{count_by, range_with_len}
