@@ -1,4 +1,5 @@
 mod HopsAlong  -- next hops along links without a cycle
-mod Locality  -- whom a change turns
 mod QuietEnds  -- what shows that no node can turn
-mod Work  -- how often all nodes turn together
+mod Gaps  -- lists of numbers without a gap
+mod Totals  -- how often all nodes turn together
+mod Chains  -- links that all point away from the destination
