@@ -37,8 +37,8 @@
  *   session itself, may be used by different threads at the same time. revroute_reader_open is a call on the session, and
  *   revroute_reader_copy one on both of its readers.
  * - A session is made by REVROUTE_NEW, and only these calls read or write it then. It is not copied: closing two copies
- *   gives the same memory back twice. Memory that was moved, as by realloc, is no copy if the old place is used no more. The same holds for
- *   a reader, which is made by REVROUTE_NO_READER.
+ *   gives the same memory back twice. Memory that was moved, as by realloc or an assignment, is no copy if the old place is used no more. The
+ *   same holds for a reader, which is made by REVROUTE_NO_READER. Memory of zeros is a new session, or a null reader.
  * - Memory is the process's malloc, realloc and free, of one allocator as long as a session or a reader is open. So no call is made from a
  *   signal handler, or in the child that a process with threads has forked.
  * - The thread has 256 KiB of stack left. A request was seen to take 52, a line that nests as deep as JSON may here 141.
@@ -262,6 +262,7 @@ uint32_t revroute_size(revroute *session, uint32_t *nodes, size_t *links);
  *   goes back to an earlier table.
  * - Two reads can be of different tables. So while hops are pushed, a walk can visit a node again, or end at a node that is cut off although its
  *   first node has a route before and after. Within the pushes of one round it visits no node more than twice.
+ * - Whoever reads a hop also sees what the thread that changes the session wrote before the call that stored it.
  *
  * Readers outlive their session. After its end they read its last hops. */
 
