@@ -27,7 +27,7 @@ end_push x [] z = refl
 end_push x (y ∷ ys) z = end_push y ys z
 
 module _ (links : List (ℕ × ℕ)) (table : List Hop) (along : GoesAlong links table) where
-  walk_path : (x : ℕ) (ys : List ℕ) → IsWalk table x ys → IsPath links x ys
+  pub walk_path : (x : ℕ) (ys : List ℕ) → IsWalk table x ys → IsPath links x ys
   walk_path x [] goes = tt
   walk_path x (y ∷ ys) goes = (along x y goes.0, walk_path y ys goes.1)
 
@@ -36,7 +36,7 @@ module _ (links : List (ℕ × ℕ)) (table : List Hop) (along : GoesAlong links
   loop_closes acyclic x [] goes = acyclic x (x ∷ []) (walk_path x (x ∷ []) goes, refl)
   loop_closes acyclic x (y ∷ ys) goes = acyclic x (y ∷ (ys ++ x ∷ [])) (walk_path x (y ∷ (ys ++ x ∷ [])) goes, end_push y ys x)
 
-  never_loops : IsAcyclic links → IsLoopFree table
+  pub never_loops : IsAcyclic links → IsLoopFree table
   never_loops acyclic [] none = none
   never_loops acyclic (x ∷ xs) goes = loop_closes acyclic x xs goes
 

@@ -51,7 +51,7 @@ still_all m [] none = refl
 still_all m (e ∷ es) none = still_all (after m e) es (still_tail e es none) ∙ still_reply m e.node e.reply (still_head e es none)
 
 -- so each of them is legal where they begin
-legal_there : (n d : ℕ) (m : Moment) (es : List Entry) (e : Entry) → turn_count es ≡ 0 → IsRun n d m es → Contains es e → IsLegal n d m e
+pub legal_there : (n d : ℕ) (m : Moment) (es : List Entry) (e : Entry) → turn_count es ≡ 0 → IsRun n d m es → Contains es e → IsLegal n d m e
 legal_there n d m [] e none run found = absurd (Contains-none e found)
 legal_there n d m (f ∷ es) e none run found = ⊎_elim
     (λ same. subst (IsLegal n d m) same run.0)
@@ -89,7 +89,7 @@ no_turns n d m (e ∷ es) none run =
     let stays : after m e ≡ m = still_reply m e.node e.reply still in
     omega (arith, still, turns-cons e es, no_turns n d (after m e) es (subst (NoneCanTurn n d) (sym stays) none) run.1)
 
-quiet_leaves_none : (n d : ℕ) (first : List (ℕ × ℕ)) (m : Moment) → m.links ≡ links_at first m.counts → (quiet : List Entry)
+pub quiet_leaves_none : (n d : ℕ) (first : List (ℕ × ℕ)) (m : Moment) → m.links ≡ links_at first m.counts → (quiet : List Entry)
     → IsRun n d m quiet → IsQuiet d first quiet → NoneCanTurn n d m
 quiet_leaves_none n d first m links quiet run q x can =
     let linked = sink_linked first m.counts x (can_turn-links_at n d first m x links can).sink in
