@@ -1,5 +1,6 @@
 -- Next hops that are read from replies between which no node turned.
-use Rattle.std.proofs.Common.{◌≡◌, ℕ, ◌<◌, ◌⊎◌, inl, inr, ⊎_elim, List, [], ◌∷◌, refl, sym, ap, subst, arith, ◌∙◌, zero, suc}
+use Rattle.std.proofs.Common.{◌≡◌, ℕ, ◌<◌, ◌⊎◌, inl, inr, ⊎_elim, List, [], ◌∷◌}
+use Rattle.std.proofs.Common.{refl, sym, ap, subst, arith, ◌∙◌, zero, suc}
 use Rattle.std.proofs.Common.{length, replicate}
 use Rattle.std.proofs.lemmas.Bool.{cases_eq}
 use Rattle.fr_graph.proofs.Acyclic.{links_at_acyclic}
@@ -30,7 +31,8 @@ same_end : (x : ℕ) (ys : List ℕ) → path_end x ys ≡ end_of x ys
 same_end x [] = refl
 same_end x (y ∷ ys) = same_end y ys
 
-held_or_full : (n d : ℕ) (m : Moment) (x : ℕ) (r : Reply) → IsLegalReply n d m x r → IsBlocked r → ((y : ℕ) × (r ≡ Held y)) ⊎ (count_at m x ≡ n)
+held_or_full : (n d : ℕ) (m : Moment) (x : ℕ) (r : Reply) → IsLegalReply n d m x r → IsBlocked r
+    → ((y : ℕ) × (r ≡ Held y)) ⊎ (count_at m x ≡ n)
 held_or_full n d m x (Turned k) legal blocked = absurd blocked
 held_or_full n d m x (Held by) legal blocked = inl (by, refl)
 held_or_full n d m x (Moved had k) legal blocked = absurd blocked
@@ -39,7 +41,8 @@ held_or_full n d m x Sink legal blocked = absurd blocked
 
 -- the moment of these replies
 module _ (n d : ℕ) (first : List (ℕ × ℕ)) (net : IsNet n first) (m : Moment) (at : IsLawfulAt n d first m)
-    (still : List Entry) (run : IsRun n d m still) (none : turn_count still ≡ 0) (table : List Hop) (read : AreReadFrom still table) where
+    (still : List Entry) (run : IsRun n d m still) (none : turn_count still ≡ 0)
+    (table : List Hop) (read : AreReadFrom still table) where
   read_along : GoesAlong m.links table
   read_along x y sends =
       let (e, among, node, reply) = read x y sends in
@@ -53,9 +56,11 @@ module _ (n d : ℕ) (first : List (ℕ × ℕ)) (net : IsNet n first) (m : Mome
   never_there = never_loops m.links table read_along acyclic_there
 
   -- and where they are quiet
-  module _ (below : d < n) (settled : AreSettled n d first m.counts) (q : IsQuiet d first still) (all : AllHeldSendOn still table) where
+  module _ (below : d < n) (settled : AreSettled n d first m.counts)
+      (q : IsQuiet d first still) (all : AllHeldSendOn still table) where
     linked_there : (x : ℕ) → IsJoined first d x → ¬ (x ≡ d) → (w : ℕ) × Joins first x w
-    linked_there x joined apart = ⊎_elim (λ e. absurd (apart e)) (λ h. h.0) (joined_by_counts n d first net below m.counts settled x joined)
+    linked_there x joined apart =
+        ⊎_elim (λ e. absurd (apart e)) (λ h. h.0) (joined_by_counts n d first net below m.counts settled x joined)
 
     sends_there : (x : ℕ) → IsJoined first d x → ¬ (x ≡ d) → (y : ℕ) × SendsOn table x y
     sends_there x joined apart =
@@ -117,7 +122,9 @@ module _ (n d : ℕ) (first : List (ℕ × ℕ)) (net : IsNet n first) (m : Mome
     whole_home : (x : ℕ) → IsJoined first d x → (ys : List ℕ) × IsWholeWalk table x ys × (end_of x ys ≡ d)
     whole_home x joined =
         let (ys, goes, home) = leads_home x joined in
-        (ys, record { goes = goes; ends = λ y sends. ends_there y (subst (λ (z : ℕ). SendsOn table z y) home sends) }, home)
+        let ends : (y : ℕ) → ¬ SendsOn table (end_of x ys) y =
+        λ y sends. ends_there y (subst (λ (z : ℕ). SendsOn table z y) home sends) in
+        (ys, record { goes = goes; ends = ends }, home)
 
 pub replies_never_loop : RepliesNeverLoop
 replies_never_loop n d first h still table net run none read =

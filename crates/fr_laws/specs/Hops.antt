@@ -77,4 +77,5 @@ RepliesNeverLoop = (n d : ℕ) (first : List (ℕ × ℕ)) (h still : List Entry
 abbrev pub QuietHopsLeadHome : Type 0
 QuietHopsLeadHome = (n d : ℕ) (first : List (ℕ × ℕ)) (h quiet : List Entry) (table : List Hop) → IsNet n first → d < n
     → IsRun n d (moment_of first (replicate n 0)) (h ++ quiet) → IsQuiet d first quiet → AreReadFrom quiet table
-    → AllHeldSendOn quiet table → (x : ℕ) → IsJoined first d x → (ys : List ℕ) × IsWholeWalk table x ys × (end_of x ys ≡ d)
+    → AllHeldSendOn quiet table → (x : ℕ) → IsJoined first d x
+    → (ys : List ℕ) × IsWholeWalk table x ys × (end_of x ys ≡ d)
