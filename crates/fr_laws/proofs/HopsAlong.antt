@@ -27,16 +27,17 @@ end_push x [] z = refl
 end_push x (y ∷ ys) z = end_push y ys z
 
 module _ (links : List (ℕ × ℕ)) (table : List Hop) (along : GoesAlong links table) where
-  walk_path : (x : ℕ) (ys : List ℕ) → IsWalk table x ys → IsPath links x ys
+  pub walk_path : (x : ℕ) (ys : List ℕ) → IsWalk table x ys → IsPath links x ys
   walk_path x [] goes = tt
   walk_path x (y ∷ ys) goes = (along x y goes.0, walk_path y ys goes.1)
 
   -- a loop is a closed walk along the links
   loop_closes : IsAcyclic links → (x : ℕ) (xs : List ℕ) → ¬ IsWalk table x (xs ++ x ∷ [])
   loop_closes acyclic x [] goes = acyclic x (x ∷ []) (walk_path x (x ∷ []) goes, refl)
-  loop_closes acyclic x (y ∷ ys) goes = acyclic x (y ∷ (ys ++ x ∷ [])) (walk_path x (y ∷ (ys ++ x ∷ [])) goes, end_push y ys x)
+  loop_closes acyclic x (y ∷ ys) goes =
+      acyclic x (y ∷ (ys ++ x ∷ [])) (walk_path x (y ∷ (ys ++ x ∷ [])) goes, end_push y ys x)
 
-  never_loops : IsAcyclic links → IsLoopFree table
+  pub never_loops : IsAcyclic links → IsLoopFree table
   never_loops acyclic [] none = none
   never_loops acyclic (x ∷ xs) goes = loop_closes acyclic x xs goes
 
@@ -52,7 +53,8 @@ run_never_loops n d first h table net run along =
     let same : (after_all start h).links ≡ links_after first h =
     links-after_all start h ∙ ap (λ (links : List (ℕ × ℕ)). links_after links h) (links_at-zeros n first) in
     let given : links_after first h ≡ links_at first (after_all start h).counts = sym same ∙ at.links in
-    never_loops (links_after first h) table along (subst IsAcyclic (sym given) (links_at_acyclic first (after_all start h).counts net.acyclic))
+    never_loops (links_after first h) table along
+    (subst IsAcyclic (sym given) (links_at_acyclic first (after_all start h).counts net.acyclic))
 
 -- Two moments: before the turn of node 1 its link points to it, and after the turn away from it
 
@@ -73,8 +75,13 @@ abbrev two_hops : List Hop
 two_hops = To 1 ∷ To 0 ∷ Here ∷ []
 
 two_fall : (u v : ℕ) → Points two_links u v → slice_index (1 ∷ 0 ∷ 2 ∷ []) v < slice_index (1 ∷ 0 ∷ 2 ∷ []) u
-two_fall u v h = ⊎_elim (λ e. at (0, 1) e (omega arith)) (λ h. ⊎_elim (λ e. at (2, 0) e (omega arith)) (λ h. absurd (Contains-none (u, v) h))
-    (Contains-cases (u, v) (2, 0) [] h)) (Contains-cases (u, v) (0, 1) ((2, 0) ∷ []) h)
+two_fall u v h = ⊎_elim
+    (λ e. at (0, 1) e (omega arith))
+    (λ later. ⊎_elim
+    (λ e. at (2, 0) e (omega arith))
+    (λ none. absurd (Contains-none (u, v) none))
+    (Contains-cases (u, v) (2, 0) [] later))
+    (Contains-cases (u, v) (0, 1) ((2, 0) ∷ []) h)
   where
     at : (l : ℕ × ℕ) → l ≡ (u, v) → slice_index (1 ∷ 0 ∷ 2 ∷ []) l.1 < slice_index (1 ∷ 0 ∷ 2 ∷ []) l.0
         → slice_index (1 ∷ 0 ∷ 2 ∷ []) v < slice_index (1 ∷ 0 ∷ 2 ∷ []) u
@@ -108,11 +115,14 @@ two_can_turn = record {
     out u v w e apart = apart (ap (λ (l : ℕ × ℕ). l.0) e)
 
 two_went : WentAlong two_links one_turn two_hops
-two_went zero y sends = (0, subst (λ (z : ℕ). Points two_links 0 z) (sends_one two_hops 0 1 y refl sends) (Contains-head (0, 1) ((2, 0) ∷ [])))
+two_went zero y sends =
+    let same = sends_one two_hops 0 1 y refl sends in
+    (0, subst (λ (z : ℕ). Points two_links 0 z) same (Contains-head (0, 1) ((2, 0) ∷ [])))
 two_went (suc zero) y sends =
-    (1, subst (λ (z : ℕ). Points ((1, 0) ∷ (2, 0) ∷ []) 1 z) (sends_one two_hops 1 0 y refl sends) (Contains-head (1, 0) ((2, 0) ∷ [])))
-two_went (suc (suc zero)) y sends = absurd (cc)
-two_went (suc (suc (suc x))) y sends = absurd (cc)
+    let same = sends_one two_hops 1 0 y refl sends in
+    (1, subst (λ (z : ℕ). Points ((1, 0) ∷ (2, 0) ∷ []) 1 z) same (Contains-head (1, 0) ((2, 0) ∷ [])))
+two_went (suc (suc zero)) y sends = absurd cc
+two_went (suc (suc (suc x))) y sends = absurd cc
 
 pub some_loop_over_time : SomeLoopOverTime
 some_loop_over_time = (

@@ -1,5 +1,6 @@
 -- What shows that no node can turn, and that none will.
-use Rattle.std.proofs.Common.{◌≡◌, ℕ, zero, suc, ◌+◌, ◌<◌, ◌⊎◌, inl, inr, ⊎_elim, List, [], ◌∷◌, ◌++◌, refl, sym, ap, subst, arith, ◌∙◌, cond}
+use Rattle.std.proofs.Common.{◌≡◌, ℕ, zero, suc, ◌+◌, ◌<◌, ◌⊎◌, inl, inr, ⊎_elim, List, []}
+use Rattle.std.proofs.Common.{◌∷◌, ◌++◌, refl, sym, ap, subst, arith, ◌∙◌, cond}
 use Rattle.std.proofs.Common.{Contains, replicate, slice_index}
 use Rattle.std.proofs.lemmas.Bool.{cases_eq, cases_lt}
 use Rattle.std.proofs.lemmas.List.Sums.{sum_by-cons}
@@ -23,7 +24,8 @@ use Rattle.fr_core.specs.declared.entry.Reply.{Reply}
 use Rattle.fr_core.specs.declared.entry.Reply.TheVariants.{Cut, Held, Moved, Sink, Turned}
 use Rattle.fr_round.proofs.Standing.{one_history}
 use Rattle.fr_round.specs.Laws.{KnowsPartOf, workers_of}
-use Rattle.fr_laws.specs.Quiet.{IsBlocked, IsQuiet, ShowsBlocked, QuietIsForGood, QuietIsSettled, QuietRoundIsSettled, SettledCanBeQuiet, WorkerKnowsQuiet}
+use Rattle.fr_laws.specs.Quiet.{IsBlocked, IsQuiet, ShowsBlocked}
+use Rattle.fr_laws.specs.Quiet.{QuietIsForGood, QuietIsSettled, QuietRoundIsSettled, SettledCanBeQuiet, WorkerKnowsQuiet}
 
 -- Entries that turn nothing
 
@@ -48,10 +50,12 @@ still_tail e es none = omega (arith, none, turns-cons e es)
 
 still_all : (m : Moment) (es : List Entry) → turn_count es ≡ 0 → after_all m es ≡ m
 still_all m [] none = refl
-still_all m (e ∷ es) none = still_all (after m e) es (still_tail e es none) ∙ still_reply m e.node e.reply (still_head e es none)
+still_all m (e ∷ es) none =
+    still_all (after m e) es (still_tail e es none) ∙ still_reply m e.node e.reply (still_head e es none)
 
 -- so each of them is legal where they begin
-legal_there : (n d : ℕ) (m : Moment) (es : List Entry) (e : Entry) → turn_count es ≡ 0 → IsRun n d m es → Contains es e → IsLegal n d m e
+pub legal_there : (n d : ℕ) (m : Moment) (es : List Entry) (e : Entry) → turn_count es ≡ 0 → IsRun n d m es
+    → Contains es e → IsLegal n d m e
 legal_there n d m [] e none run found = absurd (Contains-none e found)
 legal_there n d m (f ∷ es) e none run found = ⊎_elim
     (λ same. subst (IsLegal n d m) same run.0)
@@ -89,29 +93,36 @@ no_turns n d m (e ∷ es) none run =
     let stays : after m e ≡ m = still_reply m e.node e.reply still in
     omega (arith, still, turns-cons e es, no_turns n d (after m e) es (subst (NoneCanTurn n d) (sym stays) none) run.1)
 
-quiet_leaves_none : (n d : ℕ) (first : List (ℕ × ℕ)) (m : Moment) → m.links ≡ links_at first m.counts → (quiet : List Entry)
-    → IsRun n d m quiet → IsQuiet d first quiet → NoneCanTurn n d m
+pub quiet_leaves_none : (n d : ℕ) (first : List (ℕ × ℕ)) (m : Moment) → m.links ≡ links_at first m.counts
+    → (quiet : List Entry) → IsRun n d m quiet → IsQuiet d first quiet → NoneCanTurn n d m
 quiet_leaves_none n d first m links quiet run q x can =
     let linked = sink_linked first m.counts x (can_turn-links_at n d first m x links can).sink in
     let shows = q.blocked x can.not_destination linked in
     let legal = legal_there n d m quiet shows.entry q.no_turn run shows.among in
-    blocked_stays n d m x shows.entry.reply (subst (λ (z : ℕ). IsLegalReply n d m z shows.entry.reply) shows.node legal.1) shows.blocked can
+    let there = subst (λ (z : ℕ). IsLegalReply n d m z shows.entry.reply) shows.node legal.1 in
+    blocked_stays n d m x shows.entry.reply there shows.blocked can
 
 -- Runs that end quiet
 
-module _ (n d : ℕ) (first : List (ℕ × ℕ)) (net : IsNet n first) (below : d < n) (m : Moment) (at : IsLawfulAt n d first m) where
-  none_after : (h quiet : List Entry) → IsRun n d m (h ++ quiet) → IsQuiet d first quiet → NoneCanTurn n d (after_all m (h ++ quiet))
+module _ (n d : ℕ) (first : List (ℕ × ℕ)) (net : IsNet n first) (below : d < n)
+    (m : Moment) (at : IsLawfulAt n d first m) where
+  none_after : (h quiet : List Entry) → IsRun n d m (h ++ quiet) → IsQuiet d first quiet
+      → NoneCanTurn n d (after_all m (h ++ quiet))
   none_after h quiet run q =
       let parts = run_parts n d m h quiet run in
       let there = run_keeps n d first net m at h parts.0 in
       let none = quiet_leaves_none n d first (after_all m h) there.links quiet parts.1 q in
-      let same : after_all m (h ++ quiet) ≡ after_all m h = after_all-append m h quiet ∙ still_all (after_all m h) quiet q.no_turn in
+      let same : after_all m (h ++ quiet) ≡ after_all m h =
+      after_all-append m h quiet ∙ still_all (after_all m h) quiet q.no_turn in
       subst (NoneCanTurn n d) (sym same) none
 
-  settled_after : (h : List Entry) → IsRun n d m h → NoneCanTurn n d (after_all m h) → AreSettled n d first (after_all m h).counts
-  settled_after h run none = settled_at_end n d first net below (after_all m h) (run_keeps n d first net m at h run) none
+  settled_after : (h : List Entry) → IsRun n d m h → NoneCanTurn n d (after_all m h)
+      → AreSettled n d first (after_all m h).counts
+  settled_after h run none =
+      settled_at_end n d first net below (after_all m h) (run_keeps n d first net m at h run) none
 
-  quiet_settles : (h quiet : List Entry) → IsRun n d m (h ++ quiet) → IsQuiet d first quiet → AreSettled n d first (after_all m (h ++ quiet)).counts
+  quiet_settles : (h quiet : List Entry) → IsRun n d m (h ++ quiet) → IsQuiet d first quiet
+      → AreSettled n d first (after_all m (h ++ quiet)).counts
   quiet_settles h quiet run q = settled_after (h ++ quiet) run (none_after h quiet run q)
 
   quiet_lasts : (h quiet more : List Entry) → IsRun n d m ((h ++ quiet) ++ more) → IsQuiet d first quiet
@@ -135,19 +146,27 @@ quiet_is_for_good n d first counts h quiet more net below lawful =
 -- Quiet entries where no node can turn
 
 more_shown : (e : Entry) (es : List Entry) (x : ℕ) → ShowsBlocked es x → ShowsBlocked (e ∷ es) x
-more_shown e es x s = record { entry = s.entry; among = Contains-tail s.entry e es s.among; node = s.node; blocked = s.blocked }
+more_shown e es x s = record {
+  entry = s.entry;
+  among = Contains-tail s.entry e es s.among;
+  node = s.node;
+  blocked = s.blocked;
+}
 
 at_most : (x k : ℕ) → x < suc k → (x < k) ⊎ (x ≡ k)
 at_most x k l = ⊎_elim (λ low. inl low) (λ high. inr (omega (arith, l, high))) (cases_lt x k)
 
-module _ (n d : ℕ) (first : List (ℕ × ℕ)) (net : IsNet n first) (m : Moment) (at : IsLawfulAt n d first m) (none : NoneCanTurn n d m) where
+module _ (n d : ℕ) (first : List (ℕ × ℕ)) (net : IsNet n first)
+    (m : Moment) (at : IsLawfulAt n d first m) (none : NoneCanTurn n d m) where
   -- no link points away from x, so its count is the cap
-  full_there : (x w : ℕ) → Joins first x w → ¬ (x ≡ d) → ((y : ℕ) → ¬ Points (links_at first m.counts) x y) → count_at m x ≡ n
+  full_there : (x w : ℕ) → Joins first x w → ¬ (x ≡ d)
+      → ((y : ℕ) → ¬ Points (links_at first m.counts) x y) → count_at m x ≡ n
   full_there x w linked apart out = ⊎_elim
       (λ low. absurd (none x (record {
         not_destination = apart;
         below_cap = low;
-        sink = subst (λ (ls : List (ℕ × ℕ)). IsSink ls x) (sym at.links) (sink_from_none_out first m.counts at.lawful.kept x w linked out);
+        sink = subst (λ (ls : List (ℕ × ℕ)). IsSink ls x) (sym at.links)
+            (sink_from_none_out first m.counts at.lawful.kept x w linked out);
       })))
       (λ high. omega (arith, high, at.lawful.capped x))
       (cases_lt (slice_index m.counts x) n)
@@ -193,7 +212,8 @@ module _ (n d : ℕ) (first : List (ℕ × ℕ)) (net : IsNet n first) (m : Mome
             (at_most x k l);
       }
 
-  one_more : (k : ℕ) → ((w : ℕ) × Joins first k w) ⊎ IsAlone first k → (k ≡ d) ⊎ ¬ (k ≡ d) → QuietBelow k → QuietBelow (suc k)
+  one_more : (k : ℕ) → ((w : ℕ) × Joins first k w) ⊎ IsAlone first k
+      → (k ≡ d) ⊎ ¬ (k ≡ d) → QuietBelow k → QuietBelow (suc k)
   one_more k (inr alone) is q = skip k q (λ apart linked. alone linked.0 linked.1)
   one_more k (inl linked) (inl is) q = skip k q (λ apart linked. apart is)
   one_more k (inl linked) (inr apart) q =
@@ -206,7 +226,10 @@ module _ (n d : ℕ) (first : List (ℕ × ℕ)) (net : IsNet n first) (m : Mome
   quiet_there : (quiet : List Entry) × IsQuiet d first quiet × IsRun n d m quiet
   quiet_there = let q = quiet_below n in (
     q.entries,
-    record { no_turn = q.no_turn; blocked = λ x apart linked. q.blocked x (joined_below n first x linked.0 net linked.1).0 apart linked },
+    record {
+      no_turn = q.no_turn;
+      blocked = λ x apart linked. q.blocked x (joined_below n first x linked.0 net linked.1).0 apart linked;
+    },
     q.run,
   )
 
@@ -225,7 +248,8 @@ settled_can_be_quiet n d first counts h net below lawful run settled =
 pub quiet_round_is_settled : QuietRoundIsSettled
 quiet_round_is_settled b s history h quiet below rule behind (rest, is) q =
     let start : Moment = moment_of b.links (replicate b.nodes 0) in
-    let run : IsRun b.nodes b.dest start ((h ++ quiet) ++ rest) = subst (IsRun b.nodes b.dest start) is behind.run.run in
+    let run : IsRun b.nodes b.dest start ((h ++ quiet) ++ rest) =
+    subst (IsRun b.nodes b.dest start) is behind.run.run in
     let lasts = quiet_is_for_good b.nodes b.dest b.links (replicate b.nodes 0) h quiet rest rule.net below
     (zeros_lawful b.nodes b.dest b.links) run q in
     let words : (after_all start ((h ++ quiet) ++ rest)).counts ≡ s.words =
@@ -234,7 +258,10 @@ quiet_round_is_settled b s history h quiet below rule behind (rest, is) q =
 
 each_at : {X : Type 0} (P : X → Type 0) (xs : List X) (x : X) → Each P xs → Contains xs x → P x
 each_at P [] x each found = absurd (Contains-none x found)
-each_at P (y ∷ xs) x each found = ⊎_elim (λ same. subst P same each.0) (λ later. each_at P xs x each.1 later) (Contains-cases x y xs found)
+each_at P (y ∷ xs) x each found = ⊎_elim
+    (λ same. subst P same each.0)
+    (λ later. each_at P xs x each.1 later)
+    (Contains-cases x y xs found)
 
 pub worker_knows_quiet : WorkerKnowsQuiet
 worker_knows_quiet b s number h quiet below rule found q =

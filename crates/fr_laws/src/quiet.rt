@@ -5,7 +5,8 @@ ghost use Rattle.fr_laws.specs.Quiet.{QuietRoundIsSettled, WorkerKnowsQuiet};
 
 /// How replies alone show that a network is settled. Suppose that since the last turn every node with a link, except
 /// the destination, was held or cut. Then the counts are the settled ones, and no node turns any more. If the counts
-/// are settled, such replies can be had. The same is true of the words of a round, and of what a single worker knows.
+/// are settled, such replies can be had. In a round the words are the settled counts then. If one worker knows such a
+/// history, that is enough, whatever the others have done since.
 pub fn quiet_law()
     ensures settled { QuietIsSettled }
     ensures for_good { QuietIsForGood }

@@ -1,4 +1,5 @@
-use Rattle.fr_laws.proofs.QuietEnds.{quiet_is_for_good, quiet_is_settled, quiet_round_is_settled, settled_can_be_quiet, worker_knows_quiet}
+use Rattle.fr_laws.proofs.QuietEnds.{quiet_is_for_good, quiet_is_settled, settled_can_be_quiet}
+use Rattle.fr_laws.proofs.QuietEnds.{quiet_round_is_settled, worker_knows_quiet}
 use Rattle.fr_laws.proofs.quiet.quiet_law.Goals as goal
 
 pub returns-clause-settled : goal.returns-clause-settled
