@@ -37,8 +37,8 @@
  *   session itself, may be used by different threads at the same time. revroute_reader_open is a call on the session, and
  *   revroute_reader_copy one on both of its readers.
  * - A session is made by REVROUTE_NEW, and only these calls read or write it then. It is not copied: closing two copies
- *   gives the same memory back twice. Memory that was moved, as by realloc, is no copy if the old place is used no more. The same holds for
- *   a reader, which is made by REVROUTE_NO_READER.
+ *   gives the same memory back twice. Memory that was moved, as by realloc or an assignment, is no copy if the old place is used no more. The
+ *   same holds for a reader, which is made by REVROUTE_NO_READER. Memory of zeros is a new session, or a null reader.
  * - Memory is the process's malloc, realloc and free, of one allocator as long as a session or a reader is open. So no call is made from a
  *   signal handler, or in the child that a process with threads has forked.
  * - The thread has 256 KiB of stack left. A request was seen to take 52, a line that nests as deep as JSON may here 141.
@@ -74,13 +74,13 @@ enum {
     REVROUTE_ANSWERED = 0,
     /* The line is blank, spaces, tabs and carriage returns alone, and has no answer. It takes no memory, and *length is 0. */
     REVROUTE_BLANK = 1,
-    /* The buffer is too short, and *length is the room that is wanted: ask again with that. */
+    /* The buffer is too short, and *length is the room that is wanted: ask again with that. (A reader's walk tells only that it has more nodes.) */
     REVROUTE_TOO_SHORT = 2,
     /* Memory ran out: the line can be asked again. *length is 0. */
     REVROUTE_NO_MEMORY = 3,
     /* There is no network yet: no call has given one. Or the reader is null. *length is 0. */
     REVROUTE_NO_NETWORK = 4,
-    /* There is no way to the destination: the node is not joined with it, or it is no node. *length is 0. */
+    /* There is no way to the destination: the node is not joined with it, or it is no node. *length is 0. (Of a reader's walk see there.) */
     REVROUTE_NO_ROUTE = 5,
     /* The network, the change or the destination is refused, and *refusal says why. */
     REVROUTE_REFUSED = 6,
@@ -254,14 +254,15 @@ uint32_t revroute_size(revroute *session, uint32_t *nodes, size_t *links);
 /* Readers. A reader answers where nodes send on to while other threads use the session and other readers. It waits for nobody and takes no
  * lock: a hop is one load.
  *
- * All readers of a session read one table, of a hop for each number below 4,096. As soon as it has a reader, each accepted round of the session
+ * All readers of a session read one table, of a hop for each number below 4,096. From the first reader on, each accepted round of the session
  * pushes the changed hops to that table, in push order (as revroute_rerouted lists them), before its call returns. So:
  *
  * - At every moment the table has no loop.
- * - A reader whose use comes after a call on the session, as behind a lock or a join, reads the hops that this call left, or later ones. Hops
- *   of one node never go back to earlier ones.
- * - Two reads can be of different tables. A route that is walked while hops are pushed can visit a node again; within the pushes of one round
- *   it visits no node more than twice.
+ * - If a reader is used after a call on the session, by a lock or a join, it reads the hops that this call left, or later ones. A reader never
+ *   goes back to an earlier table.
+ * - Two reads can be of different tables. So while hops are pushed, a walk can visit a node again, or end at a node that is cut off although its
+ *   first node has a route before and after. Within the pushes of one round it visits no node more than twice.
+ * - Whoever reads a hop also sees what the thread that changes the session wrote before the call that stored it.
  *
  * Readers outlive their session. After its end they read its last hops. */
 
@@ -274,11 +275,12 @@ typedef struct revroute_reader {
 #define REVROUTE_NO_READER {NULL}
 
 /* Opens a reader of the session's hops in *reader, and closes the one that was there, if any. The session may hold no network yet: then all
- * nodes are cut off. REVROUTE_ANSWERED or REVROUTE_NO_MEMORY; after the second both are as they were. A change costs one store more for each
- * rerouted node as soon as its session has a reader, however many it has. O(n) for the first reader of a session, and O(1) for each later one. */
+ * nodes are cut off. REVROUTE_ANSWERED or REVROUTE_NO_MEMORY; after the second *reader is as it was, and the session answers as before, though it
+ * may have its table now. Once a session has had a reader, each accepted round costs one load, and one store for each rerouted node, however
+ * many readers there are. The first reader of a session takes 32 KiB, and O(4,096 + n); each later one O(1). */
 uint32_t revroute_reader_open(revroute *session, revroute_reader *reader);
 
-/* Opens one more reader of the same table in *other, and closes the one that was there, if any. REVROUTE_ANSWERED; REVROUTE_NO_NETWORK if
+/* Opens one more reader of the same table in *other, which is another handle, and closes the one that was there, if any. REVROUTE_ANSWERED; REVROUTE_NO_NETWORK if
  * `reader` is null; REVROUTE_NO_MEMORY if memory ran out. After the last two *other is as it was. O(1). */
 uint32_t revroute_reader_copy(revroute_reader *reader, revroute_reader *other);
 
@@ -290,14 +292,14 @@ uint32_t revroute_reader_next_hop(revroute_reader *reader, uint32_t node);
  *
  * - REVROUTE_ANSWERED: *length nodes, and the last is the destination.
  * - REVROUTE_TOO_SHORT: the array is full before the walk has ended. *length is one more than `room`.
- * - REVROUTE_NO_ROUTE: the last node is cut off, or `node` is 4,096 or more. *length is 0.
+ * - REVROUTE_NO_ROUTE: the last node is cut off, or `node` is 4,096 or more. *length is 0. While hops are pushed, walk again to be sure.
  * - REVROUTE_NO_NETWORK: the reader is null. *length is 0.
  *
- * The nodes that were walked stay in the array in every case. With room for n nodes a settled table is never too short. O(r) for r nodes of the
- * walk, and takes no memory. */
+ * The nodes that were walked stay in the array in every case. With room for all nodes of the network a walk is too long only while hops are
+ * pushed. O(r) for r nodes of the walk, and takes no memory. */
 uint32_t revroute_reader_route(revroute_reader *reader, uint32_t node, uint32_t *nodes, size_t room, size_t *length);
 
-/* Closes a reader, which is then as REVROUTE_NO_READER made it. The table stays as long as its session or another reader has it. O(1), and O(n)
+/* Closes a reader, which is then as REVROUTE_NO_READER made it. The table stays as long as its session or another reader has it. O(1), and O(4,096)
  * where nobody has it any more. */
 void revroute_reader_close(revroute_reader *reader);
 

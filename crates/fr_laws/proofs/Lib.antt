@@ -1,7 +1,11 @@
+mod HopsAlong  -- next hops along links without a cycle
+mod HopsRead  -- next hops that replies show
+mod QuietEnds  -- what shows that no node can turn
+mod Gaps  -- lists of numbers without a gap
+mod Totals  -- how often all nodes turn together
+mod Chains  -- links that all point away from the destination
+-- Whom a change touches
+mod ChangeRounds  -- the round after a change begins with a network
+mod TurnsAfter  -- who turns in it, and who keeps its hop
 mod AfterAdds  -- whom an added link leaves alone
 mod AfterCuts  -- whom a cut link leaves alone
-mod ChangeRounds  -- the round after a change, and the network with which it begins
-mod Hops  -- next hops along links without a closed walk
-mod Quiet  -- a round in which no node turns
-mod TurnsAfter  -- who turns in it, and who keeps its hop
-mod Work  -- how often all nodes turn together

@@ -1,1 +1,76 @@
--- To come.
+-- How much work full reversal can be, as in C. Busch, S. Surapaneni and S. Tirthapura, "Analysis of Link Reversal
+-- Routing Algorithms for Mobile Ad Hoc Networks" (2003), and C. Busch and S. Tirthapura, "Analysis of Link Reversal
+-- Routing Algorithms" (2005). They speak of connected networks. Here a part without the destination turns up to the cap.
+use Rattle.std.specs.Prelude.{◌≡◌, ℕ, ◌<◌, ◌≤◌, ◌+◌, ◌-◌, ◌*◌, ◌↔◌, Bool, List, replicate, slice_index, sum}
+use Rattle.std.specs.Bool.{IsTrue}
+use Rattle.std.specs.List.{count_by, range_with_len}
+use Rattle.fr_graph.specs.Counts.{AreLawful}
+use Rattle.fr_graph.specs.Links.{HasPath, IsAlone, IsNet}
+use Rattle.fr_core.specs.History.{moment_of, turn_count}
+use Rattle.fr_core.specs.Legal.{IsRun}
+use Rattle.fr_core.specs.Settled.{AreSettled}
+use Rattle.fr_core.specs.Walks.{IsJoined}
+use Rattle.fr_core.specs.declared.entry.Entry.{Entry}
+
+-- a bad node, as the field calls it: it is joined with the destination d, but no path along the links leads to d
+abbrev pub IsBad : ℕ → List (ℕ × ℕ) → ℕ → Type 0
+IsBad d links x = IsJoined links d x × ¬ HasPath links x d
+
+-- a stranded node: it has links, but nothing joins it with d
+abbrev pub IsStranded : ℕ → List (ℕ × ℕ) → ℕ → Type 0
+IsStranded d links x = ¬ IsAlone links x × ¬ IsJoined links d x
+
+-- exactly k of the nodes below n have the property P
+pub record IsNumberOf (n : ℕ) (P : ℕ → Type 0) (k : ℕ) : Type 0 where
+  pub test : ℕ → Bool
+  pub just : (x : ℕ) → x < n → IsTrue (test x) ↔ P x
+  pub number : k ≡ count_by test (range_with_len 0 n)
+
+-- b of the n nodes are bad, and c are stranded
+pub record AreCounted (n d : ℕ) (links : List (ℕ × ℕ)) (b c : ℕ) : Type 0 where
+  pub bad : IsNumberOf n (IsBad d links) b
+  pub stranded : IsNumberOf n (IsStranded d links) c
+
+-- a network of n nodes that are all joined with d, whichever way its links point
+pub record IsConnected (n d : ℕ) (links : List (ℕ × ℕ)) : Type 0 where
+  pub is_net : IsNet n links
+  pub dest : d < n
+  pub joined : (x : ℕ) → x < n → IsJoined links d x
+
+-- Each network has exactly one number of bad nodes and one of stranded nodes. Together they are fewer than the nodes.
+abbrev pub BadAreCounted : Type 0
+BadAreCounted = (n d : ℕ) (first : List (ℕ × ℕ)) → IsNet n first → d < n
+    → (b c : ℕ) × AreCounted n d first b c × (b + c < n)
+    × ((k l : ℕ) → AreCounted n d first k l → (k ≡ b) × (l ≡ c))
+
+-- The joined nodes lie in levels, by their settled counts. If level k + 1 has a node, level k has one too.
+abbrev pub NoLevelIsEmpty : Type 0
+NoLevelIsEmpty = (n d : ℕ) (first : List (ℕ × ℕ)) (counts : List ℕ) (x k : ℕ) → IsNet n first → d < n
+    → AreSettled n d first counts → IsJoined first d x → slice_index counts x ≡ k + 1
+    → (y : ℕ) × (y < n) × IsJoined first d y × (slice_index counts y ≡ k)
+
+-- No joined node turns more often than there are bad nodes.
+abbrev pub EachIsAtMostBad : Type 0
+EachIsAtMostBad = (n d : ℕ) (first : List (ℕ × ℕ)) (counts : List ℕ) (b c x : ℕ) → IsNet n first → d < n
+    → AreCounted n d first b c → AreSettled n d first counts → IsJoined first d x → slice_index counts x ≤ b
+
+-- No run makes more than 1 + 2 + .. + b turns, and n for each stranded node, in whatever order it turns nodes. This
+-- includes the turns that led to the counts at its start. So the bound also holds of the sum of the settled counts:
+-- they are lawful, and the empty run starts from them.
+abbrev pub RunIsAtMostTriangle : Type 0
+RunIsAtMostTriangle = (n d : ℕ) (first : List (ℕ × ℕ)) (counts : List ℕ) (h : List Entry) (b c : ℕ)
+    → IsNet n first → d < n → AreCounted n d first b c → AreLawful n d first counts
+    → IsRun n d (moment_of first counts) h → 2 * (sum counts + turn_count h) ≤ b * (b + 1) + 2 * (c * n)
+
+-- In a connected network no run makes more than n * (n - 1) / 2 turns.
+abbrev pub ConnectedIsAtMostHalfSquare : Type 0
+ConnectedIsAtMostHalfSquare = (n d : ℕ) (first : List (ℕ × ℕ)) (counts : List ℕ) (h : List Entry)
+    → IsConnected n d first → AreLawful n d first counts → IsRun n d (moment_of first counts) h
+    → 2 * (sum counts + turn_count h) ≤ n * (n - 1)
+
+-- No smaller bound holds, neither by b nor by n. For each b there is a connected network of b + 1 nodes, of which b are
+-- bad, and from its first links a run makes exactly 1 + 2 + .. + b turns.
+abbrev pub TriangleIsMet : Type 0
+TriangleIsMet = (b : ℕ) → (first : List (ℕ × ℕ)) × (h : List Entry) × IsConnected (b + 1) 0 first
+    × AreCounted (b + 1) 0 first b 0 × IsRun (b + 1) 0 (moment_of first (replicate (b + 1) 0)) h
+    × (2 * turn_count h ≡ b * (b + 1))

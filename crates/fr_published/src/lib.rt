@@ -4,7 +4,7 @@
 //! accepted round pushes the changed hops in push order before its call returns. So the table that the readers read has no loop at
 //! any moment, and between two calls it has the hops of the session.
 //!
-//! Costs are told for n nodes, as read off the code.
+//! Costs are given for n nodes, as read off the code.
 #![tactic(auto)]
 
 mod publishing;

@@ -68,8 +68,8 @@ impl PublishedSession {
     /// A reader of the hops, which knows all pushes made so far. The first one opens the table, for as many nodes as the largest
     /// network has, so that the table outlives each network. A number that is no node is cut off in it.
     ///
-    /// `AllocError` where an allocation is refused: then nothing has changed. O(n) for the first reader, and O(1) for each later one,
-    /// which takes no memory.
+    /// `AllocError` where an allocation is refused, or where the table has 2^63 readers: then nothing has changed. The first reader takes
+    /// 32 KiB, and O(4,096 + n). Each later one takes no memory, and O(1).
     pub fn reader(&mut self, alloc: Global) -> Result<Reader, AllocError>
         ensures session { (self.new.session ≡ self.old.session) × (self.new.rerouted ≡ self.old.rerouted) }
         ensures kept { IfSome self.old.table (λ k. self.new.table ≡ Some k) }
@@ -85,9 +85,9 @@ impl PublishedSession {
         Ok(reader)
     }
 
-    /// Answers a line, and tells and publishes what it reroutes, as
-    /// [`answer_line_telling_alone`](fr_route::Session::answer_line_telling_alone) does, with its faults and at its cost. Each push is
-    /// one store.
+    /// Answers a line, and reports and publishes what it reroutes, as
+    /// [`answer_line_telling_alone`](fr_route::Session::answer_line_telling_alone) does, with its faults and at its cost. Once there is
+    /// a reader, a line costs one load more, and each rerouted node one store.
     pub fn answer_line(&mut self, alloc: Global, line: &[u8]) -> Result<Option<String>, AnswerFault>
         ensures { AnswersLine self.old line.now result self.new }
     {
@@ -100,7 +100,7 @@ impl PublishedSession {
         answer
     }
 
-    /// Changes the network, and tells and publishes what that reroutes, as
+    /// Changes the network, and reports and publishes what that reroutes, as
     /// [`change_telling_alone`](fr_route::Router::change_telling_alone) does, with its faults and at its cost. There is no answer where
     /// there is no network yet.
     pub fn change(&mut self, alloc: Global, change: Change) -> Option<Result<Report, RouteFault>>
@@ -114,8 +114,8 @@ impl PublishedSession {
         Some(answer)
     }
 
-    /// Puts a router in the place of the one that was there, if any, and tells and publishes what that reroutes, as
-    /// [`changed_since`](fr_route::Router::changed_since) tells it.
+    /// Puts a router in the place of the one that was there, if any, and reports and publishes what that reroutes, as
+    /// [`changed_since`](fr_route::Router::changed_since) lists it.
     ///
     /// `AllocError` where an allocation is refused: then nothing has changed. O(n) for n nodes of the larger network.
     pub fn put_router(&mut self, alloc: Global, router: Router) -> Result<(), AllocError>

@@ -10,6 +10,8 @@ pub record OpensTable (old new : Held) : Type 0 where
   pub rerouted : new.rerouted ≡ old.rerouted
   pub begun : new.begun ≡ old.begun
   pub table : IfSome old.table (λ k. new.table ≡ Some k)
+  -- a table that it has now has the hops of the session
+  pub has : IfSome new.table (HasHopsOf new.session)
 
 -- the reader is of the engine's table, knows all pushes to it, and reads the hops of the session
 pub record ReadsTableOf (engine : Held) (reading : Knowledge) : Type 0 where

@@ -36,6 +36,7 @@ impl Engine {
             begun: Vec::new(alloc),
         }
     }
+
     /// The session, to be asked.
     pub(crate) fn session(&self) -> &Session
         ensures { result.now ≡ self.now.session }

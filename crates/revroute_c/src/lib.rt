@@ -511,8 +511,8 @@ pub extern "C" fn revroute_size(handle: &mut Handle, nodes: &mut u32, links: &mu
 /// The session can be one that holds no network yet; each node is cut off then. Readers outlive the session, and read
 /// the last hops then.
 ///
-/// `NO_MEMORY`: an allocation was refused. The reader is unchanged, and the session answers as before. `O(n)` for the
-/// first reader of a session, and `O(1)` for each later one.
+/// `NO_MEMORY`: an allocation was refused. The reader is unchanged, and the session answers as before, though it may have
+/// the table of its readers now. `O(4,096 + n)` for the first reader of a session, and `O(1)` for each later one.
 #[unsafe(no_mangle)]
 pub extern "C" fn revroute_reader_open(
     alloc: Global,
@@ -586,11 +586,12 @@ pub extern "C" fn revroute_reader_next_hop(reader: &mut ReaderHandle, node: u32)
 /// are to `size`. The walk makes one load a node. While hops are pushed, each of them can be of a later table.
 ///
 /// - `TOO_SHORT`: the place is full before the walk has ended. `size` is one more than it has room for.
-/// - `NO_ROUTE`: the last node is cut off, or the first is none.
+/// - `NO_ROUTE`: the last node is cut off, or the first number is 4,096 or more. While hops are pushed, a walk can end so
+///   although its first node has a route before and after.
 /// - `NO_NETWORK`: the reader is null.
 ///
-/// `size` is 0 after the last two. After each of the three the front of the place has the nodes walked so far. It
-/// takes no memory, and waits for nobody. `O(r)` for r nodes of the walk.
+/// `size` is 0 after the last two. In each case the front of the place has the nodes walked so far, and the rest of it is
+/// unchanged. It takes no memory, and waits for nobody. `O(r)` for r nodes of the walk.
 #[unsafe(no_mangle)]
 pub extern "C" fn revroute_reader_route(
     reader: &mut ReaderHandle,
@@ -613,8 +614,8 @@ pub extern "C" fn revroute_reader_route(
     }
 }
 
-/// Gives a reader up. The handle is null again. The table goes with its session and its last reader. `O(1)`, and
-/// `O(n)` for the last one.
+/// Closes a reader. The handle is null again. The table goes with its session and its last reader. `O(1)`, and
+/// `O(4,096)` for the last one.
 #[unsafe(no_mangle)]
 pub extern "C" fn revroute_reader_close(alloc: Global, reader: &mut ReaderHandle)
     ensures none { reader.new.reading ≡ no_reader }

@@ -81,7 +81,7 @@ impl ReaderHandle {
         }
     }
 
-    /// The reader of a handle, where it stands; none where the handle is null.
+    /// The reader behind a handle; none where the handle is null.
     pub(crate) fn reader_mut(&mut self) -> Option<&mut Reader>
         ensures* writes_back { sem 𝓛 (LendsReader self.entry result) }
         ensures value { MatchOption result ((self.old.at ≡ null_ptr) × (read_by self.old ≡ no_reader))
@@ -93,7 +93,7 @@ impl ReaderHandle {
         unsafe { Some(&mut *self.at.cast::<Reader>()) }
     }
 
-    /// Puts a reader into a handle. The one that was there, if any, is given up.
+    /// Puts a reader into a handle. The one that was there, if any, is closed.
     pub(crate) fn put(handle: &mut ReaderHandle, alloc: Global, reader: Box<Reader>)
         ensures { read_by handle.new ≡ reader.value }
     {

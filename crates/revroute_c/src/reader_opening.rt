@@ -14,6 +14,7 @@ pub(crate) fn reader_in(engine: &mut Engine, alloc: Global) -> Result<Box<Reader
     ensures opens { OpensTable engine.old engine.new }
     ensures reader { IfOk result (λ reader. ReadsTableOf engine.new reader.value) }
 {
+    engine.published.table_law();
     let reader = engine.published.reader(alloc)?;
     engine.published.table_law();
     Ok(Box::new(alloc, reader)?)

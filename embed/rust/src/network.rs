@@ -217,7 +217,7 @@ impl Network {
         }
     }
 
-    /// A reader of the next hops, for another thread. From the first one on, each change stores every changed hop once more. `O(n)`
+    /// A reader of the next hops, for another thread. From the first one on, each change stores every changed hop once more. `O(4,096)`
     /// for the first reader, and `O(1)` for each later one.
     ///
     /// ```

@@ -12,8 +12,7 @@ pub const MAX_NODES: usize = 4096;
 ///
 /// A read waits for nobody and takes no lock: a hop is one load. As soon as there is a reader, each accepted change
 /// pushes the changed hops to the table that all readers read, in push order, before its call returns. So at every
-/// moment this table has no loop. Two reads can be of different tables. Hops of one node never go back to earlier
-/// ones.
+/// moment this table has no loop. Two reads can be of different tables. A reader never goes back to an earlier table.
 ///
 /// Each thread has its own reader, made by `clone`:
 ///
@@ -123,8 +122,8 @@ impl Reader {
 
     /// Walks from a node hop by hop, by one load for each, and writes the nodes to the front of a place.
     ///
-    /// While another thread changes the network, later steps can read later hops, and the walk can visit a node
-    /// again. If the place is full before the walk has ended, the answer is [`Longer`](Walked::Longer) with all nodes
+    /// While another thread changes the network, later steps can read later hops. Then the walk can visit a node again,
+    /// or end at a node that is cut off although its first node has a way before and after. If the place is full before the walk has ended, the answer is [`Longer`](Walked::Longer) with all nodes
     /// of the place: walk again, or go on from the last of them. With a place of [`MAX_NODES`] nodes that happens
     /// only while hops are pushed. `O(k)` for k nodes, without memory.
     ///

@@ -78,7 +78,7 @@ class Network(Generic[Name]):
     NoSuchNode, and where a change has it by number, Refused. A closed network is a ValueError. Any thread may call, one at a time:
     others wait. What would wait for itself is a RuntimeError, as a session has it.
 
-    With n nodes and m links `next_hop`, `size` and `report` are O(1), `reader` O(n) at first and then O(1), `walk` and `changed` as long as what they
+    With n nodes and m links `next_hop`, `size` and `report` are O(1), `reader` O(4,096) at first and then O(1), `walk` and `changed` as long as what they
     answer, `hops`, `hops_into`, `table`, `pushes`, `counts` and `dest` O(n), `links`, `move` and a new network
     O(n + m) and the round; a change is O(n + m) at most, and where few nodes turn the links of these and of those
     that sent on to them.

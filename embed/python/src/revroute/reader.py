@@ -39,7 +39,7 @@ class Reader(Generic[Name]):
 
     No read waits for a change: a hop is one load. As soon as there is a reader, each accepted change pushes the changed
     hops to the table that all readers read, in push order, before its call returns. So at every moment this table has
-    no loop. Two reads can be of different tables. Hops of one node never go back to earlier ones.
+    no loop. Two reads can be of different tables. A reader never goes back to an earlier table.
 
     A reader outlives its network, and reads its last hops then. A closed reader is a ValueError. Any thread may call.
     Give each thread its own, by `copy`: in an interpreter without a global lock calls on one reader wait for each other.
@@ -105,7 +105,8 @@ class Reader(Generic[Name]):
         """The nodes of the way from a node to the destination, hop by hop, with both ends; None where it ends at a node
         that is cut off.
 
-        Later steps can read later hops, so a walk can visit a node again while another thread makes a change.
+        Later steps can read later hops. So while another thread makes a change, a walk can visit a node again, or end at a
+        node that is cut off although its first node has a way before and after. If that matters, walk again.
 
         Raises NoSuchNode where there is none, and WalkTooLong.
         """

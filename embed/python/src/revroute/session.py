@@ -150,7 +150,7 @@ class Session:
     session, and a call in the child of `os.fork` if another thread was in a call as the process was forked. The child can use
     every other session, and has a copy of its own.
 
-    With n nodes and m links `next_hop`, `size` and `report` are O(1), `reader` O(n) at first and then O(1), `route`, `rerouted` and `changed` as long as
+    With n nodes and m links `next_hop`, `size` and `report` are O(1), `reader` O(4,096) at first and then O(1), `route`, `rerouted` and `changed` as long as
     what they answer, `next_hops`, `pushes` and `counts` O(n), `links` O(n + m). `answer`, `take` and `finish` are
     O(b) for b bytes of lines and answers, and what the calls of a Network cost.
     """
