@@ -1,4 +1,4 @@
-//! A loop in a table.
+//! Finding a loop in a table.
 
 ghost use Rattle.std.specs.Prelude.{◌≡◌, ℕ, ◌<◌, [], Contains, IfErr, IfOk, MatchOption, drop, length, slice_index};
 ghost use Rattle.fr_tables.specs.Faults.{IsFound, IsFaultOfTable};
@@ -10,12 +10,12 @@ use crate::range::first_outside;
 use crate::waves::{Mark, mark_wave};
 use std::alloc::{AllocError, Global};
 
-/// Finds a loop of a table: nodes of which each sends on to the next, and the last to the first. No node is listed
-/// twice. `None`: the table has no loop.
+/// Finds a loop of a table: a list of nodes, each of which sends on to the next, and the last to the first. No node is
+/// listed twice. `None` if the table has no loop.
 ///
-/// Fails with `Length` where the table is longer than 4,294,967,295 nodes, with `Range` where a hop names a node that
-/// is not in the table (the first such hop), and with `Memory` where an allocation is refused. It never answers the
-/// fault `Loop`.
+/// Fails with `Length` if the table is longer than 4,294,967,295 nodes, with `Range` if a hop names a node that is not
+/// in the table (the fault names the first such hop's node), and with `Memory` if an allocation is refused. It never
+/// fails with `Loop`.
 ///
 /// O(n) time and memory.
 pub fn find_loop(alloc: Global, table: &[Hop]) -> Result<Option<Vec<u32>>, TableFault>
@@ -37,7 +37,7 @@ pub fn find_loop(alloc: Global, table: &[Hop]) -> Result<Option<Vec<u32>>, Table
     }
 }
 
-/// A node to which its own walk comes back. The list is left as a walk that comes back to it.
+/// Finds a node that a walk visits twice. Then `walk` holds the walk up to its second visit.
 fn node_on_loop(
     differ: &[bool],
     table: &[Hop],
@@ -57,7 +57,7 @@ fn node_on_loop(
     None
 }
 
-/// The nodes of a walk from this one of them on.
+/// The part of a walk that begins at `node`.
 fn from_node(alloc: Global, walk: &[u32], node: u32) -> Result<Vec<u32>, AllocError>
     requires { Contains walk.now node }
     ensures { IfOk result (λ nodes. (k : ℕ) × (k < length walk.now) × (slice_index walk.now k ≡ node)
