@@ -1,5 +1,5 @@
--- The state of a session: the network after the last round, settled. This project's own; a round ends as in Gafni and
--- Bertsekas (1981), destination-oriented in each part that is joined with the destination.
+-- The state of a session: the network after the last round, settled. This project's own; the part that contains the
+-- destination is then destination-oriented in the sense of Gafni and Bertsekas (1981).
 use Rattle.std.specs.Prelude.{◌≡◌, ℕ, ◌<◌, ◌↔◌, List, Bool, IsTrue, count_by, sum}
 use Rattle.std.specs.List.{range_with_len}
 use Rattle.fr_graph.specs.Links.{IsNet}
