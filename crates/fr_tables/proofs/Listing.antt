@@ -1,4 +1,4 @@
--- Nodes are noted as changed, and listed with their keys, one after the other.
+-- Nodes are marked as changed, and listed with their keys, one after the other.
 use Rattle.std.proofs.Common.{Bool, Contains, List, [], ap, arith, eqb, false, get_or, inl, inr, length, length-set, length-take, refl, replicate}
 use Rattle.std.proofs.Common.{set, subst, sym, take, true, ℕ, ⊎_elim, ◌++◌, ◌+◌, ◌<◌, ◌∙◌, ◌∷◌, ◌≡◌, ◌≤◌}
 use Rattle.std.specs.List.{IsDistinct, count_by}
@@ -15,7 +15,7 @@ use Rattle.fr_tables.specs.declared.waves.Mark.TheVariants.{Wave}
 use Rattle.fr_tables.proofs.Members.{Contains-none}
 use Rattle.fr_tables.proofs.Ranks.{below_yes, key_no, key_yes, weigh}
 
--- an element of a list without repeats is none of those before it
+-- an element of a list without repetitions is not one of those before it
 pub fresh : (xs : List ℕ) (i : ℕ) → IsDistinct eqb xs → i < length xs → ¬ Contains (take i xs) (get_or xs i 0)
 fresh xs i once low (j, before, is) =
     let lt : j < i = omega (arith, before, length-take i xs) in
