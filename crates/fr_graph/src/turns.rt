@@ -7,8 +7,8 @@ ghost use Rattle.fr_graph.specs.Turns.{AreSet, AreTurned, set_to};
 use std::alloc::{AllocError, Global};
 use std::marker::Model;
 
-/// How often each node has turned, with a list of the nodes that have. Work after a few turns goes over this list
-/// alone. The value in contracts is the counts, one for each node.
+/// How often each node has turned, with a list of the nodes that have. Work after a few turns goes over this list only.
+/// The value in contracts is the counts, one for each node.
 #[derive(Debug, Drop)]
 pub struct Turns {
     counts: Vec<u64>,

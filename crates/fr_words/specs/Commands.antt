@@ -47,7 +47,7 @@ serve_command = answering (codes "serve")
 abbrev pub play_command : App
 play_command = with_rule (with_rule (with_rule (new_app (codes "play")) (workers_option (codes "2"))) seed_option) steps_option
 
--- a command that prints its version, and of which one subcommand must be given
+-- a command that prints its version and needs a subcommand
 abbrev pub program : Shape → Shape
 program s = record s { has_version = true; subcommand_required = true }
 

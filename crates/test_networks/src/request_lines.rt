@@ -1,4 +1,4 @@
-//! Lines and their requests, each read alone and by a reader of many lines.
+//! Lines and their requests. Each line is read alone, and by a reader of many lines.
 
 use crate::answers::Answer;
 use crate::cases::{count, items, length, word};

@@ -198,7 +198,7 @@ impl Gate for TakingTurnsGate {
     }
 }
 
-/// What a gate was told of the calls of one worker.
+/// What a gate has seen of the calls of one worker.
 #[derive(Drop)]
 struct Calls {
     before: AtomicU64,
@@ -248,7 +248,7 @@ impl ListeningGate {
         }
     }
 
-    /// How many calls it was told of before they were made.
+    /// How many calls were announced to the gate before they were made.
     fn calls(&self) -> u64 {
         let mut calls = 0u64;
         for worker in &self.workers {
