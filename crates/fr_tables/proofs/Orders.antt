@@ -1,4 +1,5 @@
--- Push orders: their beginnings and whole waves are closed downstream, they end with the new table, and the tables determine them.
+-- Push orders: their beginnings and whole waves are closed downstream, they end with the new table, and the tables
+-- determine them.
 use Rattle.std.proofs.Common.{Contains, List, [], arith, get_or, inl, inr, length, length-append, refl, slice_get, subst, suc, sym, ℕ, ⊎_elim, ◌++◌}
 use Rattle.std.proofs.Common.{◌<◌, ◌∙◌, ◌∷◌, ◌≡◌, ap, Some, length-set, set}
 use Rattle.std.proofs.lemmas.List.Elements.{Contains-append_left, Contains-push, Contains-push_cases}

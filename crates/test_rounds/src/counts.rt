@@ -134,7 +134,8 @@ fn put_counts(alloc: Global, text: &mut Answer, turns: &Turns, net: &Net) {
     text.put_links(alloc, net);
 }
 
-/// `["calls of one", nodes, destination, links, "sinks" or "all", budget]`: how many calls one worker makes, and the settled counts.
+/// `["calls of one", nodes, destination, links, "sinks" or "all", budget]`: how many calls one worker makes, and the
+/// settled counts.
 pub fn calls_of_one<R: Threads + Wait + Sync + Alloc<A = Global>>(
     rt: &R,
     text: &mut Answer,

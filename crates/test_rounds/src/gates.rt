@@ -319,8 +319,8 @@ fn settled_square<R: Threads + Wait + Sync + Alloc<A = Global>>(
     Ok(settle(rt, rt.alloc(), net, 0, &plan, gate)?)
 }
 
-/// `["held", worker, other]`: one of two workers is held until the first call of the other is answered. Whether the gate was passed,
-/// and the counts of the square.
+/// `["held", worker, other]`: one of two workers is held until the first call of the other is answered. Whether the
+/// gate was passed, and the counts of the square.
 pub fn one_held<R: Threads + Wait + Sync + Alloc<A = Global>>(
     rt: &R,
     text: &mut Answer,
@@ -391,8 +391,8 @@ pub fn slow<R: Threads + Wait + Sync + Alloc<A = Global>>(
     settle_from_zero(rt, text, long_chain(rt.alloc(), 1024, 0)?, &plan, &gate)
 }
 
-/// The chain of three nodes by two workers: the node that worker 1 finds held is made a candidate again, and turned, before worker 1
-/// goes on. Who made how many turns.
+/// The chain of three nodes by two workers: the node that worker 1 finds held is made a candidate again, and turned,
+/// before worker 1 goes on. Who made how many turns.
 pub fn tried_again<R: Threads + Wait + Sync + Alloc<A = Global>>(
     rt: &R,
     text: &mut Answer,

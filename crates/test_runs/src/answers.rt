@@ -85,7 +85,8 @@ fn tell_batch<R: Threads + Wait + Sync + AllocGlobal + Print>(
     Some(())
 }
 
-/// `["chain", nodes, first]`: the first line of a run of a chain from a node on, and whether runs under other plans write the same.
+/// `["chain", nodes, first]`: the first line of a run of a chain from a node on, and whether runs under other plans
+/// write the same.
 fn tell_chain<R: Threads + Wait + Sync + AllocGlobal + Print>(
     rt: &R,
     case: &Case<'_>,
