@@ -1,4 +1,5 @@
--- The rows of all nodes, one after the other in one list, and what turns do to an entry. For proofs only.
+-- The rows of all nodes, one after the other in one list, and what turns do to an entry. For proofs only, except
+-- `opposite`, which is this project's own.
 use Rattle.std.specs.Prelude.{ℕ, zero, suc, ◌++◌, ◌==◌, if◌then◌else◌, List, [], slice_index, Option, Some, None}
 use Rattle.std.specs.List.{filter_map}
 use Rattle.fr_graph.specs.declared.first.First.{First}

@@ -6,6 +6,9 @@
 //! [`Turns`], a table of how often each node has turned. The law [`rows_law`](laws::rows_law) says what the rows of a
 //! network contain, and [`join_law`](laws::join_law) in which direction a link can be added.
 //!
+//! Full reversal is the method of E. Gafni and D. Bertsekas ("Distributed Algorithms for Generating Loop-Free Routes in
+//! Networks with Frequently Changing Topology", 1981).
+//!
 //! Costs are for n nodes, m links, and d links at a node. They are read off the code, not proved.
 #![tactic(auto)]
 

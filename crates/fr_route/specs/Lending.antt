@@ -1,4 +1,4 @@
--- The value of a session after its router was lent for changes. For proofs only.
+-- The value of a session after its router was lent for changes. This project's own.
 use Rattle.std.specs.Prelude.{Option, Some}
 use Rattle.std.specs.Borrow.{Fml, MutBor, LendsIf}
 use Rattle.fr_route.specs.States.{State}

@@ -1,4 +1,5 @@
--- The numbers of refusals, the requests for changes, and the refusals for the faults of a router. For proofs only.
+-- The numbers of refusals, which are this project's own (docs/LINES.md). For proofs only: the requests for changes, and
+-- the refusals for the faults of a router.
 use Rattle.std.specs.Prelude.{◌≡◌, ◌≤◌, ℕ, List}
 use Rattle.fr_graph.specs.Faults.{IsFaultless, IsFirstFault}
 use Rattle.fr_lines.specs.Requests.{PlainRequest, cut_link, add_link, join_nodes, make_edits, move_dest}

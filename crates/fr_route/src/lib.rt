@@ -8,6 +8,9 @@
 //! [`Router::change_alone`], [`Session::answer_line_alone`], [`Session::answer_alone`]. The laws of routes and answers
 //! are in [`laws`].
 //!
+//! Full link reversal is the method of E. Gafni and D. Bertsekas ("Distributed Algorithms for Generating Loop-Free
+//! Routes in Networks with Frequently Changing Topology", 1981). The requests and answers are those of docs/LINES.md.
+//!
 //! Callers that answer lines in another way can use the parts of an answer: [`is_blank`], [`Refusal`],
 //! [`fault_number`], [`links_line`] and [`counts_line`]. Callers that change the network of a session without lines can
 //! use [`Session::router_mut`] and [`Session::put_router`].

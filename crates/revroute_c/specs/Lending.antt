@@ -1,4 +1,5 @@
--- The value of a handle, and its value after its engine was lent for changes. For proofs only.
+-- The value of a handle, and when it is unchanged. This project's own. For proofs only: its value after its engine was
+-- lent for changes.
 use Rattle.std.specs.Prelude.{◌≡◌, Option}
 use denote.RawPtr.{null_ptr}
 use Rattle.std.specs.Borrow.{Fml, MutBor, LendsIf}

@@ -1,4 +1,5 @@
--- The value of a reader's handle, and its value after its reader was lent. For proofs only.
+-- The value of a reader's handle, and when it is unchanged. This project's own. For proofs only: its value after its
+-- reader was lent.
 use Rattle.std.specs.Prelude.{◌≡◌, Option}
 use Rattle.std.specs.Borrow.{Fml, MutBor, LendsIf}
 use Rattle.fr_shared.specs.Knowledge.{Knowledge}
