@@ -299,7 +299,7 @@ impl Net {
     /// Fails with `Refused` if an edit is refused, as by `with_edits`, or an allocation is refused, and with `Fault` if
     /// `accept` fails. Then the network is unchanged.
     ///
-    /// O(d) for most edits. An added link or a join compares two heights; if these do not decide, it searches between
+    /// O(d) for each edit. An added link or a join compares two heights; if these do not decide, it searches between
     /// them, with tables of O(n). O(n + m) if heights have to be computed again, or if a row is full, so that all rows
     /// are laid out again with more room.
     pub fn edit_if<T, E, F: FnOnce(&Net) -> Result<T, E>>(
