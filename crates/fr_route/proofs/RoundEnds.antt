@@ -1,4 +1,4 @@
--- The end of a round: which networks lead to it, and its links and routes.
+-- What the end of a round is: which networks lead to it, and what its links and routes are.
 use Rattle.std.proofs.Common.{◌≡◌, ◌∙◌, ℕ, ⊎_elim, ◌<◌, ◌↔◌, List, ◌∷◌, ap, inl, inr, subst, sym, slice_index, IsPermutation}
 use Rattle.std.proofs.lemmas.List.Sorted.{IsPermutation-sym}
 use Rattle.fr_graph.specs.Links.{IsAcyclic, IsAlone, IsNet, HaveSameLinks, Joins, Points}
