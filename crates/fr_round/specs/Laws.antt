@@ -180,7 +180,7 @@ OwnLoadIsTheMachines = (s : Step (Unit {0})) (me me' : Me (Unit {0}) View) (foun
     (words : List ℕ) (rest : List Target) → slice_index words s.word ≡ found
     → own_loaded s me found me'
     → ComesToTheSame me.0 me'.0 words (Turn s.word ∷ rest) (Looking (Turn me'.0.node) me'.0.count 0)
-        (outcome me.0.setup.nodes first words (Turn s.word ∷ rest) Idle)
+    (outcome me.0.setup.nodes first words (Turn s.word ∷ rest) Idle)
 
 -- how far the bound of a neighbour is above the own count
 abbrev pub more_of : First → ℕ
@@ -198,9 +198,9 @@ abbrev pub NeighbourLoadIsTheMachines : Type 0
 NeighbourLoadIsTheMachines = (s : Step (Unit {0})) (me me' : Me (Unit {0}) View) (found j : ℕ) (f : First) (t : Target)
     (first : List (ℕ × ℕ)) (words : List ℕ) (targets : List Target) → slice_index words s.word ≡ found
     → node_of t ≡ me.0.node → neighbour_at (row me.0.setup.nodes first me.0.node) j ≡ (s.word, f)
-        → neighbour_loaded (more_of f) s me found me'
+    → neighbour_loaded (more_of f) s me found me'
     → ComesToTheSame me.0 me'.0 words targets (phase_past (row me.0.setup.nodes first me.0.node) t me'.0.count j)
-        (outcome me.0.setup.nodes first words targets (Looking t me.0.count j))
+    (outcome me.0.setup.nodes first words targets (Looking t me.0.count j))
 
 -- the exchange of a count for the next one is the machine's exchange: where the word was that count it becomes the
 -- next one, and else it stays; and the call is decided
@@ -209,7 +209,7 @@ ExchangeIsTheMachines = (s : Step (Unit {0})) (me me' : Me (Unit {0}) View) (fou
     (words : List ℕ) (targets : List Target) → slice_index words s.word ≡ found
     → exchange_made s me found me'
     → ComesToTheSame me.0 me'.0 (slice_set words s.word (if found == s.first then s.first + 1 else found)) targets Idle
-        (outcome me.0.setup.nodes first words targets (Swapping s.word s.first))
+    (outcome me.0.setup.nodes first words targets (Swapping s.word s.first))
     × IsSome (outcome me.0.setup.nodes first words targets (Swapping s.word s.first)).decided
 
 -- the first load of a look is the first step of the machine's look: the words stay, and the machine looks at
@@ -219,7 +219,7 @@ LookBeginsAsTheMachines = (s : Step (Unit {0})) (me me' : Me (Unit {0}) View) (f
     (words : List ℕ) (rest : List Target) → slice_index words s.word ≡ found
     → look_begun s me found me'
     → ComesToTheSame me.0 me'.0 words (Look s.word ∷ rest) (Looking (Look me'.0.node) me'.0.count 0)
-        (outcome me.0.setup.nodes first words (Look s.word ∷ rest) Idle)
+    (outcome me.0.setup.nodes first words (Look s.word ∷ rest) Idle)
 
 -- its second load is the machine's: the words stay, and the call is decided
 abbrev pub LookEndsAsTheMachines : Type 0
@@ -227,5 +227,5 @@ LookEndsAsTheMachines = (s : Step (Unit {0})) (me me' : Me (Unit {0}) View) (fou
     (words : List ℕ) (targets : List Target) → slice_index words s.word ≡ found
     → look_ended s me found me'
     → ComesToTheSame me.0 me'.0 words targets Idle
-        (outcome me.0.setup.nodes first words targets (Confirming s.word me.0.count))
+    (outcome me.0.setup.nodes first words targets (Confirming s.word me.0.count))
     × IsSome (outcome me.0.setup.nodes first words targets (Confirming s.word me.0.count)).decided

@@ -74,8 +74,20 @@ HasList b list s = (ruled : KeepsRule b s) × (ruled.history ≡ list)
 
 -- the first view of the opening seat
 abbrev pub opening_view : Setup → View
-opening_view b = record { setup = b; works = false; number = 0; known = []; received = []; seen = []; node = 0;
-    count = 0; opens = true; next = 0; closes = false; taken = [] }
+opening_view b = record {
+  setup = b;
+  works = false;
+  number = 0;
+  known = [];
+  received = [];
+  seen = [];
+  node = 0;
+  count = 0;
+  opens = true;
+  next = 0;
+  closes = false;
+  taken = [];
+}
 
 -- it has given out one number more,
 abbrev pub numbered_next : View → View
@@ -83,13 +95,37 @@ numbered_next v = record v { next = v.next + 1 }
 
 -- which a new worker has
 abbrev pub worker_view : View → View
-worker_view v = record { setup = v.setup; works = true; number = v.next; known = []; received = [];
-    seen = replicate v.setup.nodes 0; node = 0; count = 0; opens = false; next = 0; closes = false; taken = [] }
+worker_view v = record {
+  setup = v.setup;
+  works = true;
+  number = v.next;
+  known = [];
+  received = [];
+  seen = replicate v.setup.nodes 0;
+  node = 0;
+  count = 0;
+  opens = false;
+  next = 0;
+  closes = false;
+  taken = [];
+}
 
 -- the view of a seat that was joined with another
 abbrev pub spent_view : View
-spent_view = record { setup = record { nodes = 0; dest = 0; links = []; workers = 0 }; works = false; number = 0;
-    known = []; received = []; seen = []; node = 0; count = 0; opens = false; next = 0; closes = false; taken = [] }
+spent_view = record {
+  setup = record { nodes = 0; dest = 0; links = []; workers = 0 };
+  works = false;
+  number = 0;
+  known = [];
+  received = [];
+  seen = [];
+  node = 0;
+  count = 0;
+  opens = false;
+  next = 0;
+  closes = false;
+  taken = [];
+}
 
 -- the view of a seat that only keeps what a worker knows, to hand it on
 abbrev pub past_view : View → View
@@ -101,8 +137,20 @@ with_received v w = record v { received = w.known }
 
 -- the first view of a closing seat
 abbrev pub closing_view : Setup → View
-closing_view b = record { setup = b; works = false; number = 0; known = []; received = []; seen = []; node = 0;
-    count = 0; opens = false; next = 0; closes = true; taken = [] }
+closing_view b = record {
+  setup = b;
+  works = false;
+  number = 0;
+  known = [];
+  received = [];
+  seen = [];
+  node = 0;
+  count = 0;
+  opens = false;
+  next = 0;
+  closes = true;
+  taken = [];
+}
 
 -- it has taken a worker back
 abbrev pub with_taken : View → View → View

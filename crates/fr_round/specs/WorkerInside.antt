@@ -7,8 +7,13 @@ use Rattle.fr_round.specs.Histories.{IsHistory, reached}
 use Rattle.fr_round.specs.Knowledge.{Knowledge}
 
 abbrev pub knowledge_of : Inside → Knowledge
-knowledge_of w = record { table = w.caller.seat.table_id; setup = w.caller.seat.me.0.setup; number = w.number;
-    known = w.caller.seat.me.0.known; seen = w.caller.seen.counts.items }
+knowledge_of w = record {
+  table = w.caller.seat.table_id;
+  setup = w.caller.seat.me.0.setup;
+  number = w.number;
+  known = w.caller.seat.me.0.known;
+  seen = w.caller.seen.counts.items;
+}
 
 pub record IsSoundWorker (w : Inside) : Type 0 where
   pub works : w.caller.seat.me.0.works ≡ true

@@ -21,6 +21,8 @@ mod rule;
 mod seen;
 mod steps;
 mod terms;
+#[cfg(test)]
+mod tests;
 mod view;
 mod words;
 mod worker;
