@@ -1,5 +1,6 @@
 mod HopsAlong  -- next hops along links without a cycle
 mod HopsRead  -- next hops that replies show
+mod InOrder  -- which call came first
 mod QuietEnds  -- what shows that no node can turn
 mod Gaps  -- lists of numbers without a gap
 mod Totals  -- how often all nodes turn together

@@ -47,7 +47,8 @@ pub record Tests (words : Words) (p : Caller) (x c : ℕ) (entry : ℕ × First)
   pub stays : Stays words p q
   pub up : slice_index p.seat.me.0.seen entry.0 ≤ slice_index q.seat.me.0.seen entry.0
   pub step : MatchBool is_met
-      ((bound_of entry.1 c ≤ slice_index q.seat.me.0.seen entry.0) × (q.seat.me.0 ≡ noted p.seat.me.0 entry.0 (slice_index q.seat.me.0.seen entry.0)))
+      ((bound_of entry.1 c ≤ slice_index q.seat.me.0.seen entry.0)
+      × (q.seat.me.0 ≡ noted p.seat.me.0 entry.0 (slice_index q.seat.me.0.seen entry.0)))
       (EndsCall p.seat.me.0 x (Held entry.0) entry.0 (slice_index q.seat.me.0.seen entry.0) q.seat.me.0)
 
 -- all neighbours of x were tested, and meet their bounds: the call goes on

@@ -47,7 +47,8 @@ pub record IsLooking (v : View) (x c : ℕ) (w : View) : Type 0 where
 
 -- the first j neighbours of a row meet their bounds
 abbrev pub AreEnough : List (ℕ × First) → ℕ → List ℕ → ℕ → Type 0
-AreEnough neighbours j seen c = (i : ℕ) → i < j → bound_of (neighbour_at neighbours i).1 c ≤ slice_index seen (neighbour_at neighbours i).0
+AreEnough neighbours j seen c = (i : ℕ) → i < j
+    → bound_of (neighbour_at neighbours i).1 c ≤ slice_index seen (neighbour_at neighbours i).0
 
 -- the same where the first j neighbours of x were seen to meet them
 pub record IsUnderWay (b : Setup) (v : View) (x c j : ℕ) (w : View) : Type 0 where

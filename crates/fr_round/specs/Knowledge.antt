@@ -2,7 +2,7 @@
 use Rattle.std.specs.Prelude.{◌≡◌, ◌≢◌, ◌⊎◌, ℕ, zero, suc, ◌<◌, ◌≤◌, List, [], ◌∷◌, ◌++◌, slice_index, replicate}
 use Rattle.atomic_table.specs.Seated.{TableId}
 use Rattle.fr_graph.specs.Links.{IsAlone}
-use Rattle.fr_core.specs.History.{turn_count_of}
+use Rattle.fr_core.specs.History.{part, turn_count_of}
 use Rattle.fr_core.specs.Limits.{most_workers}
 use Rattle.fr_core.specs.declared.entry.Entry.{Entry}
 use Rattle.fr_round.specs.declared.view.Setup.{Setup}
@@ -12,7 +12,7 @@ use Rattle.fr_round.specs.declared.faults.OpenWhy.{OpenWhy}
 use Rattle.fr_round.specs.declared.faults.OpenWhy.TheVariants.{Range, Memory}
 use Rattle.fr_core.specs.declared.entry.Reply.{Reply}
 use Rattle.fr_round.specs.Calls.{ShowsCount}
-use Rattle.fr_round.specs.Histories.{IsHistory, entry}
+use Rattle.fr_round.specs.Histories.{IsHistory, StartsWith, entry}
 use Rattle.fr_round.specs.Steps.{Extends}
 
 -- a worker: the table of words of its round, and what the round was opened with; its number; the history up to its last
@@ -23,6 +23,14 @@ pub record Knowledge : Type 0 where
   pub number : ℕ
   pub known : List Entry
   pub seen : List ℕ
+
+-- what a worker knew at a moment, as a value that threads hand on: the table of words of its round, and the history
+pub record KnownPast : Type 0 where
+  pub table : TableId
+  pub known : List Entry
+
+abbrev pub past_of : Knowledge → KnownPast
+past_of k = record { table = k.table; known = k.known }
 
 -- an open round: its table of words, and what it was opened with
 pub record OpenRound : Type 0 where
@@ -55,6 +63,18 @@ pub record LearnsReply (before : Knowledge) (x : ℕ) (reply : Reply) (after : K
   pub history : Extends before.setup before.number before.known (entry before.number x reply) after.known
   -- it has seen the count that the reply gives,
   pub count : ShowsCount before.setup.nodes before.seen after.seen x reply
+  -- and what it knows is true
+  pub known : IsKnowledge after
+
+-- a worker learns what another one knew:
+pub record LearnsPast (before : Knowledge) (past : KnownPast) (after : Knowledge) : Type 0 where
+  -- it is the same worker, and has seen the same counts,
+  pub same : after ≡ record before { known = after.known }
+  -- what both knew are beginnings of what it knows now,
+  pub keeps : StartsWith after.known before.known
+  pub learns : StartsWith after.known past.known
+  -- in which its own calls are those that it has made,
+  pub own : part before.number after.known ≡ part before.number before.known
   -- and what it knows is true
   pub known : IsKnowledge after
 

@@ -1,4 +1,5 @@
--- What each step on the words tells the worker that takes it.
+-- What each step on the words tells the worker that takes it. This project's own; the replies are those of full
+-- reversal (E. Gafni and D. Bertsekas, 1981).
 use Rattle.std.specs.Prelude.{◌≡◌, ◌≢◌, ℕ, ◌+◌, ◌<◌, ◌≤◌, List, [], ◌∷◌, ◌++◌, slice_index, slice_set}
 use Rattle.atomic_table.specs.Table.{Me, Step}
 use Rattle.fr_core.specs.History.{part}
@@ -8,7 +9,7 @@ use Rattle.fr_core.specs.declared.entry.Reply.TheVariants.{Turned, Held, Moved, 
 use Rattle.fr_round.specs.declared.view.Setup.{Setup}
 use Rattle.fr_round.specs.declared.view.View.{View}
 use Rattle.fr_round.specs.Rule.{closing_view}
-use Rattle.fr_round.specs.Histories.{IsHistory, reached, entry}
+use Rattle.fr_round.specs.Histories.{IsHistory, StartsWith, reached, entry}
 
 -- a worker's known history goes on, by what others did meanwhile,
 pub record Extends (b : Setup) (number : ℕ) (known : List Entry) (e : Entry) (known' : List Entry) : Type 0 where
@@ -33,6 +34,18 @@ pub record EndsCall (v : View) (x : ℕ) (reply : Reply) (y c : ℕ) (w : View) 
   pub same : w ≡ record v { seen = slice_set v.seen y c; known = w.known }
   pub extends : Extends v.setup v.number v.known (entry v.number x reply) w.known
   pub below : (z : ℕ) → slice_index w.seen z ≤ reached v.setup w.known z
+
+-- a worker comes to know all calls up to now:
+pub record CatchesUp (v : View) (known : List Entry) : Type 0 where
+  -- what it knew, and what was handed to it, are beginnings of them,
+  pub begins : StartsWith known v.known
+  pub received : StartsWith known v.received
+  -- they are a run of full reversal by one thread,
+  pub run : IsHistory v.setup known
+  -- its own calls among them are those that it knew,
+  pub own : part v.number known ≡ part v.number v.known
+  -- and no count that it has seen is above theirs
+  pub below : (z : ℕ) → slice_index v.seen z ≤ reached v.setup known z
 
 module _ {S : Type 0} where
   -- the load of the own count: the cap decides Cut, and any other count begins the call
@@ -73,6 +86,10 @@ module _ {S : Type 0} where
       × (found ≡ me.0.count → EndsCall me.0 s.word Sink s.word found me'.0)
       × (found ≢ me.0.count → EndsCall me.0 s.word (Moved me.0.count found) s.word found me'.0)
       × (me'.1 ≡ me.1)
+
+  -- the load by which a worker catches up
+  abbrev pub caught_up : Step S → Me S View → ℕ → Me S View → Type 0
+  caught_up s me found me' = (me'.0 ≡ record me.0 { known = me'.0.known }) × CatchesUp me.0 me'.0.known × (me'.1 ≡ me.1)
 
   -- the load with which a closing seat comes
   abbrev pub closing_begun : Step S → Me S View → ℕ → Me S View → Type 0

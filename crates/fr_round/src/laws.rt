@@ -1,6 +1,6 @@
 //! The laws of a round: each clause is a law of `specs/Laws.antt`, proved. The functions do nothing.
 
-ghost use Rattle.fr_round.specs.Laws.{OneHistoryStandsBehindAll, RuleHoldsAtFirst, NoOtherStateIsFirst, EveryStepKeepsTheRule};
+ghost use Rattle.fr_round.specs.Laws.{OneHistoryStandsBehindAll, RuleHoldsAtFirst, NoOtherStateIsFirst, EveryStepKeepsTheRule, EveryStepGrowsTheList};
 ghost use Rattle.fr_round.specs.Laws.{OwnLoadIsTheMachines, NeighbourLoadIsTheMachines, ExchangeIsTheMachines};
 ghost use Rattle.fr_round.specs.Laws.{LookBeginsAsTheMachines, LookEndsAsTheMachines};
 
@@ -12,11 +12,16 @@ ghost use Rattle.fr_round.specs.Laws.{LookBeginsAsTheMachines, LookEndsAsTheMach
 /// do. That an open round is in a state that the rule allows is by its table of `Rule`, which is made in no other: of
 /// the states in which no number was given out, the rule allows the one with all words 0 alone. `Round::close` hands
 /// out the words of a state that it allows.
+///
+/// The list only grows, and only at its end: each step leaves it as it was, or adds the call that this step decides. So
+/// a call takes its place in the list between its beginning and its end, and the calls are linearizable (M. Herlihy and
+/// J. Wing, "Linearizability: A Correctness Condition for Concurrent Objects", 1990).
 pub fn round_law()
     ensures run { OneHistoryStandsBehindAll }
     ensures first { RuleHoldsAtFirst }
     ensures only { NoOtherStateIsFirst }
     ensures kept { EveryStepKeepsTheRule }
+    ensures grows { EveryStepGrowsTheList }
 {}
 
 /// Each load and each exchange that a worker makes on the words is a step of the machine of `fr_core` at the same

@@ -4,13 +4,15 @@ ghost use Rattle.std.specs.Prelude.{◌≡◌, ◌≤◌, IfOk, IfErr, length};
 ghost use Rattle.std.specs.List.{AllByRecursion as Each};
 ghost use Rattle.fr_core.specs.Replies.{IsReplyToTurn, IsReplyToLook};
 ghost use Rattle.fr_core.specs.Targets.{IsTurnable, IsLookable};
-ghost use Rattle.fr_round.specs.Knowledge.{IsOwn, IsOpenable, IsWhyNotOpened, KeepsWorker, LearnsReply, Refuses, RefusesLook, new_workers};
+ghost use Rattle.fr_round.specs.Knowledge.{IsOwn, IsOpenable, IsWhyNotOpened, KeepsWorker, LearnsPast, LearnsReply, Refuses};
+ghost use Rattle.fr_round.specs.Knowledge.{RefusesLook, new_workers, past_of};
 ghost use Rattle.fr_round.specs.Closing.{Closes};
 ghost use Rattle.fr_round.specs.Opening.{HasNotBegun};
 
 use crate::closing::{Closed, read_counts, take_over};
 use crate::faults::{OpenFault, OpenWhy, Refusal};
 use crate::opening::{Prepared, prepare};
+use crate::past::Past;
 use crate::rule::BeginClosing;
 use crate::terms::Terms;
 use crate::words::Words;
@@ -167,6 +169,35 @@ impl Round {
     {
         self.words.terms.check_look(x)?;
         Ok(worker.look(&self.words, x))
+    }
+
+    /// What the worker knows, to hand to another thread. It changes nothing.
+    ///
+    /// The worker has to be one of this round. It makes one load. It takes no memory and waits for nobody. `O(1)`.
+    pub fn past(&self, worker: &mut Worker) -> Past
+        requires { IsOwn self.now worker.old }
+        ensures kept { worker.new ≡ worker.old }
+        ensures past { result ≡ past_of worker.old }
+    {
+        worker.past(&self.words)
+    }
+
+    /// The worker learns what another worker knew. All calls that either knew of come before its next call in the list
+    /// of calls.
+    ///
+    /// Hand a [`Past`] on wherever one thread goes on after another, as after a join or a message. Then the order of
+    /// the calls in the list is the order in time: a call that ended before another one began is before it. Calls of
+    /// a round are *linearizable* (M. Herlihy and J. Wing, 1990), by the clause `grows` of
+    /// [`round_law`](crate::round_law).
+    ///
+    /// The worker and the past have to be of this round. It makes two loads. It takes no memory and waits for nobody.
+    /// `O(1)`.
+    pub fn learn(&self, worker: &mut Worker, past: Past)
+        requires worker { IsOwn self.now worker.old }
+        requires past { past.table ≡ self.now.table }
+        ensures { LearnsPast worker.old past worker.new }
+    {
+        worker.learn(&self.words, past);
     }
 
     /// Ends the round, and returns the network, the counts at the end, and the number and turns of each worker that

@@ -81,6 +81,37 @@ impl Split<View> for NumberWorker {
     ghost right = { worker_view };
 }
 
+/// How what a worker knows gets a seat of its own.
+pub struct HandOn;
+
+impl Split<View> for HandOn {
+    ghost use Rattle.fr_round.specs.Rule.{past_view};
+
+    ghost left = { λ v. v };
+
+    ghost right = { past_view };
+}
+
+/// How a worker takes in what another one knew.
+pub struct Receive;
+
+impl Join<View> for Receive {
+    ghost use Rattle.fr_round.specs.Rule.{with_received, spent_view};
+
+    ghost both = { with_received };
+
+    ghost spent = { spent_view };
+}
+
+/// The load by which it comes to know all calls up to now.
+pub struct CatchUp;
+
+impl Play<(), View> for CatchUp {
+    ghost use Rattle.fr_round.specs.Steps.{caught_up};
+
+    ghost then = { caught_up };
+}
+
 /// The load with which a closing seat comes.
 pub struct BeginClosing;
 

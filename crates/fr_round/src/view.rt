@@ -18,8 +18,10 @@ pub struct View {
     pub works: bool,
     /// The number of the worker whose seat it is.
     pub number: u32,
-    /// The history up to the worker's last call.
+    /// The history up to the worker's last call, or up to where it learned another worker's.
     pub known: LinkedList<Entry>,
+    /// The history that was handed to it last.
+    pub received: LinkedList<Entry>,
     /// Counts that the nodes had reached by then.
     pub seen: LinkedList<u64>,
     /// The node of the call that is under way.

@@ -7,9 +7,11 @@ ghost use Rattle.fr_core.specs.Targets.{IsTurnable, IsLookable};
 ghost use Rattle.fr_round.specs.Missing.{IsCounted};
 ghost use Rattle.fr_round.specs.Calls.{IsNewView};
 ghost use Rattle.fr_round.specs.Callers.{IsOfWords};
-ghost use Rattle.fr_round.specs.Knowledge.{IsKnowledge, KeepsWorker, LearnsReply, new_worker};
+ghost use Rattle.fr_round.specs.Knowledge.{IsKnowledge, KeepsWorker, LearnsPast, LearnsReply, new_worker, past_of};
 ghost use Rattle.fr_round.specs.Closing.{number_and_known};
 
+use crate::past::Past;
+use crate::rule::{CatchUp, HandOn, Receive};
 use crate::seen::Seen;
 use crate::steps::{Caller, RoundSeat};
 use crate::words::Words;
@@ -110,6 +112,29 @@ impl Worker {
         let reply = self.caller.turn_at(words, x);
         self.turned += turns(reply);
         reply
+    }
+
+    /// What it knows, as a value of its own.
+    pub(crate) fn past(&mut self, words: &Words) -> Past
+        requires own { IsOfWords words.now self.old }
+        requires some { 0 < words.now.terms.net.nodes }
+        ensures kept { self.new ≡ self.old }
+        ensures past { result ≡ past_of self.old }
+    {
+        let shared = &words.table.shared;
+        Past::new(shared.split_seat::<HandOn>(&mut self.caller.seat))
+    }
+
+    /// It learns what another worker knew.
+    pub(crate) fn learn(&mut self, words: &Words, past: Past)
+        requires own { IsOfWords words.now self.old }
+        requires past { past.table ≡ self.old.table }
+        requires some { 0 < words.now.terms.net.nodes }
+        ensures { LearnsPast self.old past self.new }
+    {
+        let shared = &words.table.shared;
+        shared.join_seat::<Receive>(&mut self.caller.seat, past.into_seat());
+        shared.load::<CatchUp>(&mut self.caller.seat, 0);
     }
 
     /// One look at node `x`, on the words of its own round.
