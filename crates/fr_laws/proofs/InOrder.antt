@@ -51,8 +51,11 @@ regroup front e some more = append_assoc (front ++ e ∷ []) some more ∙ appen
 
 module _ (earlier later : Call) (one : IsCall earlier) (two : IsCall later) (knows : Knows later earlier) where
   calls_after : StartsWith (calls_before later two) earlier.after.known
-  calls_after = (knows.0 ++ two.history.between, ap (λ l. l ++ two.history.between) knows.1
-      ∙ append_assoc earlier.after.known knows.0 two.history.between)
+  calls_after = (
+    knows.0 ++ two.history.between,
+    ap (λ l. l ++ two.history.between) knows.1
+        ∙ append_assoc earlier.after.known knows.0 two.history.between,
+  )
 
   pub in_order : (list : List Entry) → StartsWith list later.after.known → IsBefore list (entry_of earlier) (entry_of later)
   in_order list starts =
@@ -60,10 +63,14 @@ module _ (earlier later : Call) (one : IsCall earlier) (two : IsCall later) (kno
       let between = knows.0 ++ two.history.between in
       let before : calls_before later two ≡ front ++ entry_of earlier ∷ between =
       ap (λ l. l ++ two.history.between) (knows.1 ∙ ap (λ l. l ++ knows.0) one.history.begins)
-      ∙ regroup front (entry_of earlier) knows.0 two.history.between in
-      (front, between, starts.0, starts.1 ∙ (ap (λ l. l ++ starts.0) two.history.begins
-      ∙ (append_assoc (calls_before later two) (entry_of later ∷ []) starts.0
-      ∙ ap (λ l. l ++ entry_of later ∷ starts.0) before)))
+      ∙ regroup front (entry_of earlier) knows.0 two.history.between in (
+        front,
+        between,
+        starts.0,
+        starts.1 ∙ (ap (λ l. l ++ starts.0) two.history.begins
+            ∙ (append_assoc (calls_before later two) (entry_of later ∷ []) starts.0
+            ∙ ap (λ l. l ++ entry_of later ∷ starts.0) before)),
+      )
 
   pub counts_reached : (z : ℕ) → slice_index earlier.after.seen z ≤ reached later.before.setup (calls_before later two) z
   counts_reached z =

@@ -13,8 +13,8 @@ use Rattle.fr_round.specs.declared.view.Setup.{Setup}
 use Rattle.fr_round.specs.declared.view.View.{View}
 use Rattle.fr_round.specs.Histories.{IsHistory, moment, StartsWith, AreApart}
 
--- the worker's seat j is the one of its number, no count that it has seen is above the word, and what it knows has all
--- of its own calls
+-- The worker with this number has the seat j. No count that it has seen is greater than the word. What it knows has all of
+-- its own calls.
 pub record WorkerFits (b : Setup) (next : ℕ) (seat_of : ℕ → ℕ) (h : List Entry) (words : List ℕ) (j : ℕ)
     (v : View) : Type 0 where
   pub setup : v.setup ≡ b
@@ -26,26 +26,26 @@ pub record WorkerFits (b : Setup) (next : ℕ) (seat_of : ℕ → ℕ) (h : List
   pub not_opening : v.opens ≡ false
   pub not_closing : v.closes ≡ false
 
--- a worker's number and what it knew when it was taken back
+-- a worker's number, and what it knew when it was taken back
 pub record IsTaken (next : ℕ) (seat_of : ℕ → ℕ) (j : ℕ) (h : List Entry) (t : ℕ × List Entry) : Type 0 where
   pub begins : StartsWith h t.1
   pub own : part t.0 h ≡ part t.0 t.1
   pub placed : seat_of t.0 ≡ j
   pub numbered : t.0 < next
 
--- the one seat that gives out the numbers
+-- the only seat that gives out numbers
 pub record OpeningFits (b : Setup) (next at j : ℕ) (v : View) : Type 0 where
   pub setup : v.setup ≡ b
   pub here : j ≡ at
   pub counts : v.next ≡ next
 
--- a seat that takes workers back, and has taken no number twice
+-- a seat that takes workers back and has taken no number twice
 pub record ClosingFits (b : Setup) (next : ℕ) (seat_of : ℕ → ℕ) (h : List Entry) (j : ℕ) (v : View) : Type 0 where
   pub setup : v.setup ≡ b
   pub taken : Each (IsTaken next seat_of j h) v.taken
   pub apart : AreApart (map (λ (t : ℕ × List Entry). t.0) v.taken)
 
--- what a seat knows, and what was handed to it, are beginnings of the history; the rest is said of each kind of seat
+-- What a seat knows and what was handed to it are beginnings of the history. The rest holds for each kind of seat.
 pub record ViewFits (b : Setup) (next : ℕ) (seat_of : ℕ → ℕ) (at : ℕ) (h : List Entry) (words : List ℕ) (j : ℕ)
     (v : View) : Type 0 where
   pub begins : StartsWith h v.known
@@ -54,8 +54,8 @@ pub record ViewFits (b : Setup) (next : ℕ) (seat_of : ℕ → ℕ) (at : ℕ) 
   pub opening : v.opens ≡ true → OpeningFits b next at j v
   pub closing : v.closes ≡ true → ClosingFits b next seat_of h j v
 
--- the words and the views of all seats: there is one history, which is a run that leads to the words, and each view
--- fits it
+-- the words and the views of all seats: there is one history, it is a run that leads to the words, and each view fits
+-- it
 pub record KeepsRule {S : Type 0} (b : Setup) (s : State S View) : Type 0 where
   pub net : IsNet b.nodes b.links
   pub history : List Entry
@@ -89,11 +89,11 @@ opening_view b = record {
   taken = [];
 }
 
--- it has given out one number more,
+-- the view of the opening seat after one more number was given out
 abbrev pub numbered_next : View → View
 numbered_next v = record v { next = v.next + 1 }
 
--- which a new worker has
+-- the view of the new worker with this number
 abbrev pub worker_view : View → View
 worker_view v = record {
   setup = v.setup;
@@ -110,7 +110,7 @@ worker_view v = record {
   taken = [];
 }
 
--- the view of a seat that was joined with another
+-- the view of a seat that was joined with another one, and is not used again
 abbrev pub spent_view : View
 spent_view = record {
   setup = record { nodes = 0; dest = 0; links = []; workers = 0 };
@@ -127,7 +127,7 @@ spent_view = record {
   taken = [];
 }
 
--- the view of a seat that only keeps what a worker knows, to hand it on
+-- the view of a seat that keeps what a worker knows, to hand it on
 abbrev pub past_view : View → View
 past_view v = record spent_view { setup = v.setup; known = v.known }
 
@@ -152,6 +152,6 @@ closing_view b = record {
   taken = [];
 }
 
--- it has taken a worker back
+-- the view of a closing seat after it has taken a worker back
 abbrev pub with_taken : View → View → View
 with_taken v w = record v { taken = v.taken ++ (w.number, w.known) ∷ [] }

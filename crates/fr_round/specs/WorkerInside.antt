@@ -1,4 +1,4 @@
--- The fields of a worker.
+-- The value of a worker in contracts. For proofs only.
 use Rattle.std.specs.Prelude.{◌≡◌, ℕ, ◌≤◌, true, [], slice_index}
 use Rattle.fr_core.specs.History.{part, turn_count}
 use Rattle.fr_round.specs.declared.worker.Worker.TheInside.{Inside}

@@ -5,8 +5,8 @@ ghost use Rattle.std.specs.Prelude.{◌≡◌, []};
 use crate::steps::RoundSeat;
 use std::marker::Model;
 
-/// What a worker knew at one moment: the list of calls up to its last one. A thread hands it to another thread, whose
-/// worker takes it in by [`Round::learn`](crate::Round::learn).
+/// What a worker knew at one moment: the list of calls up to its last one. One thread gives it to another, whose worker
+/// learns it by [`Round::learn`](crate::Round::learn).
 #[derive(Drop)]
 pub struct Past {
     seat: RoundSeat,

@@ -1,10 +1,11 @@
-//! What holds of the words of a round and of what its seats know, between any two steps, and what each step tells.
+//! The rule: what holds of the words of a round, and of what its seats know, between any two steps. The steps: what
+//! each one shows the seat that takes it.
 
 use crate::terms::Terms;
 use crate::view::View;
 use atomic_table::{Join, Play, Split, TableRule};
 
-/// One history stands behind the words and behind all that the seats know.
+/// One history explains the words and all that the seats know.
 pub struct Rule;
 
 impl TableRule<(), View, Terms> for Rule {
@@ -61,7 +62,7 @@ impl Play<(), View> for LoadToLook {
     ghost then = { look_begun };
 }
 
-/// A look's second load of it.
+/// A look's second load of its node's own count.
 pub struct LoadAgain;
 
 impl Play<(), View> for LoadAgain {
@@ -70,7 +71,7 @@ impl Play<(), View> for LoadAgain {
     ghost then = { look_ended };
 }
 
-/// How the opening seat gives out a number.
+/// The step with which the opening seat gives out a number.
 pub struct NumberWorker;
 
 impl Split<View> for NumberWorker {
@@ -112,7 +113,7 @@ impl Play<(), View> for CatchUp {
     ghost then = { caught_up };
 }
 
-/// The load with which a closing seat comes.
+/// The load with which a closing seat enters.
 pub struct BeginClosing;
 
 impl Play<(), View> for BeginClosing {
@@ -121,7 +122,7 @@ impl Play<(), View> for BeginClosing {
     ghost then = { closing_begun };
 }
 
-/// How a closing seat takes a worker back.
+/// The step with which a closing seat takes a worker back.
 pub struct TakeWorker;
 
 impl Join<View> for TakeWorker {
