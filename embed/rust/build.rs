@@ -1,11 +1,12 @@
-//! Finds the static library: in the folder that `REVROUTE_LIB_DIR` names, where `embed/build` leaves it, or where `./install` puts it.
+//! Finds the static library. It is in the folder that `REVROUTE_LIB_DIR` names. Otherwise it is where `./install` put
+//! it, or where `embed/build` made it.
 
 use std::env;
 use std::path::{Path, PathBuf};
 
 const ARCHIVE: &str = "librevroute.a";
 
-/// The folder of a built library beside this crate: in the repository, or below the prefix of an installation.
+/// The folder of the library for this copy of the crate: below the prefix of an installation, or in the repository.
 fn folder_beside(here: &Path) -> PathBuf {
     let installed = here.join("../../../lib");
     if installed.join(ARCHIVE).is_file() {

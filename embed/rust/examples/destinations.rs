@@ -1,5 +1,5 @@
-//! A mesh in which every node is a destination: a network for each, on as many threads as there are cores. Each link that fails or comes back
-//! changes all networks, and behind each change every route is walked.
+//! A mesh in which every node is a destination: a network for each, on as many threads as there are cores. Each link
+//! that fails or comes back changes all networks, and behind each change every route is walked.
 
 use revroute::{Network, Refused};
 use std::error::Error;
@@ -17,7 +17,8 @@ fn mesh() -> Vec<(u32, u32)> {
         .collect()
 }
 
-/// Fails every third link, one after the other, and brings each back four changes later; returns how many nodes the routes have together.
+/// Fails every third link, one after the other, and brings each back four changes later; returns how many nodes the
+/// routes have together.
 fn live(network: &mut Network) -> Result<usize, Refused> {
     let (links, mut steps) = (mesh(), 0);
     for at in 0..CHANGES {

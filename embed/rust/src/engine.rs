@@ -1,10 +1,10 @@
-//! What stands behind a session or a network: the handle of the library, and the questions to it.
+//! The handle of the library that a session or a network owns, and the questions to it.
 
 use crate::{Hop, NoMemory, Reader, Report, Size, TableFault, listed, sys, table};
 use std::cell::UnsafeCell;
 
-/// The owner of a handle. Questions change nothing, though the library takes the handle as its own for each: so it stands in a cell, and
-/// no two threads ask at once.
+/// The owner of a handle. A question changes nothing, but the library needs exclusive access to the handle for it. So
+/// the handle is in a cell, and no two threads can ask at once.
 pub struct Engine {
     handle: UnsafeCell<sys::Handle>,
 }
@@ -12,18 +12,18 @@ pub struct Engine {
 // SAFETY: the library proves that a handle may go to another thread; the cell keeps it from being shared by two.
 unsafe impl Send for Engine {}
 
-/// A question that fills an array of `room` places, and tells how many it has.
+/// A question that fills an array of `room` places, and reports the number of elements.
 type Fill<T> = unsafe extern "C" fn(*mut sys::Handle, *mut T, usize, *mut usize) -> u32;
 
 impl Engine {
-    /// One with no network yet, which holds no memory.
+    /// An engine without a network. It holds no memory.
     pub const fn new() -> Engine {
         Engine {
             handle: UnsafeCell::new(sys::Handle::NEW),
         }
     }
 
-    /// The handle, for a call that changes what stands behind it.
+    /// The handle, for a call that changes the session.
     pub fn handle(&mut self) -> *mut sys::Handle {
         self.handle.get()
     }
@@ -56,15 +56,15 @@ impl Engine {
         table::check(table, nodes)?;
         let values = listed(table.iter().map(|hop| hop.value()))?;
         let (hops, count) = (values.as_ptr(), values.len());
-        // each call makes the order anew, so the first one has room for all nodes
+        // Each call computes the order again, so the first call gets room for all nodes.
         let found = filled_with(count, |places, room, length| {
-            // SAFETY: as `all_of` hands them on, and the hops are a slice of their own.
+            // SAFETY: as in `all_of`, and the hops are another slice.
             unsafe { sys::revroute_pushes(self.handle.get(), hops, count, places, room, length) }
         })?;
         Ok(self.with_hops(&found.unwrap_or_default())?)
     }
 
-    /// Nodes with their next hops. A node that is no longer one has none.
+    /// Nodes with their next hops. A node that is gone counts as cut off.
     fn with_hops(&self, nodes: &[u32]) -> Result<Vec<(u32, Hop)>, NoMemory> {
         let hop = |node| self.next_hop(node).unwrap_or(Hop::CutOff);
         listed(nodes.iter().map(|&node| (node, hop(node))))
@@ -80,7 +80,7 @@ impl Engine {
     }
 
     pub fn route(&self, node: u32) -> Result<Option<Vec<u32>>, NoMemory> {
-        // SAFETY: as `all_of` hands them on.
+        // SAFETY: as in `all_of`.
         filled(|nodes, room, length| unsafe {
             sys::revroute_route(self.handle.get(), node, nodes, room, length)
         })
@@ -105,7 +105,7 @@ impl Engine {
         Reader::opened(|reader| unsafe { sys::revroute_reader_open(self.handle.get(), reader) })
     }
 
-    /// What a question has for each node, or nothing before the first network.
+    /// All elements of the answer to a question. The list is empty before the first network.
     fn all_of<T: Copy + Default>(&self, fill: Fill<T>) -> Result<Vec<T>, NoMemory> {
         // SAFETY: no other call has the handle; the places are those of a slice, which does not overlap its length.
         let found = filled(|places, room, length| unsafe {
@@ -122,14 +122,14 @@ impl Drop for Engine {
     }
 }
 
-/// What a call writes into as many places as it asks for, or `None` where it has no answer.
+/// What a call writes, with as much room as it asks for. `None` if the call has no answer.
 pub fn filled<T: Copy + Default>(
     fill: impl Fn(*mut T, usize, *mut usize) -> u32,
 ) -> Result<Option<Vec<T>>, NoMemory> {
     filled_with(0, fill)
 }
 
-/// The same with so many places at first.
+/// The same, with room for `room` elements in the first call.
 fn filled_with<T: Copy + Default>(
     room: usize,
     fill: impl Fn(*mut T, usize, *mut usize) -> u32,

@@ -1,15 +1,15 @@
-//! What questions answer.
+//! The answers to questions.
 
 use crate::sys;
 
-/// Where a node sends on what is for the destination.
+/// Where a node forwards traffic for the destination.
 #[derive(Debug, Clone, Copy, PartialEq, Eq, Hash)]
 pub enum Hop {
-    /// To this node, the next of the node's route.
+    /// To this node, the next one on the route.
     To(u32),
     /// Nowhere: the node is the destination.
     Here,
-    /// Nowhere: no links join the node with the destination, whichever way they point.
+    /// Nowhere: no links connect the node with the destination, whichever way they point.
     CutOff,
 }
 
@@ -24,7 +24,7 @@ impl Hop {
         }
     }
 
-    /// The hop as the library has it, where it names a node.
+    /// The number that the library uses for the hop.
     pub(crate) fn value(self) -> u32 {
         match self {
             Hop::To(node) => node,
@@ -42,20 +42,20 @@ impl Hop {
     }
 }
 
-/// What a round reported.
+/// The report of a round.
 #[derive(Debug, Clone, Copy, PartialEq, Eq, Hash)]
 pub struct Report {
-    /// How many turns it took.
+    /// The number of turns. In a turn, a node reverses all its links.
     pub turned: u64,
-    /// How many nodes are cut off.
+    /// The number of nodes that are cut off from the destination.
     pub cut_off: u64,
 }
 
-/// How large a network is.
+/// The size of a network.
 #[derive(Debug, Clone, Copy, PartialEq, Eq, Hash)]
 pub struct Size {
-    /// Its nodes, which are numbered from 0.
+    /// The number of nodes. They are numbered from 0.
     pub nodes: u32,
-    /// Its links.
+    /// The number of links.
     pub links: usize,
 }

@@ -1,5 +1,7 @@
-//! Routing for one destination by full link reversal: a network whose links lead from every node that is joined with the destination to
-//! it, and do so again after each change.
+//! Routing for one destination by full link reversal.
+//!
+//! A [`Network`] has directed links that never form a cycle. They lead to the destination from every node that is
+//! connected with it. After each change of the network, the engine reverses links until this holds again.
 //!
 //! ```
 //! use revroute::{Hop, Network, Refused, Report};
@@ -12,12 +14,17 @@
 //! # Ok::<(), Refused>(())
 //! ```
 //!
-//! Other threads read next hops while one thread changes the network, without a lock: each has a [`Reader`].
+//! Other threads can read next hops without a lock while one thread changes the network. Each of them has a
+//! [`Reader`].
 //!
-//! [`Session`] answers lines instead, those of the program `revroute run`. The engine is a static library, written and proved in
-//! Rattle; this crate calls it, and rules out what a caller in C has to see to.
+//! A [`Session`] answers lines of text, as the program `revroute run` does.
 //!
-//! In costs n is the number of nodes, m that of links, and d that of the links at a node.
+//! The engine is a static library, written and proved in Rattle. This crate calls it, and takes care of most of what
+//! a caller in C has to ensure. What is left: the process has one allocator; no call is made from a signal handler,
+//! or in the child after a process with threads has forked; and each thread that makes a call has 256 KiB of stack
+//! left.
+//!
+//! In the costs, n is the number of nodes, m is the number of links, and d is the number of links at a node.
 
 #![warn(missing_docs)]
 
@@ -57,7 +64,7 @@ pub fn version() -> String {
     }
 }
 
-/// Memory ran out, and all is as it was.
+/// Memory ran out. Nothing has changed.
 #[derive(Debug, Clone, Copy, PartialEq, Eq)]
 pub struct NoMemory;
 
@@ -73,7 +80,7 @@ fn text_of(bytes: &[u8]) -> &str {
     str::from_utf8(bytes).expect("an answer is ASCII")
 }
 
-/// A list of what an iterator gives.
+/// A list of the items of an iterator. It fails, instead of aborting, if memory runs out.
 fn listed<T>(items: impl ExactSizeIterator<Item = T>) -> Result<Vec<T>, NoMemory> {
     let mut list = Vec::new();
     list.try_reserve_exact(items.len()).map_err(|_| NoMemory)?;

@@ -1,16 +1,17 @@
-//! A network by typed calls.
+//! A network with typed calls.
 
 use crate::engine::{Engine, filled};
 use crate::{Hop, NoMemory, Reader, Refused, RefusedEdit, Report, Size, TableFault, listed, sys};
 use std::fmt;
 use std::iter::FusedIterator;
 
-/// A network whose links lead from every node that is joined with the destination to it.
+/// A network whose links lead to the destination from every node that is connected with it.
 ///
-/// Nodes are the numbers from 0. Each change ends in such a network again, or is [`Refused`] with nothing changed. What takes a node
-/// to ask about panics, as indexing does, where the number is no node.
+/// Nodes are numbered from 0. A change succeeds as a whole, and then the links lead to the destination again.
+/// Otherwise it returns [`Refused`], and nothing changes. A question about a number that is not a node panics, as
+/// indexing does.
 ///
-/// It can be sent to another thread, and each thread can have its own:
+/// A network can be sent to another thread, and each thread can have its own:
 ///
 /// ```
 /// let network = revroute::Network::new(2, 0, &[(0, 1)])?;
@@ -19,8 +20,8 @@ use std::iter::FusedIterator;
 /// # Ok::<(), revroute::Refused>(())
 /// ```
 ///
-/// It cannot be shared by several, since each call has it for itself. To read next hops on other threads while this one changes the
-/// network, give each of them a [`reader`](Network::reader).
+/// Threads cannot share a network, since each call has it for itself. To read next hops on other threads while one
+/// thread changes the network, give each of them a [`reader`](Network::reader).
 ///
 /// ```compile_fail,E0277
 /// fn is_shared<T: Sync>() {}
@@ -31,14 +32,14 @@ pub struct Network {
     destination: u32,
 }
 
-/// An edit of a batch, by the two nodes of its link.
+/// An edit in a batch. It names the two nodes of its link.
 #[derive(Debug, Clone, Copy, PartialEq, Eq, Hash)]
 pub enum Edit {
-    /// Takes out the link, whichever way it points.
+    /// Removes the link between the two nodes, whichever way it points.
     Cut(u32, u32),
     /// Adds a link from the first node to the second.
     Add(u32, u32),
-    /// Adds a link from the first node to the second, or the other way where that would close a walk.
+    /// Adds a link from the first node to the second, or from the second to the first if that would close a cycle.
     Join(u32, u32),
 }
 
@@ -54,8 +55,10 @@ impl From<Edit> for sys::Edit {
 }
 
 impl Network {
-    /// A network of nodes, a destination, and links, each from its tail to its head, turned until they lead to the destination.
-    /// `O(n + m)` and the round: turns while these are few, else a search, which is `O(n + m)` too.
+    /// Creates a network with the nodes 0 to `nodes - 1`, a destination, and links, each from its tail to its head.
+    ///
+    /// Then nodes turn until the links lead to the destination. The cost is `O(n + m)`, plus that of the round: its
+    /// turns if they are few, and otherwise a search, which is `O(n + m)` too.
     ///
     /// ```
     /// use revroute::{Network, Refused, Report};
@@ -69,7 +72,7 @@ impl Network {
     ///
     /// # Errors
     ///
-    /// By all of [`Refused`] but [`NoLink`](Refused::NoLink).
+    /// All variants of [`Refused`] except [`NoLink`](Refused::NoLink).
     pub fn new(nodes: u32, dest: u32, links: &[(u32, u32)]) -> Result<Network, Refused> {
         let links = listed(links.iter().map(|&(tail, head)| sys::Link { tail, head }))?;
         let mut engine = Engine::new();
@@ -95,8 +98,10 @@ impl Network {
         })
     }
 
-    /// Takes out the link between two nodes, whichever way it points. Where no node turns `O(d)`; else the rows of those that turn, and
-    /// of those that sent on to them; `O(n + m)` at most.
+    /// Removes the link between two nodes, whichever way it points.
+    ///
+    /// `O(d)` if no node turns. Otherwise the cost is that of the links at the nodes that turn, and at the nodes that
+    /// had one of these as their next hop. It is `O(n + m)` at most.
     ///
     /// ```
     /// use revroute::{Network, Refused, Report};
@@ -109,12 +114,16 @@ impl Network {
     ///
     /// # Errors
     ///
-    /// [`NoLink`](Refused::NoLink), also of what is no node, and [`NoMemory`](Refused::NoMemory).
+    /// [`NoLink`](Refused::NoLink), also if one of the numbers is not a node, and [`NoMemory`](Refused::NoMemory).
     pub fn cut(&mut self, u: u32, v: u32) -> Result<Report, Refused> {
         Ok(self.change(&[Edit::Cut(u, v).into()])?)
     }
 
-    /// Adds a link from u to v. As `cut` costs, and where the link does not fall, the rows between the heights of its ends.
+    /// Adds a link from u to v.
+    ///
+    /// It costs what [`cut`](Network::cut) costs, and a search if this is needed. The engine keeps a height for each
+    /// node, so that links point from higher nodes to lower ones. If u is not higher than v, it searches the links of
+    /// the nodes with heights between theirs.
     ///
     /// ```
     /// use revroute::{Network, Refused};
@@ -127,12 +136,13 @@ impl Network {
     ///
     /// # Errors
     ///
-    /// By all of [`Refused`] but [`NoLink`](Refused::NoLink).
+    /// All variants of [`Refused`] except [`NoLink`](Refused::NoLink).
     pub fn add(&mut self, u: u32, v: u32) -> Result<Report, Refused> {
         Ok(self.change(&[Edit::Add(u, v).into()])?)
     }
 
-    /// Adds a link from u to v, or from v to u where that would close a walk. It costs what `add` does.
+    /// Adds a link from u to v, or from v to u if the first would close a cycle. It costs what [`add`](Network::add)
+    /// costs.
     ///
     /// ```
     /// let mut network = revroute::Network::new(3, 0, &[(1, 0), (2, 1)])?;
@@ -143,12 +153,13 @@ impl Network {
     ///
     /// # Errors
     ///
-    /// By all of [`Refused`] but [`NoLink`](Refused::NoLink) and [`ClosedWalk`](Refused::ClosedWalk).
+    /// All variants of [`Refused`] except [`NoLink`](Refused::NoLink) and [`ClosedWalk`](Refused::ClosedWalk).
     pub fn join(&mut self, u: u32, v: u32) -> Result<Report, Refused> {
         Ok(self.change(&[Edit::Join(u, v).into()])?)
     }
 
-    /// Makes edits one after the other, and then one round. Each costs what it does alone.
+    /// Makes edits in order, and then one round. If one edit is refused, none is made. Each edit costs what it costs
+    /// alone.
     ///
     /// ```
     /// use revroute::{Edit, Network, Refused, RefusedEdit};
@@ -163,7 +174,7 @@ impl Network {
     ///
     /// # Errors
     ///
-    /// By all of [`Refused`], with the place of the first edit that cannot be made.
+    /// All variants of [`Refused`], with the index of the first refused edit.
     pub fn batch(&mut self, edits: &[Edit]) -> Result<Report, RefusedEdit> {
         let made = listed(edits.iter().map(|&edit| edit.into())).map_err(|_| RefusedEdit {
             at: edits.len(),
@@ -172,7 +183,7 @@ impl Network {
         self.change(&made)
     }
 
-    /// Takes another destination. `O(n + m)`, and the round.
+    /// Makes `dest` the destination. `O(n + m)`, plus the round.
     ///
     /// ```
     /// let mut network = revroute::Network::new(3, 0, &[(1, 0), (2, 1)])?;
@@ -194,7 +205,7 @@ impl Network {
         Ok(report)
     }
 
-    /// Where a node sends on what is for the destination. `O(1)`, without memory.
+    /// The next hop of a node: where it forwards traffic for the destination. `O(1)`, and needs no memory.
     ///
     /// ```
     /// use revroute::{Hop, Network};
@@ -207,7 +218,7 @@ impl Network {
     ///
     /// # Panics
     ///
-    /// Where there is no such node.
+    /// If there is no such node.
     #[inline]
     #[track_caller]
     pub fn next_hop(&self, node: u32) -> Hop {
@@ -217,8 +228,10 @@ impl Network {
         }
     }
 
-    /// A reader of the next hops, for another thread. From the first one on, each change stores every changed hop once more. `O(4,096)`
-    /// for the first reader, and `O(1)` for each later one.
+    /// A reader of the next hops, for another thread.
+    ///
+    /// Once a network has had a reader, each change stores every changed hop a second time, for the readers. The first
+    /// reader costs `O(4,096)`, and each later one `O(1)`.
     ///
     /// ```
     /// use revroute::{Hop, Network};
@@ -233,12 +246,12 @@ impl Network {
     ///
     /// # Errors
     ///
-    /// Where memory runs out.
+    /// If memory runs out.
     pub fn reader(&self) -> Result<Reader, NoMemory> {
         self.engine.reader()
     }
 
-    /// Where each node sends on to, in the order of the nodes. `O(n)`.
+    /// The next hop of each node, in the order of the nodes. `O(n)`.
     ///
     /// ```
     /// use revroute::{Hop, Network};
@@ -250,13 +263,13 @@ impl Network {
     ///
     /// # Errors
     ///
-    /// Where memory for the list runs out.
+    /// If memory for the list runs out.
     pub fn hops(&self) -> Result<Vec<Hop>, NoMemory> {
         self.engine.next_hops()
     }
 
-    /// The nodes of the way from a node to the destination, with both ends, hop by hop; none where the node is cut off. `O(1)` for each,
-    /// without memory.
+    /// The nodes on the route from a node to the destination, both included. If the node is cut off, the iterator is
+    /// empty. It asks hop by hop: `O(1)` for each, and needs no memory.
     ///
     /// ```
     /// let network = revroute::Network::new(4, 0, &[(0, 1), (1, 2)])?;
@@ -267,7 +280,7 @@ impl Network {
     ///
     /// # Panics
     ///
-    /// Where there is no such node.
+    /// If there is no such node.
     #[track_caller]
     pub fn walk(&self, node: u32) -> Walk<'_> {
         let is_joined = self.next_hop(node) != Hop::CutOff;
@@ -277,9 +290,11 @@ impl Network {
         }
     }
 
-    /// The nodes whose next hop the last change changed, each with what it is now, in push order: each after the
-    /// changed nodes on its new route. At first these are all nodes that are not cut off. A refused change leaves
-    /// them as they were. `O(k)` for k nodes.
+    /// The nodes whose next hop the last change changed, each with its new next hop. They are in push order: each node
+    /// after the changed nodes on its new route.
+    ///
+    /// For a new network, these are all nodes that are not cut off. A refused change does not change the list. `O(k)`
+    /// for k nodes.
     ///
     /// ```
     /// use revroute::{Hop, Network};
@@ -292,17 +307,17 @@ impl Network {
     ///
     /// # Errors
     ///
-    /// Where memory for the lists runs out.
+    /// If memory for the lists runs out.
     pub fn changed(&self) -> Result<Vec<(u32, Hop)>, NoMemory> {
         self.engine.changed()
     }
 
-    /// The nodes whose hop in a table of yours is not their [`next_hop`](Network::next_hop), each with its next hop, in
-    /// push order: each after those of them on its route. `O(n)`.
+    /// The nodes whose hop in your table is not their [`next_hop`](Network::next_hop), each with its next hop. They
+    /// are in push order: each node after those of them on its route. `O(n)`.
     ///
-    /// Keep a table of what your routers have confirmed, and push the difference after each change. If the next
-    /// change comes before all is pushed, make it, and ask again: nothing has to be undone. At no moment does the
-    /// table have a loop that it did not have before.
+    /// Keep a table of the hops that your routers have confirmed, and push the difference after each change. If the
+    /// next change comes before you have pushed everything, make it, and ask again: nothing has to be undone. At no
+    /// moment does the table have a loop that it did not have before.
     ///
     /// ```
     /// use revroute::{Hop, Network, TableFault};
@@ -339,9 +354,10 @@ impl Network {
     ///
     /// # Errors
     ///
-    /// [`Length`](TableFault::Length) if the table does not have one hop for each node;
-    /// [`NoSuchNode`](TableFault::NoSuchNode) for the first hop that names no node;
-    /// [`NoMemory`](TableFault::NoMemory) if memory runs out.
+    /// - [`Length`](TableFault::Length): the table does not have one hop for each node.
+    /// - [`NoSuchNode`](TableFault::NoSuchNode): a hop names a number that is not a node. It reports the first such
+    ///   hop.
+    /// - [`NoMemory`](TableFault::NoMemory): memory ran out.
     pub fn pushes(&self, table: &[Hop]) -> Result<Vec<(u32, Hop)>, TableFault> {
         self.engine.pushes(table)
     }
@@ -356,12 +372,12 @@ impl Network {
     ///
     /// # Errors
     ///
-    /// Where memory for the list runs out.
+    /// If memory for the list runs out.
     pub fn counts(&self) -> Result<Vec<u64>, NoMemory> {
         self.engine.counts()
     }
 
-    /// The links, each from its tail to its head, in rising order. `O(n + m)`.
+    /// The links as (tail, head), in rising order. `O(n + m)`.
     ///
     /// ```
     /// let network = revroute::Network::new(3, 0, &[(0, 1), (1, 2)])?;
@@ -371,12 +387,12 @@ impl Network {
     ///
     /// # Errors
     ///
-    /// Where memory for the lists runs out.
+    /// If memory for the lists runs out.
     pub fn links(&self) -> Result<Vec<(u32, u32)>, NoMemory> {
         self.engine.links()
     }
 
-    /// What the last round reported. `O(1)`, without memory.
+    /// The report of the last round. `O(1)`, and needs no memory.
     ///
     /// ```
     /// let network = revroute::Network::new(4, 0, &[(0, 1), (1, 2)])?;
@@ -387,7 +403,7 @@ impl Network {
         self.engine.report().expect("there is a network")
     }
 
-    /// How many nodes and links there are. `O(1)`, without memory.
+    /// The number of nodes and of links. `O(1)`, and needs no memory.
     ///
     /// ```
     /// let network = revroute::Network::new(4, 0, &[(0, 1), (1, 2)])?;
@@ -398,7 +414,7 @@ impl Network {
         self.engine.size().expect("there is a network")
     }
 
-    /// The destination. `O(1)`, without memory.
+    /// The destination. `O(1)`, and needs no memory.
     ///
     /// ```
     /// assert_eq!(revroute::Network::new(4, 2, &[])?.destination(), 2);
@@ -411,11 +427,12 @@ impl Network {
     fn change(&mut self, edits: &[sys::Edit]) -> Result<Report, RefusedEdit> {
         let (mut round, mut refusal) = (sys::Round::default(), sys::Refusal::default());
         let (handle, list, count) = (self.engine.handle(), edits.as_ptr(), edits.len());
-        // SAFETY: the handle is the library's own, no other call has it, the edits are a slice, and none of the four overlap.
+        // SAFETY: the handle is the library's own, no other call has it, the edits are a slice, and none of the four
+        // overlap.
         let status = unsafe { sys::revroute_change(handle, list, count, &mut round, &mut refusal) };
         ended(status, round, || {
             refused(&refusal, |walk, room, length| {
-                // SAFETY: as above, with the places of the walk, which are a slice.
+                // SAFETY: as above, and the places of the walk are another slice.
                 unsafe { sys::revroute_closed_walk(handle, list, count, walk, room, length) }
             })
         })
@@ -440,7 +457,7 @@ impl fmt::Debug for Network {
     }
 }
 
-/// The way from a node to the destination: see [`Network::walk`].
+/// The nodes on the route from a node to the destination. See [`Network::walk`].
 #[derive(Debug, Clone)]
 pub struct Walk<'a> {
     network: &'a Network,
@@ -459,7 +476,7 @@ impl Iterator for Walk<'_> {
 
 impl FusedIterator for Walk<'_> {}
 
-/// What a call came to, by its status: the report of its round, or why it is refused.
+/// The result of a call with this status: the report of its round, or why it is refused.
 fn ended(status: u32, round: sys::Round, why: impl FnOnce() -> Refused) -> Result<Report, Refused> {
     match status {
         sys::ANSWERED => Ok(Report {
@@ -472,7 +489,7 @@ fn ended(status: u32, round: sys::Round, why: impl FnOnce() -> Refused) -> Resul
     }
 }
 
-/// A refusal with its evidence. A closed walk is found again, which may want memory.
+/// A refusal with its evidence. A cycle has to be found again, which needs memory.
 fn refused(
     refusal: &sys::Refusal,
     closed_walk: impl Fn(*mut u32, usize, *mut usize) -> u32,

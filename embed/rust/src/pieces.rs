@@ -1,15 +1,15 @@
-//! Lines that come in pieces cut anywhere, as from a socket.
+//! Lines that arrive in pieces, cut anywhere, as from a socket.
 
 use crate::session::make_room;
 use crate::{NoMemory, Session, sys, text_of};
 use std::fmt;
 
-/// Why a piece was not taken. The session is as it was, and so is the piece.
+/// Why a piece was not taken. Nothing has changed, neither the session nor the piece.
 #[derive(Debug, Clone, Copy, PartialEq, Eq)]
 pub enum TakeFault {
-    /// Memory ran out: the same piece can be taken again.
+    /// Memory ran out. You can pass the same piece again.
     NoMemory,
-    /// The line that has begun is longer than 16,777,216 bytes.
+    /// The line has more than 16,777,216 bytes.
     TooLong,
 }
 
@@ -31,9 +31,12 @@ impl From<NoMemory> for TakeFault {
 }
 
 impl Session {
-    /// Takes bytes from the front of a piece, up to and with its first line end, and answers the line that this ends, with what was
-    /// kept before; where no line ends in it, all of it is kept. `None` for a blank line, and where none has
-    /// ended. `O(b)` for b bytes taken, and at a line end what [`answer`](Session::answer) costs.
+    /// Takes bytes from the front of a piece, up to and including its first newline, and answers the line that ends
+    /// there. The line begins with the bytes that were kept before. If the piece has no newline, the session takes
+    /// all of it and keeps it.
+    ///
+    /// Returns `None` if no line has ended, or if the line is blank. Call it until the piece is empty. `O(b)` for b
+    /// bytes taken, and at a newline the cost of [`answer`](Session::answer).
     ///
     /// ```
     /// let (mut session, mut answers) = (revroute::Session::new(), Vec::new());
@@ -47,15 +50,16 @@ impl Session {
     /// # Ok::<(), revroute::TakeFault>(())
     /// ```
     ///
-    /// [`answer`](Session::answer) neither reads nor changes what is kept.
+    /// [`answer`](Session::answer) neither reads nor changes the bytes that are kept.
     ///
     /// # Errors
     ///
-    /// By any fault nothing of the piece was taken.
+    /// [`TakeFault`]. Then nothing of the piece was taken.
     pub fn take(&mut self, piece: &mut &[u8]) -> Result<Option<&str>, TakeFault> {
         loop {
             let (mut length, mut taken) = (0, 0);
-            // SAFETY: the handle is new or the library's own, the piece and the buffer are slices, and none of the five overlap.
+            // SAFETY: the handle is new or the library's own, the piece and the buffer are slices, and none of the
+            // five overlap.
             let status = unsafe {
                 sys::revroute_take(
                     self.engine.handle(),
@@ -79,11 +83,12 @@ impl Session {
         }
     }
 
-    /// Answers the line that the end of the input ends, if one has begun and is not blank, at the cost of [`answer`](Session::answer).
+    /// Call this at the end of the input. It answers the line that has begun, at the cost of
+    /// [`answer`](Session::answer). Returns `None` if none has begun, or if it is blank.
     ///
     /// # Errors
     ///
-    /// Where memory runs out: the line can be ended again.
+    /// If memory runs out. The line is kept, and you can call again.
     pub fn finish(&mut self) -> Result<Option<&str>, NoMemory> {
         loop {
             let mut length = 0;

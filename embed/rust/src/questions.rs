@@ -1,9 +1,10 @@
-//! Questions to a session with numbers for answers, and no text between.
+//! Questions to a session that are answered by numbers, without text.
 
 use crate::{Hop, NoMemory, Reader, Report, Session, Size, TableFault};
 
 impl Session {
-    /// Where a node sends on to; `None` where there is no such node, as before the first network. `O(1)`, without memory.
+    /// The next hop of a node. `None` if there is no such node, and before the first network. `O(1)`, and needs no
+    /// memory.
     ///
     /// ```
     /// use revroute::{Hop, Session};
@@ -18,8 +19,8 @@ impl Session {
         self.engine.next_hop(node)
     }
 
-    /// A reader of the next hops, for another thread, as [`Network::reader`](crate::Network::reader). Before the first network each
-    /// node is cut off. The reader stays through all later networks.
+    /// A reader of the next hops, for another thread, as for [`Network::reader`](crate::Network::reader). Before the
+    /// first network all nodes are cut off. The reader keeps working when a later network replaces this one.
     ///
     /// ```
     /// use revroute::{Hop, Session};
@@ -34,24 +35,26 @@ impl Session {
     ///
     /// # Errors
     ///
-    /// Where memory runs out.
+    /// If memory runs out.
     pub fn reader(&mut self) -> Result<Reader, NoMemory> {
         self.engine.reader()
     }
 
-    /// Where each node sends on to, in the order of the nodes; nothing before the first network. `O(n)`.
+    /// The next hop of each node, in the order of the nodes. Empty before the first network. `O(n)`.
     ///
     /// # Errors
     ///
-    /// Where memory for the list runs out.
+    /// If memory for the list runs out.
     pub fn next_hops(&mut self) -> Result<Vec<Hop>, NoMemory> {
         self.engine.next_hops()
     }
 
-    /// The nodes whose next hop the last accepted round changed, in push order: each after the changed nodes on its
-    /// new route. A number that is no node of the network before or after the round counts as cut off there, and
-    /// before the first network all are cut off: so after a smaller network the nodes that are gone and had a hop are
-    /// among them. Refused requests and questions change nothing here. `O(k)` for k nodes.
+    /// The nodes whose next hop the last accepted round changed, in push order: each node after the changed nodes on
+    /// its new route. Refused requests and questions do not change this list. `O(k)` for k nodes.
+    ///
+    /// A number that is not a node of the network before or after the round counts as cut off there, and before the
+    /// first network all numbers do. So if the new network is smaller, the nodes that are gone and had a hop are on
+    /// the list.
     ///
     /// ```
     /// let mut session = revroute::Session::new();
@@ -63,12 +66,13 @@ impl Session {
     ///
     /// # Errors
     ///
-    /// Where memory for the list runs out.
+    /// If memory for the list runs out.
     pub fn rerouted(&mut self) -> Result<Vec<u32>, NoMemory> {
         self.engine.rerouted()
     }
 
-    /// The same nodes, each with its next hop: [`CutOff`](Hop::CutOff) for a node that is gone. `O(k)` for k nodes.
+    /// The nodes of [`rerouted`](Session::rerouted), each with its next hop. A node that is gone has
+    /// [`CutOff`](Hop::CutOff). `O(k)` for k nodes.
     ///
     /// ```
     /// use revroute::{Hop, Session};
@@ -82,14 +86,14 @@ impl Session {
     ///
     /// # Errors
     ///
-    /// Where memory for the lists runs out.
+    /// If memory for the lists runs out.
     pub fn changed(&mut self) -> Result<Vec<(u32, Hop)>, NoMemory> {
         self.engine.changed()
     }
 
-    /// The nodes whose hop in a table of yours is not their next hop, each with its next hop, in push order: as
-    /// [`Network::pushes`](crate::Network::pushes). Before the first network there are no nodes, so only the empty
-    /// table has an answer. `O(n)`.
+    /// The nodes whose hop in your table is not their next hop, each with its next hop, in push order. See
+    /// [`Network::pushes`](crate::Network::pushes). Before the first network there are no nodes, so it accepts only
+    /// the empty table. `O(n)`.
     ///
     /// ```
     /// use revroute::{Hop, Session};
@@ -104,22 +108,23 @@ impl Session {
     ///
     /// # Errors
     ///
-    /// By all of [`TableFault`].
+    /// All variants of [`TableFault`].
     pub fn pushes(&mut self, table: &[Hop]) -> Result<Vec<(u32, Hop)>, TableFault> {
         self.engine.pushes(table)
     }
 
-    /// How often each node turned in the last round, in the order of the nodes; nothing before the first network. `O(n)`.
+    /// How often each node turned in the last round, in the order of the nodes. Empty before the first network.
+    /// `O(n)`.
     ///
     /// # Errors
     ///
-    /// Where memory for the list runs out.
+    /// If memory for the list runs out.
     pub fn counts(&mut self) -> Result<Vec<u64>, NoMemory> {
         self.engine.counts()
     }
 
-    /// The nodes of the way from a node to the destination, with both ends; `None` where there is none, as the node is cut off or is no
-    /// node. `O(k)` for k nodes.
+    /// The nodes on the route from a node to the destination, both included. `None` if the node is cut off, or if
+    /// there is no such node. `O(k)` for k nodes.
     ///
     /// ```
     /// let mut session = revroute::Session::new();
@@ -131,12 +136,12 @@ impl Session {
     ///
     /// # Errors
     ///
-    /// Where memory for the list runs out.
+    /// If memory for the list runs out.
     pub fn route(&mut self, node: u32) -> Result<Option<Vec<u32>>, NoMemory> {
         self.engine.route(node)
     }
 
-    /// The links, each from its tail to its head, in rising order; nothing before the first network. `O(n + m)`.
+    /// The links as (tail, head), in rising order. Empty before the first network. `O(n + m)`.
     ///
     /// ```
     /// let mut session = revroute::Session::new();
@@ -147,12 +152,12 @@ impl Session {
     ///
     /// # Errors
     ///
-    /// Where memory for the lists runs out.
+    /// If memory for the lists runs out.
     pub fn links(&mut self) -> Result<Vec<(u32, u32)>, NoMemory> {
         self.engine.links()
     }
 
-    /// What the last round reported; `None` before the first network. `O(1)`, without memory.
+    /// The report of the last round. `None` before the first network. `O(1)`, and needs no memory.
     ///
     /// ```
     /// let mut session = revroute::Session::new();
@@ -164,7 +169,7 @@ impl Session {
         self.engine.report()
     }
 
-    /// How large the network is; `None` before the first. `O(1)`, without memory.
+    /// The number of nodes and of links. `None` before the first network. `O(1)`, and needs no memory.
     pub fn size(&mut self) -> Option<Size> {
         self.engine.size()
     }

@@ -1,20 +1,22 @@
-//! Readers: what other threads ask while one thread changes a network.
+//! Readers: other threads ask them for next hops while one thread changes a network.
 
 use crate::{Hop, NoMemory, sys};
 use std::cell::UnsafeCell;
 use std::fmt;
 
-/// The most nodes that a network has. A place for so many nodes has room for each route of a settled network.
+/// The most nodes that a network can have. A buffer for so many nodes has room for any route, unless hops are being
+/// pushed.
 pub const MAX_NODES: usize = 4096;
 
 /// Reads next hops on one thread while another changes the [`Network`](crate::Network) or the
 /// [`Session`](crate::Session).
 ///
-/// A read waits for nobody and takes no lock: a hop is one load. As soon as there is a reader, each accepted change
-/// pushes the changed hops to the table that all readers read, in push order, before its call returns. So at every
-/// moment this table has no loop. Two reads can be of different tables. A reader never goes back to an earlier table.
+/// A read waits for nobody and takes no lock: a hop is one load. All readers of a network read one table. Once there
+/// is a reader, each accepted change pushes the changed hops to this table, in push order, before its call returns.
+/// So at every moment the table has no loop. Two reads can be of different tables, but a reader never goes back to an
+/// earlier table.
 ///
-/// Each thread has its own reader, made by `clone`:
+/// Give each thread its own reader. `clone` makes one:
 ///
 /// ```
 /// use revroute::{Hop, Network};
@@ -33,14 +35,14 @@ pub const MAX_NODES: usize = 4096;
 /// # Ok::<(), revroute::Refused>(())
 /// ```
 ///
-/// It can be sent to another thread, and cannot be shared by several:
+/// A reader can be sent to another thread, but threads cannot share it:
 ///
 /// ```compile_fail,E0277
 /// fn is_shared<T: Sync>() {}
 /// is_shared::<revroute::Reader>();
 /// ```
 ///
-/// It outlives its network, and reads its last hops then:
+/// A reader outlives its network, and then reads its last hops:
 ///
 /// ```
 /// use revroute::{Hop, Network};
@@ -58,19 +60,19 @@ pub struct Reader {
 // SAFETY: the library proves that a reader may go to another thread; the cell keeps it from being shared by two.
 unsafe impl Send for Reader {}
 
-/// Where a walk of a [`Reader`] has ended.
+/// How a walk of a [`Reader`] has ended.
 #[derive(Debug, Clone, Copy, PartialEq, Eq, Hash)]
 pub enum Walked<'a> {
-    /// At the destination: the nodes of the way, with both ends.
+    /// At the destination. The slice has the nodes of the walk, both ends included.
     Arrived(&'a [u32]),
     /// At a node that is cut off.
     CutOff,
-    /// Nowhere yet, and the place is full: all its nodes were walked.
+    /// The buffer was full before the walk ended. The slice is the whole buffer, with the nodes walked so far.
     Longer(&'a [u32]),
 }
 
 impl Reader {
-    /// A reader that a call opens.
+    /// The reader that the call `open` opens.
     pub(crate) fn opened(
         open: impl FnOnce(*mut sys::ReaderHandle) -> u32,
     ) -> Result<Reader, NoMemory> {
@@ -88,14 +90,14 @@ impl Reader {
     ///
     /// # Errors
     ///
-    /// Where memory runs out.
+    /// If memory runs out.
     pub fn try_clone(&self) -> Result<Reader, NoMemory> {
         // SAFETY: the handle is the library's own, no other call has it, and the other one is new.
         Reader::opened(|other| unsafe { sys::revroute_reader_copy(self.handle.get(), other) })
     }
 
-    /// Where a node sends on to, by one load. A number below [`MAX_NODES`] that is no node of the network is cut off.
-    /// `O(1)`, without memory.
+    /// The next hop of a node, by one load. A number below [`MAX_NODES`] that is not a node of the network is cut off.
+    /// `O(1)`, and needs no memory.
     ///
     /// ```
     /// use revroute::{Hop, Network};
@@ -120,12 +122,15 @@ impl Reader {
         }
     }
 
-    /// Walks from a node hop by hop, by one load for each, and writes the nodes to the front of a place.
+    /// Walks hop by hop from a node, with one load for each hop, and writes the nodes to the front of the buffer
+    /// `place`.
     ///
-    /// While another thread changes the network, later steps can read later hops. Then the walk can visit a node again,
-    /// or end at a node that is cut off although its first node has a way before and after. If the place is full before the walk has ended, the answer is [`Longer`](Walked::Longer) with all nodes
-    /// of the place: walk again, or go on from the last of them. With a place of [`MAX_NODES`] nodes that happens
-    /// only while hops are pushed. `O(k)` for k nodes, without memory.
+    /// While another thread changes the network, later steps can read later hops. Then the walk can visit a node
+    /// again, or end at a node that is cut off although its first node has a route before and after.
+    ///
+    /// If the buffer is full before the walk ends, the result is [`Longer`](Walked::Longer). Then walk again, or go
+    /// on from the last node of the buffer. With room for [`MAX_NODES`] nodes this happens only while hops are
+    /// pushed. `O(k)` for k nodes, and needs no memory.
     ///
     /// ```
     /// use revroute::{MAX_NODES, Network, Walked};
@@ -145,8 +150,8 @@ impl Reader {
     pub fn walk<'a>(&self, node: u32, place: &'a mut [u32]) -> Walked<'a> {
         assert!((node as usize) < MAX_NODES, "no network has a node {node}");
         let (places, room, mut length) = (place.as_mut_ptr(), place.len(), 0);
-        // SAFETY: the handle is the library's own, no other call has it, and the place is a slice, which does not overlap
-        // its length.
+        // SAFETY: the handle is the library's own, no other call has it, and the place is a slice, which does not
+        // overlap its length.
         let status = unsafe {
             sys::revroute_reader_route(self.handle.get(), node, places, room, &mut length)
         };
@@ -159,11 +164,11 @@ impl Reader {
     }
 }
 
-/// As [`try_clone`](Reader::try_clone).
+/// One more reader of the same table, as by [`try_clone`](Reader::try_clone).
 ///
 /// # Panics
 ///
-/// Where memory runs out.
+/// If memory runs out.
 impl Clone for Reader {
     fn clone(&self) -> Reader {
         self.try_clone().expect("there is memory for a reader")

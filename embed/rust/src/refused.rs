@@ -1,23 +1,23 @@
-//! Why a network cannot be made, or a change cannot.
+//! Why a network or a change is refused.
 
 use crate::NoMemory;
 use std::error::Error;
 use std::fmt;
 
-/// Why a network cannot be made, or a change cannot, with what shows it. Nothing has changed.
+/// Why a network or a change is refused, with the nodes that show it. Nothing has changed.
 #[derive(Debug, Clone, PartialEq, Eq)]
 pub enum Refused {
-    /// Memory ran out: the same can be asked again.
+    /// Memory ran out. You can make the same call again.
     NoMemory,
-    /// This is no node. Nodes are numbered from 0; where there are none, the destination is none either.
+    /// There is no node with this number. Nodes are numbered from 0. A network of 0 nodes is refused for node 0.
     NoSuchNode(u32),
-    /// A link would join this node with itself.
+    /// A link would connect this node with itself.
     SelfLink(u32),
-    /// More than one link would join these two nodes.
+    /// More than one link would connect these two nodes.
     Twice(u32, u32),
-    /// Links would lead round: by these nodes, the first of them again at the end.
+    /// The links would contain this cycle. The first node comes again at the end.
     ClosedWalk(Vec<u32>),
-    /// No link joins these two nodes.
+    /// No link connects these two nodes.
     NoLink(u32, u32),
     /// There would be more than 4,096 nodes, 32,768 links or 1,024 edits.
     TooMany,
@@ -50,13 +50,13 @@ impl From<NoMemory> for Refused {
     }
 }
 
-/// Why a batch cannot be made. Nothing has changed.
+/// Why a batch is refused. Nothing has changed.
 #[derive(Debug, Clone, PartialEq, Eq)]
 pub struct RefusedEdit {
-    /// Which edit is the first that cannot be made, behind those before it: its place in the batch. Their number where the cause is no
-    /// edit's, as where they are too many.
+    /// The index of the first edit that cannot be made after those before it. If the reason is not a single edit
+    /// (there are too many, or memory ran out), it is the number of edits.
     pub at: usize,
-    /// Why.
+    /// The reason.
     pub why: Refused,
 }
 

@@ -1,13 +1,14 @@
-//! A session that answers lines, a request in JSON for a line of text.
+//! A session that answers lines: a line has a request in JSON, and its answer is a line of text.
 
 use crate::engine::Engine;
 use crate::{NoMemory, sys, text_of};
 use std::fmt;
 
-/// The room for an answer that a session begins with. It grows where a question has a longer answer.
+/// The size of a session's first buffer for answers. The buffer grows when an answer is longer.
 const FIRST_ROOM: usize = 4096;
 
-/// A session, which holds the network of the lines so far, and answers lines as the program `revroute run` does. It begins with none.
+/// Answers lines as the program `revroute run` does. A session holds the network that the lines so far have made. It
+/// begins without a network.
 ///
 /// ```
 /// let mut session = revroute::Session::new();
@@ -16,7 +17,7 @@ const FIRST_ROOM: usize = 4096;
 /// # Ok::<(), revroute::NoMemory>(())
 /// ```
 ///
-/// It can be sent to another thread, and each thread can have its own:
+/// A session can be sent to another thread, and each thread can have its own:
 ///
 /// ```
 /// let mut session = revroute::Session::new();
@@ -26,7 +27,7 @@ const FIRST_ROOM: usize = 4096;
 /// # Ok::<(), revroute::NoMemory>(())
 /// ```
 ///
-/// It cannot be shared by several:
+/// Threads cannot share a session:
 ///
 /// ```compile_fail,E0277
 /// fn is_shared<T: Sync>() {}
@@ -38,7 +39,7 @@ pub struct Session {
 }
 
 impl Session {
-    /// A session with no network yet, which holds no memory. `O(1)`.
+    /// A session without a network. It holds no memory. `O(1)`.
     pub const fn new() -> Session {
         Session {
             engine: Engine::new(),
@@ -46,9 +47,11 @@ impl Session {
         }
     }
 
-    /// The answer to a line, or `None` for a blank one, which has spaces, tabs and carriage returns alone. One line feed at its end is
-    /// no part of a line, so that lines can be asked as they are read; the answer has none. A request that is refused has an answer
-    /// too. `O(b)` for b bytes of line and answer, and what the call of [`Network`](crate::Network) costs:
+    /// Answers a line. A refused request has an answer too. Returns `None` for a blank line, which has only spaces,
+    /// tabs and carriage returns.
+    ///
+    /// The line may end with one newline, so you can pass lines as you read them. The answer has no newline. `O(b)`
+    /// for b bytes of line and answer, and the cost of the same call of [`Network`](crate::Network).
     ///
     /// ```
     /// let mut session = revroute::Session::new();
@@ -59,7 +62,7 @@ impl Session {
     ///
     /// # Errors
     ///
-    /// Where memory runs out, for the answer or its buffer. The session is then as it was, and the line can be asked again.
+    /// If memory for the answer or its buffer runs out. Then the session is unchanged, and you can ask again.
     pub fn answer(&mut self, line: impl AsRef<[u8]>) -> Result<Option<&str>, NoMemory> {
         let line = line.as_ref();
         self.answer_bytes(line.strip_suffix(b"\n").unwrap_or(line))
@@ -68,7 +71,8 @@ impl Session {
     fn answer_bytes(&mut self, line: &[u8]) -> Result<Option<&str>, NoMemory> {
         loop {
             let mut length = 0;
-            // SAFETY: the handle is new or the library's own, the line and the buffer are slices, and none of the four overlap.
+            // SAFETY: the handle is new or the library's own, the line and the buffer are slices, and none of the
+            // four overlap.
             let status = unsafe {
                 sys::revroute_answer(
                     self.engine.handle(),
@@ -102,7 +106,7 @@ impl fmt::Debug for Session {
     }
 }
 
-/// Makes a buffer of at least so many bytes, and at least twice as many as before.
+/// Makes the buffer at least `wanted` bytes long, and at least twice as long as before.
 pub(crate) fn make_room(buffer: &mut Vec<u8>, wanted: usize) -> Result<(), NoMemory> {
     let room = wanted.max(2 * buffer.len()).max(FIRST_ROOM);
     buffer

@@ -3,65 +3,65 @@
 use std::ffi::c_void;
 use std::ptr::null_mut;
 
-/// What the library holds of a session. Only the library reads it.
+/// The handle of a session. Only the library reads it.
 #[repr(C)]
 pub struct Handle {
     at: *mut c_void,
 }
 
 impl Handle {
-    /// The handle of a session with no network yet, which holds no memory.
+    /// The handle of a session without a network. It holds no memory.
     pub const NEW: Handle = Handle { at: null_mut() };
 }
 
-/// What the library holds of a reader. Only the library reads it.
+/// The handle of a reader. Only the library reads it.
 #[repr(C)]
 pub struct ReaderHandle {
     at: *mut c_void,
 }
 
 impl ReaderHandle {
-    /// The handle of no reader, which holds no memory.
+    /// The null reader. It holds no memory.
     pub const NONE: ReaderHandle = ReaderHandle { at: null_mut() };
 }
 
-/// The answer stands at the front of the buffer.
+/// The call succeeded. What it writes is at the front of the buffer or the array.
 pub const ANSWERED: u32 = 0;
 /// The line is blank.
 pub const BLANK: u32 = 1;
-/// The buffer is too short, nothing has changed, and the length is the room that is wanted.
+/// The buffer is too short. The length is the length that is needed, and nothing has changed.
 pub const TOO_SHORT: u32 = 2;
-/// Memory ran out, and nothing has changed.
+/// Memory ran out. Nothing has changed.
 pub const NO_MEMORY: u32 = 3;
-/// There is no network yet.
+/// The session has no network yet, or the reader is null.
 pub const NO_NETWORK: u32 = 4;
-/// There is no way to the destination.
+/// The node has no route to the destination.
 pub const NO_ROUTE: u32 = 5;
-/// The call is refused, and its refusal tells why.
+/// The call is refused, and its refusal says why.
 pub const REFUSED: u32 = 6;
-/// No closed walk refuses this.
+/// The edits or the links are not refused for a cycle.
 pub const NO_WALK: u32 = 7;
-/// No line has ended, and the bytes are kept.
+/// No line has ended. The bytes are kept.
 pub const BEGUN: u32 = 8;
-/// The line is longer than a line may be, and nothing was taken.
+/// The line is longer than the limit. Nothing was taken.
 pub const TOO_LONG: u32 = 9;
-// `NO_TABLE`, 10, never comes: the crate looks at a table before it asks.
+// `NO_TABLE`, 10, is never returned: the crate checks a table before it passes it on.
 
 /// In place of a next hop: the node is the destination.
 pub const HERE: u32 = 0xffff_ffff;
-/// In place of a next hop: the node is not joined with the destination.
+/// In place of a next hop: the node is cut off from the destination.
 pub const CUT_OFF: u32 = 0xffff_fffe;
-/// In place of a next hop: the number is no node.
+/// In place of a next hop: there is no such node.
 pub const NO_SUCH_NODE: u32 = 0xffff_fffd;
 /// In place of a next hop: there is no network yet.
 pub const NO_HOP: u32 = 0xffff_fffc;
 
-/// What an edit does to the link between its nodes: takes it out, adds it, or adds it whichever way it can point.
+/// The kinds of edits: remove a link, add one, or add one in the direction that closes no cycle.
 pub const CUT: u32 = 0;
 pub const ADD: u32 = 1;
 pub const JOIN: u32 = 2;
 
-/// Why a call is refused, by the numbers of the lines.
+/// Why a call is refused. Lines use the same numbers.
 pub const NO_SUCH: u32 = 4;
 pub const SELF_LINK: u32 = 5;
 pub const TWICE: u32 = 6;
@@ -86,7 +86,7 @@ pub struct Edit {
     pub v: u32,
 }
 
-/// What a round came to.
+/// The report of a round.
 #[repr(C)]
 #[derive(Default)]
 pub struct Round {
@@ -94,7 +94,7 @@ pub struct Round {
     pub cut_off: u64,
 }
 
-/// Why a call is refused, with the nodes that are evidence, and which of the edits.
+/// Why a call is refused, with the nodes that show it, and the index of the edit.
 #[repr(C)]
 #[derive(Default)]
 pub struct Refusal {

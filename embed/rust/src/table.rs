@@ -1,18 +1,18 @@
-//! Tables of the caller's: the hops that its routers have.
+//! Checks a caller's table, which has the hops of its routers.
 
 use crate::{Hop, NoMemory};
 use std::error::Error;
 use std::fmt;
 
-/// Why there are no pushes for a table.
+/// Why a table is refused.
 #[derive(Debug, Clone, Copy, PartialEq, Eq)]
 #[non_exhaustive]
 pub enum TableFault {
     /// The table does not have one hop for each node.
     Length,
-    /// A hop of the table names this, which is no node.
+    /// A hop of the table names this number, which is not a node.
     NoSuchNode(u32),
-    /// Memory ran out: the same can be asked again.
+    /// Memory ran out. You can make the same call again.
     NoMemory,
 }
 
@@ -36,7 +36,7 @@ impl From<NoMemory> for TableFault {
     }
 }
 
-/// Looks that a table has one hop for each of so many nodes, and that each names a node.
+/// Checks that a table has one hop for each of `nodes` nodes, and that each hop names a node.
 pub fn check(table: &[Hop], nodes: u32) -> Result<(), TableFault> {
     if table.len() != nodes as usize {
         return Err(TableFault::Length);

@@ -54,7 +54,8 @@ fn without_memory_the_session_is_as_it_was() -> Result<(), NoMemory> {
     Ok(())
 }
 
-/// Makes a change with each allocation refused in turn, after which all is as it was, and returns what it comes to with none refused.
+/// Makes a change with each allocation refused in turn, after which all is as it was, and returns what it comes to
+/// with none refused.
 fn made_poor(
     network: &mut Network,
     change: impl Fn(&mut Network) -> Result<Report, Refused>,
