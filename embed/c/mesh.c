@@ -1,7 +1,7 @@
-/* A mesh that loses links and regains them. The next hops that change are pushed to the nodes' forwarding tables, one
- * by one. No loop may be in the tables after any push. Now and then the next link fails or comes back before all is
- * pushed; then the pushes go on from the tables as they are. Once all is pushed the tables are followed from every
- * node. */
+/* A mesh whose links fail and come back. The program pushes the changed next hops to the forwarding tables of the nodes,
+ * one by one, and after each push it checks that the tables have no loop. Sometimes the next link fails or comes back
+ * before everything is pushed; then the pushes continue from the tables as they are. Once everything is pushed, the
+ * program follows the tables from every node. */
 #include <revroute.h>
 #include <stdbool.h>
 #include <stdio.h>
@@ -9,7 +9,7 @@
 
 enum { SIDE = 20, NODES = SIDE * SIDE, LINKS = 2 * SIDE * (SIDE - 1), CHANGES = 2000, HOME = 0 };
 
-/* Where each node sends on to, and between which a link is up. */
+/* The next hop of each node, and between which nodes a link is up. */
 static uint32_t table[NODES];
 static bool is_up[NODES][NODES];
 
@@ -35,15 +35,15 @@ static void lay(revroute_link *links) {
     }
 }
 
-/* Whether the tables lead from a node back to it. */
+/* Whether the tables lead from a node back to itself. */
 static bool goes_round(uint32_t node) {
     uint32_t next = table[node];
     for (size_t steps = 0; steps < NODES && next < NODES && next != node; steps++) next = table[next];
     return next == node;
 }
 
-/* The nodes to push, in push order: those that the last round changed, or if pushes were left over, all whose table
- * is not settled. */
+/* The nodes to push, in push order. These are the nodes that the last round changed. If pushes were left over, they are
+ * all nodes whose hop in the tables is not their next hop. */
 static size_t nodes_to_push(revroute *session, bool is_settled, uint32_t *nodes) {
     size_t count;
     uint32_t status = is_settled ? revroute_rerouted(session, nodes, NODES, &count)
@@ -52,7 +52,7 @@ static size_t nodes_to_push(revroute *session, bool is_settled, uint32_t *nodes)
     return count;
 }
 
-/* Pushes next hops, all or as many as are drawn, and returns whether these are all. A new loop would pass the node
+/* Pushes next hops: all of them, or a random number. Returns whether it pushed all. A new loop would contain the node
  * that was pushed. */
 static bool push(revroute *session, bool is_settled, bool is_interrupted) {
     uint32_t nodes[NODES];
@@ -64,13 +64,13 @@ static bool push(revroute *session, bool is_settled, bool is_interrupted) {
     return last == count;
 }
 
-/* A link that fails takes the hops over it out of the tables. */
+/* Removes the hops over a failed link from the tables. */
 static void forget(revroute_link link) {
     if (table[link.tail] == link.head) table[link.tail] = REVROUTE_CUT_OFF;
     if (table[link.head] == link.tail) table[link.head] = REVROUTE_CUT_OFF;
 }
 
-/* Whether the tables lead from a node to the destination by links that are up. */
+/* Whether the tables lead from a node to the destination over links that are up. */
 static bool leads(uint32_t node) {
     for (size_t steps = 0; steps < NODES && node != HOME; steps++) {
         uint32_t next = table[node];
@@ -88,7 +88,7 @@ static void follow_all(uint64_t cut_off) {
     if (cut_off) stop("a table is of another node that is cut off");
 }
 
-/* A link of the mesh fails or comes back. The first *up links are up, those after them down. */
+/* Makes a link of the mesh fail or come back. The first *up links are up, and the rest are down. */
 static void change(revroute *session, revroute_link *links, size_t *up, revroute_round *round) {
     revroute_refusal refusal;
     bool fails = *up == LINKS || (*up && draw(2));

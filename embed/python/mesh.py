@@ -1,7 +1,7 @@
-"""A mesh that loses links and regains them. The next hops that change are pushed to the nodes' forwarding tables, one
-by one. No loop may be in the tables after any push. Now and then the next link fails or comes back before all is
-pushed; then the pushes go on from the tables as they are. Once all is pushed the tables are followed from every
-node."""
+"""A mesh whose links fail and come back. The program pushes the changed next hops to the forwarding tables of the
+nodes, one by one, and after each push it checks that the tables have no loop. Sometimes the next link fails or comes
+back before everything is pushed; then the pushes continue from the tables as they are. Once everything is pushed, the
+program follows the tables from every node."""
 
 import random
 
@@ -12,7 +12,7 @@ SIDE, HOME, CHANGES = 20, 0, 2000
 
 
 def lost(table, up):
-    """The nodes from which the tables lead round in a loop, over a link that is down, or to a node that sends nothing on."""
+    """The nodes from which the tables lead into a loop, over a link that is down, or to a node without a next hop."""
     leads, found = {HOME}, []
     for start, hop in enumerate(table):
         way, node = [], start
@@ -27,7 +27,7 @@ def lost(table, up):
 
 
 def goes_round(table, node):
-    """Whether the tables lead from a node back to it."""
+    """Whether the tables lead from a node back to itself."""
     at = table[node]
     for _ in table:
         if isinstance(at, NoHop) or at == node:
@@ -37,14 +37,14 @@ def goes_round(table, node):
 
 
 def forget(table, u, v):
-    """A link that fails takes the hops over it out of the tables."""
+    """Removes the hops over a failed link from the tables."""
     for node, other in ((u, v), (v, u)):
         if table[node] == other:
             table[node] = NoHop.CUT_OFF
 
 
 def change(draw, network, table, up, down):
-    """A link fails or comes back."""
+    """Makes a link fail or come back."""
     if down and draw.random() < 0.5:
         link = down.pop(draw.randrange(len(down)))
         network.join(*link)
@@ -60,7 +60,7 @@ def change(draw, network, table, up, down):
 def push(pushes, table):
     for node, hop in pushes:
         table[node] = hop
-        # A new loop would pass the node that was pushed.
+        # A new loop would contain the node that was pushed.
         if goes_round(table, node):
             raise SystemExit(f"a loop passes node {node}: {table}")
 

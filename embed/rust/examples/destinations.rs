@@ -1,5 +1,5 @@
-//! A mesh in which every node is a destination: a network for each, on as many threads as there are cores. Each link
-//! that fails or comes back changes all networks, and behind each change every route is walked.
+//! A mesh in which every node is a destination. Each destination has a network of its own, and there are as many threads
+//! as cores. Whenever a link fails or comes back, all networks change, and then the program walks every route.
 
 use revroute::{Network, Refused};
 use std::error::Error;
@@ -8,7 +8,7 @@ use std::thread;
 const SIDE: u32 = 12;
 const CHANGES: usize = 100;
 
-/// The links of a square mesh, each towards the lesser number.
+/// The links of a square mesh. Each points to the lower number.
 fn mesh() -> Vec<(u32, u32)> {
     let left = |x: u32| (x % SIDE > 0).then(|| (x, x - 1));
     let above = |x: u32| x.checked_sub(SIDE).map(|y| (x, y));
@@ -17,8 +17,8 @@ fn mesh() -> Vec<(u32, u32)> {
         .collect()
 }
 
-/// Fails every third link, one after the other, and brings each back four changes later; returns how many nodes the
-/// routes have together.
+/// Makes every third link fail, one after the other, and brings each back four changes later. Returns the total length
+/// of all routes.
 fn live(network: &mut Network) -> Result<usize, Refused> {
     let (links, mut steps) = (mesh(), 0);
     for at in 0..CHANGES {

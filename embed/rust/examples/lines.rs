@@ -1,4 +1,4 @@
-//! Answers the lines of standard input, each asked by itself, as `revroute run` answers them.
+//! Answers the lines of standard input one by one, as `revroute run` does.
 
 use revroute::Session;
 use std::error::Error;

@@ -1,7 +1,7 @@
-//! A mesh that loses links and regains them. The next hops that change are pushed to the nodes' forwarding tables,
-//! one by one. No loop may be in the tables after any push. Now and then the next link fails or comes back before all
-//! is pushed; then the pushes go on from the tables as they are. Once all is pushed the tables are followed from
-//! every node.
+//! A mesh whose links fail and come back. The program pushes the changed next hops to the forwarding tables of the nodes,
+//! one by one, and after each push it checks that the tables have no loop. Sometimes the next link fails or comes back
+//! before everything is pushed; then the pushes continue from the tables as they are. Once everything is pushed, the
+//! program follows the tables from every node.
 
 use revroute::{Hop, Network, Refused, Report};
 use std::error::Error;
@@ -10,7 +10,7 @@ const SIDE: u32 = 20;
 const HOME: u32 = 0;
 const CHANGES: u32 = 2000;
 
-/// The links of a square mesh, each towards the lesser number.
+/// The links of a square mesh. Each points to the lower number.
 fn mesh() -> Vec<(u32, u32)> {
     let left = |x: u32| (x % SIDE > 0).then(|| (x, x - 1));
     let above = |x: u32| x.checked_sub(SIDE).map(|y| (x, y));
@@ -19,7 +19,7 @@ fn mesh() -> Vec<(u32, u32)> {
         .collect()
 }
 
-/// Between which nodes a link is up.
+/// Whether a link between two nodes is up.
 struct Up(Vec<bool>);
 
 impl Up {
@@ -36,7 +36,7 @@ impl Up {
     }
 }
 
-/// Whether the tables lead from a node to the destination by links that are up.
+/// Whether the tables lead from a node to the destination over links that are up.
 fn leads(tables: &[Hop], up: &Up, mut node: u32) -> bool {
     for _ in tables {
         let Hop::To(next) = tables[node as usize] else {
@@ -50,7 +50,7 @@ fn leads(tables: &[Hop], up: &Up, mut node: u32) -> bool {
     false
 }
 
-/// Whether the tables lead from a node back to it.
+/// Whether the tables lead from a node back to itself.
 fn goes_round(tables: &[Hop], node: u32) -> bool {
     let mut at = node;
     for _ in tables {
@@ -65,7 +65,7 @@ fn goes_round(tables: &[Hop], node: u32) -> bool {
     false
 }
 
-/// Looks at all tables: each leads to the destination, or its node knows that it is cut off.
+/// Checks all tables: each leads to the destination, or its node is cut off.
 fn follow_all(tables: &[Hop], up: &Up, cut_off: u64) -> Result<(), String> {
     let (lost, joined): (Vec<u32>, Vec<u32>) =
         (0..SIDE * SIDE).partition(|&node| tables[node as usize] == Hop::CutOff);
@@ -78,7 +78,7 @@ fn follow_all(tables: &[Hop], up: &Up, cut_off: u64) -> Result<(), String> {
     }
 }
 
-/// Numbers that are drawn, the same at each start.
+/// Random numbers, the same in each run.
 fn draw(drawn: &mut u64, below: usize) -> usize {
     *drawn = drawn
         .wrapping_mul(6364136223846793005)
@@ -110,7 +110,7 @@ impl Mesh {
         })
     }
 
-    /// A link fails or comes back.
+    /// Makes a link fail or come back.
     fn change(&mut self) -> Result<Report, Refused> {
         if !self.failed.is_empty() && draw(&mut self.drawn, 2) == 0 {
             let at = draw(&mut self.drawn, self.failed.len());
@@ -128,7 +128,7 @@ impl Mesh {
         }
     }
 
-    /// A link that fails takes the hops over it out of the tables.
+    /// Removes the hops over a failed link from the tables.
     fn forget(&mut self, u: u32, v: u32) {
         for (node, other) in [(u, v), (v, u)] {
             if self.tables[node as usize] == Hop::To(other) {
@@ -137,7 +137,7 @@ impl Mesh {
         }
     }
 
-    /// Pushes next hops, all or as many as are drawn, and returns whether these are all.
+    /// Pushes next hops: all of them, or a random number. Returns whether it pushed all.
     fn push(&mut self, is_settled: bool, is_interrupted: bool) -> Result<bool, Box<dyn Error>> {
         let pushes = if is_settled {
             self.network.changed()?
@@ -150,7 +150,7 @@ impl Mesh {
         };
         for &(node, hop) in &pushes[..last] {
             self.tables[node as usize] = hop;
-            // A new loop would pass the node that was pushed.
+            // A new loop would contain the node that was pushed.
             if goes_round(&self.tables, node) {
                 return Err(format!("a loop passes node {node}").into());
             }

@@ -1,5 +1,7 @@
-"""Routing for one destination by full link reversal: a network whose links lead from every node that is joined with the destination to it,
-and do so again after each change.
+"""Routing for one destination by full link reversal.
+
+A Network has directed links that never form a cycle. They lead to the destination from every node that is connected
+with it. After each change of the network, the engine reverses links until this holds again.
 
 >>> import revroute
 >>> network = revroute.Network(5, 0, [(1, 0), (2, 0), (3, 1), (3, 2), (4, 3)])
@@ -10,24 +12,24 @@ Report(turned=1, cut_off=0)
 >>> network.changed()
 [(3, 2), (1, 3)]
 
-Changes, each a round with a Report, or Refused in words and with evidence:
+Changes. Each starts a round, and returns its Report or raises Refused, which says why and names the nodes:
 
-    cut(u, v)         takes out the link between two nodes
+    cut(u, v)         removes the link between u and v
     add(u, v)         adds a link from u to v
-    join(u, v)        adds a link whichever way it can point
-    batch(edits)      makes edits such as ("cut", u, v), and one round
-    move(dest)        takes another destination
+    join(u, v)        adds a link from u to v, or from v to u if the first would close a cycle
+    batch(edits)      makes edits such as ("cut", u, v) in order, and then one round
+    move(dest)        makes dest the destination
 
 Questions:
 
-    next_hop(node)    where a node sends on to; table(), hops() and hops_into(buffer) for all nodes
-    walk(node)        the way from a node to the destination
-    changed()         the nodes whose next hop the last change changed, with the hop, in push order
-    pushes(table)     the nodes whose hop in a table of yours is another one, with the hop, in push order
+    next_hop(node)    the next hop of a node; table(), hops() and hops_into(buffer) have those of all nodes
+    walk(node)        the nodes on the route from a node to the destination
+    changed()         the nodes whose next hop the last change changed, with the new hop, in push order
+    pushes(table)     the nodes whose hop in your table is not their next hop, with the next hop, in push order
     counts(), links(), report, size, dest
 
-Give forwarding tables their hops in push order, and no loop appears in them. This is a whole controller; `send` gives
-a router its hop, and returns once the router has confirmed it:
+If forwarding tables get their hops in push order, no new loop appears in them. This is a complete controller. `send`
+gives a router its hop, and returns once the router has confirmed it:
 
 >>> table, send = {}, print
 >>> for node, hop in network.pushes(table):
@@ -41,13 +43,15 @@ a router its hop, and returns once the router has confirmed it:
 >>> network.pushes(table)
 []
 
-Other threads read next hops while one thread changes the network, and wait for nobody, each by a reader of its own:
+While one thread changes the network, other threads can read next hops. Give each of them a reader. It never waits for
+a change:
 
     reader()          a Reader, with next_hop(node), walk(node), copy() and close()
 
-`Network.from_networkx(graph, dest)` takes a graph of networkx with its names, and `to_networkx()` gives one.
+`Network.from_networkx(graph, dest)` makes a network from a networkx graph and keeps its names. `to_networkx()` makes a
+networkx graph.
 
-A `Session` answers lines instead, those of the program `revroute run`.
+A `Session` answers lines of text, as the program `revroute run` does.
 """
 
 from .network import Network, Refused

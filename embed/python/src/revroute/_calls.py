@@ -1,6 +1,6 @@
 """The calls of `embed/c/revroute.h`, as C declares them.
 
-`library` gives up the interpreter's lock while a call runs, and `questions` keeps it, as it is for calls that are over in no time.
+`library` releases the interpreter's lock while a call runs. `questions` keeps it, since its calls are short.
 """
 
 from __future__ import annotations
@@ -16,25 +16,25 @@ UNKNOWN_EDIT, RANGE, SELF_LINK, TWICE, CLOSED_WALK, NO_LINK, TOO_MANY = 2, *rang
 
 
 class Handle(ctypes.Structure):
-    """What the library holds of a session. Only the library reads it, and it is never copied."""
+    """The handle of a session. Only the library reads it, and it is never copied."""
 
     _fields_ = [("at", ctypes.c_void_p)]
 
 
 class ReaderHandle(ctypes.Structure):
-    """What the library holds of a reader. Only the library reads it, and it is never copied."""
+    """The handle of a reader. Only the library reads it, and it is never copied."""
 
     _fields_ = [("at", ctypes.c_void_p)]
 
 
 class Refusal(ctypes.Structure):
-    """Why a call is refused, with the nodes that are evidence, and which of the edits."""
+    """Why a call is refused, with the nodes that show it, and the index of the edit."""
 
     _fields_ = [("number", ctypes.c_uint32), ("u", ctypes.c_uint32), ("v", ctypes.c_uint32), ("at", ctypes.c_size_t)]
 
 
 _number, _wide, _size = ctypes.c_uint32, ctypes.c_uint64, ctypes.c_size_t
-# the bytes of links, edits or hops, and the two numbers of a round by their address
+# Links, edits and hops are passed as bytes. The two numbers of a round are passed by their address.
 _given, _round, _handle = ctypes.c_char_p, ctypes.c_void_p, ctypes.POINTER(Handle)
 _reader = ctypes.POINTER(ReaderHandle)
 _text, _length, _numbers = ctypes.POINTER(ctypes.c_char), ctypes.POINTER(_size), ctypes.POINTER(_number)
@@ -68,7 +68,7 @@ _WORDS: dict[str, list[Any]] = {
 
 
 def load(kind: Any = ctypes.CDLL) -> Any:
-    """The library, whose calls have their types."""
+    """The library, with the types of its calls."""
     path = Path(__file__).with_name("librevroute.so")
     try:
         library = kind(str(path))
@@ -82,8 +82,9 @@ def load(kind: Any = ctypes.CDLL) -> Any:
 
 
 library, questions = load(), load(ctypes.PyDLL)
-# Without types, which take longer to look at than the calls: given a c_void_p and a number that is less than that of the nodes, and a handle,
-# bytes, a c_size_t, a c_void_p and a refusal.
+# These three have no types, since ctypes takes longer to check them than the calls take. `next_hop` and
+# `reader_next_hop` must get a c_void_p and a number below the number of nodes. `change` must get a handle, bytes, a
+# c_size_t, a c_void_p and a refusal.
 next_hop, change = load(ctypes.PyDLL).revroute_next_hop, load().revroute_change
 reader_next_hop = load(ctypes.PyDLL).revroute_reader_next_hop
 next_hop.argtypes = change.argtypes = reader_next_hop.argtypes = None

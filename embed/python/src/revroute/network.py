@@ -1,4 +1,4 @@
-"""A network and its routes by calls, with nodes by numbers or by names of the caller's own."""
+"""A network and its routes. Nodes have numbers, or names that the caller chooses."""
 
 from __future__ import annotations
 
@@ -19,7 +19,7 @@ if TYPE_CHECKING:
 
 Name = TypeVar("Name", bound=Hashable)
 
-# what stands for a number that the library has none for: no node of any network
+# Passed to the library for a number that does not fit into 32 bits. No network has a node with this number.
 _NO_NODE = 0xFFFFFFFF
 _ONE = ctypes.c_size_t(1)
 _KINDS = {"cut": _calls.CUT, "add": _calls.ADD, "join": _calls.JOIN}
@@ -34,11 +34,19 @@ _REASONS = {
 
 
 class Refused(ValueError):
-    """A network that cannot be made, or a change that cannot: nothing has changed.
+    """A network or a change is refused. Nothing has changed.
 
-    `number` is that of the answer `refused` of a session. `nodes` shows why: the closed walk, its first node again at the end (7); the
-    node that is none (4) or that a link would join with itself (5); the two nodes that more than one link would join (6) or that none
-    joins (8). `at` is the place of the edit in a batch, counted from 0; the number of edits where they are too many.
+    `number` says why, as in the answer `refused` of a session, and `nodes` has the nodes that show it:
+
+    - 4: there is no such node. `nodes` has its name or number.
+    - 5: a link would connect a node with itself. `nodes` has this node.
+    - 6: more than one link would connect two nodes. `nodes` has both.
+    - 7: the links would contain a cycle. `nodes` has its nodes, with the first one again at the end.
+    - 8: no link connects two nodes. `nodes` has both.
+    - 9: there would be more nodes, links or edits than the limits. `nodes` is empty.
+
+    `at` is the index of the first refused edit in a batch, counted from 0. If there are too many edits, it is their
+    number.
 
     >>> network = Network(3, 0, [(1, 0), (2, 1)])
     >>> try:
@@ -59,7 +67,7 @@ class Refused(ValueError):
 
 
 class Network(Generic[Name]):
-    """A network whose links lead from every node that is joined with the destination to it, and do so again after each change.
+    """A network whose links lead to the destination from every node that is connected with it.
 
     >>> network = Network(5, 0, [(1, 0), (2, 0), (3, 1), (3, 2), (4, 3)])
     >>> network
@@ -72,20 +80,30 @@ class Network(Generic[Name]):
     Traceback (most recent call last):
     revroute.network.Refused: refused 8: no link joins 1 and 0
 
-    Nodes are the numbers from 0; with `names`, or by `from_networkx`, they have the caller's names, in all calls and answers.
+    Nodes are numbered from 0. With `names`, or by `from_networkx`, they have the caller's names in all calls and
+    answers.
 
-    A change is made whole or, where it is Refused or a MemoryError, not at all; each ends in a settled network. What is no node is
-    NoSuchNode, and where a change has it by number, Refused. A closed network is a ValueError. Any thread may call, one at a time:
-    others wait. What would wait for itself is a RuntimeError, as a session has it.
+    A change succeeds as a whole, and then the links lead to the destination again. Otherwise it raises Refused or
+    MemoryError, and nothing changes. An unknown name raises NoSuchNode. An unknown number raises Refused in a change
+    or a new network, and NoSuchNode in a question. A call on a closed network raises ValueError.
 
-    With n nodes and m links `next_hop`, `size` and `report` are O(1), `reader` O(4,096) at first and then O(1), `walk` and `changed` as long as what they
-    answer, `hops`, `hops_into`, `table`, `pushes`, `counts` and `dest` O(n), `links`, `move` and a new network
-    O(n + m) and the round; a change is O(n + m) at most, and where few nodes turn the links of these and of those
-    that sent on to them.
+    Any thread may call, but only one at a time: others wait. A call that would wait for itself raises RuntimeError, as
+    for a Session.
+
+    Costs, for n nodes and m links:
+
+    - `next_hop`, `size` and `report`: O(1).
+    - `reader`: O(4,096) for the first reader, and O(1) for each later one.
+    - `walk` and `changed`: linear in the length of the result.
+    - `hops`, `hops_into`, `table`, `pushes`, `counts` and `dest`: O(n).
+    - `links`: O(n + m).
+    - `move` and a new network: O(n + m), plus the round.
+    - `cut`, `add`, `join` and `batch`: O(n + m) at most. If few nodes turn, only the links at these nodes, and at the
+      nodes that had one of these as their next hop.
     """
 
     HERE, CUT_OFF = 0xFFFFFFFF, 0xFFFFFFFE
-    """What `hops_into` writes for the destination, and for a node that is cut off."""
+    """What `hops_into` writes for the destination (HERE), and for a node that is cut off (CUT_OFF)."""
 
     def __init__(self, nodes: int, dest: Name, links: Iterable[tuple[Name, Name]] = (), *, names: Optional[Sequence[Name]] = None) -> None:
         count = index(nodes)
@@ -95,7 +113,8 @@ class Network(Generic[Name]):
         self._numbers = None if names is None else {name: at for at, name in enumerate(names)}
         if self._numbers is not None and len(self._numbers) != count:
             raise ValueError("two nodes have one name")
-        # the nodes in their order, and those that next_hop asks for at once: none where they have names
+        # The nodes in their order. Then the number of nodes that next_hop can ask for directly, which is 0 if nodes
+        # have names.
         self._nodes: Sequence[Name] = range(count) if self._names is None else self._names  # type: ignore[assignment]
         self._bound = count if names is None else 0
         ends = [self._number(node) for u, v in links for node in (u, v)]
@@ -109,10 +128,11 @@ class Network(Generic[Name]):
 
     @classmethod
     def from_networkx(cls, graph: Any, dest: Name) -> Network[Name]:
-        """The network of a graph of networkx, whose nodes may be anything that is hashable.
+        """Makes a network from a networkx graph. Its nodes can be any hashable objects.
 
-        A link of a directed graph points as its edge does. An edge of an undirected one points to its end with fewer steps to the
-        destination, or where both have as many, to that which comes first in the graph: that closes no walk.
+        The links of a directed graph point as its edges do. In an undirected graph each link points to the end that is
+        fewer steps away from the destination. If both ends are equally far, it points to the one that comes first in
+        the graph. Such links form no cycle.
         """
         names = list(graph)
         if dest not in graph:
@@ -126,7 +146,7 @@ class Network(Generic[Name]):
         return cls(len(names), dest, links, names=names)
 
     def to_networkx(self) -> networkx.DiGraph:
-        """The links as they point now, as a directed graph of networkx."""
+        """The links as they point now, as a directed networkx graph."""
         import networkx
 
         graph = networkx.DiGraph()
@@ -135,19 +155,20 @@ class Network(Generic[Name]):
         return graph
 
     def cut(self, u: Name, v: Name) -> Report:
-        """Takes out the link between two nodes, whichever way it points."""
+        """Removes the link between two nodes, whichever way it points."""
         return self._edit(_calls.CUT, u, v)
 
     def add(self, u: Name, v: Name) -> Report:
-        """Adds a link from u to v; Refused where it would close a walk."""
+        """Adds a link from u to v. Raises Refused if it would close a cycle."""
         return self._edit(_calls.ADD, u, v)
 
     def join(self, u: Name, v: Name) -> Report:
-        """Adds a link from u to v, or from v to u where that would close a walk."""
+        """Adds a link from u to v, or from v to u if the first would close a cycle."""
         return self._edit(_calls.JOIN, u, v)
 
     def batch(self, edits: Iterable[tuple[str, Name, Name]]) -> Report:
-        """Makes edits, each of the kinds "cut", "add" and "join" with its two nodes, one after the other, and then one round."""
+        """Makes edits in order, and then one round. If one edit is refused, none is made. An edit is a tuple of "cut",
+        "add" or "join" and its two nodes."""
         made: list[int] = []
         for kind, u, v in edits:
             if kind not in _KINDS:
@@ -156,13 +177,13 @@ class Network(Generic[Name]):
         return self._change(made)
 
     def move(self, dest: Name) -> Report:
-        """Takes another destination."""
+        """Makes `dest` the destination."""
         home = self._number(dest)
         made = self._session._begin_round(library.revroute_move, None, _clamped(home))
         return self._reported(made, lambda at: [home])
 
     def next_hop(self, node: Name) -> Union[Name, NoHop]:
-        """Where a node sends on what is for the destination, or why it does not."""
+        """The next hop of a node: where it forwards traffic for the destination, or why it does not."""
         try:
             if 0 <= node < self._bound:  # type: ignore[operator]
                 hop = _calls.next_hop(self._live, node)
@@ -174,17 +195,19 @@ class Network(Generic[Name]):
         return hop if isinstance(hop, NoHop) else self._name(hop)
 
     def reader(self) -> Reader[Name]:
-        """A reader of the next hops, for another thread. From the first one on, each change stores every changed hop once more."""
+        """A reader of the next hops, for another thread. Once a network has had a reader, each change stores every
+        changed hop a second time, for the readers."""
         return Reader(self._session._open_reader, self._names, self._numbers, len(self._nodes))
 
     def hops(self) -> list[Union[Name, NoHop]]:
-        """The next hop of each node, in order."""
+        """The next hop of each node, in the order of the nodes."""
         names, least = self._names, _calls.NO_HOP
         return [_hop(it) if it >= least else it if names is None else names[it] for it in self._session._hops()]  # type: ignore[misc]
 
     def hops_into(self, buffer: Any) -> int:
-        """Writes the next hop of each node, by numbers, to the front of a buffer of 32-bit numbers, as an array, a memoryview or numpy's
-        uint32, and returns how many there are. HERE and CUT_OFF stand for what is no node."""
+        """Writes the number of each node's next hop to the front of a buffer, and returns how many there are. If a
+        node has no next hop, it writes HERE or CUT_OFF. The buffer has unsigned 32-bit numbers: it can be an array, a
+        memoryview, or a numpy array of uint32."""
         view = memoryview(buffer)
         if view.readonly or view.itemsize != 4 or view.format.lstrip("@=<") not in ("I", "L") or not view.c_contiguous:
             raise TypeError("the buffer has to be one of numbers of 32 bits without a sign, in one piece, that can be written")
@@ -192,8 +215,8 @@ class Network(Generic[Name]):
         return self._session._fill((ctypes.c_uint32 * room).from_buffer(view.cast("B")), room)
 
     def changed(self) -> list[tuple[Name, Union[Name, NoHop]]]:
-        """The nodes whose next hop the last change changed, each with what it is now, in push order: each after the
-        changed nodes on its new route. At first these are all nodes that are not cut off."""
+        """The nodes whose next hop the last change changed, each with its new next hop. They are in push order: each
+        node after the changed nodes on its new route. For a new network these are all nodes that are not cut off."""
         return self._told(self._session._changed())
 
     def table(self) -> dict[Name, Union[Name, NoHop]]:
@@ -207,10 +230,10 @@ class Network(Generic[Name]):
     def pushes(
         self, table: Union[Mapping[Name, Union[Name, NoHop, None]], Sequence[Union[Name, NoHop, None]]]
     ) -> list[tuple[Name, Union[Name, NoHop]]]:
-        """The nodes whose hop in a table of yours is not their next hop, each with its next hop, in push order: each
-        after those of them on its route.
+        """The nodes whose hop in your table is not their next hop, each with its next hop. They are in push order:
+        each node after those of them on its route.
 
-        Keep a table of what your routers have confirmed, and push the difference after each change:
+        Keep a table of the hops that your routers have confirmed, and push the difference after each change:
 
         >>> network = Network(4, 0, [(1, 0), (2, 1), (2, 3), (3, 0)])
         >>> table = {}
@@ -222,40 +245,40 @@ class Network(Generic[Name]):
         >>> network.pushes(table)
         [(2, 3), (1, 2)]
 
-        If the next change comes before all is pushed, make it, and ask again: nothing has to be undone. At no moment
-        does the table have a loop that it did not have before.
+        If the next change comes before you have pushed everything, make it, and ask again: nothing has to be undone.
+        At no moment does the table have a loop that it did not have before.
 
         The table is a mapping from nodes to hops, or a sequence of hops in the order of the nodes. A hop is a node,
-        HERE or CUT_OFF of NoHop, or None, which means CUT_OFF unless a node has that name. A node without an entry
+        NoHop.HERE or NoHop.CUT_OFF, or None, which means CUT_OFF unless a node has that name. A node without an entry
         has CUT_OFF. The table may have loops.
 
-        Raises NoSuchNode if a node or a hop of it is no node of the network, and ValueError if a sequence has more
-        hops than the network has nodes.
+        Raises NoSuchNode if a node or a hop of the table is not a node of the network, and ValueError if a sequence
+        has more hops than the network has nodes.
         """
         count = len(self._nodes)
         return self._told(self._session._pushes(_packed_table(table, count, self._numbers), count))
 
     def counts(self) -> list[int]:
-        """How often each node turned in the last round, in order."""
+        """How often each node turned in the last round, in the order of the nodes."""
         return self._session.counts()
 
     def links(self) -> list[tuple[Name, Name]]:
-        """The links, each from its tail to its head, in rising order of their numbers."""
+        """The links as (tail, head), in rising order of the nodes' numbers."""
         return [(self._name(u), self._name(v)) for u, v in self._session.links()]
 
     def walk(self, node: Name) -> Optional[list[Name]]:
-        """The nodes of the way from a node to the destination, with both ends, or None where the node is cut off."""
+        """The nodes on the route from a node to the destination, both included. None if the node is cut off."""
         route = self._session.route(self._number(node))
         return None if route is None else [self._name(it) for it in route]
 
     @property
     def report(self) -> Report:
-        """What the last round reported."""
+        """The report of the last round."""
         return self._session.report() or Report(0, 0)
 
     @property
     def size(self) -> Size:
-        """How many nodes and links there are."""
+        """The number of nodes and of links."""
         return self._session.size() or Size(0, 0)
 
     @property
@@ -264,7 +287,7 @@ class Network(Generic[Name]):
         return self._name(self._session._hops().index(_calls.HERE))
 
     def close(self) -> None:
-        """Gives the memory back."""
+        """Frees the memory."""
         self._session.close()
 
     def __enter__(self) -> Network[Name]:
@@ -296,7 +319,8 @@ class Network(Generic[Name]):
         return self._reported(made, lambda at: edits[3 * at + 1 : 3 * at + 3])
 
     def _reported(self, made: Union[Report, _Why], given: Callable[[int], list[int]]) -> Report:
-        """What a round reported, or why there is none: with the caller's numbers where the library has had none for them."""
+        """The report of a round, or raises Refused. Numbers that did not fit into 32 bits are shown as the caller gave
+        them."""
         if isinstance(made, Report):
             return made
         unknown = (it for it in given(made.at) if _clamped(it) == _NO_NODE)
@@ -315,7 +339,7 @@ class Network(Generic[Name]):
         return self._names[number] if self._names is not None else number  # type: ignore[return-value]
 
     def _told(self, hops: list[tuple[int, int]]) -> list[tuple[Name, Union[Name, NoHop]]]:
-        """Nodes with their hops, by their names."""
+        """Nodes with their hops, by their names if they have names."""
         return [(self._name(node), self._hop_of(hop)) for node, hop in hops]
 
     def _hop_of(self, hop: int) -> Union[Name, NoHop]:
@@ -323,12 +347,12 @@ class Network(Generic[Name]):
 
 
 def _closed_walk_of(session: Any, nodes: int, dest: int, *words: Any) -> int:
-    """The closed walk of links, with the words by which they are refused."""
+    """Finds the cycle of refused links, with the arguments of `revroute_open`."""
     return library.revroute_closed_walk_of(nodes, *words)  # type: ignore[no-any-return]
 
 
 def _packed(numbers: list[int]) -> bytes:
-    """The numbers as an array has them, with one that is no node in place of what has not 32 bits."""
+    """The numbers as the bytes of an array. A number that does not fit into 32 bits becomes one that is not a node."""
     try:
         return array("I", numbers).tobytes()
     except OverflowError:
@@ -341,7 +365,7 @@ def _clamped(number: int) -> int:
 
 
 def _steps(graph: Any, dest: Any) -> dict[Any, int]:
-    """How many steps each node is from the destination, of those that are joined with it."""
+    """How many steps each node is away from the destination. Only nodes that are connected with it are included."""
     steps, open_nodes = {dest: 0}, deque([dest])
     while open_nodes:
         node = open_nodes.popleft()

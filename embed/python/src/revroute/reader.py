@@ -1,4 +1,4 @@
-"""Readers: what other threads ask while one thread changes a network."""
+"""Readers: other threads ask them for next hops while one thread changes a network."""
 
 from __future__ import annotations
 
@@ -15,17 +15,17 @@ from .session import _HAS_LOCK, NoHop, NoSuchNode, _hop
 
 Name = TypeVar("Name", bound=Hashable)
 
-# no network has more nodes, and no walk of a reader goes on after so many
+# The most nodes that a network can have, and the most nodes of a reader's walk.
 _MOST = 4096
 _UNLOCKED = nullcontext()
 
 
 class WalkTooLong(Exception):
-    """The walk of a reader has met 4,096 nodes and has not ended, since hops were pushed meanwhile: walk again."""
+    """A reader's walk visited 4,096 nodes and did not end, because hops were pushed meanwhile. Walk again."""
 
 
 class Reader(Generic[Name]):
-    """Reads next hops while another thread changes the network: `Network.reader` and `Session.reader` make it.
+    """Reads next hops while another thread changes the network. `Network.reader` and `Session.reader` make one.
 
     >>> import revroute
     >>> network = revroute.Network(4, 0, [(1, 0), (2, 1), (2, 3), (3, 0)])
@@ -37,20 +37,22 @@ class Reader(Generic[Name]):
     >>> reader.walk(2)
     [2, 3, 0]
 
-    No read waits for a change: a hop is one load. As soon as there is a reader, each accepted change pushes the changed
-    hops to the table that all readers read, in push order, before its call returns. So at every moment this table has
-    no loop. Two reads can be of different tables. A reader never goes back to an earlier table.
+    No read waits for a change: a hop is one load. All readers of a network read one table. Once there is a reader,
+    each accepted change pushes the changed hops to this table, in push order, before its call returns. So at every
+    moment the table has no loop. Two reads can be of different tables, but a reader never goes back to an earlier
+    table.
 
-    A reader outlives its network, and reads its last hops then. A closed reader is a ValueError. Any thread may call.
-    Give each thread its own, by `copy`: in an interpreter without a global lock calls on one reader wait for each other.
+    A reader outlives its network, and then reads its last hops. A call on a closed reader raises ValueError. Any
+    thread may call. Give each thread its own reader, made by `copy`: in an interpreter without a global lock, calls on
+    one reader wait for each other.
 
-    `next_hop` and `copy` are O(1), and `walk` as long as what it answers.
+    Costs: `next_hop` and `copy` are O(1), and `walk` is linear in the length of its result.
     """
 
     def __init__(
         self, opened: Any, names: Optional[Sequence[Name]] = None, numbers: Any = None, nodes: int = _MOST
     ) -> None:
-        """For the package alone: `opened` opens the handle that it is given; `nodes` can be asked about."""
+        """Only for the package. `opened` opens the handle that it gets. The nodes are 0 to `nodes` - 1."""
         self._names, self._numbers, self._count = names, numbers, nodes
         self._bound = nodes if numbers is None and _HAS_LOCK else 0
         self._handle = _calls.ReaderHandle()
@@ -71,9 +73,9 @@ class Reader(Generic[Name]):
             return Reader(opened, self._names, self._numbers, self._count)
 
     def next_hop(self, node: Name) -> Union[Name, NoHop]:
-        """Where a node sends on to, or why it does not, as `Network.next_hop`.
+        """The next hop of a node, or why it has none, as for `Network.next_hop`.
 
-        The reader of a session takes every number below 4,096: what is no node of its network is cut off.
+        The reader of a session accepts every number below 4,096. If the network has no such node, it is cut off.
 
         >>> import revroute
         >>> session = revroute.Session()
@@ -85,7 +87,7 @@ class Reader(Generic[Name]):
         >>> reader.next_hop(1), reader.next_hop(0)
         (0, <NoHop.HERE: 'here'>)
 
-        Raises NoSuchNode where there is none.
+        Raises NoSuchNode if there is no such node.
         """
         try:
             if 0 <= node < self._bound:  # type: ignore[operator]
@@ -102,13 +104,13 @@ class Reader(Generic[Name]):
         return self._name(hop) if hop < _calls.NO_HOP else _hop(hop)  # type: ignore[return-value]
 
     def walk(self, node: Name) -> Optional[list[Name]]:
-        """The nodes of the way from a node to the destination, hop by hop, with both ends; None where it ends at a node
-        that is cut off.
+        """Walks hop by hop from a node to the destination, and returns the nodes, both ends included. Returns None if
+        the walk ends at a node that is cut off.
 
-        Later steps can read later hops. So while another thread makes a change, a walk can visit a node again, or end at a
-        node that is cut off although its first node has a way before and after. If that matters, walk again.
+        Later steps can read later hops. So while another thread makes a change, a walk can visit a node again, or end
+        at a node that is cut off although its first node has a route before and after. If that matters, walk again.
 
-        Raises NoSuchNode where there is none, and WalkTooLong.
+        Raises NoSuchNode if there is no such node, and WalkTooLong if the walk has visited 4,096 nodes.
         """
         number, length = self._number(node), ctypes.c_size_t()
         room, status = 64, _calls.TOO_SHORT
@@ -124,12 +126,12 @@ class Reader(Generic[Name]):
         return [self._name(it) for it in nodes[: length.value]] if status == _calls.ANSWERED else None
 
     def close(self) -> None:
-        """Gives the memory back. A second call does nothing."""
+        """Frees the memory. A second call does nothing."""
         with self._lock:
             self._end()
 
     def _number(self, node: Name) -> int:
-        """The number of a node that can be asked about."""
+        """The number of a node. Raises NoSuchNode if there is no such node."""
         if self._numbers is not None:
             try:
                 return self._numbers[node]  # type: ignore[no-any-return]

@@ -1,4 +1,4 @@
-"""A session that answers lines, a request in JSON for a line of text.
+"""A session that answers lines: a line has a request in JSON, and its answer is a line of text.
 
 >>> with Session() as session:
 ...     session.answer('["net",4,0,[[0,1],[1,2],[2,3]]]')
@@ -6,7 +6,8 @@
 'turned 6 cut 0'
 'walk 3 2 1 0'
 
-The requests and their answers are those of the program `revroute run`. A request that is refused has an answer too, by a number:
+The requests and their answers are those of the program `revroute run`. A refused request has an answer too, with a
+number:
 
 >>> Session().answer('["walk",3]')
 'refused 3'
@@ -32,15 +33,16 @@ if TYPE_CHECKING:
     from .reader import Reader
 
 _FIRST_ROOM = 4096
-# places for numbers, before it is known how many there are
+# How many numbers there is room for in the first try.
 _FEW = 64
-# who is in a call that a fork has left behind: no thread of this process
+# The caller of a session that was in a call of another thread at a fork. No thread of the child has this number.
 _GONE = 0
 _INTERRUPTED = "the session is in a call that this one has interrupted"
 _LEFT_BEHIND = "another thread was in a call on the session as this process was forked"
 
-# What a question without the session's lock meets while a call of another thread may change the session: a handle with no network, by which
-# it learns that it has to wait. Where the interpreter has no lock either, it always does.
+# A handle without a network. A question that does not take the session's lock gets this handle while a call of another
+# thread may change the session, and so learns that it has to wait. In an interpreter without a global lock it always
+# gets this handle.
 _elsewhere = _calls.Handle()
 _ELSEWHERE = ctypes.addressof(_elsewhere)
 _HAS_LOCK = getattr(sys, "_is_gil_enabled", lambda: True)()
@@ -48,7 +50,8 @@ _sessions: weakref.WeakValueDictionary[int, Session] = weakref.WeakValueDictiona
 
 
 class AnswerLost(Exception):
-    """What was asked to be changed is changed, but there was no memory for the answer: `Session.last_answer` and `Network.report` have it."""
+    """The change was made, but there was no memory for the answer. `Session.last_answer` and `Network.report` have
+    it."""
 
 
 class LineTooLong(ValueError):
@@ -56,7 +59,7 @@ class LineTooLong(ValueError):
 
 
 class NoSuchNode(KeyError, IndexError):
-    """What is asked about is no node of the network: `node` is its name or number."""
+    """The network has no such node. `node` is the name or number that was asked for."""
 
     def __init__(self, node: object) -> None:
         super().__init__(node)
@@ -67,37 +70,37 @@ class NoSuchNode(KeyError, IndexError):
 
 
 class NoHop(enum.Enum):
-    """What a node has in place of a next hop."""
+    """What a node has instead of a next hop."""
 
     HERE = "here"
     """The node is the destination."""
     CUT_OFF = "cut"
-    """No links join the node with the destination, whichever way they point."""
+    """No links connect the node with the destination, whichever way they point."""
 
 
 _VALUES = {NoHop.HERE: _calls.HERE, NoHop.CUT_OFF: _calls.CUT_OFF}
 
 
 class Report(NamedTuple):
-    """What a round reported."""
+    """The report of a round."""
 
     turned: int
-    """How many turns it took."""
+    """The number of turns. In a turn, a node reverses all its links."""
     cut_off: int
-    """How many nodes are cut off."""
+    """The number of nodes that are cut off from the destination."""
 
 
 class Size(NamedTuple):
-    """How large a network is."""
+    """The size of a network."""
 
     nodes: int
-    """Its nodes, which are numbered from 0."""
+    """The number of nodes. They are numbered from 0."""
     links: int
-    """Its links."""
+    """The number of links."""
 
 
 class _Why(NamedTuple):
-    """Why a call is refused: the number of the lines, the nodes that are evidence, and which edit."""
+    """Why a call is refused: the number that lines use, the nodes that show it, and the index of the edit."""
 
     number: int
     nodes: tuple[int, ...]
@@ -109,8 +112,8 @@ def _hop(value: int) -> Union[int, NoHop]:
 
 
 def _packed_table(table: Any, count: int, numbers: Optional[dict[Any, int]] = None) -> bytes:
-    """The hops of a caller's table as the library has them, one for each of so many nodes. `numbers` has the number
-    of each name, where nodes have names."""
+    """The hops of a caller's table as the library expects them: one for each of `count` nodes. If nodes have names,
+    `numbers` has the number of each name."""
 
     def number_of(node: Any) -> int:
         if numbers is not None:
@@ -141,18 +144,25 @@ def _packed_table(table: Any, count: int, numbers: Optional[dict[Any, int]] = No
 
 
 class Session:
-    """A session, which holds the network of the lines so far. It begins with none.
+    """Answers lines as the program `revroute run` does. A session holds the network that the lines so far have made.
+    It begins without a network.
 
-    Any thread may ask, one at a time: others wait until the call has returned. Sessions share nothing, so threads with one each run
-    side by side. Leaving a `with` block, `close` or the end of the last reference gives the memory back.
+    Any thread may call, but only one at a time: others wait until the call has returned. Sessions share nothing, so
+    threads that have one each run side by side. The memory is freed at the end of a `with` block, by `close`, or with
+    the last reference.
 
-    What would wait for itself is a RuntimeError: a call from a signal handler, or from whatever else has interrupted a call on this
-    session, and a call in the child of `os.fork` if another thread was in a call as the process was forked. The child can use
-    every other session, and has a copy of its own.
+    A call that would wait for itself raises RuntimeError. Such a call comes from a signal handler, or from anything
+    else that has interrupted a call on this session. It also comes from the child of `os.fork` if another thread was
+    in a call on this session during the fork. The child can use all other sessions, and has its own copies of them.
 
-    With n nodes and m links `next_hop`, `size` and `report` are O(1), `reader` O(4,096) at first and then O(1), `route`, `rerouted` and `changed` as long as
-    what they answer, `next_hops`, `pushes` and `counts` O(n), `links` O(n + m). `answer`, `take` and `finish` are
-    O(b) for b bytes of lines and answers, and what the calls of a Network cost.
+    Costs, for n nodes and m links:
+
+    - `next_hop`, `size` and `report`: O(1).
+    - `reader`: O(4,096) for the first reader, and O(1) for each later one.
+    - `route`, `rerouted` and `changed`: linear in the length of the result.
+    - `next_hops`, `pushes` and `counts`: O(n).
+    - `links`: O(n + m).
+    - `answer`, `take` and `finish`: O(b) for b bytes of lines and answers, plus the same calls of a Network.
     """
 
     def __init__(self) -> None:
@@ -160,7 +170,8 @@ class Session:
         self._lock = RLock()
         self._caller: Optional[int] = None
         self._length, self._count, self._taken = ctypes.c_size_t(), ctypes.c_size_t(), ctypes.c_size_t()
-        # Pieces that are not taken to their end, each with its address and length; how much of the first is; the answers that are due.
+        # Pieces that are not taken completely, each with its address and length. Then the answers to return, and how
+        # many bytes of the first piece are taken.
         self._pieces: list[tuple[bytes, int, int]] = []
         self._answers: list[str] = []
         self._begun = 0
@@ -182,14 +193,19 @@ class Session:
         self._room = buffer, memoryview(buffer).cast("B"), room
 
     def answer(self, line: Union[str, bytes, bytearray, memoryview]) -> Optional[str]:
-        """The answer to a line, or None for a blank one, which has spaces, tabs and carriage returns alone.
+        """Answers a line. A refused request has an answer too. Returns None for a blank line, which has only spaces,
+        tabs and carriage returns.
 
-        A line is text, or the bytes of a buffer. One line feed at its end is no part of it, so that the lines of a file can be asked
-        as they are read; the answer has none.
+        A line is a str, or bytes or another buffer. It may end with one newline, so you can pass the lines of a file
+        as you read them. The answer has no newline.
 
-        Raises MemoryError where memory runs out, with the session as it was; AnswerLost where it runs out behind the answer;
-        TypeError for what is no line; ValueError for text that has no UTF-8, as a lone surrogate, and once the session is
-        closed; and RuntimeError where the call would wait for itself.
+        Raises:
+
+        - MemoryError if memory runs out. The session is unchanged.
+        - AnswerLost if memory runs out after the line was answered.
+        - TypeError if the line is neither a str nor a buffer.
+        - ValueError if the text cannot be encoded as UTF-8, as with a lone surrogate, or if the session is closed.
+        - RuntimeError if the call would wait for itself.
         """
         if type(line) is str:
             line = line.encode()
@@ -204,7 +220,7 @@ class Session:
                 self._caller = None
 
     def _begin_call(self) -> None:
-        """Has the session for a call, or raises what a call meets that cannot have it."""
+        """Takes the session for a call, or raises why the call cannot have it."""
         if self._caller is not None:
             self._refuse()
         if self._is_closed:
@@ -214,7 +230,8 @@ class Session:
         self._caller = get_ident()
 
     def _asked(self, call: Any, *words: Any) -> Optional[str]:
-        """The answer to a line, by one of the calls that write it into a buffer, which grows where it is too short."""
+        """The answer to a line, from one of the calls that write it into a buffer. The buffer grows if it is too
+        short."""
         self._answered = False
         while True:
             buffer, answer, room = self._room
@@ -237,24 +254,24 @@ class Session:
             self._make_room(max(self._length.value, 2 * room))
 
     def _outside(self, call: Any, *words: Any) -> int:
-        """Makes a call that may change the session, and gives up the interpreter's lock for it."""
+        """Makes a call that may change the session. The interpreter's lock is released for it."""
         self._live.value = _ELSEWHERE
         try:
             return call(self._at, *words)  # type: ignore[no-any-return]
         except ctypes.ArgumentError:
-            # each has its type, so that only memory can have been missing for them
+            # The arguments have the right types, so only memory can have been missing.
             raise MemoryError from None
         finally:
             self._live.value = self._address
 
     def _lose(self) -> NoReturn:
-        """Raises that an answer is lost, by what is there before memory is missing."""
+        """Raises AnswerLost. The exception was made earlier, since there may be no memory for one now."""
         lost, self._lost = self._lost, None
         raise lost or MemoryError from None
 
     def _begin_round(self, call: Any, closed_walk: Any, *words: Any) -> Union[Report, _Why]:
-        """Makes one of the calls that begin a round, with its words, and tells what it came to; by the same words the closed walk is asked
-        for that refuses it."""
+        """Makes one of the calls that begin a round, with these arguments, and returns its result. If it is refused
+        for a cycle, `closed_walk` is called with the same arguments to find it."""
         with self._lock:
             self._begin_call()
             self._live.value = _ELSEWHERE
@@ -282,7 +299,8 @@ class Session:
                 self._caller = None
 
     def take(self, piece: Union[str, bytes, bytearray, memoryview]) -> list[str]:
-        """The answers to the lines that end in a piece, which may be cut anywhere, as from a socket. What behind the last line end has begun is kept.
+        """Answers the lines that end in a piece of input, and returns the list of answers. A piece can be cut
+        anywhere, as from a socket. The bytes after its last newline are kept until their line ends.
 
         >>> with Session() as session:
         ...     session.take(b'["net",3,0,[[0,1],[1,2]]]\\n["wa')
@@ -292,10 +310,15 @@ class Session:
         ['walk 2 1 0']
         'links 1>0 2>1'
 
-        `answer` neither reads nor changes what is kept.
+        `answer` neither reads nor changes the bytes that are kept.
 
-        Raises MemoryError, and AnswerLost where an answer is `last_answer`: the rest of the piece stays, with the answers before, and
-        `take(b"")` goes on with it. Raises LineTooLong where a line is, each time, as nothing behind its beginning can be taken.
+        Raises:
+
+        - MemoryError if memory runs out, and AnswerLost if it runs out after a line was answered; `last_answer` has
+          this answer. The session keeps the rest of the piece and the answers so far. `take(b"")` continues with them.
+        - LineTooLong if a line is too long. Nothing after the beginning of this line can be taken, so every later call
+          raises it again.
+        - The other exceptions of `answer`.
         """
         if type(piece) is not bytes:
             piece = _bytes_of(piece)
@@ -314,8 +337,8 @@ class Session:
                 self._caller = None
 
     def _take_line(self, piece: bytes, address: int, size: int) -> None:
-        """Takes one line of the first piece, or lets go of the piece. How much of it a call has taken is added up before the next, since
-        that takes memory."""
+        """Takes one line of the first piece, or removes the piece if all of it is taken. What a call has taken is
+        added only before the next call, since the addition needs memory."""
         self._begun += self._taken.value
         self._taken.value = 0
         if self._begun == size:
@@ -333,9 +356,11 @@ class Session:
                 self._answers[-1] = text
 
     def finish(self) -> Optional[str]:
-        """The answer to the line that the end of the input ends, or None where none has begun, or a blank one.
+        """Call this at the end of the input. It answers the line that has begun. Returns None if none has begun, or if
+        it is blank.
 
-        Raises MemoryError, with the session as it was, and AnswerLost; ValueError where `take` has not taken all.
+        Raises MemoryError if memory runs out, and then the session is unchanged; AnswerLost if it runs out after the
+        line was answered; ValueError if `take` has not taken all of its pieces.
         """
         with self._lock:
             self._begin_call()
@@ -347,14 +372,14 @@ class Session:
                 self._caller = None
 
     def last_answer(self) -> Optional[str]:
-        """The answer to the last line again, or None if that line had none: for a caller that met AnswerLost."""
+        """The answer to the last line again, or None if it had none. Use it after AnswerLost."""
         with self._lock:
             if self._caller is not None:
                 self._refuse()
             return str(self._room[1][: self._length.value], "ascii") if self._answered else None
 
     def next_hop(self, node: int) -> Union[int, NoHop]:
-        """Where a node sends on what is for the destination: the next node of its route, or why there is none.
+        """The next hop of a node: where it forwards traffic for the destination, or why it does not.
 
         >>> with Session() as session:
         ...     session.answer('["net",4,0,[[0,1],[1,2]]]')
@@ -362,7 +387,7 @@ class Session:
         'turned 3 cut 1'
         (1, <NoHop.HERE: 'here'>, <NoHop.CUT_OFF: 'cut'>)
 
-        Raises NoSuchNode where there is none, as before the first network.
+        Raises NoSuchNode if there is no such node. Before the first network there are none.
         """
         number = index(node)
         with self._lock:
@@ -376,8 +401,9 @@ class Session:
         return _hop(value)
 
     def reader(self) -> Reader[int]:
-        """A reader of the next hops, for another thread. It stays through all later networks, and takes every number below 4,096: what is
-        no node of the network is cut off. From the first reader on, each change stores every changed hop once more."""
+        """A reader of the next hops, for another thread. It keeps working when a later network replaces this one. It
+        accepts every number below 4,096: if the network has no such node, it is cut off. Once a session has had a
+        reader, each change stores every changed hop a second time, for the readers."""
         from .reader import Reader
 
         return Reader(self._open_reader)
@@ -391,19 +417,19 @@ class Session:
                 self._caller = None
 
     def next_hops(self) -> list[Union[int, NoHop]]:
-        """Where each node sends on to, in the order of the nodes; nothing before the first network."""
+        """The next hop of each node, in the order of the nodes. Empty before the first network."""
         return [*map(_hop, self._hops())]
 
     def _hops(self) -> list[int]:
         return self._filled(questions.revroute_next_hops, ctypes.c_uint32)
 
     def rerouted(self) -> list[int]:
-        """The nodes whose next hop the last accepted round changed, in push order: each after the changed nodes on
-        its new route.
+        """The nodes whose next hop the last accepted round changed, in push order: each node after the changed nodes
+        on its new route. Refused requests and questions do not change this list.
 
-        A number that is no node of the network before or after the round counts as cut off there, and before the
-        first network all are cut off. So after a smaller network the nodes that are gone and had a hop are among
-        them; `changed` gives CUT_OFF for these. Refused requests and questions change nothing here.
+        A number that is not a node of the network before or after the round counts as cut off there, and before the
+        first network all numbers do. So if the new network is smaller, the nodes that are gone and had a hop are on
+        the list. `changed` has CUT_OFF for them.
 
         >>> with Session() as session:
         ...     session.answer('["net",5,0,[[1,0],[2,0],[3,1],[3,2],[4,3]]]')
@@ -416,7 +442,7 @@ class Session:
         return self._filled(questions.revroute_rerouted, ctypes.c_uint32)
 
     def changed(self) -> list[tuple[int, Union[int, NoHop]]]:
-        """The same nodes, each with its next hop: CUT_OFF for a node that is gone.
+        """The nodes of `rerouted`, each with its next hop. A node that is gone has CUT_OFF.
 
         >>> with Session() as session:
         ...     session.answer('["net",4,0,[[1,0],[2,1],[3,0]]]')
@@ -431,9 +457,9 @@ class Session:
     def pushes(
         self, table: Union[Mapping[int, Union[int, NoHop, None]], Sequence[Union[int, NoHop, None]]]
     ) -> list[tuple[int, Union[int, NoHop]]]:
-        """The nodes whose hop in a table of yours is not their next hop, each with its next hop, in push order.
+        """The nodes whose hop in your table is not their next hop, each with its next hop, in push order.
 
-        The table and its faults are those of `Network.pushes`. Before the first network there are no nodes.
+        The table and the exceptions are as for `Network.pushes`. Before the first network there are no nodes.
 
         >>> with Session() as session:
         ...     session.answer('["net",4,0,[[1,0],[2,1],[2,3],[3,0]]]')
@@ -450,11 +476,11 @@ class Session:
         return [(node, _hop(hop)) for node, hop in hops]
 
     def counts(self) -> list[int]:
-        """How often each node turned in the last round, in the order of the nodes; nothing before the first network."""
+        """How often each node turned in the last round, in the order of the nodes. Empty before the first network."""
         return self._filled(questions.revroute_counts, ctypes.c_uint64)
 
     def links(self) -> list[tuple[int, int]]:
-        """The links, each from its tail to its head, in rising order; nothing before the first network.
+        """The links as (tail, head), in rising order. Empty before the first network.
 
         >>> with Session() as session:
         ...     session.answer('["net",3,0,[[0,1],[1,2]]]')
@@ -466,7 +492,7 @@ class Session:
         return [*zip(ends[::2], ends[1::2])]
 
     def route(self, node: int) -> Optional[list[int]]:
-        """The nodes of the way from a node to the destination, with both ends, or None where the node is cut off.
+        """The nodes on the route from a node to the destination, both included. None if the node is cut off.
 
         >>> with Session() as session:
         ...     session.answer('["net",4,0,[[0,1],[1,2]]]')
@@ -474,17 +500,17 @@ class Session:
         'turned 3 cut 1'
         ([2, 1, 0], None)
 
-        Raises NoSuchNode where there is none, as before the first network.
+        Raises NoSuchNode if there is no such node. Before the first network there are none.
         """
         number = index(node)
         found = self._filled(questions.revroute_route, ctypes.c_uint32, number) if 0 <= number < _calls.NO_HOP else []
         if not found:
-            # there may be no such node
+            # This raises NoSuchNode if there is no such node.
             self.next_hop(number)
         return found or None
 
     def report(self) -> Optional[Report]:
-        """What the last round reported, or None before the first network.
+        """The report of the last round. None before the first network.
 
         >>> with Session() as session:
         ...     session.answer('["net",4,0,[[0,1],[1,2]]]')
@@ -496,12 +522,12 @@ class Session:
         return Report(turned.value, cut_off.value) if self._told(questions.revroute_report, turned, cut_off) else None
 
     def size(self) -> Optional[Size]:
-        """How large the network is, or None before the first."""
+        """The number of nodes and of links. None before the first network."""
         nodes, links = ctypes.c_uint32(), ctypes.c_size_t()
         return Size(nodes.value, links.value) if self._told(questions.revroute_size, nodes, links) else None
 
     def _told(self, question: Any, *numbers: Any) -> bool:
-        """Whether there is a network, of which a question then tells these numbers."""
+        """Whether there is a network. If there is, the question writes these numbers."""
         places = [*map(ctypes.byref, numbers)]
         with self._lock:
             self._begin_call()
@@ -511,7 +537,7 @@ class Session:
                 self._caller = None
 
     def _filled(self, question: Any, item: Any, *words: int) -> list[int]:
-        """The numbers that a question fills in, as many as it has."""
+        """All numbers that a question writes."""
         with self._lock:
             self._begin_call()
             try:
@@ -520,7 +546,7 @@ class Session:
                 self._caller = None
 
     def _places(self, item: Any, fill: Callable[..., int], room: int = _FEW) -> list[int]:
-        """The numbers that are filled into as many places as are asked for, for a caller that has the session."""
+        """All numbers that `fill` writes, with as much room as it asks for. The caller must have the session."""
         while True:
             values = (item * room)()
             status = fill(values, room, self._count_at)
@@ -534,7 +560,7 @@ class Session:
             room = self._count.value
 
     def _fill(self, places: Any, room: int) -> int:
-        """Writes all next hops into places of the caller's, and returns how many they are."""
+        """Writes all next hops into the caller's array, and returns their number."""
         with self._lock:
             self._begin_call()
             try:
@@ -546,15 +572,15 @@ class Session:
                 self._caller = None
 
     def _changed(self) -> list[tuple[int, int]]:
-        """The rerouted nodes with their next hops."""
+        """The rerouted nodes, with their next hops."""
         return self._with_hops(questions.revroute_rerouted, _FEW)
 
     def _pushes(self, table: bytes, count: int) -> list[tuple[int, int]]:
-        """The nodes to push for a table of so many hops, with their next hops."""
+        """The nodes to push for a table of `count` hops, with their next hops."""
         return self._with_hops(questions.revroute_pushes, count, table, count)
 
     def _with_hops(self, question: Any, room: int, *words: Any) -> list[tuple[int, int]]:
-        """The nodes that a question fills in, with their next hops, of one moment. A node that is gone has none."""
+        """The nodes that a question writes, with their next hops at that moment. A node that is gone has CUT_OFF."""
         with self._lock:
             self._begin_call()
             try:
@@ -568,7 +594,7 @@ class Session:
         return _calls.CUT_OFF if hop == _calls.NO_SUCH_NODE else hop
 
     def close(self) -> None:
-        """Ends the session, and gives its memory back. A second call does nothing."""
+        """Ends the session, and frees its memory. A second call does nothing."""
         with self._lock:
             if self._caller == get_ident():
                 self._refuse()
@@ -580,7 +606,7 @@ class Session:
         raise RuntimeError(_INTERRUPTED if self._caller == get_ident() else _LEFT_BEHIND)
 
     def _inherit(self) -> None:
-        """Makes the session the child's own, or gives it up if a thread was changing it that the child does not have."""
+        """Makes the session usable in the child of a fork, or unusable if another thread was in a call on it."""
         self._lock = RLock()
         if self._caller not in (None, get_ident()):
             self._caller = _GONE
@@ -606,7 +632,7 @@ os.register_at_fork(after_in_child=_inherit_sessions)
 
 
 def _bytes_of(line: Union[str, bytes, bytearray, memoryview]) -> bytes:
-    """What a line is, whatever methods a type of the caller's has of its own."""
+    """The bytes of a line. It ignores methods that a caller's subclass overrides."""
     if isinstance(line, str):
         return str.encode(line)
     try:
