@@ -1,4 +1,4 @@
-"""The crates of this repository, as crates.txt lists them, and the words by which the toolchain proves one."""
+"""The crates of this repository, as crates.txt lists them, and the commands by which the toolchain proves one."""
 
 import hashlib
 import os
@@ -12,13 +12,13 @@ from pathlib import Path
 TOP = Path(__file__).resolve().parent.parent
 CRATES = TOP / "crates"
 BUILT = TOP / "out"
-# What one job of a check holds at the most, in bytes: 2.3 GB were seen.
+# The most memory that one job of a check needs, in bytes. The highest value measured was 2.3 GB.
 ROOM_OF_A_JOB = 2_500_000_000
 
 
 @cache
 def kit():
-    """The folder of the toolchain to which the command rt belongs."""
+    """The folder of the toolchain that the command rt belongs to."""
     rt = shutil.which("rt")
     if not rt:
         sys.exit("the toolchain is missing: there is no command rt")
@@ -27,7 +27,8 @@ def kit():
 
 @cache
 def listed():
-    """The libraries that each crate uses, the repository's own and those of the toolchain, and the crates that are static libraries."""
+    """The libraries that each crate uses, from the repository and the toolchain. Then the crates that are static
+    libraries."""
     uses, static = {}, set()
     for line in (TOP / "crates.txt").read_text().splitlines():
         head, colon, names = line.partition("#")[0].partition(":")
@@ -39,7 +40,7 @@ def listed():
 
 
 def below(name):
-    """The crates of the repository on which a crate stands, each after those that it uses."""
+    """The crates of the repository that a crate depends on, each after those that it uses."""
     uses, _ = listed()
     found = []
     for it in uses[name]:
@@ -57,19 +58,19 @@ def is_program(name):
 
 
 def sources(name):
-    """The files from which a crate is proved."""
+    """The files that a crate is proved from."""
     for part in ("src", "specs", "proofs"):
         yield from (it for it in sorted((CRATES / name / part).rglob("*")) if it.is_file())
 
 
 def functions(name):
-    """How many functions a crate has."""
+    """The number of functions of a crate."""
     return sum(len(re.findall(r"^ *(?:pub(?:\(crate\))? )?(?:(?:const|unsafe|extern \"C\") )*fn ", it.read_text(), re.M)) for it in (CRATES / name / "src").rglob("*.rt"))
 
 
 @cache
 def stamp(name):
-    """A sum of all that the proof of a crate reads: its files, the toolchain, and the crates below it."""
+    """A hash of everything that the proof of a crate reads: its files, the toolchain, and the crates below it."""
     uses, static = listed()
     made = hashlib.sha256(f"{uses[name]} {name in static} {(kit() / 'KIT-ID').read_text()}".encode())
     for file in sources(name):
@@ -80,18 +81,19 @@ def stamp(name):
 
 
 def newest(names):
-    """When a file of these crates was changed last."""
+    """The time at which a file of these crates last changed."""
     return max(it.stat().st_mtime for it in [TOP / "crates.txt", *(file for name in names for file in sources(name))])
 
 
 def jobs():
-    """As many jobs as there are processors to use, and memory for."""
+    """The number of jobs that there are processors and memory for."""
     memory = next(it for it in Path("/proc/meminfo").read_text().splitlines() if it.startswith("MemAvailable:"))
     return max(1, min(len(os.sched_getaffinity(0)), 1024 * int(memory.split()[1]) // ROOM_OF_A_JOB))
 
 
 def words(name, rlib_of, jobs):
-    """The words by which rattle checks or builds a crate in its folder, over the libraries below it as `rlib_of` says where they are."""
+    """The arguments with which rattle checks or builds a crate, in the folder of the crate. `rlib_of` returns where
+    each library below it is."""
     uses, static = listed()
     made = ["--crate-name", name, f"src/{'main' if is_program(name) else 'lib'}.rt"]
     for it in ["std", *uses[name]]:
@@ -104,5 +106,5 @@ def words(name, rlib_of, jobs):
 
 
 def rattle(*words, **how):
-    """Starts the toolchain's rattle, with what it says on one pipe."""
+    """Starts the toolchain's rattle, with standard output and standard error on one pipe."""
     return subprocess.Popen([kit() / "bin" / "rattle", *words], stdout=subprocess.PIPE, stderr=subprocess.STDOUT, text=True, errors="replace", **how)

@@ -1,4 +1,4 @@
-"""Proves crates of this repository, each over those below it, and builds them."""
+"""Proves crates of this repository, each after those below it, and builds them."""
 
 import re
 import shutil
@@ -12,13 +12,15 @@ from pathlib import Path
 
 import crates
 
-# Proved libraries, each packed into one file. A library is a folder with sources in it, and rt ci refuses a source outside of a crate.
+# Proved libraries, each packed into one file. A library is a folder that has sources in it, and rt ci refuses sources
+# outside of a crate.
 PROVED = crates.BUILT / "proved"
-# Where they are unpacked, outside of the clone. It goes when the command ends.
+# The folder where they are unpacked, outside of the clone. It is deleted when the command ends.
 ROOM = tempfile.TemporaryDirectory(prefix="revroute-proved-")
 FAILED = 70
-# Each job loads what it needs, so that more of them cost more than they bring: revroute, with 6 functions, takes as long by four as by one, and 20
-# seconds of one processor more. By two at most, large crates took a first answer three minutes longer.
+# Each job loads what it needs, so too many jobs cost more than they save. With four jobs, revroute with its 6
+# functions takes as long as with one, and 20 seconds more of one processor. With at most two jobs for large crates, a
+# first answer took three minutes longer.
 MOST_JOBS = 4
 FUNCTIONS_OF_A_JOB = 20
 
@@ -32,7 +34,7 @@ def packed(name):
 
 
 def pack(name):
-    """Keeps a library that was proved just now."""
+    """Packs a library that was just proved."""
     made = packed(name).with_suffix(".new")
     with tarfile.open(made, "w") as file:
         file.add(own_rlib(name), name)
@@ -40,7 +42,7 @@ def pack(name):
 
 
 def unpack(names):
-    """Unpacks the libraries of these names that are packed, unless that was done."""
+    """Unpacks those of these libraries that are packed, unless this was done before."""
     for it in names:
         if packed(it).is_file() and not own_rlib(it).exists():
             with tarfile.open(packed(it)) as file:
@@ -53,8 +55,9 @@ def gate_rlib(name):
 
 
 def are_proved_by_the_gate(names):
-    """Whether rt ci has left these libraries proved from the sources as they are. What other commands of rt leave has a stamp beside it,
-    and fits only what they built below it. Files that rt ci kept from an earlier run are as old as that, but not their folder."""
+    """Whether rt ci has proved these libraries from the sources as they are now. Libraries that other commands of rt
+    leave have a stamp beside them, and fit only the libraries that these commands built below them. If rt ci keeps
+    files from an earlier run, the files are as old as that run, but their folder is not."""
     is_stamped = any((gate_rlib(it).parent / "stamp").exists() for it in names)
     edited = crates.newest(names)
     return not is_stamped and all(gate_rlib(it).is_dir() and gate_rlib(it).stat().st_mtime > edited for it in names)
@@ -65,16 +68,16 @@ def is_newer(file, moment):
 
 
 def useful_jobs(name):
-    """How many jobs shorten the proof of a crate."""
+    """The number of jobs that shorten the proof of a crate."""
     return max(1, min(MOST_JOBS, -(-crates.functions(name) // FUNCTIONS_OF_A_JOB)))
 
 
 class NotProved(Exception):
-    """A crate is not proved or not built: its name, and what was said."""
+    """A crate could not be proved or built. Has its name, and the output of the toolchain."""
 
 
 class Progress:
-    """Tells on standard error how far the proofs of a crate and of those below it are."""
+    """Reports on standard error the progress of the proofs of a crate and of those below it."""
 
     def __init__(self, name):
         self.name, self.begun, self.moves, self.running = name, time.monotonic(), sys.stderr.isatty(), {}
@@ -99,7 +102,7 @@ class Progress:
 
 
 def said_by(run, progress):
-    """What a started rattle says, as it comes to its end."""
+    """Waits for a started rattle, and returns its output."""
     while True:
         try:
             return run.communicate(timeout=1)[0]
@@ -119,7 +122,7 @@ def prove(progress, name, words):
 
 
 def prove_library(progress, name, jobs):
-    """Proves and builds one library, and keeps by which files."""
+    """Proves and builds one library, and keeps it with a hash of its sources."""
     stamp = PROVED / f"{name}.stamp"
     stamp.unlink(missing_ok=True)
     prove(progress, name, [*crates.words(name, own_rlib, jobs), "--statements", "-o", str(own_rlib(name))])
@@ -128,7 +131,7 @@ def prove_library(progress, name, jobs):
 
 
 def is_kept(name):
-    """Whether a library was proved from the files as they are."""
+    """Whether a library was proved from the sources as they are now."""
     stamp = PROVED / f"{name}.stamp"
     return packed(name).is_file() and stamp.is_file() and stamp.read_text() == crates.stamp(name)
 
@@ -138,8 +141,8 @@ def are_kept(names):
 
 
 def prove_each(progress, names, jobs):
-    """Proves libraries, each once those below it are proved: of those that can be, the one that most stand on by all jobs that it can use but
-    one, if there are others, and each other by one."""
+    """Proves libraries, each after those below it. Of the libraries that are ready, the one that most others depend on
+    gets all jobs that it can use, less one if other libraries are ready. Each of these gets one job."""
     above = {it: sum(it in crates.below(other) for other in names) for it in names}
     left, running = sorted(names, key=lambda it: -above[it]), {}
     with ThreadPoolExecutor(jobs) as pool:
@@ -161,12 +164,13 @@ def prove_each(progress, names, jobs):
 
 
 def libraries(progress, name, jobs):
-    """Proves the libraries below a crate, but for those that were proved since their last edit, and returns where each is."""
+    """Proves the libraries below a crate, except those that were proved since their last edit. Returns where each
+    is."""
     names, anew = crates.below(name), []
     if are_proved_by_the_gate(names):
         return gate_rlib
     for it in names:
-        # What was built fits just the libraries over which it was.
+        # A built crate fits only the libraries that it was built with.
         if not is_kept(it) or set(anew).intersection(crates.below(it)):
             anew.append(it)
     unpack(it for it in names if it not in anew)
@@ -175,8 +179,9 @@ def libraries(progress, name, jobs):
 
 
 def libraries_beside(name, said):
-    """Returns where the libraries below a crate are: those that proof/build keeps, or those of an rt ci that runs. Its words go to the file
-    `said`, and it has ended once a file with the ending .ended is beside that. Until then this waits for the words that each library is proved."""
+    """Returns where the libraries below a crate are: those that proof/build keeps, or those of an rt ci that is
+    running. The output of this rt ci goes to the file `said`. It has ended if there is a file of this name with the
+    ending .ended. Until then this waits until the output says that each library is proved."""
     names, ended = crates.below(name), said.with_name(f"{said.name}.ended")
     if are_kept(names):
         unpack(names)
@@ -192,7 +197,7 @@ def libraries_beside(name, said):
 
 
 def link(made):
-    """Makes a program of what was compiled, in its place."""
+    """Links what was compiled into a program, and puts it in its place."""
     kit, compiled = crates.kit(), made.with_suffix(".o")
     made.replace(compiled)
     words = ["--target", "x86_64-unknown-linux-gnu", "--toolchain", kit / "toolchain", "-o", made]
@@ -205,10 +210,11 @@ def link(made):
 
 
 def build(name, beside=None):
-    """Builds the crate into out, unless that was done since the last edit. `beside` is the file of the words of an rt ci that runs."""
+    """Builds the crate into out, unless this was done since the last edit. `beside` is the file with the output of an
+    rt ci that is running."""
     progress, jobs = Progress(name), crates.jobs()
     to = crates.BUILT / (name if crates.is_program(name) else f"lib{name}.a")
-    # The gate leaves a program, and no static library, where it was proved.
+    # The gate leaves a program, but not a static library, where it was proved.
     left = crates.CRATES / name / "out" / name
     edited = crates.newest([*crates.below(name), name])
     if is_newer(to, edited):

@@ -1,6 +1,6 @@
-"""Builds the wheel, with nothing but Python: the package, and the shared library that embed/build has made.
+"""Builds the wheel, using only Python: the package, and the shared library that embed/build has made.
 
-embed/build calls it; so does `pip install embed/python`, as pyproject.toml says, which then needs no network.
+embed/build calls it. So does `pip install embed/python`, because pyproject.toml names it; then pip needs no network.
 """
 
 from __future__ import annotations
@@ -19,7 +19,7 @@ EARLIEST = (1980, 1, 1, 0, 0, 0)
 
 
 class UnsupportedOperation(Exception):
-    """There is no source distribution: the library is not built from Python's side."""
+    """There is no source distribution, because Python does not build the library."""
 
 
 def metadata(project: dict) -> str:
@@ -30,7 +30,7 @@ def metadata(project: dict) -> str:
 
 
 def wheel_tag() -> str:
-    """The package is the same for each Python, and the library for one kind of machine."""
+    """The tag of the wheel. The package is for any Python 3, and the library is for one platform."""
     return f"py3-none-{sysconfig.get_platform().replace('-', '_').replace('.', '_')}"
 
 
@@ -42,7 +42,7 @@ def build_wheel(wheel_directory, config_settings=None, metadata_directory=None) 
 
 
 def wheel_of(library: Path, folder: Path) -> str:
-    """Writes the wheel that carries this library into the folder, and returns its name. The same files make the same bytes."""
+    """Writes the wheel with this library into the folder, and returns its name. The same files make the same bytes."""
     project = tomllib.loads((HERE / "pyproject.toml").read_text())["project"]
     whole = f"{project['name']}-{project['version']}"
     info = f"{whole}.dist-info"
@@ -61,7 +61,7 @@ def wheel_of(library: Path, folder: Path) -> str:
 
 
 def record(files: dict[str, bytes], own: str) -> bytes:
-    """The list of the files, with their sums and lengths, and of the list itself."""
+    """The list of the files, with their hashes and lengths. It also names itself."""
     lines = []
     for path, text in files.items():
         sum = base64.urlsafe_b64encode(hashlib.sha256(text).digest()).rstrip(b"=").decode()

@@ -15,50 +15,50 @@ use fr_core::MAX_WORKERS;
 use std::alloc::{AllocError, Global};
 
 const ABOUT: &str =
-    "Keeps a network of directed links free of loops, and turns its links by full reversal until they lead to one destination";
+    "Keeps a network of directed links free of loops, and reverses links until they lead to one destination";
 
 const EXAMPLE: &str = "Example:\n  revroute run < requests > answers";
 
 const RUN_ABOUT: &str =
-    "Answers requests: a line of JSON each on standard input, a line of text each on standard output";
+    "Answers requests: each is a line of JSON on standard input, and each answer is a line of text on standard output";
 
 const SERVE_ABOUT: &str =
-    "Answers requests as run does, but each line as soon as it has come, and input of any length";
+    "Answers requests as run does, but each one as soon as its line has arrived; the input can have any length";
 
 const REQUESTS: &str = "\
 Requests:
-  [\"net\",N,D,[[U,V],..]]  take the network of N nodes with destination D and links from U to V
-  [\"cut\",U,V]            take out the link between two nodes
+  [\"net\",N,D,[[U,V],..]]  replace the network: nodes 0 to N - 1, destination D, a link from U to V for each pair
+  [\"cut\",U,V]            remove the link between U and V
   [\"add\",U,V]            add a link from U to V
-  [\"join\",U,V]           add a link, whichever way it can point
-  [\"batch\",[EDIT,..]]    make edits of these three kinds, in one round
-  [\"dest\",D]             take another destination
-  [\"walk\",X]             tell the route of node X
-  [\"links\"]  [\"counts\"]  [\"hops\"]  tell all links, counts or next hops
+  [\"join\",U,V]           add a link from U to V, or from V to U if the first would close a cycle
+  [\"batch\",[EDIT,..]]    make these edits in order, each a cut, an add or a join, and then one round
+  [\"dest\",D]             make D the destination
+  [\"walk\",X]             report the route of node X
+  [\"links\"]  [\"counts\"]  [\"hops\"]  report all links, counts or next hops
 
 Examples:
   echo '[\"net\",3,0,[[0,1],[1,2]]]' | revroute run --workers 2
   tail -f requests | revroute serve --budget 0";
 
 const PLAY_ABOUT: &str =
-    "Plays a drawn schedule: a line with a network on standard input, what each call came to on standard output, and then the links and the counts";
+    "Plays a drawn schedule: reads a network, writes the reply to each call, and then the links and the counts";
 
 const PLAY_EXAMPLE: &str =
     "Example:\n  echo '[\"net\",2,0,[[0,1]]]' | revroute play --workers 1 --seed 7 --steps 6";
 
-const RUN_WORKERS: &str = "How many workers turn the network, 1 to 16";
+const RUN_WORKERS: &str = "How many workers turn nodes at the same time, 1 to 16";
 
 const PLAY_WORKERS: &str = "How many workers make the steps, 1 to 16";
 
 const RUN_SEED: &str =
-    "A seed for where workers look first for work, 0 to 18446744073709551615; no answer depends on it";
+    "Seeds each worker's choice of whom to steal work from first, 0 to 18446744073709551615; no answer depends on it";
 
 const PLAY_SEED: &str = "The seed of the schedule, 0 to 18446744073709551615";
 
 const BUDGET: &str =
-    "How many calls each worker makes at most in a round, 0 to 1000000000; 0 starts no thread, and is fastest";
+    "The most calls that each worker makes in a round, 0 to 1000000000; 0 starts no thread, and is fastest";
 
-const STEPS: &str = "How many steps are made, 0 to 10000";
+const STEPS: &str = "How many steps the workers make in total, 0 to 10000";
 
 // The texts above contain these limits.
 const _: () = prove!(MAX_WORKERS == 16);

@@ -21,7 +21,7 @@ const USAGE: &str = "\n\nUsage:";
 
 /// The same text after a tip for users who name a file.
 const USAGE_WITH_TIP: &str =
-    "\n\n  tip: requests are read from standard input, as by 'revroute run < FILE'\n\nUsage:";
+    "\n\n  tip: revroute reads requests from standard input, as in 'revroute run < FILE'\n\nUsage:";
 
 /// What the program is to do.
 #[derive(Clone, Copy, Debug, PartialEq, Eq)]
