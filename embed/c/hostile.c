@@ -1,15 +1,18 @@
-/* Asks the lines of standard input with too little room and with too little memory, and looks that nothing is lost by it.
+/* Asks the lines of standard input with too little room and with too little memory, and checks that nothing is lost.
  *
- * A session that meets neither goes ahead and says what the answers are. Behind it each line is asked in two ways:
+ * One session gets enough of both, and its answers are the expected ones. Then each line is asked in two ways:
  *
- *   - with too little room: of no byte, of one less than the least, and of one less than its answer, until it has just enough;
- *   - with the Nth allocation of a session refused, for N = 1, 2, .. until all lines are answered without meeting it. A call may do
- *     without it; or it says that there is no memory, and is made again. A blank line always does without.
+ *   - With too little room: 0 bytes, one byte less than the least room, and one byte less than the answer; then with
+ *     exactly enough.
+ *   - With the Nth allocation of a session refused, for N = 1, 2, .. until no allocation is refused. A call may
+ *     succeed nevertheless. Otherwise it reports that there is no memory, and is made again. A blank line always
+ *     succeeds.
  *
- * The answer must be the same, and before it the session as it was, the handle's own bytes too. A handle that holds no network yet is
- * asked again in the same ways, and owns nothing until a line is answered. Each line and each buffer ends where no memory is behind it, so
- * that a byte read or written too far ends the program by a signal. Printed are how many allocations were refused, and how many
- * calls said so.
+ * The answer must be the same. Until there is one, the session must be unchanged, and so must the handle's own bytes.
+ * A handle without a network is tested in the same ways. It must own nothing until a line is answered.
+ *
+ * Each line and each buffer ends where the next page cannot be accessed. So a read or write beyond the end stops the
+ * program with a signal. It prints how many allocations were refused, and how many calls reported this.
  */
 #define _DEFAULT_SOURCE
 #include "fence.h"
@@ -21,15 +24,15 @@ enum { FENCED = 1 << 16, UNTOUCHED = 0xa5 };
 
 static uint8_t *line_end, *answer_end;
 
-/* An answer, or its status where it has none. */
+/* An answer, or the status of a call without one. */
 typedef struct {
     uint32_t status;
     uint8_t *bytes;
     size_t length;
 } answer;
 
-/* One call, which may write no byte of the buffer but the answer's, tells a length only with an answer or where room is wanted, and
- * writes the handle only with an answer. */
+/* Makes one call, and checks that it writes only the answer's bytes of the buffer, that it returns a length only with
+ * an answer or for too little room, and that it writes the handle only with an answer. */
 static uint32_t call(revroute *session, line it, size_t room, size_t *length) {
     if (it.length > FENCED) stop("a line is too long for this test");
     memcpy(line_end - it.length, it.bytes, it.length);
@@ -58,7 +61,7 @@ static int is_same(answer one, answer other) {
     return one.length == other.length && !memcmp(one.bytes, other.bytes, one.length);
 }
 
-/* The nodes that the last round rerouted, by their bytes. */
+/* The nodes that the last round rerouted, as bytes. */
 static answer rerouted_of(revroute *session) {
     size_t count;
     revroute_rerouted(session, (uint32_t[1]){0}, 0, &count);
@@ -67,7 +70,7 @@ static answer rerouted_of(revroute *session) {
     return (answer){REVROUTE_ANSWERED, (uint8_t *)nodes, count * sizeof *nodes};
 }
 
-/* What can be asked of a session's state: the lines, and which nodes were rerouted last. */
+/* All that can be asked about a session's state: by lines, and which nodes were rerouted last. */
 enum { LINES = 3, QUESTIONS };
 typedef struct {
     answer to[QUESTIONS];
@@ -102,7 +105,7 @@ static void expect_too_short(revroute *session, line it, size_t room, size_t wan
     expect_state(session, before, "a buffer that was too short changed the session");
 }
 
-/* Asks a line with too little room, and then with just enough. */
+/* Asks a line with too little room, and then with exactly enough. */
 static void ask_short(revroute *session, line it, answer wanted) {
     state before = state_of(session);
     expect_too_short(session, it, 0, REVROUTE_LEAST_ROOM, before);
@@ -114,10 +117,10 @@ static void ask_short(revroute *session, line it, answer wanted) {
     drop(before);
 }
 
-/* How many calls said that they had no memory. */
+/* The number of calls that reported that they had no memory. */
 static long refusals;
 
-/* Asks a line while an allocation may be refused, and again where it says so. Returns whether one was refused. */
+/* Asks a line while an allocation may be refused, and asks again if it was. Returns whether one was refused. */
 static int ask_poor(revroute *session, line it, answer wanted, long *left) {
     state before = state_of(session);
     refusing_left = *left;
@@ -138,7 +141,7 @@ static int ask_poor(revroute *session, line it, answer wanted, long *left) {
     return was_refused;
 }
 
-/* Asks a line of a handle that holds no network yet: until the line is answered the handle owns nothing. */
+/* Asks a line of a handle without a network. Until the line is answered, the handle must own nothing. */
 static void ask_new(line it, answer wanted) {
     revroute session = REVROUTE_NEW;
     size_t length;

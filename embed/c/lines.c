@@ -1,11 +1,11 @@
-/* Answers the lines of standard input, each asked by itself, as `revroute run` answers them.
+/* Answers the lines of standard input one by one, as `revroute run` does.
  *
  * usage: lines [--room N] [--threads N] [--stack N]
  *
- *   --room N      each line is first asked with a room of N bytes, and not with that of the line before; where it is too short the
- *                 line is asked again with what is wanted
- *   --threads N   N threads answer all lines side by side, each in a session of its own, and have to agree
- *   --stack N     each thread has a stack of N KiB
+ *   --room N      ask each line first with a buffer of N bytes, instead of the buffer of the line before; if this is
+ *                 too short, ask again with the room that is needed
+ *   --threads N   answer all lines on N threads in parallel, each with its own session; all must give the same answers
+ *   --stack N     give each thread a stack of N KiB
  */
 #include "lines.h"
 
@@ -18,8 +18,8 @@ static size_t first_room = 4096;
 static int starts_over;
 static lines asked;
 
-/* The answers of a thread, each with its line end, and a buffer for the next, which has a byte more for that. A thread alone writes
- * them out at once. */
+/* The answers of a thread, each with its newline, and a buffer for the next answer, with one byte more for the
+ * newline. A single thread writes its answers out immediately. */
 typedef struct {
     int is_alone;
     uint8_t *bytes;
@@ -70,7 +70,7 @@ static size_t number(const char *word) {
     return found;
 }
 
-/* Answers in so many threads, and looks that they agree. */
+/* Answers on several threads, and checks that all give the same answers. */
 static void answer_by(size_t threads, size_t stack, answers *all) {
     pthread_t started[MOST_THREADS];
     pthread_attr_t how;

@@ -1,4 +1,4 @@
-/* The lines of standard input: what the programs of this folder read. */
+/* The lines of standard input, for the programs in this folder. */
 #ifndef LINES_H
 #define LINES_H
 
@@ -45,7 +45,7 @@ static inline uint8_t *read_all(FILE *file, size_t *length) {
     return input;
 }
 
-/* All of standard input, cut at each byte 10. */
+/* All of standard input, cut at each newline (byte 10). */
 static inline lines read_lines(void) {
     size_t length;
     uint8_t *input = read_all(stdin, &length);

@@ -1,7 +1,7 @@
-/* A mesh whose links fail and come back. The program pushes the changed next hops to the forwarding tables of the nodes,
- * one by one, and after each push it checks that the tables have no loop. Sometimes the next link fails or comes back
- * before everything is pushed; then the pushes continue from the tables as they are. Once everything is pushed, the
- * program follows the tables from every node. */
+/* A mesh whose links fail and come back. The program pushes the changed next hops to the forwarding tables of the
+ * nodes, one by one, and after each push it checks that the tables have no loop. Sometimes the next link fails or
+ * comes back before everything is pushed; then the pushes continue from the tables as they are. Once everything is
+ * pushed, the program follows the tables from every node. */
 #include <revroute.h>
 #include <stdbool.h>
 #include <stdio.h>
@@ -42,8 +42,8 @@ static bool goes_round(uint32_t node) {
     return next == node;
 }
 
-/* The nodes to push, in push order. These are the nodes that the last round changed. If pushes were left over, they are
- * all nodes whose hop in the tables is not their next hop. */
+/* The nodes to push, in push order. These are the nodes that the last round changed. If pushes were left over, they
+ * are all nodes whose hop in the tables is not their next hop. */
 static size_t nodes_to_push(revroute *session, bool is_settled, uint32_t *nodes) {
     size_t count;
     uint32_t status = is_settled ? revroute_rerouted(session, nodes, NODES, &count)

@@ -1,15 +1,17 @@
-/* Hands in standard input in pieces, and looks that they have the answers of a file, however they are cut.
+/* Passes standard input in pieces, and checks that the answers are those in a file, wherever the input is cut.
  *
  * usage: pieces ANSWERS
  *        pieces --longest
  *
- * Standard input is cut in two at each byte, the ends too, and into single bytes. Each cut is handed in as it is, and then with
- * too little room before each call: of no byte, of one less than the least, and of one less than the answer. The uncut input and the single
- * bytes are handed in as well with the Nth allocation refused, for N = 1, 2, .. until none is met. What is too short or without
- * memory takes nothing and changes nothing, and the same piece has its answer then. Questions are asked before each call, which leave
- * what has begun. Printed are how many allocations were refused, and how many calls said so.
+ * The input is cut in two at each byte, including its ends, and into single bytes. Each cut is passed with enough
+ * room, and then with too little room before each call: 0 bytes, one byte less than the least room, and one byte less
+ * than the answer. The whole input and the single bytes are also passed with the Nth allocation refused, for N = 1,
+ * 2, .. until no allocation is refused. A call with too little room or memory must take nothing and change nothing,
+ * and then the same piece must get its answer. Before each call questions are asked. They must not change the line
+ * that has begun. It prints how many allocations were refused, and how many calls reported this.
  *
- * With --longest a line is as long as it may be, and then longer, and blank lines come to a new session. Each piece and each buffer ends where no memory is behind it.
+ * With --longest it tests a line of the greatest length, a longer one, and blank lines in a new session. Each piece
+ * and each buffer ends where the next page cannot be accessed.
  */
 #define _DEFAULT_SOURCE
 #include "fence.h"
@@ -21,30 +23,30 @@ enum { LONGEST = 16777216, ROOM = 4096, UNTOUCHED = 0xa5, PIECE_SPACE = LONGEST 
 
 static uint8_t *piece_end, *answer_end;
 
-/* A session that is handed pieces, the answers that it still owes, and which allocation is refused, or 0. */
+/* A session that gets pieces, the answers that are still expected, and which allocation is refused (0 for none). */
 typedef struct {
     revroute session;
     line owed;
     long left;
 } talk;
 
-/* How a call ended, and with which answer. */
+/* The status of a call, and its answer. */
 typedef struct {
     uint32_t status;
     line answer;
     size_t taken;
 } ending;
 
-/* What hands in a front of a piece, and the end of the input by a piece whose bytes are NULL. */
+/* Passes the front of a piece. A piece whose bytes are NULL is the end of the input. */
 typedef size_t step(talk *, line);
 
-/* How many bytes of a piece a call takes. */
+/* The number of bytes of a piece that a call takes. */
 static size_t front_of(line piece) {
     const uint8_t *end = piece.length ? memchr(piece.bytes, '\n', piece.length) : NULL;
     return end ? (size_t)(end - piece.bytes) + 1 : piece.length;
 }
 
-/* What a session's lines tell of it; nothing while it holds nothing. */
+/* The state of a session, asked by lines. Empty while it holds nothing. */
 static size_t state_of(revroute *session, uint8_t *text) {
     static const char *const questions[] = {"[\"links\"]", "[\"counts\"]", "[\"hops\"]"};
     size_t all = 0, length;
@@ -61,7 +63,7 @@ static int has_taken(uint32_t status) {
     return status == REVROUTE_ANSWERED || status == REVROUTE_BLANK || status == REVROUTE_BEGUN;
 }
 
-/* Looks that an end is one of those that the header names, for such a piece. */
+/* Checks that a status is one that the header allows for such a piece. */
 static void look_at(ending it, line piece) {
     size_t front = front_of(piece);
     int ends = !piece.bytes || (front && piece.bytes[front - 1] == '\n');
@@ -71,7 +73,7 @@ static void look_at(ending it, line piece) {
     if (it.status != REVROUTE_ANSWERED && it.status != REVROUTE_TOO_SHORT && it.answer.length) stop("a length without an answer");
 }
 
-/* One call, which changes nothing where it takes nothing, and writes no byte of the buffer but the answer's. */
+/* Makes one call. Checks that it changes nothing if it takes nothing, and that it writes only the answer's bytes. */
 static ending call(talk *it, line piece, size_t room) {
     static uint8_t before[3 * ROOM], after[3 * ROOM];
     size_t told = state_of(&it->session, before), length = 77, taken = 77;
@@ -96,14 +98,14 @@ static ending call(talk *it, line piece, size_t room) {
     return end;
 }
 
-/* How long the next answer is that is owed. */
+/* The length of the next expected answer. */
 static size_t next_length(const talk *it) {
     const uint8_t *end = it->owed.length ? memchr(it->owed.bytes, '\n', it->owed.length) : NULL;
     if (!end) stop("there are more answers than the file has");
     return (size_t)(end - it->owed.bytes);
 }
 
-/* Takes an answer off those that are owed. Returns how many bytes the call took. */
+/* Compares an answer with the next expected one. Returns how many bytes the call took. */
 static size_t settle(talk *it, ending end) {
     if (!has_taken(end.status)) stop("a front of a piece was not taken");
     if (end.status != REVROUTE_ANSWERED) return end.taken;
@@ -132,7 +134,7 @@ static size_t hand_short(talk *it, line piece) {
     return settle(it, call(it, piece, length));
 }
 
-/* How many calls said that they had no memory. */
+/* The number of calls that reported that they had no memory. */
 static long refusals;
 
 static size_t hand_poor(talk *it, line piece) {
@@ -166,7 +168,7 @@ static void hand_in_two(line input, size_t cut, line owed, step *hand) {
     end_input(&it, hand);
 }
 
-/* Hands in pieces of so many bytes. Returns whether the allocation that was to be refused was met. */
+/* Passes pieces of this many bytes. Returns whether an allocation was refused. */
 static int hand_in_pieces(line input, size_t size, line owed, step *hand, long left) {
     talk it = {REVROUTE_NEW, owed, left};
     for (size_t from = 0; from < input.length; from += size) {
@@ -177,7 +179,7 @@ static int hand_in_pieces(line input, size_t size, line owed, step *hand, long l
     return !it.left;
 }
 
-/* Refuses each allocation in turn. Returns how many there are. */
+/* Refuses each allocation in turn. Returns the number of allocations. */
 static long refuse_each(line input, size_t size, line owed) {
     long number = 1;
     while (hand_in_pieces(input, size, owed, hand_poor, number)) number++;
@@ -199,7 +201,8 @@ static void expect(talk *it, line piece, uint32_t status, const char *why) {
     if (call(it, piece, ROOM).status != status) stop(why);
 }
 
-/* A question with spaces behind it up to the longest line is answered; with one more it is not, in one piece or behind what has begun. */
+/* A question that is filled with spaces up to the longest line is answered. With one space more it is not, in one
+ * piece or after a line that has begun. */
 static void ask_longest(void) {
     static const char network[] = "[\"net\",2,0,[[1,0]]]\n", question[] = "[\"links\"]";
     static const char answers[] = "turned 0 cut 0\nlinks 1>0\nlinks 1>0\n";
@@ -223,7 +226,7 @@ static void ask_longest(void) {
     free(text);
 }
 
-/* What has begun goes with the session that is closed. */
+/* Closing a session discards the line that has begun. */
 static void close_begun(void) {
     talk it = {REVROUTE_NEW, {NULL, 0}, 0};
     hand_in(&it, (line){(const uint8_t *)"[]", 2}, hand_roomy);
@@ -232,8 +235,8 @@ static void close_begun(void) {
     end_input(&it, hand_short);
 }
 
-/* What is blank has no answer, and a new session takes no memory for it: each room but too small a one does, where each allocation
- * is refused too. */
+/* A blank line has no answer, and a new session takes no memory for it: it succeeds in each sufficient room, even if
+ * every allocation is refused. */
 static void end_blank(void) {
     static const size_t rooms[] = {REVROUTE_LEAST_ROOM, REVROUTE_LEAST_ROOM + 1, 1000, ROOM};
     static const char *const blanks[] = {"\n", " \t\r\n"};

@@ -1,4 +1,5 @@
-/* The library with a fault in it: embed/can-fail builds it with each FAULT, over the true calls, which are named engine_ there. */
+/* The library with a fault in it. embed/can-fail builds it with each FAULT. The names of the real calls begin with
+ * engine_ there. */
 #include <revroute.h>
 #include <stdlib.h>
 #include <string.h>
@@ -92,7 +93,7 @@ enum {
     a_walk_that_leaves_its_last_place
 };
 
-/* Asks once more with room enough, as if the state had moved on where the buffer was too short. */
+/* Asks once more with enough room, as if the state had changed although the buffer was too short. */
 static uint32_t move_on(revroute *session, const uint8_t *line, size_t line_length, size_t *length) {
     uint8_t spare[REVROUTE_LEAST_ROOM];
     engine_answer(session, line, line_length, spare, sizeof spare, length);
@@ -100,7 +101,7 @@ static uint32_t move_on(revroute *session, const uint8_t *line, size_t line_leng
     return REVROUTE_TOO_SHORT;
 }
 
-/* Whether the block of a new session is refused, which is asked for before the line is looked at. */
+/* Whether the block of a new session is refused. It is allocated before the line is read. */
 static int wants_memory(const revroute *session) {
     void *volatile block = session->at ? NULL : malloc(sizeof *session);
     int is_refused = !session->at && !block;
@@ -133,7 +134,7 @@ uint32_t revroute_answer(revroute *session, const uint8_t *line, size_t line_len
     return FAULT == no_memory_told_as_blank && status == REVROUTE_NO_MEMORY ? REVROUTE_BLANK : status;
 }
 
-/* Keeps a piece without its line end, though it was not taken. */
+/* Keeps a piece without its newline, although it was not taken. */
 static void keep(revroute *session, const uint8_t *piece, size_t piece_length) {
     uint8_t spare[REVROUTE_LEAST_ROOM];
     size_t length, taken;
@@ -289,7 +290,7 @@ uint32_t revroute_rerouted(revroute *session, uint32_t *nodes, size_t room, size
     return status;
 }
 
-/* A wrong table, made fit in place of being refused. */
+/* Repairs a wrong table instead of refusing it. */
 static const uint32_t *made_fit(revroute *session, const uint32_t *table, size_t *count) {
     static uint32_t fit[4096];
     uint32_t nodes;

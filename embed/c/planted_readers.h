@@ -1,5 +1,5 @@
-/* Readers in plain C in the place of the library's, with a fault: readers.c is built with each PLANT, and has to find
- * it. It has to end well with no_fault, which are right readers. Pushes are slow, so that threads read between them. */
+/* Readers in plain C, instead of the library's, with a fault. readers.c is built with each PLANT, and must find it.
+ * With no_fault, which has correct readers, it must succeed. Pushes are slow, so that threads read between them. */
 #ifndef PLANTED_READERS_H
 #define PLANTED_READERS_H
 
@@ -16,7 +16,7 @@ static int planted_compare(const void *one, const void *other) {
     return (a > b) - (a < b);
 }
 
-/* The hop of a node in the session's network, which is cut off where it is none. */
+/* The hop of a node in the session's network. A number that is not a node is cut off. */
 static uint32_t planted_hop(revroute *session, uint32_t node) {
     uint32_t hop = revroute_next_hop(session, node);
     return hop == REVROUTE_NO_SUCH_NODE ? REVROUTE_CUT_OFF : hop;
@@ -27,7 +27,7 @@ static void planted_store(uint32_t node, uint32_t hop) {
     for (volatile int spin = 0; spin < PUSH_TIME; spin++) continue;
 }
 
-/* Pushes what a call has changed, and returns the call's status. */
+/* Pushes what a call has changed, and returns the status of the call. */
 static uint32_t planted_push(revroute *session, uint32_t status) {
     uint32_t nodes[4096];
     size_t count = 0;

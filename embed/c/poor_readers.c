@@ -1,11 +1,12 @@
-/* Readers without memory, without room, and without a network; and who gives memory back.
+/* Readers without memory, without room, and without a network; and whether all memory is freed.
  *
- * A session without a network, one with a network, and one that has readers already: of each a reader is opened and
- * copied with the Nth allocation refused, for N = 1, 2, .. until none is met. A call that says that it has no memory
- * writes no handle. Then the session is changed in the same way: after a change without memory the readers have the
- * hops from before it. In the end session and readers are closed in each order, and no block is left.
+ * There is a session without a network, one with a network, and one that has readers already. For each it opens and
+ * copies a reader with the Nth allocation refused, for N = 1, 2, .. until no allocation is refused. A call that
+ * reports that it has no memory must not write a handle. Then it changes the session in the same way. After a change
+ * without memory the readers must have the hops from before. At the end it closes the session and the readers in each
+ * order, and no block may be left.
  *
- * Printed are how many allocations were refused, and how many calls said so.
+ * It prints how many allocations were refused, and how many calls reported this.
  */
 #define _DEFAULT_SOURCE
 #include "fence.h"
@@ -16,7 +17,7 @@
 enum { NODES = 4, MOST = 4096, FENCED = 1 << 16, UNTOUCHED = 77 };
 
 static const revroute_link links[] = {{1, 0}, {2, 1}, {2, 3}, {3, 0}};
-/* Changes, made over and over, and the hop of node 2 after each. */
+/* Changes that are made again and again, and the hop of node 2 after each. */
 static const revroute_edit feed[] = {
     {REVROUTE_CUT, 1, 0}, {REVROUTE_JOIN, 1, 0}, {REVROUTE_CUT, 3, 0}, {REVROUTE_JOIN, 3, 0}};
 static const uint32_t hops[] = {3, 3, 1, 1};
@@ -24,7 +25,7 @@ static size_t steps;
 static long refusals, told;
 static uint32_t *place_end;
 
-/* What is done with a session, a reader of it and a copy of that. */
+/* What is done with a session, a reader of it, and a copy of the reader. */
 typedef uint32_t call(revroute *session, revroute_reader *reader, revroute_reader *other);
 
 static uint32_t open_reader(revroute *session, revroute_reader *reader, revroute_reader *other) {
@@ -58,8 +59,8 @@ static uint32_t change(revroute *session, revroute_reader *reader, revroute_read
     return status;
 }
 
-/* Makes a call again and again, with each allocation refused in turn, until none is met. A session may keep room for
- * its next change, and the table for its next reader. */
+/* Makes a call again and again, with each allocation refused in turn, until none is refused. The session may keep room
+ * for its next change, and the table for its next reader. */
 static void make_poor(call *make, revroute *session, revroute_reader *reader, revroute_reader *other) {
     for (long number = 1;; number++) {
         revroute before = *session;
@@ -80,7 +81,7 @@ static void make_poor(call *make, revroute *session, revroute_reader *reader, re
     }
 }
 
-/* The ends of a walk in each room from none on: no place after it is written. */
+/* Walks with each room from 0 on. Nothing after the room may be written. */
 static void walk_all(revroute_reader *reader) {
     static const uint32_t route[] = {2, 1, 0};
     for (size_t room = 0; room < 5; room++) {
@@ -95,7 +96,7 @@ static void walk_all(revroute_reader *reader) {
     }
 }
 
-/* What is no node, or has no way. */
+/* Numbers that are not nodes, and nodes without a route. */
 static void ask_outside(revroute_reader *reader) {
     static const uint32_t cut_off[] = {NODES, NODES + 1, MOST - 1};
     static const uint32_t outside[] = {MOST, MOST + 1, 1 << 16, UINT32_MAX};
@@ -129,8 +130,8 @@ static void ask_null(void) {
     if (none.at || refusing_held) stop("no reader holds memory");
 }
 
-/* A session with a network or without, and of `readers` readers: all is made without memory. Closed are the session,
- * the reader and its copy, the one of this number first. */
+/* A session with or without a network, which has `readers` readers. All calls are made with memory refused. At the
+ * end it closes the session, the reader and its copy, beginning with the one of this number. */
 static void live(int is_open, int readers, int first) {
     revroute session = REVROUTE_NEW;
     revroute_reader reader = REVROUTE_NO_READER, other = REVROUTE_NO_READER;

@@ -1,10 +1,10 @@
-/* Compares the typed questions with the lines' answers, on drawn networks and changes.
+/* Compares the typed questions with the answers to lines, on random networks and changes.
  *
- * After each line the hops, counts, routes, links and the report are asked both ways, each hop by its own call too.
- * The rerouted nodes have to be those whose hop differs from what it was, in push order. After a network too: it has
- * more, fewer or as many nodes, and often most links of the last one. Each array ends where its room does, so that a
- * sanitizer sees a number written too far; one with a place too few has to stay as it was. Printed is how many lines
- * were accepted.
+ * After each line it asks for the hops, counts, routes, links and the report in both ways, and for each hop also by
+ * its own call. The rerouted nodes must be those whose hop has changed, in push order. This holds for a new network
+ * too: it has more, fewer or equally many nodes, and often most links of the last one. Each array ends where its room
+ * ends, so that a sanitizer sees a write beyond the end. An array that is too short by one must stay unchanged. It
+ * prints how many lines were accepted.
  */
 #include "lines.h"
 #include "order.h"
@@ -29,7 +29,7 @@ static size_t ask(revroute *session, const char *asked, char *answer) {
     return length;
 }
 
-/* The hops as the line tells them. */
+/* The hops, from the answer to a line. */
 static void tell_hops(const uint32_t *hops, size_t count, char *text) {
     text += sprintf(text, "hops");
     for (size_t x = 0; x < count; x++) {
@@ -73,7 +73,7 @@ static void compare(revroute *session, const uint32_t *hops, size_t count) {
     free(counts);
 }
 
-/* The way from each node, as the line tells it, and none from behind the last. */
+/* The route of each node, from the answers to lines. There is none for the number after the last node. */
 static void compare_routes(revroute *session, size_t count) {
     char asked[64], told[TEXT], made[TEXT];
     size_t length, none;
@@ -98,7 +98,7 @@ static void compare_routes(revroute *session, size_t count) {
         stop("there is a route from behind the last node");
 }
 
-/* The links, as the line tells them. */
+/* The links, from the answer to a line. */
 static void compare_links(revroute *session) {
     char told[TEXT], made[TEXT];
     size_t length, none;
@@ -115,7 +115,7 @@ static void compare_links(revroute *session) {
     free(ends);
 }
 
-/* The report and the size, as the round's line and the links tell them. */
+/* The report and the size, from the answer of the round and from the links. */
 static void compare_numbers(revroute *session, size_t count, const char *answer) {
     char told[TEXT], made[64];
     uint64_t turned, cut_off;
@@ -137,14 +137,14 @@ static uint32_t *rerouted_of(revroute *session, size_t *count) {
     return nodes;
 }
 
-/* The hops of a network in a table of so many places. Numbers above its nodes are cut off. */
+/* The hops of a network in a table with this many places. Numbers that are not nodes are cut off. */
 static uint32_t *widened(const uint32_t *hops, size_t count, size_t places) {
     uint32_t *table = grown(NULL, (places + 1) * sizeof *table);
     for (size_t x = 0; x < places; x++) table[x] = x < count ? hops[x] : REVROUTE_CUT_OFF;
     return table;
 }
 
-/* The rerouted nodes, found by comparing all hops of both moments. */
+/* The rerouted nodes, found by comparing all hops before and after. */
 static void look_at_rerouted(revroute *session, const uint32_t *was, size_t before, const uint32_t *is, size_t after) {
     size_t told, places = before > after ? before : after;
     uint32_t *nodes = rerouted_of(session, &told), *order = grown(NULL, (places + 1) * sizeof *order);
@@ -163,7 +163,7 @@ static char *put_link(char *at, bool *any, uint32_t tail, uint32_t head) {
     return at;
 }
 
-/* Links of nodes from the first one on, each to a lesser number. */
+/* Links from nodes, beginning with the first one, each to a lower number. */
 static char *put_links(char *at, bool *any, uint32_t first, uint32_t count) {
     for (uint32_t u = first; u < count; u++)
         for (uint32_t v = 0; v < u; v++)
@@ -177,7 +177,7 @@ static void draw_network(uint32_t count, char *asked) {
     sprintf(put_links(at, &any, 0, count), "]]");
 }
 
-/* A network of so many nodes with most links of the last one, and mostly its destination. */
+/* A network of this many nodes, with most links of the last network, and mostly its destination. */
 static void draw_resized(revroute *session, uint32_t last, uint32_t count, char *asked) {
     uint32_t ends[MOST * (MOST - 1)], dest = draw(count);
     size_t length;
@@ -206,7 +206,7 @@ static void draw_change(uint32_t count, char *asked) {
     else strcpy(asked, some);
 }
 
-/* One line, with a look at what it changed. */
+/* Asks one line, and checks what it changed. */
 static size_t step(revroute *session, const char *asked) {
     size_t count, after, told, still;
     uint32_t *before = hops_of(session, &count), *nodes = rerouted_of(session, &told);
@@ -233,7 +233,7 @@ static size_t step(revroute *session, const char *asked) {
     return accepted;
 }
 
-/* What is answered before the first network. */
+/* The answers before the first network. */
 static void look_at_nothing(revroute *session) {
     uint64_t turned = 7, cut_off = 7;
     uint32_t nodes = 7;
@@ -245,7 +245,7 @@ static void look_at_nothing(revroute *session) {
     if (turned || cut_off || nodes || links || length) stop("there are numbers before there is a network");
 }
 
-/* The header's version is the library's. */
+/* The versions of the header and of the library must be the same. */
 static void compare_versions(void) {
     char text[32], parts[32];
     size_t length;

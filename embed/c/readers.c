@@ -1,22 +1,22 @@
-/* Threads that read while a session changes without pause: what they read is compared with a log of the pushes.
+/* Threads read while a session changes without pause. What they read is compared with a log of the pushes.
  *
  * usage: readers [CHANGES]
  *
- * 1, 2, 4 and 8 threads read next hops and walk, each by a reader of its own. Meanwhile the main thread makes drawn
- * changes to a drawn mesh: links fail and come back, one or several at once, by calls and by lines; the destination
- * moves; a larger or smaller network comes; and some changes are refused. After each change it asks a reader of its
- * own for the changed hops, and writes all pushes down, in push order.
+ * 1, 2, 4 and 8 threads read next hops and walk, each with its own reader. Meanwhile the main thread makes random
+ * changes to a random mesh. Links fail and come back, one or several at a time, by calls and by lines. The
+ * destination moves. A larger or smaller network replaces the old one. Some changes are refused. After each change
+ * the main thread asks its own reader for the changed hops, and logs all pushes in push order.
  *
- * Each thread keeps what it has read, with how many changes were done before a read, and how many had begun after it.
- * In the end:
+ * Each thread keeps what it has read. For each read it keeps how many changes were complete before it, and how many
+ * had begun after it. At the end the program checks:
  *
- * - For the reads of a thread there are moments, one not before the other, at which the table had the hop that was
- *   read. Each is after the pushes of the changes that were done, and not after those of changes that had not begun.
- * - A walk ends at the destination or at a node that is cut off. While one change was made it visits no node more
- *   than twice, and while none was made none more than once.
+ * - For the reads of a thread there are moments, in the order of the reads, at which the table had the hop that was
+ *   read. Each moment is after the pushes of the complete changes, and before those of changes that had not begun.
+ * - A walk ends at the destination or at a node that is cut off. If one change was made meanwhile, it visits no node
+ *   more than twice, and if none was made, no node more than once.
  * - After the last change each thread reads the hops of the session.
  *
- * Printed are how many hops were compared, and how many of them were read while a change was made.
+ * It prints how many hops were compared, and how many of them were read while a change was made.
  */
 #define _DEFAULT_SOURCE
 #include "lines.h"
@@ -31,7 +31,8 @@
 #endif
 
 enum { SIDE = 8, NODES = SIDE * SIDE, LINKS = 2 * SIDE * (SIDE - 1), MOST_THREADS = 8, MOST_EDITS = 6 };
-/* A walk of more nodes visits one three times. A thread keeps so many numbers; the first three of a read are no nodes. */
+/* A longer walk visits some node three times. A thread keeps this many numbers; the first three of a read are not
+ * nodes. */
 enum { ROOM = 2 * NODES, KEPT = 1 << 20, HEAD = 3 };
 
 static uint32_t draw_of(uint64_t *drawn, uint32_t below) {
@@ -42,7 +43,7 @@ static uint32_t draw_of(uint64_t *drawn, uint32_t below) {
 static uint64_t drawn = 20261127;
 static uint32_t draw(uint32_t below) { return draw_of(&drawn, below); }
 
-/* The log: which hops a node had, each from a push on, and how many pushes were made when a change was done. */
+/* The log: the hops that a node had, each with the push that made it, and the number of pushes after each change. */
 typedef struct {
     uint32_t push, hop;
 } entry;
@@ -64,7 +65,7 @@ static void write_down(uint32_t push, uint32_t node, uint32_t hop) {
     hops_of[node].entries[hops_of[node].count++] = (entry){push, hop};
 }
 
-/* A thread that reads. */
+/* A reading thread. */
 typedef struct {
     pthread_t thread;
     revroute_reader reader;
@@ -73,7 +74,7 @@ typedef struct {
     size_t length;
 } one;
 
-/* Keeps nodes that were read: each is followed by its hop. There is room for reads of the whole run. */
+/* Keeps nodes that were read, each followed by its hop. There is room for the reads of the whole run. */
 static void keep(one *it, uint32_t before, uint32_t after, const uint32_t *nodes, uint32_t count) {
     if (KEPT - it->length < HEAD + (size_t)count || (uint64_t)it->length * changes > (uint64_t)KEPT * after) return;
     uint32_t *place = it->kept + it->length;
@@ -105,7 +106,7 @@ static void walk(one *it) {
     keep(it, before, after, nodes, count);
 }
 
-/* Goes on with a copy of the reader, which knows what the reader knew. */
+/* Continues with a copy of the reader, which knows what the reader knew. */
 static void change_over(one *it) {
     revroute_reader copy = REVROUTE_NO_READER;
     if (revroute_reader_copy(&it->reader, &copy) != REVROUTE_ANSWERED) stop("no copy of a reader");
@@ -144,7 +145,7 @@ static uint32_t open_mesh(mesh *it) {
     return revroute_open(&it->session, it->nodes, draw(it->nodes), it->links, it->count, &round, &refusal);
 }
 
-/* A link that fails or comes back. Most are up. */
+/* Makes a link fail or come back. Most links are up. */
 static revroute_edit draw_edit(mesh *it) {
     uint32_t down = it->count - it->up;
     bool fails = down == 0 || (down < it->count / 4 && draw(2));
@@ -179,7 +180,7 @@ static uint32_t make_change(mesh *it) {
     return revroute_change(&it->session, edits, count, &round, &refusal);
 }
 
-/* Writes the pushes of a change down, and compares the changed hops with those of the main thread's reader. */
+/* Logs the pushes of a change, and compares the changed hops with those of the main thread's reader. */
 static void log_change(mesh *it) {
     uint32_t nodes[NODES];
     size_t count;
@@ -203,7 +204,7 @@ static void change_all(mesh *it) {
     }
 }
 
-/* The first push from `least` to `most` after which the node has the hop. */
+/* The first push between `least` and `most` after which the node has the hop. */
 static uint32_t moment_of(uint32_t node, uint32_t hop, uint32_t least, uint32_t most) {
     const entry *all = hops_of[node].entries;
     size_t low = 0, high = hops_of[node].count;
@@ -219,7 +220,7 @@ static uint32_t moment_of(uint32_t node, uint32_t hop, uint32_t least, uint32_t 
 
 static size_t compared, beside;
 
-/* How often a walk visits the node that it visits most often. */
+/* How often a walk visits the node that it visits most. */
 static uint32_t most_visits(const uint32_t *nodes, uint32_t count) {
     uint32_t visits[NODES] = {0}, most = 0;
     for (uint32_t at = 0; at < count; at++)

@@ -1,11 +1,11 @@
-/* A heap for a test: the library's calls of malloc, realloc and free, renamed by embed/check, come here. */
+/* A heap for tests. embed/check renames the library's calls of malloc, realloc and free, so that they come here. */
 #ifndef REFUSING_HEAP_H
 #define REFUSING_HEAP_H
 
-/* Which allocation is refused, counted down: 1 refuses the next one. At 0 none is. */
+/* The allocation that is refused, counted down: 1 refuses the next one, and 0 refuses none. */
 extern long refusing_left;
 
-/* How many blocks the library holds. */
+/* The number of blocks that the library holds. */
 extern long refusing_held;
 
 #endif

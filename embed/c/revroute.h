@@ -199,9 +199,9 @@ uint32_t revroute_open(revroute *session, uint32_t nodes, uint32_t dest, const r
                        revroute_round *round, revroute_refusal *refusal);
 
 /* Makes `count` edits in order, and then one round. If one edit is refused, none is made. Unknown kinds are tested
- * before everything else. An edit after which no node turns costs O(d), for d links at its nodes. Otherwise the cost is
- * that of the links at the nodes that turn, and at the nodes that had one of these as their next hop. It is O(n + m)
- * at most. */
+ * before everything else. An edit after which no node turns costs O(d), for d links at its nodes. Otherwise the cost
+ * is that of the links at the nodes that turn, and at the nodes that had one of these as their next hop. It is at most
+ * O(n + m). */
 uint32_t revroute_change(revroute *session, const revroute_edit *edits, size_t count, revroute_round *round,
                          revroute_refusal *refusal);
 
@@ -221,13 +221,13 @@ uint32_t revroute_closed_walk_of(uint32_t nodes, const revroute_link *links, siz
                                  size_t *length);
 
 /* Answers a line of `line_length` bytes, which is given without its newline. Writes the answer to the front of the
- * buffer `answer`, which has `room` bytes, and leaves the rest of the buffer unchanged. A refused request has an answer
- * too: `refused` and a number.
+ * buffer `answer`, which has `room` bytes, and leaves the rest of the buffer unchanged. A refused request has an
+ * answer too: `refused` and a number.
  *
  * REVROUTE_ANSWERED, REVROUTE_BLANK, REVROUTE_TOO_SHORT or REVROUTE_NO_MEMORY. After any but the first the session is
  * unchanged, with its own bytes, and so is the whole buffer. So a session that has answered nothing holds no memory.
- * The answer to a request that changes the session always fits into REVROUTE_LEAST_ROOM bytes. O(b) for b bytes of line
- * and answer, and the cost of the same call with numbers. */
+ * The answer to a request that changes the session always fits into REVROUTE_LEAST_ROOM bytes. O(b) for b bytes of
+ * line and answer, and the cost of the same call with numbers. */
 uint32_t revroute_answer(revroute *session, const uint8_t *line, size_t line_length, uint8_t *answer, size_t room,
                          size_t *length);
 
@@ -293,12 +293,12 @@ uint32_t revroute_route(revroute *session, uint32_t node, uint32_t *nodes, size_
  * number of links. REVROUTE_NO_MEMORY if memory ran out. O(n + m). */
 uint32_t revroute_links(revroute *session, uint32_t *ends, size_t room, size_t *length);
 
-/* Reports the last round: the number of turns, and the number of nodes that are cut off. REVROUTE_NO_NETWORK, with 0 in
- * both, if there is no network yet. O(1). */
+/* Reports the last round: the number of turns, and the number of nodes that are cut off. REVROUTE_NO_NETWORK, with 0
+ * in both, if there is no network yet. O(1). */
 uint32_t revroute_report(revroute *session, uint64_t *turned, uint64_t *cut_off);
 
-/* Reports the number of nodes and the number of links. REVROUTE_NO_NETWORK, with 0 in both, if there is no network yet.
- * O(1). */
+/* Reports the number of nodes and the number of links. REVROUTE_NO_NETWORK, with 0 in both, if there is no network
+ * yet. O(1). */
 uint32_t revroute_size(revroute *session, uint32_t *nodes, size_t *links);
 
 /* Readers. A reader returns next hops while other threads use the session and other readers. It waits for nobody and
@@ -311,9 +311,9 @@ uint32_t revroute_size(revroute *session, uint32_t *nodes, size_t *links);
  * - At every moment the table has no loop.
  * - If a reader is used after a call on the session, ordered by a lock or a join, it reads the hops that this call
  *   left, or later ones. A reader never goes back to an earlier table.
- * - Two reads can be of different tables. So while hops are pushed, a walk can visit a node again. It can also end at a
- *   node that is cut off although its first node has a route before and after. Within the pushes of one round it visits
- *   no node more than twice.
+ * - Two reads can be of different tables. So while hops are pushed, a walk can visit a node again. It can also end at
+ *   a node that is cut off although its first node has a route before and after. Within the pushes of one round it
+ *   visits no node more than twice.
  * - A thread that reads a hop also sees everything that the changing thread wrote before the call that stored the hop.
  *
  * Readers outlive their session. After its end they read its last hops. */
@@ -326,14 +326,14 @@ typedef struct revroute_reader {
 /* The null reader. It reads nothing and holds no memory: revroute_reader reader = REVROUTE_NO_READER; */
 #define REVROUTE_NO_READER {NULL}
 
-/* Opens a reader of the session's next hops in *reader. A reader that was there is closed. The session may be without a
- * network: then all nodes are cut off.
+/* Opens a reader of the session's next hops in *reader. A reader that was there is closed. The session may be without
+ * a network: then all nodes are cut off.
  *
  * REVROUTE_ANSWERED or REVROUTE_NO_MEMORY. After REVROUTE_NO_MEMORY *reader is unchanged and the session answers as
  * before, although it may have its table now.
  *
- * The first reader of a session takes 32 KiB of memory, and O(4,096 + n); each later one O(1). Once a session has had a
- * reader, each accepted round costs one more load, and one more store for each rerouted node, however many readers
+ * The first reader of a session takes 32 KiB of memory, and O(4,096 + n); each later one O(1). Once a session has had
+ * a reader, each accepted round costs one more load, and one more store for each rerouted node, however many readers
  * there are. */
 uint32_t revroute_reader_open(revroute *session, revroute_reader *reader);
 
@@ -360,8 +360,8 @@ uint32_t revroute_reader_next_hop(revroute_reader *reader, uint32_t node);
  * too long only while hops are pushed. It needs no memory. O(r) for a walk of r nodes. */
 uint32_t revroute_reader_route(revroute_reader *reader, uint32_t node, uint32_t *nodes, size_t room, size_t *length);
 
-/* Closes a reader, which is then as REVROUTE_NO_READER made it. The table is freed once its session and all its readers
- * are closed. O(1), or O(4,096) if the table is freed. */
+/* Closes a reader, which is then as REVROUTE_NO_READER made it. The table is freed once its session and all its
+ * readers are closed. O(1), or O(4,096) if the table is freed. */
 void revroute_reader_close(revroute_reader *reader);
 
 /* The version of this header. A program can compare it with the version of the library that it runs with. */

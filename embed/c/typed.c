@@ -1,16 +1,16 @@
-/* Compares the calls with numbers to the lines that ask the same, and looks at the evidence of what they refuse.
+/* Compares the calls with numbers with the lines that ask the same, and checks the evidence of refusals.
  *
- * Two sessions take the same drawn networks, edits and destinations, the one by lines, the other by calls; after each
- * step all that can be asked of the two has to be the same. What is refused is looked at in a table of links of this
- * program's own: which edit is the first that cannot be made there, why, and whether each step of the closed walk
- * goes along a link. Arrays end where no memory is behind them. In some steps the Nth allocation is refused, for N =
- * 1, 2, .. until the call does without: before that nothing may have changed.
+ * Two sessions get the same random networks, edits and destinations, one by lines and the other by calls. After each
+ * step all questions to the two must have the same answers. The program keeps its own table of the links, and checks
+ * each refusal with it: which edit is the first that cannot be made, why, and whether each step of the cycle follows
+ * a link. Arrays end where the next page cannot be accessed. In some steps the Nth allocation is refused, for N = 1,
+ * 2, .. until the call succeeds. Until then nothing may have changed.
  *
- * After each step a table is drawn, often with loops. Its pushes have to be those of the definition (order.h). They
- * are made one by one, and none may close a loop. Wrong tables have to be refused.
+ * After each step there is a random table, often with loops. Its pushes must be those of the definition (order.h).
+ * They are made one by one, and none may close a loop. Wrong tables must be refused.
  *
- * Printed are how many steps were accepted, refused, and ended for want of memory; how many pushes were made; and how
- * often memory was refused to the call for pushes.
+ * It prints how many steps were accepted, refused, and ended without memory; how many pushes were made; and how often
+ * memory was refused to the call for pushes.
  */
 #define _DEFAULT_SOURCE
 #include "fence.h"
@@ -31,7 +31,7 @@ static uint32_t draw(uint32_t below) {
     return (uint32_t)(drawn >> 33) % below;
 }
 
-/* The links of a network, as this program keeps them: whether one points from the one node to the other. */
+/* The links of a network, as this program keeps them: whether a link points from one node to the other. */
 typedef struct {
     uint32_t nodes;
     bool points[MOST][MOST];
@@ -41,7 +41,7 @@ static bool joins(const table *net, uint32_t u, uint32_t v) {
     return net->points[u][v] || net->points[v][u];
 }
 
-/* Whether links lead from the one node to the other, or the two are one. */
+/* Whether links lead from one node to the other, or the two are the same. */
 static bool leads(const table *net, uint32_t from, uint32_t to) {
     bool seen[MOST] = {false};
     uint32_t waiting[MOST], count = 0;
@@ -63,14 +63,14 @@ typedef struct {
     revroute_edit edits[MOST_EDITS + 2];
 } step;
 
-/* How a call ended, with what it wrote. */
+/* The status of a call, and what it wrote. */
 typedef struct {
     uint32_t status;
     revroute_round round;
     revroute_refusal refusal;
 } end;
 
-/* All that can be asked of a session. */
+/* All that can be asked about a session. */
 typedef struct {
     uint32_t status, nodes, hops[MOST], rerouted[MOST], ends[MOST * (MOST - 1)];
     uint64_t counts[MOST], turned, cut_off;
@@ -120,7 +120,7 @@ static void write_line(const step *it, char *text) {
     }
 }
 
-/* Bytes that end where no memory is behind them. */
+/* Bytes that end where the next page cannot be accessed. */
 static void *fenced(const void *bytes, size_t size) {
     if (size > FENCED) stop("a step is too long for this test");
     return memcpy(given_end - size, bytes, size);
@@ -144,7 +144,7 @@ static end call(revroute *session, const step *it) {
     return all;
 }
 
-/* A call, of which one allocation after the other is refused until it does without. */
+/* Makes a call, with one allocation after the other refused, until it succeeds. */
 static end call_poor(revroute *session, const step *it) {
     state before = state_of(session);
     for (long number = 1;; number++) {
@@ -161,7 +161,7 @@ static end call_poor(revroute *session, const step *it) {
     }
 }
 
-/* The number with which an edit cannot be made, or else 0, and it is made. */
+/* Makes an edit and returns 0, or returns the number for which it is refused. */
 static uint32_t make(table *net, revroute_edit e) {
     bool are_nodes = e.u < net->nodes && e.v < net->nodes;
     if (e.kind == REVROUTE_CUT) {
@@ -183,7 +183,7 @@ static void expect_nodes(revroute_refusal r, uint32_t u, uint32_t v) {
     if (!are_these) stop("a refusal names other nodes");
 }
 
-/* Each step of the walk goes along a link, and the last one back; one goes from u to v. */
+/* Checks that each step of the walk follows a link, that the last one closes it, and that one goes from u to v. */
 static void expect_walk(const table *net, const uint32_t *walk, size_t length, uint32_t u, uint32_t v) {
     bool is_met = false;
     if (length < 3 || walk[0] != walk[length - 1]) stop("a walk is not closed");
@@ -199,7 +199,7 @@ static uint32_t ask_walk(revroute *session, const step *it, size_t room, uint32_
     return revroute_closed_walk_of(it->nodes, fenced(it->links, it->count * sizeof *it->links), it->count, place, room, length);
 }
 
-/* How many nodes the closed walk has for which a step will be refused, or 0 where there is none. */
+/* The number of nodes of the cycle for which a step will be refused, or 0 if there is none. */
 static size_t walk_length(revroute *session, const step *it) {
     size_t length = UNTOUCHED;
     uint32_t *place = (uint32_t *)(void *)place_end - 1;
@@ -212,7 +212,7 @@ static size_t walk_length(revroute *session, const step *it) {
     return length;
 }
 
-/* The closed walk of a step that is refused for one. */
+/* The cycle of a step that is refused for one. */
 static void look_at_walk(revroute *session, const step *it, const table *net, revroute_refusal r, size_t length) {
     size_t told;
     uint32_t *place = (uint32_t *)(void *)place_end - length;
@@ -223,7 +223,7 @@ static void look_at_walk(revroute *session, const step *it, const table *net, re
     expect_walk(net, place, length, r.u, r.v);
 }
 
-/* Which edit is the first that cannot be made, and why. */
+/* Checks which edit is the first that cannot be made, and why. */
 static void look_at_change(revroute *session, const step *it, const state *before, end ended, size_t length) {
     revroute_refusal r = ended.refusal;
     bool is_refused = ended.status == REVROUTE_REFUSED;
@@ -248,7 +248,7 @@ static void look_at_change(revroute *session, const step *it, const state *befor
     look_at_walk(session, it, &net, r, length);
 }
 
-/* Whether the first fault of the links is the one that is told, and its nodes are those of a link or two. */
+/* Whether the first fault of the links is the reported one, and its nodes are those of one or two links. */
 static void look_at_open(revroute *session, const step *it, end ended, size_t length) {
     revroute_refusal r = ended.refusal;
     table net = {it->nodes, {{false}}};
@@ -275,7 +275,7 @@ static void look_at_open(revroute *session, const step *it, end ended, size_t le
     look_at_walk(session, it, &net, r, length);
 }
 
-/* An edit, mostly one that can be made. */
+/* A random edit, mostly one that can be made. */
 static revroute_edit draw_edit(const table *net) {
     uint32_t u = draw(net->nodes + (draw(20) == 0)), v = draw(net->nodes + (draw(20) == 0));
     uint32_t fitting = u < net->nodes && v < net->nodes && joins(net, u, v) ? REVROUTE_CUT : REVROUTE_JOIN - (draw(3) == 0);
@@ -294,7 +294,7 @@ static void add_link(step *it, uint32_t tail, uint32_t head) {
     it->links[it->count++] = (revroute_link){tail, head};
 }
 
-/* New links, each to a lesser number; or most of the last network's, and new ones of the added nodes. */
+/* New links, each to a lower number; or most links of the last network, and new ones of the added nodes. */
 static void draw_links(step *it, const state *now) {
     bool is_near = draw(2);
     for (uint32_t u = is_near ? now->nodes : 0; u < it->nodes; u++)
@@ -322,12 +322,12 @@ static step draw_step(revroute *session) {
     return it;
 }
 
-/* The hops of a state, with numbers above its nodes cut off. */
+/* The hops of a state. Numbers that are not nodes are cut off. */
 static void widen(const state *now, uint32_t *hops) {
     for (uint32_t x = 0; x < MOST; x++) hops[x] = x < now->nodes ? now->hops[x] : REVROUTE_CUT_OFF;
 }
 
-/* After a round the nodes are told whose hop differs, in push order. */
+/* Checks that after a round the nodes whose hop has changed are reported, in push order. */
 static void look_at_rerouted(const state *before, const state *after) {
     uint32_t old[MOST], new[MOST], order[MOST];
     widen(before, old);
@@ -341,7 +341,7 @@ static uint32_t *place_of(size_t room) {
     return (uint32_t *)(void *)place_end - room;
 }
 
-/* Asks for the pushes of a table. The call writes its answer, and nothing else. */
+/* Asks for the pushes of a table, and checks that the call writes nothing but its answer. */
 static uint32_t ask_pushes(revroute *session, const uint32_t *hops, size_t count, size_t room, size_t *length) {
     uint32_t *place = place_of(room), *given = fenced(hops, count * sizeof *hops);
     revroute before = *session;
@@ -356,7 +356,7 @@ static uint32_t ask_pushes(revroute *session, const uint32_t *hops, size_t count
     return status;
 }
 
-/* Asks so that sometimes one allocation after the other is refused, until the call does without. */
+/* The same, but sometimes with one allocation after the other refused, until the call succeeds. */
 static uint32_t ask_poor(revroute *session, const uint32_t *hops, size_t count, size_t room, size_t *length) {
     for (long number = draw(16) ? 0 : 1;; number++) {
         long held = refusing_held;
@@ -371,7 +371,7 @@ static uint32_t ask_poor(revroute *session, const uint32_t *hops, size_t count, 
     }
 }
 
-/* Some of the settled hops, and others that are drawn. */
+/* Some of the settled hops, and some random ones. */
 static void draw_table(const state *now, uint32_t *hops) {
     uint32_t settled = draw(5);
     for (uint32_t x = 0; x < now->nodes; x++) {
@@ -385,7 +385,7 @@ static void expect_no_table(revroute *session, const uint32_t *hops, size_t coun
     if (ask_poor(session, hops, count, draw(MOST + 1), &length) != REVROUTE_NO_TABLE) stop("a wrong table has pushes");
 }
 
-/* A table with a hop too many, one too few or none is refused, and so is a hop to a number that is no node. */
+/* A table is refused if it has a hop too many, a hop too few or no hops, or a hop to a number that is not a node. */
 static void refuse_tables(revroute *session, const uint32_t *hops, uint32_t count) {
     uint32_t wrong[MOST + 1], outside[] = {count, count + draw(9), REVROUTE_NO_HOP, REVROUTE_NO_SUCH_NODE};
     memcpy(wrong, hops, count * sizeof *hops);
@@ -397,14 +397,14 @@ static void refuse_tables(revroute *session, const uint32_t *hops, uint32_t coun
     expect_no_table(session, wrong, count);
 }
 
-/* Whether a table leads from a node back to it. */
+/* Whether a table leads from a node back to itself. */
 static bool goes_round(const uint32_t *hops, size_t count, uint32_t node) {
     uint32_t next = hops[node];
     for (size_t steps = 0; steps < count && next < count && next != node; steps++) next = hops[next];
     return next == node;
 }
 
-/* Makes the pushes. A new loop would pass the node that was pushed. */
+/* Makes the pushes. A new loop would contain the node that was pushed. */
 static void push_all(uint32_t *hops, const state *now, const uint32_t *nodes, size_t count) {
     for (size_t at = 0; at < count; at++) {
         hops[nodes[at]] = now->hops[nodes[at]];
@@ -414,7 +414,7 @@ static void push_all(uint32_t *hops, const state *now, const uint32_t *nodes, si
     pushed += count;
 }
 
-/* The pushes of a drawn table, with just enough room, and with too little. */
+/* The pushes of a random table, with exactly enough room, and with too little. */
 static void look_at_pushes(revroute *session, const state *now) {
     uint32_t hops[MOST], order[MOST];
     uint32_t nodes = now->nodes;
@@ -433,7 +433,7 @@ static void look_at_pushes(revroute *session, const state *now) {
         stop("the settled table has pushes");
 }
 
-/* Compares the end of a call with what the line was answered. */
+/* Compares the result of a call with the answer to the line. */
 static void compare(const char *answer, end ended) {
     char made[64] = "refused 3";
     if (ended.status == REVROUTE_ANSWERED) {
@@ -467,7 +467,7 @@ static void take(revroute *by_line, revroute *by_call, const step *it) {
     expect_state(by_call, &after, "a question changed something");
 }
 
-/* Before the first network all but a network finds none; an edit of an unknown kind is refused even so. */
+/* Before the first network, only a new network succeeds. An edit of an unknown kind is refused nevertheless. */
 static void look_at_nothing(void) {
     revroute session = REVROUTE_NEW;
     static step it;

@@ -1,4 +1,5 @@
-"""Without memory: each allocation of the library refused in turn, by the heap that embed/check puts under it, and each of Python."""
+"""Calls without memory: the heap that embed/check puts under the library refuses each of its allocations in turn. Then
+each allocation of Python is refused."""
 
 import ctypes
 import unittest
@@ -16,14 +17,14 @@ CHAIN, CUT = LINES[:2]
 
 
 class NoText:
-    """A buffer of which no text can be made."""
+    """A buffer that cannot be made into text."""
 
     def __getitem__(self, _):
         raise MemoryError
 
 
 def poor(what, first, last):
-    """Does something while Python's allocations from the first to the last are refused. Returns what was raised, or None."""
+    """Does something while Python's allocations from `first` to `last` are refused. Returns the exception, or None."""
     set_nomemory(first, last)
     try:
         what()
@@ -35,7 +36,8 @@ def poor(what, first, last):
 
 
 def ask_poor(session, line, first, last):
-    """Asks while Python's allocations from the first to the last, or all behind it, are refused. Returns what came of it."""
+    """Asks while Python's allocations from `first` to `last`, or all after `first`, are refused. Returns the
+    result."""
     set_nomemory(first, last)
     try:
         return session.answer(line)

@@ -1,4 +1,4 @@
-"""Networks by calls, compared with sessions by lines, and graphs of networkx where that is installed."""
+"""Compares networks by calls with sessions by lines, and tests networkx graphs if networkx is installed."""
 
 import array
 import collections
@@ -26,7 +26,7 @@ HAS_NUMPY = importlib.util.find_spec("numpy") is not None
 
 
 def drawn(draw, nodes):
-    """Links that close no walk, since each points to the lesser number."""
+    """Links without a cycle, since each points to the lower number."""
     return [(u, v) for u in range(nodes) for v in range(u) if draw.random() < 0.4]
 
 
@@ -55,7 +55,7 @@ def make(links, edit):
 
 
 def shows(refused, edit, links, nodes):
-    """Whether the evidence shows why an edit is refused, where these links stand before it."""
+    """Whether the evidence shows why an edit is refused, if these are the links before it."""
     _, u, v = edit
     joined = (u, v) in links or (v, u) in links
     if refused.number == 7:
@@ -71,7 +71,7 @@ def shows(refused, edit, links, nodes):
 
 
 def in_change(before):
-    """The library's change of edits with something done before it, while the network is in the call."""
+    """Does something while the network is in a call, and then makes the library's call for a change."""
     true_call = _calls.change
 
     def call(*words):
@@ -82,7 +82,7 @@ def in_change(before):
 
 
 class ByLines:
-    """The same network by lines alone."""
+    """The same network, only by lines."""
 
     def __init__(self, nodes, dest, links):
         self.session, self.nodes = revroute.Session(), nodes
@@ -103,8 +103,8 @@ class ByLines:
 
 
 def push_order(before, hops):
-    """The nodes whose hop differs, by how many of them lie on the node's route, itself included, and then by number.
-    A number that is no node of one of the networks is cut off there."""
+    """The nodes whose hop differs. They are ordered by how many of them are on the node's route, itself included, and
+    then by number. A number that is not a node of one of the networks is cut off there."""
     nodes = range(max(len(before), len(hops)))
     old, new = ([*table, *[NoHop.CUT_OFF] * (len(nodes) - len(table))] for table in (before, hops))
 
@@ -115,7 +115,7 @@ def push_order(before, hops):
 
 
 def drawn_table(draw, hops):
-    """A table with some of these hops, and others that are drawn, often with loops."""
+    """A table with some of these hops, and some random ones, often with loops."""
     kept = draw.choice((0, 0.25, 0.5, 0.75, 1))
     nodes = range(len(hops))
     others = [(NoHop.CUT_OFF, NoHop.HERE, draw.choice(nodes), draw.choice(nodes)) for _ in nodes]
@@ -123,7 +123,7 @@ def drawn_table(draw, hops):
 
 
 def goes_round(table, node):
-    """Whether a table leads from a node back to it."""
+    """Whether a table leads from a node back to itself."""
     at = table[node]
     for _ in table:
         if at == node or isinstance(at, NoHop):
@@ -134,7 +134,7 @@ def goes_round(table, node):
 
 class NetworkTests(unittest.TestCase):
     def look(self, network, lines, before):
-        """Compares all questions, and the changed hops with those before."""
+        """Compares the answers to all questions, and the changed hops with those before."""
         hops = lines.hops()
         self.assertEqual(network.hops(), hops)
         self.assertEqual([network.next_hop(x) for x in range(lines.nodes)], hops)
@@ -146,7 +146,7 @@ class NetworkTests(unittest.TestCase):
         return hops
 
     def push_drawn(self, network, draw, hops):
-        """Makes the pushes of a drawn table. A new loop would pass the node that was pushed."""
+        """Makes the pushes of a random table. A new loop would contain the node that was pushed."""
         before = drawn_table(draw, hops)
         wanted = [(x, hops[x]) for x in push_order(before, hops)]
         shuffled = {x: before[x] for x in draw.sample(range(len(hops)), len(hops))}

@@ -1,4 +1,4 @@
-"""Readers, beside the network or the session that they are of."""
+"""Tests readers, while their network or session changes."""
 
 import copy
 import doctest
@@ -21,7 +21,7 @@ LINKS = [(x, x - 1) for x in range(NODES) if x % SIDE] + [(x, x - SIDE) for x in
 
 
 def change_all(network):
-    """Fails links and brings them back; no more than three are down at once."""
+    """Makes links fail and come back. At most three are down at a time."""
     for at in range(CHANGES):
         edits = [("cut", *LINKS[at * 7 % len(LINKS)])]
         if at >= 3:
@@ -30,7 +30,7 @@ def change_all(network):
 
 
 def read_along(reader, is_over):
-    """Walks until the changes are over. Returns how many walks there were, and the hops that are read then."""
+    """Walks until the changes are over. Returns the number of walks, and the hops that it reads then."""
     walks = 0
     while not is_over.is_set():
         for node in range(NODES):

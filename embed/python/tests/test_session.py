@@ -1,4 +1,4 @@
-"""The session, over the installed package."""
+"""Tests the session of the installed package."""
 
 import array
 import copy
@@ -26,7 +26,7 @@ CHAIN_LINKS = "links 1>0 2>1 3>2"
 
 
 def answers(lines):
-    """The answers to all lines, in a session of their own."""
+    """The answers of a new session to all lines."""
     with revroute.Session() as session:
         return [it for it in map(session.answer, lines) if it is not None]
 
@@ -37,8 +37,8 @@ def examples():
 
 
 def push_order(before, hops):
-    """The nodes whose hop differs, by how many of them lie on the node's route, itself included, and then by number.
-    A number that is no node of one of the networks is cut off there."""
+    """The nodes whose hop differs. They are ordered by how many of them are on the node's route, itself included, and
+    then by number. A number that is not a node of one of the networks is cut off there."""
     nodes = range(max(len(before), len(hops)))
     old, new = ([*table, *[revroute.NoHop.CUT_OFF] * (len(nodes) - len(table))] for table in (before, hops))
 
@@ -49,14 +49,14 @@ def push_order(before, hops):
 
 
 class LongerThanItIs(bytes):
-    """Bytes that tell another length, and are no more than they are."""
+    """Bytes whose type reports another length than they have."""
 
     def __len__(self):
         return 1 << 40
 
 
 class NullBehindALength:
-    """What ctypes takes for a null pointer."""
+    """An object that ctypes passes as a null pointer."""
 
     _as_parameter_ = None
 
@@ -73,7 +73,7 @@ class TextOfItsOwn(str):
 
 
 def in_call(before=lambda: None, behind=lambda: None):
-    """The library's call with something done before it and behind it, while the session is in the call."""
+    """Makes the library's call, and does something before and after it, while the session is in the call."""
     true_call = library.revroute_answer
 
     def call(*words):
@@ -86,7 +86,7 @@ def in_call(before=lambda: None, behind=lambda: None):
 
 
 def ends_well(what):
-    """Whether a child of this process comes to the end of what it is given, and in time."""
+    """Whether a child of this process finishes its task in time."""
     with warnings.catch_warnings():
         # that it is forked while threads run is what is tried
         warnings.simplefilter("ignore", DeprecationWarning)
@@ -122,8 +122,8 @@ class SessionTest(unittest.TestCase):
                 self.assertEqual(answers([it.decode() for it in lines]), wanted)
 
     def look_at_changes(self, session, before, after):
-        """The nodes are told whose hop differs, in push order; a table with the hops from before has the same
-        pushes."""
+        """Checks that the nodes whose hop has changed are listed in push order, and that a table with the hops from
+        before has the same pushes."""
         rerouted = push_order(before, after)
         changed = [(x, after[x] if x < len(after) else revroute.NoHop.CUT_OFF) for x in rerouted]
         self.assertEqual((session.rerouted(), session.changed()), (rerouted, changed))

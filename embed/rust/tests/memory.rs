@@ -1,4 +1,4 @@
-//! Without memory: each allocation of the library refused in turn, by the heap that embed/check puts under it.
+//! Calls without memory: the heap that embed/check puts under the library refuses each of its allocations in turn.
 #![cfg(refusing_heap)]
 
 use revroute::{Edit, Hop, Network, NoMemory, Refused, Report, Session, TableFault};
@@ -6,11 +6,11 @@ use std::ffi::c_long;
 use std::sync::{Mutex, PoisonError};
 
 unsafe extern "C" {
-    /// Which allocation is refused, counted down; 0 for none.
+    /// The allocation that is refused, counted down. 0 refuses none.
     static mut refusing_left: c_long;
 }
 
-/// Held while an allocation is refused, since the counter is one for all threads.
+/// Held while an allocation is refused, since all threads share the counter.
 static COUNTER: Mutex<()> = Mutex::new(());
 
 const LINES: [&str; 4] = [
@@ -20,9 +20,9 @@ const LINES: [&str; 4] = [
     r#"["walk",1]"#,
 ];
 
-/// Does something with the allocation of this number refused.
+/// Does something while the allocation with this number is refused.
 fn poor<T>(number: c_long, what: impl FnOnce() -> T) -> T {
-    // SAFETY: whoever calls it holds the lock, so nobody else uses the counter.
+    // SAFETY: the caller holds the lock, so nobody else uses the counter.
     unsafe { refusing_left = number };
     let ended = what();
     // SAFETY: as above.
@@ -54,8 +54,8 @@ fn without_memory_the_session_is_as_it_was() -> Result<(), NoMemory> {
     Ok(())
 }
 
-/// Makes a change with each allocation refused in turn, after which all is as it was, and returns what it comes to
-/// with none refused.
+/// Makes a change with each allocation refused in turn, and checks that nothing changes. Returns the result with none
+/// refused.
 fn made_poor(
     network: &mut Network,
     change: impl Fn(&mut Network) -> Result<Report, Refused>,

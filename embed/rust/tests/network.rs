@@ -1,4 +1,4 @@
-//! Networks by typed calls, beside a session that is told the same by lines.
+//! Compares networks with typed calls with a session that gets the same changes by lines.
 
 mod order;
 
@@ -7,7 +7,7 @@ use revroute::{Edit, Hop, Network, Refused, RefusedEdit, Report, Session, Size, 
 use std::error::Error;
 use std::thread;
 
-/// Numbers that are drawn, the same at each start.
+/// Random numbers, the same in each run.
 struct Draw(u64);
 
 impl Draw {
@@ -19,14 +19,14 @@ impl Draw {
         ((self.0 >> 33) % u64::from(bound)) as u32
     }
 
-    /// An edit, at times of what is no node.
+    /// A random edit, sometimes with a number that is not a node.
     fn edit(&mut self, nodes: u32) -> Edit {
         let behind = nodes + u32::from(self.below(10) == 0);
         let (u, v) = (self.below(behind), self.below(behind));
         [Edit::Cut, Edit::Add, Edit::Join][self.below(3) as usize](u, v)
     }
 
-    /// A table with some of these hops, and others that are drawn.
+    /// A table with some of these hops, and some random ones.
     fn table(&mut self, hops: &[Hop]) -> Vec<Hop> {
         let (nodes, kept) = (hops.len() as u32, self.below(5));
         let mut drawn = |hop| match self.below(16) {
@@ -38,14 +38,14 @@ impl Draw {
         hops.iter().map(|&hop| drawn(hop)).collect()
     }
 
-    /// Links that close no walk, since each points to the lesser number.
+    /// Links without a cycle, since each points to the lower number.
     fn links(&mut self, nodes: u32) -> Vec<(u32, u32)> {
         let pairs = (0..nodes).flat_map(|u| (0..u).map(move |v| (u, v)));
         pairs.filter(|_| self.below(5) < 2).collect()
     }
 }
 
-/// The same network by lines alone.
+/// The same network, only by lines.
 struct Lines(Session);
 
 impl Lines {
@@ -94,7 +94,7 @@ fn told_of(report: Report) -> String {
     format!("turned {} cut {}", report.turned, report.cut_off)
 }
 
-/// The number of a refusal in lines.
+/// The number that lines use for a refusal.
 fn number(refused: &Refused) -> u32 {
     match refused {
         Refused::NoMemory => panic!("there is memory"),
@@ -107,8 +107,8 @@ fn number(refused: &Refused) -> u32 {
     }
 }
 
-/// Looks that all questions answer what lines do, and that the changed hops are those that differ from before, in
-/// push order.
+/// Checks that all questions have the same answers as by lines, and that the changed hops are those that differ from
+/// before, in push order.
 fn compare(network: &Network, lines: &mut Lines, before: &[Hop]) -> Result<(), Box<dyn Error>> {
     let hops = network.hops()?;
     assert_eq!(hops, lines.hops());
@@ -129,13 +129,13 @@ fn compare(network: &Network, lines: &mut Lines, before: &[Hop]) -> Result<(), B
     Ok(())
 }
 
-/// What is to be pushed where a table has these hops and is to have those.
+/// The expected pushes for a table with the hops `before` that is to get the hops `hops`.
 fn pushes_of(before: &[Hop], hops: &[Hop]) -> Vec<(u32, Hop)> {
     let order = push_order(before, hops).into_iter();
     order.map(|x| (x, hops[x as usize])).collect()
 }
 
-/// Whether a table leads from a node back to it.
+/// Whether a table leads from a node back to itself.
 fn goes_round(table: &[Hop], node: u32) -> bool {
     let mut at = node;
     for _ in table {
@@ -148,8 +148,8 @@ fn goes_round(table: &[Hop], node: u32) -> bool {
     false
 }
 
-/// Looks that the pushes of a drawn table are the right ones, and that none closes a loop, which would pass the node
-/// that was pushed.
+/// Checks that the pushes of a random table are the right ones, and that none closes a loop. A loop would contain the
+/// node that was pushed.
 fn push_drawn(network: &Network, draw: &mut Draw) -> Result<(), Box<dyn Error>> {
     let hops = network.hops()?;
     let mut table = draw.table(&hops);
@@ -189,7 +189,7 @@ fn make(links: &mut Vec<(u32, u32)>, edit: Edit) {
     }
 }
 
-/// Looks that the evidence shows why an edit is refused, where `links` stand before it.
+/// Checks that the evidence shows why an edit is refused. `links` are the links before it.
 fn shows(why: &Refused, edit: Edit, links: &[(u32, u32)], nodes: u32) {
     let (Edit::Cut(u, v) | Edit::Add(u, v) | Edit::Join(u, v)) = edit;
     let joined = links.contains(&(u, v)) || links.contains(&(v, u));
@@ -208,7 +208,7 @@ fn shows(why: &Refused, edit: Edit, links: &[(u32, u32)], nodes: u32) {
     }
 }
 
-/// A change, by both.
+/// A change, by calls and by lines.
 enum Asked {
     One(Edit),
     Batch(Vec<Edit>),
@@ -235,7 +235,7 @@ impl Asked {
         }
     }
 
-    /// Makes the change by its call, and looks at the evidence where it is refused.
+    /// Makes the change by its call, and checks the evidence if it is refused.
     fn make(&self, network: &mut Network, mut links: Vec<(u32, u32)>) -> Result<Report, Refused> {
         let nodes = network.size().nodes;
         match self {
@@ -263,7 +263,7 @@ impl Asked {
     }
 }
 
-/// Makes drawn changes both ways, and returns how many are accepted and refused.
+/// Makes random changes in both ways, and returns how many are accepted and refused.
 fn change_both(seed: u64) -> Result<(u32, u32), Box<dyn Error>> {
     let mut draw = Draw(seed);
     let nodes = 1 + draw.below(8);

@@ -4,12 +4,12 @@ use revroute::{Edit, Hop, MAX_NODES, Network, NoMemory, Reader, Refused, Session
 use std::sync::atomic::{AtomicBool, Ordering};
 use std::{mem, panic, thread};
 
-/// How wide and how high the mesh is.
+/// The width and height of the mesh.
 const SIDE: u32 = 8;
 const NODES: u32 = SIDE * SIDE;
 const CHANGES: usize = 20_000;
 
-/// The links of the mesh, each towards the lesser number.
+/// The links of the mesh. Each points to the lower number.
 fn mesh() -> Vec<(u32, u32)> {
     let left = |x: u32| (x % SIDE > 0).then(|| (x, x - 1));
     let above = |x: u32| x.checked_sub(SIDE).map(|y| (x, y));
@@ -18,7 +18,7 @@ fn mesh() -> Vec<(u32, u32)> {
         .collect()
 }
 
-/// Fails links and brings them back, one after the other; no more than three are down at once.
+/// Makes links fail and come back, one after the other. At most three are down at a time.
 fn change_all(network: &mut Network) -> Result<(), Refused> {
     let links = mesh();
     let link = |at: usize| links[at * 37 % links.len()];
@@ -33,7 +33,7 @@ fn change_all(network: &mut Network) -> Result<(), Refused> {
     Ok(())
 }
 
-/// Walks from all nodes until the changes are over, and returns the hops that are read then.
+/// Walks from all nodes until the changes are over. Then reads the hops and returns them.
 fn read_along(reader: Reader, is_over: &AtomicBool) -> Vec<Hop> {
     let mut place = [0; MAX_NODES];
     while !is_over.load(Ordering::Acquire) {

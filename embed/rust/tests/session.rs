@@ -11,7 +11,7 @@ use std::{fs, mem, thread};
 const CHAIN: &str = r#"["net",4,0,[[0,1],[1,2],[2,3]]]"#;
 const CHAIN_LINKS: &str = "links 1>0 2>1 3>2";
 
-/// An example of the repository: its lines, and the answers that stand beside them.
+/// An example of the repository: its lines, and their answers.
 struct Example {
     name: String,
     lines: Vec<u8>,
@@ -34,7 +34,7 @@ fn examples() -> Result<Vec<Example>, Box<dyn Error>> {
     Ok(found)
 }
 
-/// The answers to all lines, in a session of their own.
+/// The answers of a new session to all lines.
 fn answers(lines: &[u8]) -> Result<Vec<u8>, NoMemory> {
     let (mut session, mut all) = (Session::new(), Vec::new());
     for line in lines.split(|&byte| byte == b'\n') {
@@ -115,7 +115,7 @@ fn the_buffer_grows_with_the_answer() -> Result<(), NoMemory> {
     Ok(())
 }
 
-/// The answers to lines that come in pieces of this length.
+/// The answers to lines that arrive in pieces of this length.
 fn answers_to_pieces(lines: &[u8], length: usize) -> Result<Vec<u8>, TakeFault> {
     let (mut session, mut all) = (Session::new(), Vec::new());
     let mut put = |text: &str| all.extend_from_slice(format!("{text}\n").as_bytes());
@@ -162,13 +162,13 @@ fn a_line_that_is_too_long_is_not_taken() -> Result<(), TakeFault> {
     Ok(())
 }
 
-/// The numbers behind the first word of an answer.
+/// The numbers after the first word of an answer.
 fn numbers(answer: Option<&str>) -> Vec<u64> {
     let words = answer.expect("a question has an answer").split(' ').skip(1);
     words.map(|it| it.parse().expect("a number")).collect()
 }
 
-/// The hops that a line tells.
+/// The hops in the answer to a line.
 fn hops(answer: Option<&str>) -> Vec<Hop> {
     let words = answer.expect("a question has an answer").split(' ').skip(1);
     let hop = |word: &str| match word {
@@ -179,7 +179,7 @@ fn hops(answer: Option<&str>) -> Vec<Hop> {
     words.map(hop).collect()
 }
 
-/// Looks that the route of each node is that of its line.
+/// Checks that the route of each node is the one that lines give.
 fn tells_routes(session: &mut Session, nodes: u32) -> Result<(), NoMemory> {
     for x in 0..nodes {
         let told = match session.route(x)? {
@@ -193,8 +193,8 @@ fn tells_routes(session: &mut Session, nodes: u32) -> Result<(), NoMemory> {
     Ok(())
 }
 
-/// Looks that the nodes are told whose hop differs, in push order, and that a table with the hops from before has the
-/// same pushes.
+/// Checks that the nodes whose hop has changed are listed in push order, and that a table with the hops from before
+/// has the same pushes.
 fn tells_changes(session: &mut Session, before: &[Hop], after: &[Hop]) -> Result<(), TableFault> {
     let rerouted = push_order(before, after);
     let hop = |x: u32| after.get(x as usize).copied().unwrap_or(Hop::CutOff);

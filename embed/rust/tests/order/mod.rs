@@ -1,9 +1,9 @@
-//! The order in which changed hops have to be told.
+//! Push order: the order in which changed hops must be listed.
 
 use revroute::Hop;
 
-/// The nodes whose hop differs, by how many of them lie on the node's route, itself included, and then by number. A
-/// number that is no node of one of the networks is cut off there.
+/// The nodes whose hop differs. They are ordered by how many of them are on the node's route, itself included, and
+/// then by number. A number that is not a node of one of the networks is cut off there.
 pub fn push_order(before: &[Hop], after: &[Hop]) -> Vec<u32> {
     let hop = |table: &[Hop], x: usize| table.get(x).copied().unwrap_or(Hop::CutOff);
     let differs = |x: usize| hop(before, x) != hop(after, x);
