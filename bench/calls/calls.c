@@ -1,4 +1,5 @@
-/* Times the typed calls of revroute.h, and each change beside its line, as timing.rs does: the best of several runs, nanoseconds a call. */
+/* Times the typed calls of revroute.h, and each change as a call and as a line. As in timing.rs it prints nanoseconds
+ * for each call, in the best of several runs. */
 #include <pthread.h>
 #include <revroute.h>
 #include <stdatomic.h>
@@ -54,7 +55,7 @@ static double now(void) {
     return (double)time.tv_sec * 1e9 + (double)time.tv_nsec;
 }
 
-/* The network of the first so many nodes, and the links between them. */
+/* The network of the first `count` nodes, and the links between them. */
 static revroute opened_first(uint32_t count) {
     static revroute_link some[LINKS];
     revroute session = REVROUTE_NEW;
@@ -86,7 +87,7 @@ static void read_hops(revroute_reader *reader) {
     kept = sum;
 }
 
-/* A thread that asks a network of its own, or a reader where it has one. */
+/* A thread that asks its own network, or its reader if it has one. */
 typedef struct {
     revroute session;
     revroute_reader reader;
@@ -103,7 +104,7 @@ static void *ask_as_one(void *of) {
     return NULL;
 }
 
-/* The time of threads side by side: from the first that begins to the last that ends. */
+/* The time of several threads in parallel, from the first start to the last end. */
 static double ask_together(asked *all, unsigned count) {
     pthread_t threads[THREADS];
     double begin = 1e18, end = 0;
@@ -136,7 +137,7 @@ static void tell_tables(revroute *session) {
     kept = table[nodes - 1];
 }
 
-/* Makes the table the settled one, or one that differs from it everywhere. */
+/* Fills the table with the settled hops, or with hops that all differ from them. */
 static void fill_table(revroute *session, uint32_t count, bool differs) {
     size_t length;
     if (revroute_next_hops(session, table, NODES, &length) != REVROUTE_ANSWERED) stop("there are no hops");
@@ -144,7 +145,7 @@ static void fill_table(revroute *session, uint32_t count, bool differs) {
         table[x] = table[x] == REVROUTE_CUT_OFF ? REVROUTE_HERE : REVROUTE_CUT_OFF;
 }
 
-/* The best time of the pushes of a table of so many nodes, in which nothing or everything differs. */
+/* The best time of the pushes of a table of `count` nodes, in which nothing or everything differs. */
 static double best_pushes(uint32_t count, bool differs) {
     revroute session = opened_first(count);
     double least = 1e18;
@@ -164,7 +165,7 @@ static double best_pushes(uint32_t count, bool differs) {
     return least / TABLES;
 }
 
-/* Makes the changes, with a hop asked for behind each. */
+/* Makes the changes, and asks for a hop after each. */
 static void change(revroute *session) {
     revroute_round round;
     revroute_refusal refusal;
@@ -183,7 +184,7 @@ static void change_by_lines(revroute *session) {
     }
 }
 
-/* The best time of what is done with a fresh network, which has a reader or none. */
+/* The best time of doing something with a new network, with or without a reader. */
 static double best_of(void (*what)(revroute *), bool is_read) {
     double least = 1e18;
     for (int run = 0; run < RUNS; run++) {
@@ -204,7 +205,7 @@ static double best(void (*what)(revroute *)) {
     return best_of(what, false);
 }
 
-/* Makes all changes again and again, each time from the network as it was. */
+/* Makes all changes again and again, each time on the original network. */
 static void *change_on(void *session) {
     revroute_round round;
     revroute_refusal refusal;
@@ -215,7 +216,7 @@ static void *change_on(void *session) {
     return NULL;
 }
 
-/* The time of a hop by readers, a thread each, while nothing changes or all changes are made again and again. */
+/* The time of a hop by readers on a thread each, while nothing changes, or while all changes are made repeatedly. */
 static double best_read(unsigned count, bool is_busy) {
     asked all[THREADS] = {{.session = REVROUTE_NEW}};
     revroute session = opened();
@@ -232,7 +233,7 @@ static double best_read(unsigned count, bool is_busy) {
     return least;
 }
 
-/* The same by networks, a thread and a network each. */
+/* The same by networks instead of readers, with a thread for each. */
 static double best_asked(unsigned count) {
     asked all[THREADS] = {{.session = REVROUTE_NEW}};
     for (unsigned at = 0; at < count; at++) all[at].session = opened();
@@ -241,7 +242,7 @@ static double best_asked(unsigned count) {
     return least;
 }
 
-/* The sum over the next hops behind all changes. */
+/* The sum over the next hops after all changes. */
 static uint32_t summed(void) {
     revroute session = opened();
     uint32_t sum = 0;

@@ -1,4 +1,4 @@
-"""Times the calls of the package as timing.rs does, and a mesh that is followed step by step, by calls and by lines."""
+"""Times the calls of the package as timing.rs does, and a mesh that changes step by step, by calls and by lines."""
 
 import ctypes
 import random
@@ -13,7 +13,7 @@ RUNS, ROUNDS, TABLES, STEPS = 9, 10, 200, 2000
 
 
 def best(what, given=lambda: ()):
-    """The least time of several runs, each of what is given afresh."""
+    """The shortest time of several runs. Each run gets new arguments."""
     times = []
     for _ in range(RUNS):
         words = given()
@@ -97,7 +97,7 @@ def tell_changes(nodes, dest, links, changes):
 
 
 def mesh(size=1000, reach=(1, 2, 3, 5)):
-    """1,000 nodes and 4,180 links: rings of four widths, and some across. Each towards the lesser number."""
+    """1,000 nodes and 4,180 links: rings of four widths, and some links across. Each points to the lower number."""
     draw = random.Random(3)
     links = {(max(x, (x + step) % size), min(x, (x + step) % size)) for x in range(size) for step in reach}
     while len(links) < 4180:
@@ -119,7 +119,7 @@ def drawn_steps(links):
 
 
 def tell_mesh():
-    """A step is a change and what it does to the table of next hops; both ways end with the same table."""
+    """A step is a change and the update of the table of next hops. Both ways must end with the same table."""
     size, links = mesh()
     steps, tables = drawn_steps(links), []
 

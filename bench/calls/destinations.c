@@ -1,5 +1,5 @@
-/* Routes to every node of a network: a network for each destination, over the same links. Prints how long a failure or a repair takes in
- * all of them, on so many threads, and the memory of the networks. */
+/* Routes to every node of a network. There is a network for each destination, with the same links. Prints how long a
+ * failure or a repair takes in all of them, on several threads, and the memory of the networks. */
 #include "drawn.h"
 #include <pthread.h>
 #include <revroute.h>
@@ -35,7 +35,7 @@ static void measure(uint32_t dest, uint32_t *hops) {
     }
 }
 
-/* Opens the network of a destination, with each link to the nearer end. */
+/* Opens the network of a destination. Each link points to the nearer end. */
 static void open_network(uint32_t dest) {
     static revroute_link directed[LINKS];
     uint32_t hops[NODES];
@@ -50,7 +50,7 @@ static void open_network(uint32_t dest) {
     wanted(revroute_open(&networks[dest], NODES, dest, directed, LINKS, &round, &why));
 }
 
-/* A thread's share of the networks, which go through each edit. */
+/* Makes each edit in a thread's share of the networks. */
 static void *change_share(void *first) {
     revroute_round round;
     revroute_refusal why;
@@ -65,7 +65,7 @@ static double seconds(void) {
     return (double)now.tv_sec + 1e-9 * (double)now.tv_nsec;
 }
 
-/* The memory of the process that is resident, in bytes. */
+/* The resident memory of the process, in bytes. */
 static long resident(void) {
     long size = 0, pages = 0;
     FILE *file = fopen("/proc/self/statm", "r");

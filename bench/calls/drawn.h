@@ -1,4 +1,4 @@
-/* Drawn networks, the same at each start. */
+/* Random networks, the same in each run. */
 #ifndef DRAWN_H
 #define DRAWN_H
 
@@ -6,14 +6,14 @@
 #include <stdint.h>
 #include <stdlib.h>
 
-/* A drawn number below `bound`. */
+/* A random number below `bound`. */
 static uint32_t drawn(uint32_t bound) {
     static uint64_t state = UINT64_C(88172645463325252);
     state ^= state << 13, state ^= state >> 7, state ^= state << 17;
     return (uint32_t)((state >> 20) % bound);
 }
 
-/* Links of which each points to a lower number, so that all nodes are joined with node 0 and no two links join the same nodes. */
+/* Random links, each to a lower number. They connect all nodes with node 0, and no two connect the same nodes. */
 static void draw_links(uint32_t nodes, revroute_link *links, uint32_t count) {
     unsigned char *is_joined = calloc(nodes, nodes);
     if (!is_joined) exit(1);

@@ -1,11 +1,11 @@
-/* Counts the bytes that the library asks of malloc for a session and its readers: those that it holds, and the most on the way. It is
- * linked with --wrap. Its own links are not counted. */
+/* Counts the bytes that the library asks of malloc for a session and its readers: those that it holds at the end, and
+ * the most that it holds meanwhile. It is linked with --wrap. The links of this program itself are not counted. */
 #include "drawn.h"
 #include <revroute.h>
 #include <stdio.h>
 #include <stdlib.h>
 
-/* Before each block, so that the block is aligned as malloc aligns it. */
+/* The bytes in front of each block. They keep the alignment that malloc gives. */
 enum { FRONT = 16, LINKS_OF_A_NODE = 8, FEW = 1000, MANY = 100000 };
 
 static size_t held, most;
@@ -46,7 +46,7 @@ static void wanted(uint32_t status, const char *call) {
     exit(1);
 }
 
-/* Cuts and joins drawn links, so many of them. */
+/* Cuts and joins `times` random links. */
 static void change(revroute *session, const revroute_link *links, uint32_t count, int times) {
     revroute_round round;
     revroute_refusal why;

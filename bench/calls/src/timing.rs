@@ -1,5 +1,5 @@
-//! Times calls on a network: each the best of several runs, in nanoseconds a call, as `name nanoseconds` on a line. The last line is a sum
-//! over the next hops behind all changes, which is the same for all sides.
+//! Times calls on a network. Each line is `name nanoseconds`: the nanoseconds of one call, in the best of several
+//! runs. The last line is a sum over the next hops after all changes, which must be the same for all sides.
 
 use std::hint::black_box;
 use std::io::{self, Read};
@@ -9,11 +9,11 @@ use std::time::{Duration, Instant};
 
 const RUNS: usize = 9;
 const THREADS: usize = 4;
-/// How often each node is asked for its hop in a run.
+/// How often each node's next hop is asked for in a run.
 const ROUNDS: usize = 500;
 const TABLES: usize = 200;
 
-/// What is read of standard input: the network, and the changes, each a cut or an added link.
+/// The input: a network and changes, each of which is a cut or an added link.
 pub struct Input {
     pub nodes: u32,
     pub dest: u32,
@@ -27,16 +27,16 @@ pub enum Change {
     Add(u32, u32),
 }
 
-/// A network that is called.
+/// A network with the calls that are timed.
 pub trait Calls: Send + Sized {
     fn open(input: &Input) -> Self;
-    /// A number for the next hop of a node.
+    /// The next hop of a node, as a number.
     fn hop(&self, node: u32) -> u32;
-    /// What another thread reads next hops by.
+    /// A reader of next hops for another thread.
     type Reader: Send;
     fn reader(&self) -> Self::Reader;
     fn read(reader: &Self::Reader, node: u32) -> u32;
-    /// The next hops of all nodes, into a list whose room is kept.
+    /// Writes the next hops of all nodes into a list, which keeps its memory.
     fn hops(&self, list: &mut Vec<u32>);
     fn change(&mut self, change: Change);
 }
@@ -67,7 +67,7 @@ pub fn read() -> io::Result<Input> {
     Ok(input)
 }
 
-/// The nodes in an order that is drawn, the same at each start.
+/// The nodes in a random order, which is the same in each run.
 fn shuffled(nodes: u32) -> Vec<u32> {
     let (mut order, mut drawn): (Vec<u32>, u64) = ((0..nodes).collect(), 1);
     for at in (1..order.len()).rev() {
@@ -87,7 +87,7 @@ fn best(mut run: impl FnMut() -> Duration) -> f64 {
 fn ask<T>(network: &T, hop: impl Fn(&T, u32) -> u32, order: &[u32]) {
     let mut sum = 0u32;
     for _ in 0..ROUNDS {
-        // each round asks anew
+        // so that each round asks again
         let network = black_box(network);
         for &node in order {
             sum = sum.wrapping_add(hop(network, node));
@@ -96,8 +96,8 @@ fn ask<T>(network: &T, hop: impl Fn(&T, u32) -> u32, order: &[u32]) {
     black_box(sum);
 }
 
-/// The time of as many threads as there are networks or readers, each of which asks its own: from the first that begins to the last that
-/// ends.
+/// The time of several threads, each of which asks its own network or reader. It is from the first start to the last
+/// end.
 fn ask_together<T: Send>(
     asked: &mut [T],
     hop: impl Fn(&T, u32) -> u32 + Copy + Send,
@@ -168,7 +168,7 @@ pub fn tell<T: Calls>(input: &Input) {
             }
         })
     });
-    // with a hop asked for behind each
+    // with a question for a hop after each
     println!("change {:.0}", changes / input.changes.len() as f64);
     let mut network = T::open(input);
     input.changes.iter().for_each(|&it| network.change(it));

@@ -1,9 +1,9 @@
-//! A client over pipes, in lock step: a line goes out only once the answer to the one before was read.
+//! A client over pipes, in lock step: it sends a line only after it has read the answer to the one before.
 
 use std::io::{self, BufRead, BufReader, BufWriter, Read, Write};
 use std::process::{ChildStdin, ChildStdout, Command, Stdio};
 
-/// Asks a program the lines of standard input, none of which may be blank, and prints its answers.
+/// Asks a program the lines of standard input, and prints its answers. No line may be blank.
 pub fn ask(program: &str, words: &[&str]) -> io::Result<()> {
     let mut input = Vec::new();
     io::stdin().lock().read_to_end(&mut input)?;

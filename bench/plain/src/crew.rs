@@ -1,13 +1,13 @@
-//! Full reversal by threads, as a crew of a plain program would do it: one atomic count a node, and a deque of candidates for each
-//! worker, from which the others steal. A flag a node keeps it from standing in the deques twice.
+//! Full reversal by threads, as a plain program would do it. There is an atomic count for each node, and a deque of
+//! candidates for each worker, from which the others steal. A flag for each node ensures that no deque has it twice.
 
 use crate::net::{Net, Way};
 use crossbeam_deque::{Steal, Stealer, Worker};
 use std::sync::atomic::{AtomicBool, AtomicU32, Ordering::SeqCst};
 use std::thread;
 
-/// How often each node has turned once so many workers find no candidate any more: mostly, but not always, until no node can
-/// turn.
+/// How often each node has turned when this many workers find no candidate any more. Mostly, but not always, no node
+/// can turn then.
 pub fn turned_by(net: &Net, dest: u32, workers: usize) -> Vec<u32> {
     let deques: Vec<Worker<u32>> = (0..workers).map(|_| Worker::new_fifo()).collect();
     let crew = Crew {
@@ -46,7 +46,7 @@ impl Crew<'_> {
     /// Turns candidates until it finds none.
     fn work(&self, number: usize, own: &Worker<u32>) {
         while let Some(x) = own.pop().or_else(|| self.stolen(number)) {
-            // Before the call, so that a turn of a neighbour in the meantime puts it again.
+            // Before the call, so that a neighbour that turns meanwhile can put it again.
             self.standing[x as usize].store(false, SeqCst);
             if self.turn(x) {
                 for entry in self.net.row(x) {
@@ -58,7 +58,7 @@ impl Crew<'_> {
         }
     }
 
-    /// Puts a candidate, unless it stands in a deque.
+    /// Puts a candidate into the own deque, unless it is in a deque.
     fn put(&self, own: &Worker<u32>, x: u32) {
         let standing = &self.standing[x as usize];
         if !standing.load(SeqCst) && !standing.swap(true, SeqCst) {
@@ -66,7 +66,7 @@ impl Crew<'_> {
         }
     }
 
-    /// A candidate of another worker.
+    /// Steals a candidate from another worker.
     fn stolen(&self, number: usize) -> Option<u32> {
         let all = self.stealers.len();
         (1..all).find_map(|step| loop {
@@ -78,7 +78,7 @@ impl Crew<'_> {
         })
     }
 
-    /// Turns a node if it is a sink. Where another worker was faster, that one has the neighbours.
+    /// Turns a node if it is a sink. If another worker was faster, that one puts the neighbours.
     fn turn(&self, x: u32) -> bool {
         let own = &self.counts[x as usize];
         let count = own.load(SeqCst);

@@ -1,4 +1,4 @@
-//! What is done to a network, and why it is refused.
+//! Edits of a network, and why they are refused.
 
 /// The numbers of the refusals.
 #[derive(Debug, Clone, Copy, PartialEq, Eq)]

@@ -1,7 +1,10 @@
-//! The plain Rust beside `revroute`, for time alone. `plain run` answers the same lines: it settles a network by turning sink
-//! after sink on one thread. `plain run --workers N` turns sinks by a crew of N threads, and on one thread what these leave.
-//! `plain run --search` finds the settled counts by a search and turns no node. `plain serve` answers each line as it comes, by turns on
-//! one thread; `plain ask PROGRAM WORDS..` asks a program that does so, in lock step, and prints its answers.
+//! A plain Rust program that answers the same lines as `revroute`. It exists only to compare times.
+//!
+//! - `plain run` settles a network by turning sink after sink on one thread.
+//! - `plain run --workers N` turns sinks on a crew of N threads, and then finishes on one thread.
+//! - `plain run --search` finds the settled counts by a search, and turns no node.
+//! - `plain serve` answers each line as it arrives, by turns on one thread.
+//! - `plain ask PROGRAM WORDS..` asks such a program in lock step, and prints its answers.
 
 mod ask;
 mod crew;

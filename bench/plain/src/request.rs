@@ -1,4 +1,4 @@
-//! What a line asks for, and why it is refused.
+//! Requests, and why lines are refused.
 
 use crate::edit::{Edit, Refusal};
 use crate::straight;
@@ -25,7 +25,8 @@ pub enum Request {
     Hops,
 }
 
-/// Reads a request straight from the bytes of its line, or else the line as one JSON value, and the request from that.
+/// Reads a request directly from the bytes of its line. If this fails, it reads the line as a JSON value, and the
+/// request from that.
 pub fn read_line(line: &[u8]) -> Result<Request, Refusal> {
     if let Some(request) = straight::request(line) {
         return Ok(request);

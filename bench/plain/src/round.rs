@@ -1,4 +1,4 @@
-//! The network as the last round left it.
+//! The network after the last round.
 
 use crate::edit::{Edit, Refusal};
 use crate::net::Net;
@@ -16,7 +16,7 @@ pub struct Round {
     net: Net,
     dest: u32,
     counts: Vec<u32>,
-    /// Made when it is asked for.
+    /// Computed when it is needed.
     hops: OnceCell<Vec<Hop>>,
 }
 
@@ -35,7 +35,8 @@ impl Round {
         Ok(round)
     }
 
-    /// Where no linked node was cut off, each node but the ends of the edit has a link that points away, as before.
+    /// If no node with links was cut off, each node has a link that points away, as before, except the ends of the
+    /// edit.
     pub fn edit(&mut self, edit: Edit, method: Method) -> Result<(), Refusal> {
         self.net.edit(edit)?;
         let (Edit::Cut { u, v } | Edit::Add { u, v } | Edit::Join { u, v }) = edit;
@@ -59,7 +60,7 @@ impl Round {
         Ok(())
     }
 
-    /// All nodes that can turn are among these, if there are any.
+    /// If `among` is given, only its nodes can turn at first.
     fn settle(&mut self, method: Method, among: Option<[u32; 2]>) {
         self.hops.take();
         if among.is_some_and(|ends| !ends.iter().any(|&x| self.net.is_sink(x) && x != self.dest)) {

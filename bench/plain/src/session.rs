@@ -1,4 +1,4 @@
-//! Request after request, and the text of each answer.
+//! Answers request after request, as text.
 
 use crate::net::Net;
 use crate::edit::Refusal;
@@ -16,7 +16,7 @@ pub fn answer_lines(input: &[u8], method: Method, out: &mut impl Write) -> io::R
     Ok(())
 }
 
-/// Answers each line that comes, and flushes once no more than the beginning of another has come.
+/// Answers each line as it arrives. Flushes when no complete line is left in the buffer.
 pub fn answer_as_they_come<R: Read>(
     input: &mut BufReader<R>,
     method: Method,
@@ -34,7 +34,7 @@ pub fn answer_as_they_come<R: Read>(
     Ok(())
 }
 
-/// Answers a line, without its line end, that is not blank.
+/// Answers a line that is not blank. It is given without its newline.
 fn answer_line(
     round: &mut Option<Round>,
     line: &[u8],
@@ -118,7 +118,7 @@ fn hops(round: &Round, out: &mut impl Write) -> io::Result<()> {
     Ok(())
 }
 
-/// The nodes from `x` to the destination, each sending on to the next.
+/// The nodes on the route from `x` to the destination.
 fn walk(round: &Round, x: u32, out: &mut impl Write) -> io::Result<()> {
     let Some(&hop) = round.hops().get(x as usize) else {
         return refused(Refusal::Range, out);

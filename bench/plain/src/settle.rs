@@ -8,9 +8,9 @@ use std::collections::VecDeque;
 pub enum Method {
     /// Full reversal: sink after sink turns.
     Turns,
-    /// The same by so many threads, and on one thread what these leave.
+    /// The same on this many threads, and then on one thread until no node can turn.
     Crew(usize),
-    /// A breadth-first search from the destination, where only a step along a link has a length.
+    /// A breadth-first search from the destination. A step along a link has length 1, and a step against it length 0.
     Search,
 }
 
@@ -22,7 +22,7 @@ pub fn settled_counts(net: &Net, dest: u32, method: Method) -> Vec<u32> {
     }
 }
 
-/// No thread is started where no node is a sink.
+/// If no node is a sink, it starts no thread.
 fn by_crew(net: &Net, dest: u32, workers: usize) -> Vec<u32> {
     let has_sink = (0..net.nodes()).any(|x| x != dest && net.is_sink(x));
     let counts = if has_sink {
@@ -46,8 +46,8 @@ fn outward_at(net: &Net, counts: &[u32], x: u32) -> u32 {
         .count() as u32
 }
 
-/// Keeps for each node how many of its links point away, and the sinks in a queue. A turn turns all links of a sink outward,
-/// so each neighbour has one outward link less.
+/// Keeps the number of outgoing links of each node, and a queue of sinks. A turn makes all links of a sink outgoing,
+/// so each neighbour has one outgoing link less.
 fn by_turns(net: &Net, dest: u32, mut counts: Vec<u32>) -> Vec<u32> {
     let cap = net.nodes();
     let mut outward: Vec<u32> = if counts.iter().all(|&count| count == 0) {
@@ -75,7 +75,8 @@ fn by_turns(net: &Net, dest: u32, mut counts: Vec<u32>) -> Vec<u32> {
     counts
 }
 
-/// By levels: a level's nodes are closed under steps against links before one step along a link leads to the next.
+/// Goes level by level. A level has all nodes that steps against links reach. Then one step along a link leads to the
+/// next level.
 fn by_search(net: &Net, dest: u32) -> Vec<u32> {
     let far = net.nodes();
     let mut counts: Vec<u32> = (0..far)
@@ -101,7 +102,7 @@ fn by_search(net: &Net, dest: u32) -> Vec<u32> {
     counts
 }
 
-/// Enters the nodes not met yet to which a link of `x` of this way leads.
+/// Queues the nodes that were not reached before and that a link of `x` in this direction leads to.
 fn reach(net: &Net, x: u32, way: Way, level: u32, counts: &mut [u32], queue: &mut Vec<u32>) {
     let far = net.nodes();
     for entry in net.row(x) {

@@ -1,9 +1,10 @@
-//! Requests straight from their bytes: what is written as most callers write it. Whatever else a line has is left to `serde_json`.
+//! Reads requests directly from their bytes, if they are written as most callers write them. All other lines are left
+//! to `serde_json`.
 
 use crate::edit::Edit;
 use crate::request::Request;
 
-/// The request of a line, where its words have no escape, its numbers are whole, and it is a request at all.
+/// The request of a line. `None` if a word has an escape, if a number is not whole, or if the line is not a request.
 pub fn request(line: &[u8]) -> Option<Request> {
     let mut from = Bytes(line);
     from.mark(b'[')?;
@@ -33,7 +34,7 @@ pub fn request(line: &[u8]) -> Option<Request> {
     from.0.is_empty().then_some(request)
 }
 
-/// The bytes of a line that are not read yet.
+/// The unread bytes of a line.
 struct Bytes<'a>(&'a [u8]);
 
 impl<'a> Bytes<'a> {
@@ -50,7 +51,7 @@ impl<'a> Bytes<'a> {
         (*first == mark).then_some(())
     }
 
-    /// Whether the next byte is this one, which is read then.
+    /// Reads the next byte if it is this one, and returns whether it was.
     fn has(&mut self, mark: u8) -> bool {
         self.skip_space();
         let found = self.0.first() == Some(&mark);
@@ -67,7 +68,7 @@ impl<'a> Bytes<'a> {
         Some(word)
     }
 
-    /// A whole number as JSON writes it. A fraction or an exponent behind it is no mark that could follow.
+    /// A whole number as in JSON. If a fraction or an exponent follows, the next mark will not match.
     fn number(&mut self) -> Option<u32> {
         self.skip_space();
         let mut number = 0u32;
@@ -119,7 +120,7 @@ impl<'a> Bytes<'a> {
         Some(edit)
     }
 
-    /// The edit that this word begins.
+    /// The rest of the edit that begins with this word.
     fn ends(&mut self, word: &[u8]) -> Option<Edit> {
         let (u, v) = (self.next_number()?, self.next_number()?);
         match word {

@@ -1,4 +1,4 @@
-//! Whole inputs and their answers, worked by hand, by either method.
+//! Whole inputs with their answers, worked out by hand, for each method.
 
 use crate::session::{answer_as_they_come, answer_lines};
 use crate::settle::Method;
@@ -10,7 +10,7 @@ fn answers(input: &[u8], method: Method) -> String {
     String::from_utf8(out).expect("answers are text")
 }
 
-/// The lines of either list parted by ` / `.
+/// In both texts ` / ` separates the lines.
 #[track_caller]
 fn check(input: &str, expected: &str) {
     let input = input.replace(" / ", "\n");

@@ -1,6 +1,6 @@
-//! Times the same calls on the network of `bench/plain`, in place.
+//! Times the same calls on the network of `bench/plain`, which is changed in place.
 
-// of these only what is timed is called
+// Only the timed calls of these modules are used.
 #![allow(dead_code)]
 
 #[path = "../../../plain/src/edit.rs"]
@@ -22,7 +22,7 @@ use std::sync::Arc;
 use std::sync::atomic::{AtomicU32, Ordering};
 use timing::{Calls, Change, Input};
 
-/// The plain crew is not called here.
+/// Stands for the plain crew, which is not used here.
 mod crew {
     use crate::net::Net;
 
@@ -51,7 +51,7 @@ impl Calls for Called {
         number(self.0.hops()[node as usize])
     }
 
-    // a table of atomic words: nothing changes while it is read
+    // A table of atomic words. Nothing changes while it is read.
     type Reader = Arc<[AtomicU32]>;
 
     fn reader(&self) -> Self::Reader {
