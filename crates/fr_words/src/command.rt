@@ -27,11 +27,11 @@ const SERVE_ABOUT: &str =
 
 const REQUESTS: &str = "\
 Requests:
-  [\"net\",N,D,[[U,V],..]]  replace the network: nodes 0 to N - 1, destination D, a link from U to V for each pair
+  [\"net\",N,D,[[U,V],..]]  replace the network: N nodes, destination D, and links from U to V
   [\"cut\",U,V]            remove the link between U and V
   [\"add\",U,V]            add a link from U to V
-  [\"join\",U,V]           add a link from U to V, or from V to U if the first would close a cycle
-  [\"batch\",[EDIT,..]]    make these edits in order, each a cut, an add or a join, and then one round
+  [\"join\",U,V]           add a link from U to V, or from V to U to avoid a cycle
+  [\"batch\",[EDIT,..]]    make edits of these three kinds in order, then one round
   [\"dest\",D]             make D the destination
   [\"walk\",X]             report the route of node X
   [\"links\"]  [\"counts\"]  [\"hops\"]  report all links, counts or next hops
