@@ -1,10 +1,10 @@
 /* revroute: routing for one destination by full link reversal. This is the interface for C, and for languages that
  * can call C.
  *
- * A session holds a network. A program creates and changes the network in one of two ways. It can make calls with
- * numbers, such as revroute_open and revroute_change. Or it can send lines: revroute_answer takes one request in
- * JSON, and writes one line of text. docs/LINES.md has the requests and their answers. docs/EMBED.md has complete
- * programs, and says what is proved of a call.
+ * A session holds a network. A program can create and change the network in two ways: by calls with numbers, such as
+ * revroute_open and revroute_change, and by lines. revroute_answer takes a line, which is one request in JSON, and
+ * writes its answer, which is one line of text. docs/LINES.md has the requests and their answers. docs/EMBED.md has
+ * complete programs, and says what is proved of a call.
  *
  *     revroute session = REVROUTE_NEW;
  *     revroute_link links[] = {{0, 1}, {1, 2}, {2, 3}};
@@ -48,8 +48,8 @@
  * - Allocator. The library calls malloc, realloc and free of the process. They must belong to the same allocator for
  *   as long as a session or a reader is open. So make no call from a signal handler, nor in the child after a process
  *   with threads has forked.
- * - Stack. The thread has 256 KiB of stack left. Measured were 52 KiB for a request, and 141 KiB for a line that
- *   nests as deep as JSON may here.
+ * - Stack. The thread has 256 KiB of stack left. In tests a request took up to 52 KiB, and a line that nests as deep
+ *   as JSON may here took 141 KiB.
  *
  * Results need no initial value, as the first example shows: a call never reads *round, *refusal, *length, *taken,
  * an answer's buffer or an array that it fills.
