@@ -53,8 +53,11 @@ regroup front e some more = append_assoc (front ++ e ∷ []) some more ∙ appen
 
 module _ (earlier later : Call) (one : IsCall earlier) (two : IsCall later) (knows : Knows later earlier) where
   calls_after : StartsWith (calls_before later two) earlier.after.known
-  calls_after = (knows.0 ++ two.learns.history.between, ap (λ l. l ++ two.learns.history.between) knows.1
-      ∙ append_assoc earlier.after.known knows.0 two.learns.history.between)
+  calls_after = (
+    knows.0 ++ two.learns.history.between,
+    ap (λ l. l ++ two.learns.history.between) knows.1
+        ∙ append_assoc earlier.after.known knows.0 two.learns.history.between,
+  )
 
   before_is : calls_before later two ≡ calls_before earlier one ++ entry_of earlier ∷ (knows.0 ++ two.learns.history.between)
   before_is =

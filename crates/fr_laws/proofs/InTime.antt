@@ -17,8 +17,10 @@ module _ (b : Setup) (x : Execution b) where
       let at : x.list (t + suc more) ≡ x.list ((t + more) + 1) = ap x.list (omega arith) in
       ⊎_elim
       (λ same. (before.0, at ∙ (same ∙ before.1)))
-      (λ (added : (e : Entry) × (x.list ((t + more) + 1) ≡ x.list (t + more) ++ e ∷ [])). (before.0 ++ added.0 ∷ [],
-      at ∙ (added.1 ∙ (ap (λ l. l ++ added.0 ∷ []) before.1 ∙ append_assoc (x.list t) before.0 (added.0 ∷ [])))))
+      (λ (added : (e : Entry) × (x.list ((t + more) + 1) ≡ x.list (t + more) ++ e ∷ [])). (
+        before.0 ++ added.0 ∷ [],
+        at ∙ (added.1 ∙ (ap (λ l. l ++ added.0 ∷ []) before.1 ∙ append_assoc (x.list t) before.0 (added.0 ∷ []))),
+      ))
       (x.grows (t + more))
 
   list_begins : (some later : ℕ) → some ≤ later → StartsWith (x.list later) (x.list some)

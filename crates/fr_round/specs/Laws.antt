@@ -124,8 +124,8 @@ pub record StepsKeepTheRule (b : Setup) : Type 0 where
 abbrev pub EveryStepKeepsTheRule : Type 0
 EveryStepKeepsTheRule = (b : Setup) → StepsKeepTheRule b
 
--- The list of calls grows at its end. A call's steps come between its beginning and its end, and one of them adds its
--- entry. So of two calls of which one ended before the other began, its entry comes first: the calls are linearizable.
+-- The list of calls grows at its end. A call's steps come between its beginning and its end, and the step that decides it
+-- adds its entry. `CallsAreLinearizable` of fr_laws says what follows for the order of calls in time.
 
 -- a step leaves the list as it was, and the seat knows no other call of its worker then; or it adds one entry at the end of
 -- the list: a call of the seat's worker, which then knows the whole list, and of its own calls this one more
