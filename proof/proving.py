@@ -15,7 +15,9 @@ import crates
 # Proved libraries, each packed into one file. A library is a folder that has sources in it, and rt ci refuses sources
 # outside of a crate.
 PROVED = crates.BUILT / "proved"
-# The folder where they are unpacked, outside of the clone. It is deleted when the command ends.
+# What the checker printed when it proved a program, for proof/axioms.
+WORDS = crates.BUILT / "axioms"
+# The folder where proved libraries are unpacked, outside of the clone. It is deleted when the command ends.
 ROOM = tempfile.TemporaryDirectory(prefix="revroute-proved-")
 FAILED = 70
 # Each job loads what it needs, so too many jobs cost more than they save. With four jobs, revroute with its 6
@@ -111,7 +113,7 @@ def said_by(run, progress):
 
 
 def prove(progress, name, words):
-    """Proves and builds one crate."""
+    """Proves and builds one crate, and returns what was said."""
     run = progress.running[name] = crates.rattle("build", *words, cwd=crates.CRATES / name)
     said = said_by(run, progress)
     del progress.running[name]
@@ -119,6 +121,7 @@ def prove(progress, name, words):
     if run.returncode or not proved:
         raise NotProved(name, said)
     progress.told(f"{name} is proved, {proved[1]} functions")
+    return said
 
 
 def prove_library(progress, name, jobs):
@@ -128,6 +131,21 @@ def prove_library(progress, name, jobs):
     prove(progress, name, [*crates.words(name, own_rlib, jobs), "--statements", "-o", str(own_rlib(name))])
     pack(name)
     stamp.write_text(crates.stamp(name))
+
+
+def keep_words(name, said):
+    """Keeps what the checker printed when it proved a program, with a hash of the sources."""
+    WORDS.mkdir(parents=True, exist_ok=True)
+    made = WORDS / f"{name}.new"
+    made.write_text(f"{crates.stamp(name)}\n{said}")
+    made.replace(WORDS / name)
+
+
+def kept_words(name):
+    """What was kept for a program with its present sources, or an empty text."""
+    kept = WORDS / name
+    stamp, _, said = kept.read_text().partition("\n") if kept.is_file() else ("", "", "")
+    return said if stamp == crates.stamp(name) else ""
 
 
 def is_kept(name):
@@ -225,9 +243,9 @@ def build(name, beside=None):
     else:
         rlib_of = libraries_beside(name, beside) if beside else libraries(progress, name, jobs)
         words = crates.words(name, rlib_of, min(jobs, useful_jobs(name)))
-        words += ["--toolchain", str(crates.kit() / "toolchain"), "--backend", "llvm", "-o", str(made)]
+        words += ["--toolchain", str(crates.kit() / "toolchain"), "--backend", "llvm", "--list-axioms", "-o", str(made)]
         try:
-            prove(progress, name, words)
+            keep_words(name, prove(progress, name, words))
         except NotProved as why:
             progress.failed(*why.args)
         if crates.is_program(name):

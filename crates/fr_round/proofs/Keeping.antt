@@ -262,14 +262,14 @@ module _ {S : Type 0} where
         (r.history ++ entry v.number i Cut ∷ []),
         d.0,
         (mine.below i, most, (λ other. absurd (other full)), (λ _. d.1), refl),
-        inr (entry v.number i Cut, refl, refl, refl),
+        inr (entry v.number i Cut, refl, refl, refl, d.1.extends.own),
       ))
       (λ (other : found ≢ v.setup.nodes). (
         begun v i found,
         r.history,
         notes s id v r i found i found here works (le_refl found),
         (mine.below i, most, (λ _. refl), (λ full. absurd (other full)), refl),
-        inl refl,
+        inl (refl, refl),
       )))
 
   loads_neighbour : (b : Setup) (slots id more : ℕ) (me : Me S View) (i : ℕ) → me.0.works ≡ true
@@ -294,14 +294,14 @@ module _ {S : Type 0} where
         (r.history ++ entry v.number v.node (Held i) ∷ []),
         d.0,
         (mine.below i, most, (λ meets. absurd (omega arith)), (λ _. d.1), refl),
-        inr (entry v.number v.node (Held i), refl, refl, refl),
+        inr (entry v.number v.node (Held i), refl, refl, refl, d.1.extends.own),
       ))
       (λ (meets : ¬ (found < v.count + more)). (
         noted v i found,
         r.history,
         notes s id v r i found v.node v.count here works (le_refl found),
         (mine.below i, most, (λ _. refl), (λ miss. absurd (meets miss)), refl),
-        inl refl,
+        inl (refl, refl),
       )))
 
   exchanges : (b : Setup) (slots id : ℕ) (me : Me S View) (x c new : ℕ) → new ≡ c + 1 → me.0.works ≡ true
@@ -343,7 +343,7 @@ module _ {S : Type 0} where
             (r.history ++ entry v.number x (Turned (c + 1)) ∷ []),
             t.0,
             (mine.below x, most, (λ _. t.1), (λ other. absurd (other hit)), refl),
-            inr (entry v.number x (Turned (c + 1)), refl, refl, refl),
+            inr (entry v.number x (Turned (c + 1)), refl, refl, refl, t.1.extends.own),
           ))
           (λ (miss : found ≢ c).
           let above : c < found = let p = mine.below x in omega arith in
@@ -353,7 +353,7 @@ module _ {S : Type 0} where
             (r.history ++ entry v.number x (Moved c found) ∷ []),
             t.0,
             (mine.below x, most, (λ hit. absurd (miss hit)), (λ _. t.1), refl),
-            inr (entry v.number x (Moved c found), refl, refl, refl),
+            inr (entry v.number x (Moved c found), refl, refl, refl, t.1.extends.own),
           ))
 
   pub begins_look : (b : Setup) (slots id : ℕ) (me : Me S View) (i : ℕ) → me.0.works ≡ true
@@ -361,7 +361,7 @@ module _ {S : Type 0} where
   begins_look b slots id me i works = loads b slots id me i (look_begun (step slots i 0 0 none) me) works (λ s here r.
       let found : ℕ = slice_index s.words i in
       let mine = (r.views id me.0 here).worker works in
-      (begun me.0 i found, r.history, notes s id me.0 r i found i found here works (le_refl found), (mine.below i, word_low me.0.setup s r i, refl, refl), inl refl))
+      (begun me.0 i found, r.history, notes s id me.0 r i found i found here works (le_refl found), (mine.below i, word_low me.0.setup s r i, refl, refl), inl (refl, refl)))
 
   -- a worker that catches up knows the whole list
   pub catches_up : (b : Setup) (slots id : ℕ) (me : Me S View) (i : ℕ) → me.0.works ≡ true
@@ -402,7 +402,7 @@ module _ {S : Type 0} where
           },
           refl,
         ),
-        inl refl,
+        inl (refl, mine.own),
       ))
 
   -- what grows the list keeps the rule
@@ -429,7 +429,7 @@ module _ {S : Type 0} where
         (r.history ++ entry v.number x Sink ∷ []),
         t.0,
         (mine.below x, most, (λ _. t.1), (λ other. absurd (other hit)), refl),
-        inr (entry v.number x Sink, refl, refl, refl),
+        inr (entry v.number x Sink, refl, refl, refl, t.1.extends.own),
       ))
       (λ (miss : found ≢ c).
       let above : c < found = let p = mine.below x in omega arith in
@@ -438,7 +438,7 @@ module _ {S : Type 0} where
         (r.history ++ entry v.number x (Moved c found) ∷ []),
         t.0,
         (mine.below x, most, (λ hit. absurd (miss hit)), (λ _. t.1), refl),
-        inr (entry v.number x (Moved c found), refl, refl, refl),
+        inr (entry v.number x (Moved c found), refl, refl, refl, t.1.extends.own),
       )))
 
 -- the same, by what the contracts of the steps say: the setup of the rule needs no name there, since it is that of each worker

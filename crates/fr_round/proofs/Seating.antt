@@ -51,19 +51,22 @@ apart_append [] js a c other = c
 apart_append (k ∷ ks) js a c other = (each_append (λ (j : ℕ). j ≢ k) ks js a.0 other.0, apart_append ks js a.1 c other.1)
 
 module _ {S : Type 0} where
-  pub first_keeps : (b : Setup) (xs : List S) → IsNet b.nodes b.links → KeepsRule b (opening (replicate b.nodes 0) xs (opening_view b))
-  first_keeps b xs net = record {
-    net = net;
-    history = [];
-    next = 0;
-    seat_of = λ _. 0;
-    at = 0;
-    most = omega arith;
-    run = tt;
-    words = refl;
-    given_out = tt;
-    views = one;
-  }
+  pub first_keeps : (b : Setup) (xs : List S) → IsNet b.nodes b.links → HasList b [] (opening (replicate b.nodes 0) xs (opening_view b))
+  first_keeps b xs net = (
+    record {
+      net = net;
+      history = [];
+      next = 0;
+      seat_of = λ _. 0;
+      at = 0;
+      most = omega arith;
+      run = tt;
+      words = refl;
+      given_out = tt;
+      views = one;
+    },
+    refl,
+  )
     where
       one : (j : ℕ) (v : View) → get_elem? (opening_view b ∷ []) j ≡ some v → ViewFits b 0 (λ _. 0) 0 [] (replicate b.nodes 0) j v
       one zero v e = subst (ViewFits b 0 (λ _. 0) 0 [] (replicate b.nodes 0) 0) (some-injective (opening_view b) v e) (record {

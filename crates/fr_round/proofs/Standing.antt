@@ -91,18 +91,16 @@ module _ (b : Setup) (next : ℕ) (seat_of : ℕ → ℕ) (at : ℕ) (h : List E
 pub one_history : OneHistoryStandsBehindAll
 one_history b s r =
     let all = from b r.next r.seat_of r.at r.history s.words s.views 0
-    (λ j v e. subst (λ (k : ℕ). ViewFits b r.next r.seat_of r.at r.history s.words k v) (omega arith) (r.views j v e)) in (
-      r.history,
-      record {
-        run = some_run b s r;
-        opened = each_weaker (λ (e : Entry). e.worker < r.next) (λ (e : Entry). e.worker < b.workers)
-            (λ e lt. let m = r.most in omega arith) r.history r.given_out;
-        parts = each_weaker (IsSeatedFrom r.next r.seat_of r.history 0) (KnowsPartOf r.history) (λ w t. t.knows) (workers_of s.views) all.0;
-        apart = all.1;
-        numbered = each_weaker (IsSeatedFrom r.next r.seat_of r.history 0) (λ (w : ℕ × List Entry). w.0 < b.workers)
-            (λ w t. let m = r.most in let lt = t.numbered in omega arith) (workers_of s.views) all.0;
-      },
-    )
+    (λ j v e. subst (λ (k : ℕ). ViewFits b r.next r.seat_of r.at r.history s.words k v) (omega arith) (r.views j v e)) in
+    record {
+      run = some_run b s r;
+      opened = each_weaker (λ (e : Entry). e.worker < r.next) (λ (e : Entry). e.worker < b.workers)
+          (λ e lt. let m = r.most in omega arith) r.history r.given_out;
+      parts = each_weaker (IsSeatedFrom r.next r.seat_of r.history 0) (KnowsPartOf r.history) (λ w t. t.knows) (workers_of s.views) all.0;
+      apart = all.1;
+      numbered = each_weaker (IsSeatedFrom r.next r.seat_of r.history 0) (λ (w : ℕ × List Entry). w.0 < b.workers)
+          (λ w t. let m = r.most in let lt = t.numbered in omega arith) (workers_of s.views) all.0;
+    }
 
 pub first_holds : RuleHoldsAtFirst
 first_holds b net = (
@@ -130,7 +128,8 @@ not_begun r k workers net new =
     record {
       state = first_state r.setup;
       first = refl;
-      ruled = first.0;
+      ruled = first.0.0;
+      empty = first.0.1;
       words = refl;
       calls = first.1;
       knows = rw new (new_know_nothing r.table r.setup k);

@@ -42,4 +42,5 @@ pub record Closes (r : OpenRound) (workers : List Knowledge) (counts : List ℕ)
   -- the counts are the words of a state that the rule of the round allows
   pub state : State (Unit {0}) View
   pub ruled : KeepsRule r.setup state
+  pub same : ruled.history ≡ history
   pub words : state.words ≡ counts

@@ -62,8 +62,7 @@ pub record StandsBehind (b : Setup) (s : State (Unit {0}) View) (history : List 
 
 -- one history explains the words and the workers of every state that the rule allows
 abbrev pub OneHistoryStandsBehindAll : Type 0
-OneHistoryStandsBehindAll = (b : Setup) (s : State (Unit {0}) View) → KeepsRule b s → (history : List Entry)
-    × StandsBehind b s history
+OneHistoryStandsBehindAll = (b : Setup) (s : State (Unit {0}) View) (ruled : KeepsRule b s) → StandsBehind b s ruled.history
 
 -- the state in which a round is opened: the words are 0, and the opening seat is the only one
 abbrev pub first_state : Setup → State (Unit {0}) View
@@ -71,7 +70,7 @@ first_state b = opening (replicate b.nodes 0) [] (opening_view b)
 
 -- the rule allows this state, and the empty history explains it
 abbrev pub RuleHoldsAtFirst : Type 0
-RuleHoldsAtFirst = (b : Setup) → IsNet b.nodes b.links → KeepsRule b (first_state b) × StandsBehind b (first_state b) []
+RuleHoldsAtFirst = (b : Setup) → IsNet b.nodes b.links → HasList b [] (first_state b) × StandsBehind b (first_state b) []
 
 -- the rule allows no other state in which the opening seat is the only one and has given out no number
 abbrev pub NoOtherStateIsFirst : Type 0
@@ -125,14 +124,15 @@ pub record StepsKeepTheRule (b : Setup) : Type 0 where
 abbrev pub EveryStepKeepsTheRule : Type 0
 EveryStepKeepsTheRule = (b : Setup) → StepsKeepTheRule b
 
--- The list of calls grows at its end. A call's steps come between its beginning and its end, and one of them adds its
--- entry. So of two calls of which one ended before the other began, its entry comes first: the calls are linearizable.
+-- The list of calls grows at its end. A call's steps come between its beginning and its end, and the step that decides it
+-- adds its entry. `CallsAreLinearizable` of fr_laws says what follows for the order of calls in time.
 
--- a step leaves the list as it was, or adds one entry at its end: a call of the seat's worker, which then knows the
--- whole list
+-- a step leaves the list as it was, and the seat knows no other call of its worker then; or it adds one entry at the end of
+-- the list: a call of the seat's worker, which then knows the whole list, and of its own calls this one more
 abbrev pub IsGrown : List Entry → View → View → List Entry → Type 0
-IsGrown before v w after = (after ≡ before)
-    ⊎ ((e : Entry) × (e.worker ≡ v.number) × (after ≡ before ++ e ∷ []) × (w.known ≡ after))
+IsGrown before v w after = ((after ≡ before) × (part v.number w.known ≡ part v.number v.known))
+    ⊎ ((e : Entry) × (e.worker ≡ v.number) × (after ≡ before ++ e ∷ []) × (w.known ≡ after)
+    × (part v.number w.known ≡ part v.number v.known ++ e ∷ []))
 
 -- `Allows` of the kit for a step that takes and gives no slot, where the list grows in this way
 abbrev pub Grows : {S : Type 0} → Setup → ℕ → ℕ → Me S View → ℕ → (ℕ → ℕ) → (ℕ → Me S View → Type 0) → Type 0

@@ -19,6 +19,7 @@ pub record HasNotBegun (r : OpenRound) (workers : List Knowledge) : Type 0 where
   pub state : State (Unit {0}) View
   pub first : state ≡ first_state r.setup
   pub ruled : KeepsRule r.setup state
+  pub empty : ruled.history ≡ []
   -- all words are 0
   pub words : state.words ≡ replicate r.setup.nodes 0
   -- the list of calls is empty

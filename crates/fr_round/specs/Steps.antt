@@ -35,7 +35,7 @@ pub record EndsCall (v : View) (x : ℕ) (reply : Reply) (y c : ℕ) (w : View) 
   pub extends : Extends v.setup v.number v.known (entry v.number x reply) w.known
   pub below : (z : ℕ) → slice_index w.seen z ≤ reached v.setup w.known z
 
--- a worker comes to know all calls up to now:
+-- a worker comes to know a list of calls:
 pub record CatchesUp (v : View) (known : List Entry) : Type 0 where
   -- what it knew, and what was handed to it, are beginnings of them,
   pub begins : StartsWith known v.known

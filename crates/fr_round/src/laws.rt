@@ -15,9 +15,8 @@ ghost use Rattle.fr_round.specs.Laws.{LookBeginsAsTheMachines, LookEndsAsTheMach
 /// `Rule`. Of the states in which no number was given out, the rule allows only the one with all words 0.
 /// `Round::close` returns the words of a state that the rule allows.
 ///
-/// The list only grows, at its end: each step leaves it as it was, or adds the call that this step decides. So each
-/// call takes its place in the list between its beginning and its end: calls are linearizable (M. Herlihy and J. Wing,
-/// "Linearizability: A Correctness Condition for Concurrent Objects", 1990).
+/// The list only grows, at its end: each step leaves it as it was, or adds the call that this step decides. What
+/// follows for the order of calls in time, linearizability (M. Herlihy and J. Wing, 1990), is `linear_law` of fr_laws.
 pub fn round_law()
     ensures run { OneHistoryStandsBehindAll }
     ensures first { RuleHoldsAtFirst }

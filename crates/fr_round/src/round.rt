@@ -184,8 +184,8 @@ impl Round {
     /// The worker learns what another worker knew. All calls that either of them knew come before the worker's next
     /// call in the list of calls.
     ///
-    /// Hand a [`Past`] on wherever one thread continues after another, as after a join or a message. Then the list has
-    /// the order of time: a call that ended before another one began comes first.
+    /// Hand a [`Past`] on wherever one thread continues after another, as after a join or a message. Contracts promise
+    /// no order between calls of two workers if nothing was handed on.
     ///
     /// The worker and the past must be of this round. The call makes two loads, and does not allocate or wait. O(1).
     pub fn learn(&self, worker: &mut Worker, past: Past)

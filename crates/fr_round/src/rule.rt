@@ -104,7 +104,7 @@ impl Join<View> for Receive {
     ghost spent = { spent_view };
 }
 
-/// The load by which it comes to know all calls up to now.
+/// The load after which it knows both lists.
 pub struct CatchUp;
 
 impl Play<(), View> for CatchUp {

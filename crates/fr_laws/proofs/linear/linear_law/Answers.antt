@@ -1,5 +1,9 @@
-use Rattle.fr_laws.proofs.InOrder.{knowledge_is_kept, later_is_behind, later_is_fresh, no_reply_is_stale}
+use Rattle.fr_laws.proofs.InOrder.{held_after_a_turn, knowledge_is_kept, later_is_behind, later_is_fresh, none_holds_the_destination}
+use Rattle.fr_laws.proofs.InTime.{calls_are_linearizable}
 use Rattle.fr_laws.proofs.linear.linear_law.Goals as goal
+
+pub returns-clause-time : goal.returns-clause-time
+returns-clause-time c = calls_are_linearizable
 
 pub returns-clause-kept : goal.returns-clause-kept
 returns-clause-kept c = knowledge_is_kept
@@ -10,5 +14,8 @@ returns-clause-order c = later_is_behind
 pub returns-clause-fresh : goal.returns-clause-fresh
 returns-clause-fresh c = later_is_fresh
 
-pub returns-clause-stale : goal.returns-clause-stale
-returns-clause-stale c = no_reply_is_stale
+pub returns-clause-held : goal.returns-clause-held
+returns-clause-held c = held_after_a_turn
+
+pub returns-clause-destination : goal.returns-clause-destination
+returns-clause-destination c = none_holds_the_destination

@@ -14,7 +14,7 @@ of_words-requires c =
     let g = c.args.terms.now in
     subst (λ (ws : List ℕ). KeepsRule {S = Unit {0}} (setup_of g) (opening ws [] (opening_view (setup_of g))))
     (sym (c.as_slice.ensures.value
-    ∙ (c.in_ok-words.ensures ∙ ap (λ (n : ℕ). replicate n 0) c.nodes-nodes.ensures.value))) (first_keeps (setup_of g) [] c.requires.net)
+    ∙ (c.in_ok-words.ensures ∙ ap (λ (n : ℕ). replicate n 0) c.nodes-nodes.ensures.value))) (first_keeps (setup_of g) [] c.requires.net).0
 
 pub loop-number-init : goal.loop-number-init
 loop-number-init c =
