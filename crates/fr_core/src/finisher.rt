@@ -1,10 +1,11 @@
 //! Where every schedule ends, found on one thread.
 
-ghost use Rattle.std.specs.Prelude.{◌≡◌, ℕ, ◌<◌, ◌≤◌, ◌↔◌, ◌^◌, IsTrue, length, slice_index, sum};
+ghost use Rattle.std.specs.Prelude.{◌≡◌, ℕ, ◌<◌, ◌≤◌, ◌+◌, ◌↔◌, ◌^◌, IsTrue, length, slice_index, sum};
 ghost use Rattle.fr_graph.specs.Counts.{AreLawful};
 ghost use Rattle.fr_graph.specs.Links.{IsNet};
 ghost use Rattle.fr_core.specs.Finish.{HoldsAllThatCanTurn, IsFinish};
 ghost use Rattle.fr_core.specs.Settled.{AreSettled};
+ghost use Rattle.fr_core.specs.Work.{IsWithinWork};
 
 use crate::counts::are_settled;
 use crate::levels;
@@ -59,6 +60,7 @@ pub fn finish(net: &Net, dest: u32, counts: &mut [u64]) -> u64
     requires lawful { AreLawful net.now.nodes dest net.now.links counts.old }
     ensures settled { AreSettled net.now.nodes dest net.now.links counts.new }
     ensures run { IsFinish net.now.nodes dest net.now.links counts.old counts.new result }
+    ensures work { IsWithinWork net.now.nodes dest net.now.links (sum counts.old + result) }
 {
     // By the law there are few nodes, so the totals are exact.
     net.network_law();
@@ -76,6 +78,7 @@ pub fn finish_turns(net: &Net, dest: u32, turns: &mut Turns) -> u64
     requires lawful { AreLawful net.now.nodes dest net.now.links turns.old }
     ensures settled { AreSettled net.now.nodes dest net.now.links turns.new }
     ensures run { IsFinish net.now.nodes dest net.now.links turns.old turns.new result }
+    ensures work { IsWithinWork net.now.nodes dest net.now.links (sum turns.old + result) }
 {
     // By the law there are few nodes, so the totals are exact.
     net.network_law();

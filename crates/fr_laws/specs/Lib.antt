@@ -1,4 +1,3 @@
 pub mod Hops
 pub mod Locality
 pub mod Quiet
-pub mod Work

@@ -1,10 +1,12 @@
-use Rattle.std.proofs.Common.{ap, arith, length, sum, ◌<◌, ◌==◌, ◌^◌}
+use Rattle.std.proofs.Common.{ap, arith, length, sum, ◌<◌, ◌==◌, ◌^◌, ◌≡◌}
 use Rattle.std.proofs.lemmas.List.Sums.{count_by-le-length}
 use Rattle.fr_core.proofs.SettledRuns.{lawful_sum_fits}
 use Rattle.fr_core.proofs.Unique.{settled_lawful}
 use Rattle.fr_graph.proofs.Counting.{count-range-le}
 use Rattle.fr_route.proofs.CutNodes.{but, cut_by_rows}
+use Rattle.fr_route.specs.Outcomes.{settled_state}
 use Rattle.fr_graph.specs.Rows.{has_no_neighbour}
+use Rattle.fr_route.proofs.RoundEnds.{round_within}
 use Rattle.fr_route.proofs.outcome.report_of.Goals as goal
 
 pub overflow_add-result : goal.overflow_add-result
@@ -30,8 +32,10 @@ returns c =
     let fits : sum c.args.turns.now < 2 ^ 64 =
     lawful_sum_fits net.nodes c.args.dest net.links c.args.turns.now known.limits.nodes_few
     (settled_lawful net.nodes c.args.dest net.links known.is_net c.requires.destination c.args.turns.now c.requires.settled) in
+    let turns : c.total-turned.result ≡ sum c.args.turns.now = omega (arith, c.total-turned.ensures, fits) in
     record {
-      turns = omega (arith, c.total-turned.ensures, fits);
+      turns = turns;
       cut_off = rw (c.alone_nodes.ensures, c.capped_nodes.ensures, c.nodes.ensures.value, c.counts.ensures)
           (cut_by_rows net c.args.dest c.args.turns.now known.is_net c.requires);
+      most = round_within (settled_state net c.args.dest c.args.turns.now) c.total-turned.result turns;
     }
