@@ -35,7 +35,8 @@ pub struct Settled {
 /// Turns a network until no node can turn: full reversal (E. Gafni and D. Bertsekas, 1981) by the workers of the plan, each
 /// in a thread of its own but for the last, which works on the thread that calls, and what they leave by
 /// [`finish_turns`](fr_core::finish_turns) on one thread. Whatever the plan, the gate and the schedule, the answer is the same but for who
-/// made how many turns.
+/// made how many turns. The calls of the workers form one run of full reversal by one thread. The finisher goes on from the counts at its
+/// end.
 ///
 /// Each worker has a deque of candidates. At first these are all nodes with a link but the destination, each dealt to the worker
 /// whose number is the node's modulo the number of workers. A worker takes a candidate of its own, or else steals one from another
@@ -289,7 +290,8 @@ fn finished(mut net: Net, dest: u32, mut turns: Turns, by_workers: u64) -> Settl
     requires lawful { AreLawful net.nodes dest net.links turns }
     requires turned { by_workers ≡ sum turns }
     ensures settled { IsSettlement net.nodes dest net.links result }
-    ensures done { (k : ℕ) → AreByWorkers net.nodes dest net.links k turns by_workers → IsDoneBy net.nodes dest net.links k result }
+    ensures done { (k : ℕ) → AreByWorkers net.nodes dest net.links k turns by_workers
+        → IsDoneBy net.nodes dest net.links k result }
     ensures by_workers { result.by_workers ≡ by_workers }
 {
     net.network_law();

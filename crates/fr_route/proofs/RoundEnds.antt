@@ -1,5 +1,6 @@
 -- What the end of a round is: which networks lead to it, and what its links and routes are.
-use Rattle.std.proofs.Common.{◌≡◌, ◌∙◌, ℕ, ⊎_elim, ◌<◌, ◌↔◌, List, ◌∷◌, ap, inl, inr, subst, sum, sym, slice_index, IsPermutation}
+use Rattle.std.proofs.Common.{◌≡◌, ◌∙◌, ℕ, ⊎_elim, ◌<◌, ◌↔◌, List, ◌∷◌, ap, inl, inr, subst, sum, sym, slice_index}
+use Rattle.std.proofs.Common.{IsPermutation}
 use Rattle.std.proofs.lemmas.List.Sorted.{IsPermutation-sym}
 use Rattle.fr_graph.specs.Links.{IsAcyclic, IsAlone, IsNet, HaveSameLinks, Joins, Points}
 use Rattle.fr_graph.specs.Order.{in_order}
@@ -55,10 +56,11 @@ round_unique n d first s t a b =
     λ i. record { nodes = k i; dest = e i; links = l i; counts = c i }
 
 -- the turns of a round are within the bound of its first links
-pub round_within : (s : State) (turned : ℕ) → turned ≡ sum s.counts → (first : List (ℕ × ℕ)) → IsNet s.nodes first → s.dest < s.nodes
-    → IsRound s.nodes s.dest first s → IsWithinWork s.nodes s.dest first turned
+pub round_within : (s : State) (turned : ℕ) → turned ≡ sum s.counts → (first : List (ℕ × ℕ)) → IsNet s.nodes first
+    → s.dest < s.nodes → IsRound s.nodes s.dest first s → IsWithinWork s.nodes s.dest first turned
 round_within s turned total first net below round =
-    subst (IsWithinWork s.nodes s.dest first) (sym total) (settled_within s.nodes s.dest first net below s.counts round.counts)
+    subst (IsWithinWork s.nodes s.dest first) (sym total)
+    (settled_within s.nodes s.dest first net below s.counts round.counts)
 
 same_in_order : (links : List (ℕ × ℕ)) → HaveSameLinks links (in_order links)
 same_in_order links u v = (into_order links (u, v), out_of_order links (u, v))

@@ -11,3 +11,14 @@ sum_of_turns-by_workers-requires g c =
     let turned = c.in_ok-net.ensures.turned in
     let fits = lawful_sum_fits _ _ _ _ (omega (arith, few, nodes)) turned.run.lawful in
     rw c.deref.ensures.value (omega (arith, turned_total _ _ _ _ _ _ turned, fits))
+
+pub finished-requires-clause-turned : goal.finished-requires-clause-turned
+finished-requires-clause-turned g c =
+    let total = turned_total _ _ _ _ _ _ c.in_ok-net.ensures.turned in
+    cc (
+      total,
+      c.sum_of_turns-by_workers.ensures,
+      c.deref.ensures.value,
+      c.deref-2.ensures.value,
+      c.copy_from.ensures,
+    )

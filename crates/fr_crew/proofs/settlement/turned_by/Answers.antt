@@ -1,13 +1,10 @@
-use Rattle.std.proofs.Common.{ap, arith, length, rules, subst, sum_by, ℕ, ◌<◌, ◌∙◌, ◌≡◌}
+use Rattle.std.proofs.Common.{arith, length, rules, ◌<◌, ◌∙◌, ◌≡◌}
 use Rattle.std.proofs.lemmas.Result.{err_from_is_err_and}
 use Rattle.fr_crew.proofs.Turners.{closed_turned}
 use Rattle.fr_crew.proofs.Workers.{all_came_back, as_many_as_asked, new_workers_own, some_worker}
 use Rattle.fr_crew.proofs.settlement.turned_by.Given.{Over}
 use Rattle.fr_crew.proofs.settlement.turned_by.Goals as goal
 use Rattle.fr_crew.proofs.settlement.turned_by.Goals.{In_ok-round}
-use Rattle.fr_crew.specs.Settlements.{AreByWorkers}
-use Rattle.fr_round.specs.Knowledge.{OpenRound}
-use Rattle.fr_round.specs.declared.view.Setup.{Setup}
 
 pub run_crew-requires-clause-own : goal.run_crew-requires-clause-own
 run_crew-requires-clause-own g c κs within = rw c.in-Ok.ensures.workers (new_workers_own c.in-Ok.round c.workers.result)
@@ -30,12 +27,11 @@ close-requires-clause-few g c = omega (arith, all_back g (goal.at.close-requires
 pub returns-clause-turned : goal.returns-clause-turned
 returns-clause-turned g c =
     let all = all_back g (goal.at.returns-clause-turned g c).In_ok-round in
-    let round = c.in_ok-round.round in
-    let turned = closed_turned round c.in_ok-round.workers.items c.close.result.counts.items c.close.result.turned.items c.close.ensures.history all in
-    let same : round.setup ≡ record { nodes = c.args.net.nodes; dest = c.args.dest; links = c.args.net.links; workers = c.workers.result } =
-    ap (λ (r : OpenRound). r.setup) c.in_ok-round.ensures.back.round_is ∙ c.in-Ok.ensures.setup in
-    let made = sum_by (λ (p : ℕ × ℕ). p.1) c.close.result.turned.items in
-    rw (← c.workers.ensures) (subst (λ (b : Setup). AreByWorkers b.nodes b.dest b.links b.workers c.close.result.counts.items made) same turned)
+    let net = c.args.net in
+    rw (← c.workers.ensures) (closed_turned c.in-Ok.round c.in_ok-round.round
+    (record { nodes = net.nodes; dest = c.args.dest; links = net.links; workers = c.workers.result })
+    c.in_ok-round.workers.items c.close.result.counts.items c.close.result.turned.items
+    c.in-Ok.ensures.setup c.in_ok-round.ensures.back.round_is c.close.ensures.history all)
 
 pub returns-in_err-round-clause-no_start : goal.returns-in_err-round-clause-no_start
 returns-in_err-round-clause-no_start g c = λ one.
