@@ -29,7 +29,8 @@ use Rattle.fr_graph.specs.Counts.{AreLawful}
 use Rattle.fr_graph.specs.Links.{HasPath, IsAlone, IsNet, Joins}
 use Rattle.fr_core.proofs.Gaps.{AreFew, HasNoGap, few_without_gap, is_some, split_counts, split_sum, weight}
 use Rattle.fr_core.proofs.Gaps.{uncap, uncap-n, uncap-other}
-use Rattle.fr_core.specs.Work.{AreCounted, IsNumberOf, IsBad, IsConnected, IsStranded, IsWithinWork, WithinWorkIsBelowSquare}
+use Rattle.fr_core.specs.Work.{AreCounted, IsNumberOf, IsBad, IsConnected, IsStranded, IsWithinWork}
+use Rattle.fr_core.specs.Work.{WithinWorkIsBelowSquare}
 
 same_bool : (a b : Bool) → (IsTrue a ↔ IsTrue b) → a ≡ b
 same_bool true true e = refl
@@ -258,7 +259,8 @@ module _ (n d : ℕ) (first : List (ℕ × ℕ)) (net : IsNet n first) (below : 
 -- b and c are n - 1 at most together
 both_below : (b c n : ℕ) → b + c < n → b * (b + 1) + 2 * (c * n) ≤ 2 * (n * (n - 1))
 both_below b c n l =
-    let up : b * (b + 1) ≤ b * n = mul-le-mul {n₁ = b} {m₁ = b + 1} {n₂ = b} {m₂ = n} (omega arith) (omega (arith, l)) in
+    let up : b * (b + 1) ≤ b * n =
+    mul-le-mul {n₁ = b} {m₁ = b + 1} {n₂ = b} {m₂ = n} (omega arith) (omega (arith, l)) in
     let both : (b + c) * n ≤ (n - 1) * n =
     mul-le-mul {n₁ = b + c} {m₁ = n} {n₂ = n - 1} {m₂ = n} (omega (arith, l)) (omega arith) in
     omega (arith, up, both, add-mul b c n, mul_comm (n - 1) n)

@@ -53,7 +53,8 @@ fn settle(net: &Net, dest: u32, turns: &mut Turns)
 /// have turned. It allocates nothing. That turning ends there is a law, the clause `leads` of
 /// [`schedule_law`](crate::laws::schedule_law): a run of turns alone leads from the old counts to the new ones, has as
 /// many turns as this answers, and leaves no node that can turn. By its clause `alike` each run that leaves no such
-/// node ends there too. The destination has to be a node, and the counts have to be lawful, as
+/// node ends there too. All these turns, with those before, are within the bound of
+/// [`work_law`](crate::laws::work_law). The destination has to be a node, and the counts have to be lawful, as
 /// [`lawful`](crate::lawful) tests; those of no turns are. `O(n + m)`, however many turns there are.
 pub fn finish(net: &Net, dest: u32, counts: &mut [u64]) -> u64
     requires node { dest < net.now.nodes }

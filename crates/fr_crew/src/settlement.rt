@@ -35,8 +35,8 @@ pub struct Settled {
 /// Turns a network until no node can turn: full reversal (E. Gafni and D. Bertsekas, 1981) by the workers of the plan, each
 /// in a thread of its own but for the last, which works on the thread that calls, and what they leave by
 /// [`finish_turns`](fr_core::finish_turns) on one thread. Whatever the plan, the gate and the schedule, the answer is the same but for who
-/// made how many turns. The calls of the workers form one run of full reversal by one thread. The finisher goes on from the counts at its
-/// end.
+/// made how many turns. The calls of the workers form one run of full reversal by one thread. The finisher goes on from
+/// the counts at its end.
 ///
 /// Each worker has a deque of candidates. At first these are all nodes with a link but the destination, each dealt to the worker
 /// whose number is the node's modulo the number of workers. A worker takes a candidate of its own, or else steals one from another
