@@ -19,6 +19,10 @@ pub mod Joining  -- who is joined with it
 pub mod Finishing  -- turns alone end
 pub mod Reached  -- they lead to all lawful counts that are nowhere below
 pub mod SettledRuns  -- they lead to the settled counts
+-- How much work there can be
+pub mod Gaps  -- lists of numbers without a gap
+pub mod Totals  -- how often all nodes turn together
+pub mod Chains  -- links that all point away from the destination
 -- The finisher
 pub mod Worklists  -- what a worklist holds
 pub mod CutOff  -- nodes that are cut off

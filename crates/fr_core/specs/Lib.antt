@@ -6,6 +6,7 @@ pub mod Settled
 pub mod Bounds
 pub mod Senses
 pub mod Finish
+pub mod Work
 pub mod Laws
 pub mod NodeCounts
 pub mod Reaching

@@ -1,10 +1,11 @@
 //! The counts at which every schedule ends, found on one thread.
 
-ghost use Rattle.std.specs.Prelude.{◌≡◌, ℕ, ◌<◌, ◌≤◌, ◌↔◌, ◌^◌, IsTrue, length, slice_index, sum};
+ghost use Rattle.std.specs.Prelude.{◌≡◌, ℕ, ◌<◌, ◌≤◌, ◌+◌, ◌↔◌, ◌^◌, IsTrue, length, slice_index, sum};
 ghost use Rattle.fr_graph.specs.Counts.{AreLawful};
 ghost use Rattle.fr_graph.specs.Links.{IsNet};
 ghost use Rattle.fr_core.specs.Finish.{HoldsAllThatCanTurn, IsFinish};
 ghost use Rattle.fr_core.specs.Settled.{AreSettled};
+ghost use Rattle.fr_core.specs.Work.{IsWithinWork};
 
 use crate::counts::are_settled;
 use crate::levels;
@@ -52,6 +53,8 @@ fn settle(net: &Net, dest: u32, turns: &mut Turns)
 /// to the new ones, and then no node can turn. By its clause `alike`, every run after which no node can turn ends at
 /// these counts.
 ///
+/// Together with the turns before them, they are within the bound of [`work_law`](crate::laws::work_law).
+///
 /// A search writes the settled counts. It is always a full search, because the counts alone do not show where nodes
 /// have turned. The destination must be a node, and the counts must be lawful, as [`lawful`](crate::lawful) tests; the
 /// counts 0 are. The call does not allocate. O(n + m), however many turns there are.
@@ -60,6 +63,7 @@ pub fn finish(net: &Net, dest: u32, counts: &mut [u64]) -> u64
     requires lawful { AreLawful net.now.nodes dest net.now.links counts.old }
     ensures settled { AreSettled net.now.nodes dest net.now.links counts.new }
     ensures run { IsFinish net.now.nodes dest net.now.links counts.old counts.new result }
+    ensures work { IsWithinWork net.now.nodes dest net.now.links (sum counts.old + result) }
 {
     // By this law, there are few nodes, so the totals are exact.
     net.network_law();
@@ -77,6 +81,7 @@ pub fn finish_turns(net: &Net, dest: u32, turns: &mut Turns) -> u64
     requires lawful { AreLawful net.now.nodes dest net.now.links turns.old }
     ensures settled { AreSettled net.now.nodes dest net.now.links turns.new }
     ensures run { IsFinish net.now.nodes dest net.now.links turns.old turns.new result }
+    ensures work { IsWithinWork net.now.nodes dest net.now.links (sum turns.old + result) }
 {
     // By this law, there are few nodes, so the totals are exact.
     net.network_law();

@@ -6,6 +6,8 @@ ghost use Rattle.fr_core.specs.Laws.{TurnIsACount, RunKeepsLawful, MomentIsAfter
 ghost use Rattle.fr_core.specs.Laws.{LawfulIsAtMostAway, NoTurnLeftIsSettled, SettledLeavesNoTurn, SettledIsUnique, LawfulIsAtMostSettled};
 ghost use Rattle.fr_core.specs.Laws.{ZeroIsAPath, CapIsNotJoined, JoinedIsBelowCap, JoinedByCounts};
 ghost use Rattle.fr_core.specs.Laws.{EachNetSettles, EachRunSettles, RunsEndAlike, RunLeadsToSettled, TurnsAreBounded};
+ghost use Rattle.fr_core.specs.Work.{BadAreCounted, NoLevelIsEmpty, EachIsAtMostBad, RunIsAtMostTriangle};
+ghost use Rattle.fr_core.specs.Work.{WithinWorkIsBelowSquare, ConnectedIsAtMostHalfSquare, TriangleIsMet};
 ghost use Rattle.fr_core.specs.Laws.{MissedBoundHolds, SeenBoundsSink, MachineRuns, PartsAreReplies};
 ghost use Rattle.fr_core.specs.Laws.{BadIsNoRun, RunOrBad, OneIsBad};
 
@@ -64,6 +66,19 @@ pub fn schedule_law()
     ensures alike { RunsEndAlike }
     ensures leads { RunLeadsToSettled }
     ensures bounded { TurnsAreBounded }
+{}
+
+/// How many turns a run can make. In a connected network of which b nodes are bad (no path leads from them to the
+/// destination), no run makes more than 1 + 2 + .. + b turns. A chain whose links all point away from the destination
+/// takes that many. In other networks each node that has links, but is cut off, adds at most n turns.
+pub fn work_law()
+    ensures counted { BadAreCounted }
+    ensures levels { NoLevelIsEmpty }
+    ensures each { EachIsAtMostBad }
+    ensures turns { RunIsAtMostTriangle }
+    ensures within { WithinWorkIsBelowSquare }
+    ensures connected { ConnectedIsAtMostHalfSquare }
+    ensures tight { TriangleIsMet }
 {}
 
 /// The machine under every schedule: the entries that it decides are a run, and each worker's part of them is its

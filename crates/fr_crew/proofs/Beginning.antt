@@ -2,8 +2,8 @@
 use Rattle.std.proofs.Common.{List, arith, replicate, subst, sym, ℕ, ◌<◌, ◌∙◌}
 use Rattle.std.proofs.lemmas.List.{ext_get_or, get_or-replicate}
 use Rattle.fr_core.proofs.Finishing.{links_at-zeros}
-use Rattle.fr_core.proofs.Runs.{lawful_sum}
-use Rattle.fr_core.proofs.Unique.{lawful_le_settled, settled_lawful}
+use Rattle.fr_core.proofs.Totals.{settled_within}
+use Rattle.fr_core.proofs.Unique.{lawful_le_settled}
 use Rattle.fr_core.specs.Finish.{HoldsAllThatCanTurn}
 use Rattle.fr_core.specs.Settled.{AreSettled}
 use Rattle.fr_crew.specs.Settlements.{HoldsSinks, IsCounted}
@@ -29,10 +29,10 @@ still_settled n d first counts settled lawful =
     omega (arith, get_or-replicate {A = ℕ} n x 0 0 below, lawful_le_settled n d first counts (replicate n 0) lawful settled x below)))
     settled
 
--- settled counts, at most n * n together
+-- settled counts, within the bound of their first links
 pub counted : (n d : ℕ) (first : List (ℕ × ℕ)) → IsNet n first → d < n → (counts : List ℕ) → AreSettled n d first counts → IsCounted n d first counts
 counted n d first net below counts settled = record {
   destination = below;
   settled = settled;
-  most = lawful_sum n d first counts (settled_lawful n d first net below counts settled);
+  most = settled_within n d first net below counts settled;
 }

@@ -1,4 +1,5 @@
 pub mod Beginning
 pub mod Candidates
+pub mod Turners
 pub mod Workers
 pub mod Walking

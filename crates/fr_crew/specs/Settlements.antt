@@ -1,12 +1,17 @@
 -- What it means to settle a network. This project's own; a settled network is destination-oriented in the sense of
 -- Gafni and Bertsekas (1981) in the part that contains the destination.
-use Rattle.std.specs.Prelude.{◌≡◌, ℕ, ◌<◌, ◌≤◌, ◌+◌, ◌*◌, List, Option, IfSome, replicate, sum}
+use Rattle.std.specs.Prelude.{◌≡◌, ℕ, ◌<◌, ◌+◌, List, Option, IfSome, replicate, sum}
 use Rattle.std.specs.Borrow.{Bor}
-use Rattle.std.specs.List.{All, Contains}
+use Rattle.std.specs.List.{All, AllByRecursion as Each, Contains}
 use Rattle.fr_graph.specs.Network.{Network, net_of}
 use Rattle.fr_graph.specs.Counts.{links_at}
 use Rattle.fr_graph.specs.Turn.{IsSink}
+use Rattle.fr_core.specs.Finish.{IsFinish}
+use Rattle.fr_core.specs.History.{turn_count}
+use Rattle.fr_core.specs.Runs.{IsRunTo}
 use Rattle.fr_core.specs.Settled.{AreSettled}
+use Rattle.fr_core.specs.Work.{IsWithinWork}
+use Rattle.fr_core.specs.declared.entry.Entry.{Entry}
 use Rattle.fr_crew.specs.declared.settlement.Settled.{Settled}
 
 -- the network with these first links is settled: the destination is a node
@@ -16,17 +21,34 @@ pub record IsSettlement (n d : ℕ) (first : List (ℕ × ℕ)) (s : Settled) : 
   pub counts : AreSettled n d first s.counts.items
   -- the links are those that the counts give
   pub links : s.net ≡ net_of n (links_at first s.counts.items)
-  -- the turns of the workers and of the finisher add up to the counts, at most n * n
+  -- the turns of the workers and of the finisher add up to the counts
   pub turns : s.by_workers + s.by_finisher ≡ sum s.counts.items
-  pub most : sum s.counts.items ≤ n * n
+  -- and no more than the bound for these first links
+  pub most : IsWithinWork n d first (sum s.counts.items)
+
+-- k workers have made so many turns, which led to these counts: there is a history of calls by the workers 0 to k - 1,
+pub record AreByWorkers (n d : ℕ) (first : List (ℕ × ℕ)) (k : ℕ) (counts : List ℕ) (turns : ℕ) : Type 0 where
+  pub history : List Entry
+  pub of_workers : Each (λ (e : Entry). e.worker < k) history
+  -- which is a run of full reversal by one thread from the first links to the counts,
+  pub run : IsRunTo n d first history counts
+  -- and has so many turns
+  pub made : turns ≡ turn_count history
+
+-- k workers and the finisher have made the turns that this settlement reports: the workers went to some counts,
+pub record IsDoneBy (n d : ℕ) (first : List (ℕ × ℕ)) (k : ℕ) (s : Settled) : Type 0 where
+  pub left : List ℕ
+  pub workers : AreByWorkers n d first k left s.by_workers
+  -- and the finisher went on from there to the settled ones
+  pub finisher : IsFinish n d first left s.counts.items s.by_finisher
 
 -- the settled counts of a network: the destination is a node
 pub record IsCounted (n d : ℕ) (first : List (ℕ × ℕ)) (counts : List ℕ) : Type 0 where
   pub destination : d < n
   -- each count is the settled one
   pub settled : AreSettled n d first counts
-  -- there are at most n * n turns
-  pub most : sum counts ≤ n * n
+  -- there are no more turns than the bound for these first links
+  pub most : IsWithinWork n d first (sum counts)
 
 -- the list has only nodes of the network, and includes each sink except d
 pub record HoldsSinks (net : Network) (d : ℕ) (from : List ℕ) : Type 0 where

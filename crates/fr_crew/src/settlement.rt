@@ -4,7 +4,7 @@ ghost use Rattle.std.specs.Prelude.{◌≡◌, ◌≢◌, ℕ, ◌<◌, ◌≤�
 ghost use Rattle.fr_graph.specs.Counts.{AreLawful};
 ghost use Rattle.fr_core.specs.Finish.{HoldsAllThatCanTurn};
 ghost use Rattle.fr_core.specs.Settled.{AreSettled};
-ghost use Rattle.fr_crew.specs.Settlements.{CanBegin, IsCounted, IsSettlement};
+ghost use Rattle.fr_crew.specs.Settlements.{AreByWorkers, CanBegin, IsCounted, IsDoneBy, IsSettlement};
 ghost use Rattle.fr_crew.specs.declared.fault.CrewFault.TheVariants.{Range, Start, Memory};
 
 use crate::fault::CrewFault;
@@ -62,6 +62,7 @@ pub fn settle<R: Threads + Wait + Sync, G: Gate + Sync>(
     gate: &G,
 ) -> Result<Settled, CrewFault>
     ensures settled { IfOk result (λ settled. IsSettlement net.nodes dest net.links settled) }
+    ensures done { IfOk result (λ settled. IsDoneBy net.nodes dest net.links plan.now.workers settled) }
     ensures range { IfErr result (λ fault. (fault ≡ Range) ↔ (net.nodes ≤ dest)) }
     ensures by_finisher { plan.now.budget ≡ 0 → IfOk result (λ settled. settled.by_workers ≡ 0) }
     ensures no_start { (plan.now.budget ≡ 0) ⊎ (plan.now.workers ≡ 1) → IfErr result (λ fault. fault ≢ Start) }
@@ -90,6 +91,7 @@ pub fn settle<R: Threads + Wait + Sync, G: Gate + Sync>(
 /// refused; never with `Start`. If it fails, the network is dropped. O(n + m), and the cost of [`Net::turn`].
 pub fn settle_alone(alloc: Global, net: Net, dest: u32) -> Result<Settled, CrewFault>
     ensures settled { IfOk result (λ settled. IsSettlement net.nodes dest net.links settled) }
+    ensures done { IfOk result (λ settled. IsDoneBy net.nodes dest net.links 0 settled) }
     ensures range { IfErr result (λ fault. (fault ≡ Range) ↔ (net.nodes ≤ dest)) }
     ensures by_finisher { IfOk result (λ settled. settled.by_workers ≡ 0) }
     ensures no_start { IfErr result (λ fault. fault ≢ Start) }
@@ -177,6 +179,7 @@ fn test_node(net: &Net, dest: u32) -> Result<(), CrewFault>
 /// node, which is tested first, and with `Memory` if an allocation is refused.
 fn none_yet(alloc: Global, net: &Net, dest: u32) -> Result<Turns, CrewFault>
     ensures none { IfOk result (λ turns. (dest < net.now.nodes) × (turns ≡ replicate net.now.nodes 0)) }
+    ensures begun { IfOk result (λ turns. (k : ℕ) → AreByWorkers net.now.nodes dest net.now.links k turns 0) }
     ensures range { IfErr result (λ fault. (fault ≡ Range) ↔ (net.now.nodes ≤ dest)) }
     ensures no_start { IfErr result (λ fault. fault ≢ Start) }
 {
@@ -211,6 +214,7 @@ fn settled_by<R: Threads + Wait, G: Gate + Sync>(
     requires node { dest < net.nodes }
     requires one_each { length turns ≡ net.nodes }
     ensures settled { IfOk result (IsSettlement net.nodes dest net.links) }
+    ensures done { IfOk result (IsDoneBy net.nodes dest net.links crew.now.plan.now.workers) }
     ensures fault { IfErr result (λ fault. fault ≢ Range) }
     ensures no_start { crew.now.plan.now.workers ≡ 1 → IfErr result (λ fault. fault ≢ Start) }
 {
@@ -263,8 +267,8 @@ fn turned_by<R: Threads + Wait, G: Gate + Sync>(
 ) -> Result<Closed, CrewFault>
     requires { dest < net.nodes }
     ensures net { IfOk result (λ closed. closed.net ≡ net) }
-    ensures lawful { IfOk result (λ closed. AreLawful net.nodes dest net.links closed.counts.items) }
-    ensures turned { IfOk result (λ closed. sum_by (λ (p : ℕ × ℕ). p.1) closed.turned.items ≡ sum closed.counts.items) }
+    ensures turned { IfOk result (λ closed. AreByWorkers net.nodes dest net.links crew.now.plan.now.workers
+        closed.counts.items (sum_by (λ (p : ℕ × ℕ). p.1) closed.turned.items)) }
     ensures fault { IfErr result (λ fault. fault ≢ Range) }
     ensures no_start { crew.now.plan.now.workers ≡ 1 → IfErr result (λ fault. fault ≢ Start) }
 {
@@ -289,6 +293,8 @@ fn finished(mut net: Net, dest: u32, mut turns: Turns, by_workers: u64) -> Settl
     requires lawful { AreLawful net.nodes dest net.links turns }
     requires turned { by_workers ≡ sum turns }
     ensures settled { IsSettlement net.nodes dest net.links result }
+    ensures done { (k : ℕ) → AreByWorkers net.nodes dest net.links k turns by_workers
+        → IsDoneBy net.nodes dest net.links k result }
     ensures by_workers { result.by_workers ≡ by_workers }
 {
     net.network_law();

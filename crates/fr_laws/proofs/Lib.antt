@@ -3,9 +3,6 @@ mod HopsRead  -- next hops that replies show
 mod InOrder  -- which call came first, as callers see it
 mod InTime  -- and as an observer of all steps sees it
 mod QuietEnds  -- what shows that no node can turn
-mod Gaps  -- lists of numbers without a gap
-mod Totals  -- how often all nodes turn together
-mod Chains  -- links that all point away from the destination
 -- Whom a change touches
 mod ChangeRounds  -- the round after a change begins with a network
 mod TurnsAfter  -- who turns in it, and who keeps its hop

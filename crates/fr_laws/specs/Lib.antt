@@ -2,4 +2,3 @@ pub mod Hops
 pub mod Linear
 pub mod Locality
 pub mod Quiet
-pub mod Work

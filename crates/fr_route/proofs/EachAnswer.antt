@@ -32,7 +32,7 @@ use Rattle.fr_lines.specs.declared.requests.Question.TheVariants.{Links, Counts,
 use Rattle.fr_core.proofs.Finishing.{settled_exists}
 use Rattle.fr_core.proofs.Searching.{cases_below}
 use Rattle.fr_core.proofs.Unique.{settled_lawful}
-use Rattle.fr_route.specs.States.{State, IsRound, net_at}
+use Rattle.fr_route.specs.States.{State, IsReport, IsRound, net_at}
 use Rattle.fr_route.specs.Routes.{IsHop, AreHops, is_cut_off}
 use Rattle.fr_route.specs.Answers.{fault_number, IsReportLine, IsHopsLine, IsWalkLine, IsAnswer, IsLineAnswer}
 use Rattle.fr_route.specs.Texts.{counts_text, links_text, hops_text, walk_text, no_walk_text, report_text, refusal_text}
@@ -42,7 +42,7 @@ use Rattle.std.specs.List.{count_by}
 use Rattle.fr_route.proofs.Changing.{joined_nodes, made_nodes}
 use Rattle.fr_route.proofs.CutNodes.{hops_cut_count}
 use Rattle.fr_route.proofs.FirstFaults.{faultless_or_fault}
-use Rattle.fr_route.proofs.RoundEnds.{capped_cut_off, hop_leads_on, still_cut_off}
+use Rattle.fr_route.proofs.RoundEnds.{capped_cut_off, hop_leads_on, round_within, still_cut_off}
 use Rattle.fr_graph.proofs.Neighbours.{cases_joins, cases_points}
 
 -- the state after a round on a network whose links can be changed
@@ -123,7 +123,12 @@ module _ (s : State) (good : IsSettledState s) where
   report_line : (text : List ℕ) × IsReportLine s text
   report_line =
       let cut = count_by is_cut_off (hops_from s.nodes 0) in
-      (report_text (sum s.counts) cut, (sum s.counts, cut, record { turns = refl; cut_off = hops_cut_count s s.nodes (hops_from s.nodes 0) hops }, refl))
+      let report : IsReport s (sum s.counts) cut = record {
+        turns = refl;
+        cut_off = hops_cut_count s s.nodes (hops_from s.nodes 0) hops;
+        most = round_within s (sum s.counts) refl;
+      } in
+      (report_text (sum s.counts) cut, (sum s.counts, cut, report, refl))
 
   hops_line : (text : List ℕ) × IsHopsLine s text
   hops_line = (hops_text (hops_from s.nodes 0), (hops_from s.nodes 0, hops, refl))

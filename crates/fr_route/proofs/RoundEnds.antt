@@ -1,5 +1,6 @@
 -- What the end of a round is: which networks lead to it, and what its links and routes are.
-use Rattle.std.proofs.Common.{◌≡◌, ◌∙◌, ℕ, ⊎_elim, ◌<◌, ◌↔◌, List, ◌∷◌, ap, inl, inr, subst, sym, slice_index, IsPermutation}
+use Rattle.std.proofs.Common.{◌≡◌, ◌∙◌, ℕ, ⊎_elim, ◌<◌, ◌↔◌, List, ◌∷◌, ap, inl, inr, subst, sum, sym, slice_index}
+use Rattle.std.proofs.Common.{IsPermutation}
 use Rattle.std.proofs.lemmas.List.Sorted.{IsPermutation-sym}
 use Rattle.fr_graph.specs.Links.{IsAcyclic, IsAlone, IsNet, HaveSameLinks, Joins, Points}
 use Rattle.fr_graph.specs.Order.{in_order}
@@ -14,6 +15,8 @@ use Rattle.fr_graph.proofs.TurnedLinks.{net_turned}
 use Rattle.fr_core.specs.Walks.{IsJoined}
 use Rattle.fr_core.specs.Settled.{AreSettled}
 use Rattle.fr_core.proofs.Joining.{joined_at, joins_at, joins_kept, walk_linked}
+use Rattle.fr_core.specs.Work.{IsWithinWork}
+use Rattle.fr_core.proofs.Totals.{settled_within}
 use Rattle.fr_core.proofs.SameLinks.{same_acyclic, same_from_permutation, same_settled, same_joined, same_sym}
 use Rattle.fr_core.proofs.Unique.{IsLinkedCount, not_joined_from_cap, of_linked, settled_lawful, settled_unique}
 use Rattle.fr_route.specs.States.{State, IsRound, IsCutOff, state_with}
@@ -51,6 +54,13 @@ round_unique n d first s t a b =
     let k : s.nodes ≡ t.nodes = a.nodes ∙ sym b.nodes in
     let e : s.dest ≡ t.dest = a.dest ∙ sym b.dest in
     λ i. record { nodes = k i; dest = e i; links = l i; counts = c i }
+
+-- the turns of a round are within the bound of its first links
+pub round_within : (s : State) (turned : ℕ) → turned ≡ sum s.counts → (first : List (ℕ × ℕ)) → IsNet s.nodes first
+    → s.dest < s.nodes → IsRound s.nodes s.dest first s → IsWithinWork s.nodes s.dest first turned
+round_within s turned total first net below round =
+    subst (IsWithinWork s.nodes s.dest first) (sym total)
+    (settled_within s.nodes s.dest first net below s.counts round.counts)
 
 same_in_order : (links : List (ℕ × ℕ)) → HaveSameLinks links (in_order links)
 same_in_order links u v = (into_order links (u, v), out_of_order links (u, v))

@@ -8,6 +8,7 @@ use Rattle.fr_graph.specs.Order.{in_order}
 use Rattle.fr_graph.specs.Counts.{links_at}
 use Rattle.fr_core.specs.Walks.{IsJoined}
 use Rattle.fr_core.specs.Settled.{AreSettled}
+use Rattle.fr_core.specs.Work.{IsWithinWork}
 
 -- the number of nodes, the destination, the links in their current directions and in order, and the counts of the last
 -- round
@@ -53,3 +54,6 @@ pub record IsCutCount (n d : ℕ) (links : List (ℕ × ℕ)) (k : ℕ) : Type 0
 pub record IsReport (s : State) (turned cut : ℕ) : Type 0 where
   pub turns : turned ≡ sum s.counts
   pub cut_off : IsCutCount s.nodes s.dest s.links cut
+  -- the turns are no more than the bound for the first links of the round
+  pub most : (first : List (ℕ × ℕ)) → IsNet s.nodes first → s.dest < s.nodes → IsRound s.nodes s.dest first s
+      → IsWithinWork s.nodes s.dest first turned

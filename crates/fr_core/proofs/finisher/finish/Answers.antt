@@ -1,7 +1,9 @@
-use Rattle.std.proofs.Common.{arith, subst, sum, ◌-◌, ◌≡◌}
+use Rattle.std.proofs.Common.{arith, subst, sum, ◌+◌, ◌-◌, ◌≡◌}
 use Rattle.fr_core.proofs.SettledRuns.{lawful_sum_fits, run_to_settled}
+use Rattle.fr_core.proofs.Totals.{settled_within}
 use Rattle.fr_core.proofs.Unique.{settled_lawful}
 use Rattle.fr_core.specs.Finish.{IsFinish}
+use Rattle.fr_core.specs.Work.{IsWithinWork}
 use Rattle.fr_core.proofs.finisher.finish.Goals as goal
 
 pub total_of-before-requires : goal.total_of-before-requires
@@ -31,3 +33,14 @@ returns-clause-run c =
     let made : sum c.settle.new.counts - sum c.args.counts.now ≡ c.total_of.result - c.total_of-before.result =
     omega (arith, c.total_of-before.ensures, c.total_of.ensures) in
     subst (IsFinish net.nodes c.args.dest net.links c.args.counts.now c.settle.new.counts) made run.1
+
+pub returns-clause-work : goal.returns-clause-work
+returns-clause-work c =
+    let net = c.args.net.now in
+    let known = c.network_law.ensures in
+    let run = run_to_settled net.nodes c.args.dest net.links c.args.counts.now c.settle.new.counts
+    known.is_net c.requires.node c.requires.lawful c.settle.ensures in
+    let all : sum c.settle.new.counts ≡ sum c.args.counts.now + (c.total_of.result - c.total_of-before.result) =
+    omega (arith, run.0, c.total_of-before.ensures, c.total_of.ensures) in
+    subst (IsWithinWork net.nodes c.args.dest net.links) all
+    (settled_within net.nodes c.args.dest net.links known.is_net c.requires.node c.settle.new.counts c.settle.ensures)

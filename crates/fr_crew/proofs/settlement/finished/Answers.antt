@@ -1,7 +1,7 @@
 use Rattle.std.proofs.Common.{arith}
 use Rattle.fr_core.specs.Settled.{AreSettled}
+use Rattle.fr_core.proofs.Totals.{settled_within}
 use Rattle.fr_core.proofs.Unique.{settled_lawful}
-use Rattle.fr_core.proofs.Runs.{lawful_sum}
 use Rattle.fr_crew.proofs.settlement.finished.Goals as goal
 
 pub turn-requires-clause-kept : goal.turn-requires-clause-kept
@@ -23,5 +23,12 @@ returns-clause-settled c =
       counts = rw same settled;
       links = rw same c.turn.ensures.is;
       turns = rw same (omega (arith, c.requires.turned, sums));
-      most = rw same (lawful_sum n d first counts (settled_lawful n d first c.network_law.ensures.is_net c.requires.node counts settled));
+      most = rw same (settled_within n d first c.network_law.ensures.is_net c.requires.node counts settled);
     }
+
+pub returns-clause-done : goal.returns-clause-done
+returns-clause-done c = λ k turned. record {
+  left = c.args.turns;
+  workers = turned;
+  finisher = rw c.into_counts.ensures c.finish_turns-by_finisher.ensures.run;
+}

@@ -1,5 +1,6 @@
 use Rattle.std.proofs.Common.{arith, ap}
 use Rattle.fr_core.proofs.SettledRuns.{lawful_sum_fits}
+use Rattle.fr_crew.proofs.Turners.{turned_total}
 use Rattle.fr_graph.specs.Network.{Network}
 use Rattle.fr_crew.proofs.settlement.settled_by.Goals as goal
 
@@ -7,5 +8,17 @@ pub sum_of_turns-by_workers-requires : goal.sum_of_turns-by_workers-requires
 sum_of_turns-by_workers-requires g c =
     let few = c.network_law.ensures.limits.nodes_few in
     let nodes = ap (λ (net : Network). net.nodes) c.in_ok-net.ensures.net in
-    let fits = lawful_sum_fits _ _ _ _ (omega (arith, few, nodes)) c.in_ok-net.ensures.lawful in
-    rw c.deref.ensures.value (omega (arith, c.in_ok-net.ensures.turned, fits))
+    let turned = c.in_ok-net.ensures.turned in
+    let fits = lawful_sum_fits _ _ _ _ (omega (arith, few, nodes)) turned.run.lawful in
+    rw c.deref.ensures.value (omega (arith, turned_total _ _ _ _ _ _ turned, fits))
+
+pub finished-requires-clause-turned : goal.finished-requires-clause-turned
+finished-requires-clause-turned g c =
+    let total = turned_total _ _ _ _ _ _ c.in_ok-net.ensures.turned in
+    cc (
+      total,
+      c.sum_of_turns-by_workers.ensures,
+      c.deref.ensures.value,
+      c.deref-2.ensures.value,
+      c.copy_from.ensures,
+    )

@@ -1,5 +1,6 @@
 use Rattle.std.proofs.Common.{arith, length, rules, ◌<◌, ◌∙◌, ◌≡◌}
 use Rattle.std.proofs.lemmas.Result.{err_from_is_err_and}
+use Rattle.fr_crew.proofs.Turners.{closed_turned}
 use Rattle.fr_crew.proofs.Workers.{all_came_back, as_many_as_asked, new_workers_own, some_worker}
 use Rattle.fr_crew.proofs.settlement.turned_by.Given.{Over}
 use Rattle.fr_crew.proofs.settlement.turned_by.Goals as goal
@@ -24,7 +25,13 @@ pub close-requires-clause-few : goal.close-requires-clause-few
 close-requires-clause-few g c = omega (arith, all_back g (goal.at.close-requires-clause-few g c).In_ok-round)
 
 pub returns-clause-turned : goal.returns-clause-turned
-returns-clause-turned g c = c.close.ensures.history.all_back (all_back g (goal.at.returns-clause-turned g c).In_ok-round)
+returns-clause-turned g c =
+    let all = all_back g (goal.at.returns-clause-turned g c).In_ok-round in
+    let net = c.args.net in
+    rw (← c.workers.ensures) (closed_turned c.in-Ok.round c.in_ok-round.round
+    (record { nodes = net.nodes; dest = c.args.dest; links = net.links; workers = c.workers.result })
+    c.in_ok-round.workers.items c.close.result.counts.items c.close.result.turned.items
+    c.in-Ok.ensures.setup c.in_ok-round.ensures.back.round_is c.close.ensures.history all)
 
 pub returns-in_err-round-clause-no_start : goal.returns-in_err-round-clause-no_start
 returns-in_err-round-clause-no_start g c = λ one.

@@ -2,7 +2,7 @@
 use Rattle.std.proofs.Common.{Bool, List, [], ap, arith, count_by, false, inr, length, map, mul-le-mul, refl}
 use Rattle.std.proofs.Common.{slice_index, slice_set, sum, suc, sym, true, zero, ℕ, ⊎_elim, ◌*◌, ◌+◌, ◌-◌, ◌<◌, ◌==◌}
 use Rattle.std.proofs.Common.{◌↔◌, ◌∙◌, ◌≡◌, ◌≤◌, IsTrue}
-use Rattle.std.proofs.Math.Nat.{mul_comm}
+use Rattle.std.proofs.Math.Nat.{add-mul, mul_comm}
 use Rattle.std.proofs.lemmas.Bool.{cases_lt, false≢true}
 use Rattle.std.proofs.lemmas.Bool.Decides.{Decides-eqb, Decides-not}
 use Rattle.std.proofs.lemmas.List.{get_or-map, get_or_past, length-map, length-set}
@@ -27,9 +27,10 @@ use Rattle.fr_graph.proofs.Counting.{count-range_agree, count_by-map, none_pass}
 use Rattle.fr_graph.proofs.Linking.{joined_below}
 use Rattle.fr_graph.specs.Counts.{AreLawful}
 use Rattle.fr_graph.specs.Links.{HasPath, IsAlone, IsNet, Joins}
-use Rattle.fr_laws.proofs.Gaps.{AreFew, HasNoGap, few_without_gap, is_some, split_counts, split_sum, weight}
-use Rattle.fr_laws.proofs.Gaps.{uncap, uncap-n, uncap-other}
-use Rattle.fr_laws.specs.Work.{AreCounted, IsNumberOf, IsBad, IsConnected, IsStranded}
+use Rattle.fr_core.proofs.Gaps.{AreFew, HasNoGap, few_without_gap, is_some, split_counts, split_sum, weight}
+use Rattle.fr_core.proofs.Gaps.{uncap, uncap-n, uncap-other}
+use Rattle.fr_core.specs.Work.{AreCounted, IsNumberOf, IsBad, IsConnected, IsStranded, IsWithinWork}
+use Rattle.fr_core.specs.Work.{WithinWorkIsBelowSquare}
 
 same_bool : (a b : Bool) → (IsTrue a ↔ IsTrue b) → a ≡ b
 same_bool true true e = refl
@@ -200,6 +201,15 @@ module _ (n d : ℕ) (first : List (ℕ × ℕ)) (net : IsNet n first) (below : 
         ap (λ (m : ℕ). m * n) (many_unique n (IsStranded d first) stranded_number k counted.stranded are.stranded) in
         omega (arith, few.1, split_sum n c, same)
 
+  -- these counts together are within the work of their first links
+  pub settled_within : IsWithinWork n d first (sum c)
+  settled_within = record {
+    bad = bad_number;
+    stranded = stranded_number;
+    counted = counted;
+    most = total_few bad_number stranded_number counted;
+  }
+
 -- a run adds up to no more than the settled counts
 run_below : (n d : ℕ) (first : List (ℕ × ℕ)) (before settled : List ℕ) (h : List Entry) → IsNet n first → d < n
     → AreLawful n d first before → AreSettled n d first settled → IsRun n d (moment_of first before) h
@@ -245,6 +255,22 @@ module _ (n d : ℕ) (first : List (ℕ × ℕ)) (net : IsNet n first) (below : 
   run_few before h b c are lawful run =
       let most = total_few n d first net below end ends b c are in
       omega (arith, run_below n d first before end h net below lawful ends run, most)
+
+-- b and c are n - 1 at most together
+both_below : (b c n : ℕ) → b + c < n → b * (b + 1) + 2 * (c * n) ≤ 2 * (n * (n - 1))
+both_below b c n l =
+    let up : b * (b + 1) ≤ b * n =
+    mul-le-mul {n₁ = b} {m₁ = b + 1} {n₂ = b} {m₂ = n} (omega arith) (omega (arith, l)) in
+    let both : (b + c) * n ≤ (n - 1) * n =
+    mul-le-mul {n₁ = b + c} {m₁ = n} {n₂ = n - 1} {m₂ = n} (omega (arith, l)) (omega arith) in
+    omega (arith, up, both, add-mul b c n, mul_comm (n - 1) n)
+
+pub within_square : WithinWorkIsBelowSquare
+within_square = λ n d first total net below within.
+    let all = all_counted n d first net below in
+    let same = all.4 within.bad within.stranded within.counted in
+    let few : within.bad + within.stranded < n = omega (arith, all.3, same.0, same.1) in
+    omega (arith, within.most, both_below within.bad within.stranded n few)
 
 -- no node of a connected network is cut off
 pub none_stranded : (n d : ℕ) (first : List (ℕ × ℕ)) → IsConnected n d first → IsNumberOf n (IsStranded d first) 0

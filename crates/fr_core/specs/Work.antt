@@ -32,6 +32,13 @@ pub record AreCounted (n d : ℕ) (links : List (ℕ × ℕ)) (b c : ℕ) : Type
   pub bad : IsNumberOf n (IsBad d links) b
   pub stranded : IsNumberOf n (IsStranded d links) c
 
+-- so many turns are at most 1 + 2 + .. + b, for b bad nodes, and n more for each stranded node
+pub record IsWithinWork (n d : ℕ) (first : List (ℕ × ℕ)) (total : ℕ) : Type 0 where
+  pub bad : ℕ
+  pub stranded : ℕ
+  pub counted : AreCounted n d first bad stranded
+  pub most : 2 * total ≤ bad * (bad + 1) + 2 * (stranded * n)
+
 -- a network of n nodes that are all joined with d, in whatever directions its links point
 pub record IsConnected (n d : ℕ) (links : List (ℕ × ℕ)) : Type 0 where
   pub is_net : IsNet n links
@@ -62,6 +69,11 @@ abbrev pub RunIsAtMostTriangle : Type 0
 RunIsAtMostTriangle = (n d : ℕ) (first : List (ℕ × ℕ)) (counts : List ℕ) (h : List Entry) (b c : ℕ)
     → IsNet n first → d < n → AreCounted n d first b c → AreLawful n d first counts
     → IsRun n d (moment_of first counts) h → 2 * (sum counts + turn_count h) ≤ b * (b + 1) + 2 * (c * n)
+
+-- In every network this bound is at most n * (n - 1), since the destination is neither bad nor stranded.
+abbrev pub WithinWorkIsBelowSquare : Type 0
+WithinWorkIsBelowSquare = (n d : ℕ) (first : List (ℕ × ℕ)) (total : ℕ) → IsNet n first → d < n
+    → IsWithinWork n d first total → total ≤ n * (n - 1)
 
 -- In a connected network no run makes more than n * (n - 1) / 2 turns.
 abbrev pub ConnectedIsAtMostHalfSquare : Type 0

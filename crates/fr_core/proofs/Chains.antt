@@ -21,9 +21,9 @@ use Rattle.fr_graph.proofs.Counting.{count-range_more, weigh}
 use Rattle.fr_graph.proofs.Linking.{is_between_itself, joined_from}
 use Rattle.fr_graph.proofs.Members.{Contains-cases, Contains-head, Contains-none, Contains-tail}
 use Rattle.fr_graph.specs.Links.{IsAcyclic, IsAlone, IsNet, IsPath, Points, end_of, is_between}
-use Rattle.fr_laws.proofs.Gaps.{is_some, triangle, weight}
-use Rattle.fr_laws.proofs.Totals.{none_stranded}
-use Rattle.fr_laws.specs.Work.{AreCounted, IsBad, IsConnected, TriangleIsMet}
+use Rattle.fr_core.proofs.Gaps.{is_some, triangle, weight}
+use Rattle.fr_core.proofs.Totals.{none_stranded}
+use Rattle.fr_core.specs.Work.{AreCounted, IsBad, IsConnected, TriangleIsMet}
 
 -- b links in a row, away from node 0
 chain : ℕ → List (ℕ × ℕ)
