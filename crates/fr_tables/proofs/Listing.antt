@@ -4,6 +4,7 @@ use Rattle.std.proofs.Common.{set, subst, sym, take, true, ℕ, ⊎_elim, ◌++�
 use Rattle.std.specs.List.{IsDistinct, count_by}
 use Rattle.std.specs.Cmp.{nat_eq_equiv}
 use Rattle.std.proofs.lemmas.Bool.{cases_eq, cases_lt, false≢true}
+use Rattle.std.proofs.lemmas.Grind.{common_steps}
 use Rattle.std.proofs.lemmas.List.{get_or-replicate, get_or-set_other, get_or-set_same, get_or-take, get_or_default, get_or_past, length-replicate, length_push}
 use Rattle.std.proofs.lemmas.List.Elements.{All-set, Contains-append_left, Contains-push, Contains-push_cases}
 use Rattle.std.proofs.lemmas.List.Sums.{count_by-le-length, sum_by-set}
@@ -41,6 +42,11 @@ noted_more done differ x low before y = elim (cases_eq y x) [
         λ is. Contains-append_left done (x ∷ []) y ((before y).1 (sym there ∙ is)),
       )
 ]
+
+-- before any node has its key
+pub listed_none : (marks : List Mark) (keys counts : List ℕ) → keys ≡ replicate (length keys) 0
+    → counts ≡ replicate (length keys + 2) 0 → AreListed marks [] keys counts
+listed_none marks keys counts no_key no_count = grind (arith, common_steps)
 
 -- one more node gets its key
 module _ (marks : List Mark) (done keys counts : List ℕ) (x k : ℕ) (before : AreListed marks done keys counts)
