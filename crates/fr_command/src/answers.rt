@@ -26,9 +26,25 @@ pub(crate) fn answer_all<T: Threads + Wait + Sync, W: Write, G: Gate + Sync>(
     ensures no_start { crew.now.plan.now.budget ≡ 0 → result ≢ Err RunFault.Start }
 {
     let mut session = Session::new();
+    answer_each(crew, &mut session, input, writer)
+}
+
+/// The same, in a session that was asked nothing yet. Its caller owns the session, so that no exit of this loop has to
+/// drop it.
+fn answer_each<T: Threads + Wait + Sync, W: Write, G: Gate + Sync>(
+    crew: &Crew<'_, T, G>,
+    session: &mut Session,
+    input: &[u8],
+    writer: &mut W,
+) -> Result<u64, RunFault>
+    requires { session.old ≡ None }
+    ensures ok { IfOk result (WritesOutput input.now (W.contents writer.old) (W.contents writer.new)) }
+    ensures fault { IfErr result (IsAnsweringFault input.now (W.contents writer.old) (W.contents writer.new)) }
+    ensures no_start { crew.now.plan.now.budget ≡ 0 → result ≢ Err RunFault.Start }
+{
     let mut count = 0;
     for line in Lines::new(input) {
-        let answered = answer_one(crew, &mut session, line, writer)?;
+        let answered = answer_one(crew, session, line, writer)?;
         count += answered;
     }
     Ok(count)

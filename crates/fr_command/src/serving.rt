@@ -5,7 +5,7 @@ ghost use Rattle.std.specs.Io.KnownBytes.{Appends, Consumes, IsAtEnd};
 ghost use Rattle.fr_bytes.specs.Lines.{lines_of};
 ghost use Rattle.fr_bytes.specs.Bytes.{IsBeginning};
 ghost use Rattle.fr_command.specs.Outputs.{asking_count, WritesOutput};
-ghost use Rattle.fr_command.specs.Conversations.{Ends, Says, line_size, text_of};
+ghost use Rattle.fr_command.specs.Conversations.{Ends, Says, line_size, silence, text_of};
 ghost use Rattle.fr_command.specs.Faults.{IsServeFault};
 ghost use Rattle.fr_command.specs.InLines.{IsLineFault};
 ghost use Rattle.fr_command.specs.InPieces.{IsFrontFault, IsPieceFault};
@@ -51,14 +51,33 @@ pub fn serve<T: Threads + Wait + Sync, R: Read, W: Write, G: Gate + Sync>(
         gate,
     };
     let mut conversation = Conversation::new(alloc);
+    converse(&crew, &mut conversation, reader, writer)
+}
+
+/// The same, in a conversation in which nothing was said yet. Its caller owns the conversation, so that no exit of
+/// this loop has to drop it.
+fn converse<T: Threads + Wait + Sync, R: Read, W: Write, G: Gate + Sync>(
+    crew: &Crew<'_, T, G>,
+    conversation: &mut Conversation,
+    reader: &mut R,
+    writer: &mut W,
+) -> Result<(), RunFault>
+    requires { conversation.old ≡ silence }
+    ensures ok { OnOk result ((bytes : List ℕ)
+        × Consumes (R.remaining reader.old) (R.remaining reader.new) bytes × IsAtEnd (R.remaining reader.new)
+        × WritesOutput bytes (W.contents writer.old) (W.contents writer.new) (asking_count (lines_of bytes))) }
+    ensures fault { IfErr result (IsServeFault (R.remaining reader.old) (R.remaining reader.new)
+        (W.contents writer.old) (W.contents writer.new)) }
+    ensures no_start { crew.now.plan.now.budget ≡ 0 → result ≢ Err RunFault.Start }
+{
     let mut piece = [0u8; PIECE];
-    'reads: for _ in rt.forever() {
+    'reads: for _ in crew.rt.forever() {
         let room = PIECE.min(MAX_BYTES + 1 - conversation.begun().len());
         let count = read_piece(reader, &mut piece[..room])?;
         if count == 0 {
-            return answer_end(&crew, &mut conversation, writer);
+            return answer_end(crew, conversation, writer);
         }
-        answer_piece(&crew, &mut conversation, &piece[..count], writer)?;
+        answer_piece(crew, conversation, &piece[..count], writer)?;
     }
     unreachable!()
 }

@@ -4,6 +4,7 @@ ghost use Rattle.std.specs.Prelude.{◌≡◌, ℕ, ◌<◌, ◌+◌, ◌^◌, �
 ghost use Rattle.std.specs.List.{IsDistinct};
 ghost use Rattle.fr_tables.specs.Inside.{AreListed, AreNoted, HasWaveUpTo, IsChange, IsPutInOrder};
 ghost use Rattle.fr_tables.specs.Pushes.{DifferAt, IsPushOrder};
+ghost use Rattle.fr_tables.specs.Sorting.{IsByKey};
 ghost use Rattle.fr_tables.specs.Tables.{IsInRange, IsLoopFree};
 ghost use Rattle.fr_tables.specs.declared.hop.Hop.{Hop};
 
@@ -112,8 +113,7 @@ impl PushRoom {
         self.places.fill(0);
         note(&mut self.differ, changed);
         mark_waves(&self.differ, new, &mut self.marks, &mut self.walk, changed);
-        list_keys(&self.marks, changed, &mut self.keys, &mut self.places);
-        by_key(&self.keys, &mut self.places, changed);
+        order_by_marks(&self.marks, &mut self.keys, &mut self.places, changed);
         self.differ.fill(false);
     }
 }
@@ -139,6 +139,19 @@ fn forget(differ: &mut [bool], changed: &[u32])
     for x in changed {
         differ[*x as usize] = false;
     }
+}
+
+/// Orders the changed nodes by the waves in their marks, and the nodes of one wave by number.
+fn order_by_marks(marks: &[Mark], keys: &mut [u32], places: &mut [u32], changed: &mut [u32])
+    requires few { length keys.old < 2 ^ 32 }
+    requires none { AreListed marks.now [] keys.old places.old }
+    requires once { IsDistinct nat_eq changed.old }
+    requires waves { All (λ (x : ℕ). (x < length keys.old) × HasWaveUpTo (length keys.old) marks.now x) changed.old }
+    ensures one_each { (length keys.new ≡ length keys.old) × (length places.new ≡ length places.old) }
+    ensures order { (counts : List ℕ) × AreListed marks.now changed.old keys.new counts × IsByKey keys.new changed.new }
+{
+    list_keys(marks, changed, keys, places);
+    by_key(keys, places, changed);
 }
 
 /// Takes the waves of the changed nodes as their keys, and counts how many nodes have each key.

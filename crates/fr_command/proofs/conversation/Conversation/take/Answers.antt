@@ -1,5 +1,5 @@
-use Rattle.std.proofs.Common.{◌≡◌, ◌∙◌, ◌+◌, ◌<◌, ◌≤◌, ◌++◌, ◌∷◌, [], Bool, List, ℕ, false, true, length, length-append, not, take, refl, ap, sym}
-use Rattle.std.proofs.Common.{subst, arith, ⊎_elim}
+use Rattle.std.proofs.Common.{◌≡◌, ◌≢◌, ◌∙◌, ◌+◌, ◌<◌, ◌≤◌, ◌++◌, ◌∷◌, [], Bool, List, ℕ, false, true, length, length-append}
+use Rattle.std.proofs.Common.{not, take, refl, ap, sym, subst, arith, ⊎_elim}
 use Rattle.std.proofs.lemmas.Bool.{cases_lt}
 use Rattle.std.proofs.lemmas.List.Sums.{prefix_len-le-length}
 use Rattle.std.specs.List.{before_first, position_or_len}
@@ -10,7 +10,7 @@ use Rattle.fr_bytes.specs.declared.fault.RunFault.{RunFault}
 use Rattle.fr_bytes.specs.declared.fault.RunFault.TheVariants.{Read, Write, TooLong, Start, Memory}
 use Rattle.fr_bytes.proofs.Ending.{ends_line, first_line_ends, front_alone, one_line}
 use Rattle.fr_bytes.proofs.Results.{handed_on}
-use Rattle.fr_command.specs.Conversations.{Talk, carried, text_of}
+use Rattle.fr_command.specs.Conversations.{Talk, carried, line_size, text_of}
 use Rattle.fr_command.specs.Faults.{IsTakeFault}
 use Rattle.fr_command.specs.InPieces.{IsHoldFault}
 use Rattle.fr_command.proofs.Taking.{blank_ends, takes_none, takes_line}
@@ -48,12 +48,32 @@ not_held begun piece end found Memory is missed all why = (
   blank_goes_on begun piece end found is missed all why.1,
 )
 
+-- bytes before the end of a line go no further than the piece
+end_within : (piece : List ℕ) (end : ℕ) → end ≡ position_or_len ends_line piece → end ≤ length piece
+end_within piece end is = omega (arith, is, prefix_len-le-length (λ x. not (ends_line x)) piece)
+
+-- with the byte that ends the line they are its size
+size_with_end : (piece : List ℕ) (end : ℕ) → end ≡ position_or_len ends_line piece → end ≢ length piece
+    → end + 1 ≡ line_size piece
+size_with_end piece end is more = omega (arith, is, more, end_within piece end is)
+
+-- what is held is the line as the piece carries it on
+held_within : (begun piece : List ℕ) (end : ℕ) → end ≡ position_or_len ends_line piece
+    → length begun + length (take end piece) ≤ most_bytes → length (begun ++ before_first ends_line piece) ≤ most_bytes
+held_within begun piece end is short = subst (λ (n : ℕ). length (begun ++ take n piece) ≤ most_bytes) is
+    (omega (arith, short, length-append begun (take end piece)))
+
 pub hold-requires : goal.hold-requires
 hold-requires g c = subst (λ (n : ℕ). lines_of (take n c.args.piece.now) ≡ take n c.args.piece.now ∷ [])
     (sym c.front_size-end.ensures) (front_alone c.args.piece.now)
 
 pub ends_blank-requires : goal.ends_blank-requires
-ends_blank-requires g c = omega (arith, c.front_size-end.ensures, prefix_len-le-length (λ x. not (ends_line x)) c.args.piece.now)
+ends_blank-requires g c = end_within c.args.piece.now c.front_size-end.result c.front_size-end.ensures
+
+pub overflow_add-result-in-Ok : goal.overflow_add-result-in-Ok
+overflow_add-result-in-Ok g c =
+    let size = size_with_end c.args.piece.now c.front_size-end.result c.front_size-end.ensures c.if-end-piece.false in
+    omega (arith, size)
 
 pub returns-then-ends_blank-clause-takes : goal.returns-then-ends_blank-clause-takes
 returns-then-ends_blank-clause-takes g c =
@@ -97,3 +117,10 @@ returns-in-Ok-clause-takes g c =
     let held = c.in_ok-hold.ensures.ok in
     takes_line c.args.self.now c.hold.new.self c.finish.new.self (take (end + 1) piece) (take end piece)
     (text_of c.in-Ok.answer) alone ended held.0 held.1 c.in-Ok.ensures.ends
+
+pub returns-in-Ok-clause-count : goal.returns-in-Ok-clause-count
+returns-in-Ok-clause-count g c = size_with_end c.args.piece.now c.front_size-end.result c.front_size-end.ensures c.if-end-piece.false
+
+pub returns-in-Ok-clause-within : goal.returns-in-Ok-clause-within
+returns-in-Ok-clause-within g c =
+    held_within c.args.self.now.begun c.args.piece.now c.front_size-end.result c.front_size-end.ensures c.in_ok-hold.ensures.within

@@ -7,11 +7,11 @@ use Rattle.fr_command.specs.Conversations.{Ends, silence}
 use Rattle.fr_command.specs.Faults.{IsServeFault}
 use Rattle.fr_command.specs.InLines.{IsLineFault}
 use Rattle.fr_command.proofs.Served.{HasServed, nothing_served, read_nothing, read_on, output_written, end_failed, piece_failed, says_on}
-use Rattle.fr_command.proofs.serving.serve.Goals as goal
+use Rattle.fr_command.proofs.serving.converse.Goals as goal
 
 pub reads-init : goal.reads-init
 reads-init g c = record {
-  served = nothing_served (g.R.Read.remaining c.args.reader.now) (g.W.Write.contents c.args.writer.now) c.new-conversation.result c.new-conversation.ensures;
+  served = nothing_served (g.R.Read.remaining c.args.reader.now) (g.W.Write.contents c.args.writer.now) c.args.conversation.now c.requires;
   long = refl;
 }
 

@@ -4,14 +4,14 @@ use Rattle.fr_bytes.specs.Lines.{lines_left, lines_of}
 use Rattle.fr_bytes.proofs.Results.{handed_on}
 use Rattle.fr_command.specs.InLines.{IsAnsweringFault}
 use Rattle.fr_command.proofs.Progress.{HasAnswered, at_start, next_line, one_line_more, line_failed, all_answered, weight-le}
-use Rattle.fr_command.proofs.answers.answer_all.Goals as goal
+use Rattle.fr_command.proofs.answers.answer_each.Goals as goal
 
 pub loop-line-init : goal.loop-line-init
 loop-line-init g c =
     let all : lines_left c.into_iter-line-iterator.result ≡ lines_of c.args.input.now =
     ap lines_left c.into_iter-line-iterator.ensures.into_iter_gives ∙ c.new-line-items.ensures in
-    at_start c.args.input.now (lines_left c.into_iter-line-iterator.result) c.new-session.result
-    (g.W.Write.contents c.args.writer.now) all c.new-session.ensures
+    at_start c.args.input.now (lines_left c.into_iter-line-iterator.result) c.args.session.now
+    (g.W.Write.contents c.args.writer.now) all c.requires
 
 pub overflow_add-count : goal.overflow_add-count
 overflow_add-count g c =

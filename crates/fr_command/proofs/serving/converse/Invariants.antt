@@ -1,7 +1,7 @@
 use Rattle.std.proofs.Common.{◌≡◌, length}
 use Rattle.fr_bytes.specs.declared.input.TheConstants.{PIECE}
 use Rattle.fr_command.proofs.Served.{HasServed}
-use Rattle.fr_command.proofs.serving.serve.Given as goal
+use Rattle.fr_command.proofs.serving.converse.Given as goal
 
 abbrev pub invariant-reads : goal.invariant-reads
 invariant-reads g l = record {
