@@ -61,15 +61,18 @@ class Edit:
 
 def edits(check, names):
     """The planted faults of a check: all of them, or those that are named."""
-    folder = TOP / "checks" / check / "faults"
-    return [Edit(folder / f"{it}.edit") for it in names or sorted(it.stem for it in folder.glob("*.edit"))]
+    there = {it.stem: it for it in sorted((TOP / "checks" / check / "faults").glob("*.edit"))}
+    if unknown := {*names} - {*there}:
+        sys.exit(f"{check} has no fault {min(unknown)}")
+    return [Edit(there[it]) for it in names or there]
 
 
-def copy(folder, *parts):
-    """Copies parts of the repository, without what was built at its top."""
+def copy(folder, parts, built):
+    """Copies parts of the repository, with what was built in their folders out or without it."""
+    without = shutil.ignore_patterns("target", "__pycache__", *([] if built else ["out"]))
     for it in parts:
         if (TOP / it).is_dir():
-            shutil.copytree(TOP / it, folder / it, symlinks=True)
+            shutil.copytree(TOP / it, folder / it, symlinks=True, ignore=without)
         else:
             shutil.copy(TOP / it, folder / it)
 
@@ -96,11 +99,13 @@ def is_green(check, words, **how):
     return not status
 
 
-def try_edit(check, edit, parts, words_over):
-    """Makes an edit in a copy of these parts, and looks whether the check finds it. `words_over` gives the words that run the check over a copy."""
+def try_edit(edit, parts, words_over, built=False):
+    """Makes an edit in a copy of these parts of the repository, and looks whether its check finds it. `words_over` returns the words by which the
+    check is run over a copy."""
+    check = edit.path.parents[1].name
     with tempfile.TemporaryDirectory(prefix=f"{check}-") as name:
         folder = Path(name)
-        copy(folder, *parts)
+        copy(folder, parts, built)
         try:
             edit.make_in(folder)
         except (BadEdit, OSError) as error:
@@ -110,8 +115,10 @@ def try_edit(check, edit, parts, words_over):
 
 
 def words(description):
-    """The words of a command can-fail: the faults that are asked for, behind those that are added."""
-    return argparse.ArgumentParser(description=description, formatter_class=argparse.RawDescriptionHelpFormatter)
+    """The words of a command can-fail: faults, which are all if none is named."""
+    words = argparse.ArgumentParser(description=description, formatter_class=argparse.RawDescriptionHelpFormatter)
+    words.add_argument("faults", nargs="*", metavar="FAULT")
+    return words
 
 
 def end(found):
