@@ -74,7 +74,7 @@ def copy(folder, parts, built):
         if (TOP / it).is_dir():
             shutil.copytree(TOP / it, folder / it, symlinks=True, ignore=without)
         else:
-            shutil.copy(TOP / it, folder / it)
+            shutil.copy2(TOP / it, folder / it)
 
 
 def ran(words, **how):
